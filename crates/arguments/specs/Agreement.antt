@@ -10,7 +10,8 @@ abbrev pub EqualWherePublic : List Param → List Arg → List Arg → Type 0
 EqualWherePublic [] one other = Unit {0}
 EqualWherePublic (param ∷ params) [] other = Unit {0}
 EqualWherePublic (param ∷ params) (a ∷ one) [] = Unit {0}
-EqualWherePublic (param ∷ params) (a ∷ one) (b ∷ other) = (param.label ≡ Public → a ≡ b) × EqualWherePublic params one other
+EqualWherePublic (param ∷ params) (a ∷ one) (b ∷ other) = (param.label ≡ Public → a ≡ b)
+    × EqualWherePublic params one other
 
 -- both are within the parameter types, and they are equal at each public parameter
 pub record Agree (params : List Param) (one other : List Arg) : Type 0 where

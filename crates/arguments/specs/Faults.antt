@@ -1,6 +1,7 @@
 -- The first fault of arguments: their count before all else, then the leftmost faulty argument, its
 -- shape before its values.
-use Rattle.std.specs.Prelude.{ℕ, ◌+◌, Bool, true, false, if◌then◌else◌, nat_le, ◌==◌, List, [], ◌∷◌, length, Option, Some, None}
+use Rattle.std.specs.Prelude.{ℕ, ◌+◌, Bool, true, false, if◌then◌else◌, nat_le, ◌==◌, List, [], ◌∷◌, length, Option}
+use Rattle.std.specs.Prelude.{Some, None}
 use Rattle.std.specs.List.{list_all}
 use Rattle.language.specs.declared.signature.Form.{Form}
 use Rattle.language.specs.declared.signature.Form.TheVariants.{SingleWord, FixedArray, MutableArray}
@@ -28,7 +29,8 @@ rule_of_words kind words = if list_all (λ word. nat_le word (greatest_of kind))
 
 -- the rule that an argument breaks at its parameter
 abbrev pub rule_of : Param → Arg → Option ArgumentRule
-rule_of param arg = if has_shape param.form param.length arg then rule_of_words param.kind (words_of arg) else Some Shape
+rule_of param arg = if has_shape param.form param.length arg then rule_of_words param.kind (words_of arg)
+    else Some Shape
 
 -- the fault of the wrong count, which no argument has alone
 abbrev pub count_fault : ArgumentFault

@@ -1,4 +1,5 @@
--- What of two results an observer may compare: the return where it is public, and the `mut` arrays whose elements are.
+-- What of two results an observer may compare: the return where it is public, and the `mut` arrays whose elements
+-- are.
 use Rattle.std.specs.Prelude.{◌≡◌, ℕ, List, [], ◌∷◌, ◌++◌, drop, take, Option, if◌then◌else◌, IfSome}
 use Rattle.language.specs.Results.{Results}
 use Rattle.language.specs.Typing.{is_mutable}
@@ -16,7 +17,8 @@ next_public Secret arrays = []
 abbrev pub public_arrays : List Param → List (List ℕ) → List (List ℕ)
 public_arrays [] arrays = []
 public_arrays (p ∷ ps) arrays =
-    if is_mutable p.form then next_public p.label arrays ++ public_arrays ps (drop 1 arrays) else public_arrays ps arrays
+    if is_mutable p.form then next_public p.label arrays ++ public_arrays ps (drop 1 arrays)
+    else public_arrays ps arrays
 
 -- two results of a program with these parameters and this type of its return are equal where they are public
 pub record AgreeInPublic (parameters : List Param) (returned : Option WordType) (one other : Results) : Type 0 where

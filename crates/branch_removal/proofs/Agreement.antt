@@ -20,13 +20,15 @@ what_is_public d = d.word.label ≡ Public
 abbrev pub Agree : Sees → Types → Values → Values → Type 0
 Agree sees types m n = (y : ℕ) (d : FlatVariable) → types.at y ≡ Some d → sees d → m y ≡ n y
 
-module _ (sees : Sees) (types : Types) (m n : Values) (x : ℕ) (v w : List ℕ) (new : FlatVariable) (equal : sees new → v ≡ w) (agree : Agree sees types m n) where
+module _ (sees : Sees) (types : Types) (m n : Values) (x : ℕ) (v w : List ℕ) (new : FlatVariable) (equal : sees new
+    → v ≡ w) (agree : Agree sees types m n) where
   -- the same is put into a variable that is in scope
   pub set_in_both : types.at x ≡ Some new → Agree sees types (with_value m x v) (with_value n x w)
   set_in_both there y d known seen = by_number (y == x) refl
     where
       by_number : (b : Bool) → (y == x) ≡ b → cond b v (m y) ≡ cond b w (n y)
-      by_number true is = equal (subst sees (same_Some d new (sym known ∙ (ap types.at (eqb-true y x is) ∙ there))) seen)
+      by_number true is =
+          equal (subst sees (same_Some d new (sym known ∙ (ap types.at (eqb-true y x is) ∙ there))) seen)
       by_number false is = agree y d known seen
 
   -- the same is the first value of a variable

@@ -2,7 +2,8 @@
 use Rattle.std.proofs.Common.{◌≡◌, ℕ, ◌+◌, ◌*◌, ◌≤◌, List, [], ◌∷◌, Option, None, Some, max, slice_index, refl, arith}
 use Rattle.std.proofs.Math.Nat.{max-le, mul-le-mul_left}
 use Rattle.inline.specs.declared.flat.FlatVariable.{FlatVariable}
-use Rattle.inline.specs.Flat.{TermTree, FlatTree, declare, array, assign, put, hold, skip, branch, loop, FlatBlock, nothing, first, FlatProgram}
+use Rattle.inline.specs.Flat.{TermTree, FlatTree, declare, array, assign, put, hold, skip, branch, loop, FlatBlock}
+use Rattle.inline.specs.Flat.{nothing, first, FlatProgram}
 use Rattle.inline.specs.Flat as flat
 use Rattle.inline.specs.FlatSize.{IsSized, term_nodes, tree_nodes, body_nodes}
 use Rattle.inline.specs.FlatTyping.{Types, types_after, with_type, IsTyped, AreTyped, IsTypedProgram}
@@ -12,8 +13,10 @@ use Rattle.intervals.specs.Work.{tree_work, body_work, ranged}
 use Rattle.language.specs.declared.signature.Label.{Label}
 use Rattle.language.specs.declared.signature.Label.TheVariants.{Public, Secret}
 use Rattle.word.specs.declared.place.Place.{Place}
-use Rattle.branch_removal.specs.Bounds.{statement_nodes, block_nodes, statement_work, block_work, taken_in_all, IsBounded}
-use Rattle.branch_removal.specs.private.Removal.{set_within, put_within, removed, removed_all, controls_in, controls_in_all, straightened}
+use Rattle.branch_removal.specs.Bounds.{statement_nodes, block_nodes, statement_work, block_work, taken_in_all}
+use Rattle.branch_removal.specs.Bounds.{IsBounded}
+use Rattle.branch_removal.specs.private.Removal.{set_within, put_within, removed, removed_all, controls_in}
+use Rattle.branch_removal.specs.private.Removal.{controls_in_all, straightened}
 use Rattle.branch_removal.specs.Straight.{StraightBlock, chain}
 use Rattle.branch_removal.specs.Straight as straight
 
@@ -34,7 +37,8 @@ nodes-chain : (these those : StraightBlock) → block_nodes (chain these those) 
 nodes-chain straight.nothing those = omega arith
 nodes-chain (straight.first statement these) those = omega (arith, nodes-chain these those)
 
-nodes_within : (within : Option ℕ) (x : ℕ) (value : TermTree) → statement_nodes (set_within within x value) ≡ 1 + term_nodes value
+nodes_within : (within : Option ℕ) (x : ℕ) (value : TermTree)
+    → statement_nodes (set_within within x value) ≡ 1 + term_nodes value
 nodes_within None x value = refl
 nodes_within (Some control) x value = refl
 
@@ -56,41 +60,57 @@ mutual
   few_nodes within control (branch Secret condition accepted otherwise) =
       let xs = removed_all (Some control) (control + 2) accepted in
       let ys = removed_all (Some (control + 1)) (control + 2) otherwise in
-      omega (arith, nodes-chain xs ys, few_nodes_all (Some control) (control + 2) accepted, few_nodes_all (Some (control + 1)) (control + 2) otherwise)
+      omega (
+        arith,
+        nodes-chain xs ys,
+        few_nodes_all (Some control) (control + 2) accepted,
+        few_nodes_all (Some (control + 1)) (control + 2) otherwise,
+      )
   few_nodes within control (branch Public condition accepted otherwise) =
       omega (arith, few_nodes_all within control accepted, few_nodes_all within control otherwise)
   few_nodes within control (loop x low high body) = omega (arith, few_nodes_all within control body)
 
-  few_nodes_all : (within : Option ℕ) (control : ℕ) (b : FlatBlock) → block_nodes (removed_all within control b) ≤ body_nodes b
+  few_nodes_all : (within : Option ℕ) (control : ℕ) (b : FlatBlock)
+      → block_nodes (removed_all within control b) ≤ body_nodes b
   few_nodes_all within control nothing = omega arith
   few_nodes_all within control (first s rest) =
-      omega (arith, nodes-chain (removed within control s) (removed_all within control rest), few_nodes within control s, few_nodes_all within control rest)
+      omega (
+        arith,
+        nodes-chain (removed within control s) (removed_all within control rest),
+        few_nodes within control s,
+        few_nodes_all within control rest,
+      )
 
 -- Work.
 
 module _ (most : List ℕ) where
-  work-chain : (these those : StraightBlock) → block_work most (chain these those) ≡ block_work most these + block_work most those
+  work-chain : (these those : StraightBlock)
+      → block_work most (chain these those) ≡ block_work most these + block_work most those
   work-chain straight.nothing those = omega arith
   work-chain (straight.first statement these) those = omega (arith, work-chain these those)
 
-  work_within : (within : Option ℕ) (x : ℕ) (value : TermTree) → statement_work most (set_within within x value) ≡ 1 + term_nodes value
+  work_within : (within : Option ℕ) (x : ℕ) (value : TermTree)
+      → statement_work most (set_within within x value) ≡ 1 + term_nodes value
   work_within None x value = refl
   work_within (Some control) x value = refl
 
   work_put : (within : Option ℕ) (place : Place) (x size : ℕ) (index value : TermTree)
-      → statement_work most (put_within within place x size index value) ≡ 1 + (1 + term_nodes index) + term_nodes value
+      → statement_work most (put_within within place x size index value)
+      ≡ 1 + (1 + term_nodes index) + term_nodes value
   work_put None place x size index value = refl
   work_put (Some control) place x size index value = refl
 
   module _ (declared : List FlatVariable) where
     mutual
-      no_more_work : (types : Types) (label : Label) (s : FlatTree) → IsTyped declared types label s → (within : Option ℕ) (control : ℕ)
+      no_more_work : (types : Types) (label : Label) (s : FlatTree) → IsTyped declared types label s
+          → (within : Option ℕ) (control : ℕ)
           → block_work most (removed within control s) ≤ tree_work most s
       no_more_work types label (declare x word mutable value) typed within control = omega arith
       no_more_work types label (array x word mutable size []) typed within control = omega arith
       no_more_work types label (array x word mutable size (e ∷ es)) typed within control = omega (arith, typed.2)
       no_more_work types label (assign x value) typed within control = omega (arith, work_within within x value)
-      no_more_work types label (put place x size index value) typed within control = omega (arith, work_put within place x size index value)
+      no_more_work types label (put place x size index value) typed within control =
+          omega (arith, work_put within place x size index value)
       no_more_work types label (hold x place size index) typed within control = omega arith
       no_more_work types label skip typed within control = omega arith
       no_more_work types label (branch Secret condition accepted otherwise) typed within control =
@@ -105,11 +125,13 @@ module _ (most : List ℕ) where
           omega (arith, one, other)
       no_more_work types label (loop x low high body) typed within control =
           let inner = no_more_work_all (with_type types x _) label body typed.3 within control in
-          let turns : (slice_index most x + 1) * (1 + block_work most (removed_all within control body)) ≤ (slice_index most x + 1) * (1 + body_work most body) =
+          let turns : (slice_index most x + 1) * (1 + block_work most (removed_all within control body))
+          ≤ (slice_index most x + 1) * (1 + body_work most body) =
           mul-le-mul_left (slice_index most x + 1) (omega (arith, inner)) in
           omega (arith, turns)
 
-      pub no_more_work_all : (types : Types) (label : Label) (b : FlatBlock) → AreTyped declared types label b → (within : Option ℕ) (control : ℕ)
+      pub no_more_work_all : (types : Types) (label : Label) (b : FlatBlock) → AreTyped declared types label b
+          → (within : Option ℕ) (control : ℕ)
           → block_work most (removed_all within control b) ≤ body_work most b
       no_more_work_all types label nothing typed within control = omega arith
       no_more_work_all types label (first s rest) typed within control =
@@ -119,7 +141,8 @@ module _ (most : List ℕ) where
 
 -- Control values.
 
-taken-chain : (these those : StraightBlock) → taken_in_all (chain these those) ≡ taken_in_all these + taken_in_all those
+taken-chain : (these those : StraightBlock)
+    → taken_in_all (chain these those) ≡ taken_in_all these + taken_in_all those
 taken-chain straight.nothing those = omega arith
 taken-chain (straight.first statement these) those = omega (arith, taken-chain these those)
 
@@ -128,7 +151,8 @@ most_of_two : (a b m n : ℕ) → a ≤ 2 * m → b ≤ 2 * n → max a b ≤ 2 
 most_of_two a b m n p q = max-le (omega (arith, p)) (omega (arith, q))
 
 mutual
-  controls_taken : (within : Option ℕ) (control : ℕ) (s : FlatTree) → controls_in s ≤ 2 * taken_in_all (removed within control s)
+  controls_taken : (within : Option ℕ) (control : ℕ) (s : FlatTree)
+      → controls_in s ≤ 2 * taken_in_all (removed within control s)
   controls_taken within control (declare x word mutable value) = omega arith
   controls_taken within control (array x word mutable size values) = omega arith
   controls_taken within control (assign x value) = omega arith
@@ -138,18 +162,22 @@ mutual
   controls_taken within control (branch Secret condition accepted otherwise) =
       let xs = removed_all (Some control) (control + 2) accepted in
       let ys = removed_all (Some (control + 1)) (control + 2) otherwise in
-      let most = most_of_two (controls_in_all accepted) (controls_in_all otherwise) (taken_in_all xs) (taken_in_all ys)
-      (controls_taken_all (Some control) (control + 2) accepted) (controls_taken_all (Some (control + 1)) (control + 2) otherwise) in
+      let most = most_of_two (controls_in_all accepted) (controls_in_all otherwise) (taken_in_all xs)
+      (taken_in_all ys)
+      (controls_taken_all (Some control) (control + 2) accepted)
+      (controls_taken_all (Some (control + 1)) (control + 2) otherwise) in
       omega (arith, most, taken-chain xs ys)
   controls_taken within control (branch Public condition accepted otherwise) =
       let xs = removed_all within control accepted in
       let ys = removed_all within control otherwise in
-      let most = most_of_two (controls_in_all accepted) (controls_in_all otherwise) (taken_in_all xs) (taken_in_all ys)
+      let most = most_of_two (controls_in_all accepted) (controls_in_all otherwise) (taken_in_all xs)
+      (taken_in_all ys)
       (controls_taken_all within control accepted) (controls_taken_all within control otherwise) in
       omega (arith, most)
   controls_taken within control (loop x low high body) = omega (arith, controls_taken_all within control body)
 
-  controls_taken_all : (within : Option ℕ) (control : ℕ) (b : FlatBlock) → controls_in_all b ≤ 2 * taken_in_all (removed_all within control b)
+  controls_taken_all : (within : Option ℕ) (control : ℕ) (b : FlatBlock)
+      → controls_in_all b ≤ 2 * taken_in_all (removed_all within control b)
   controls_taken_all within control nothing = omega arith
   controls_taken_all within control (first s rest) =
       let xs = removed within control s in
@@ -169,12 +197,14 @@ mutual
   few (branch Secret condition accepted otherwise) =
       let one = few_all accepted in
       let other = few_all otherwise in
-      let most : max (controls_in_all accepted) (controls_in_all otherwise) ≤ body_nodes accepted + body_nodes otherwise = max-le (omega (arith, one)) (omega (arith, other)) in
+      let most : max (controls_in_all accepted) (controls_in_all otherwise) ≤ body_nodes accepted
+      + body_nodes otherwise = max-le (omega (arith, one)) (omega (arith, other)) in
       omega (arith, most, some_node condition)
   few (branch Public condition accepted otherwise) =
       let one = few_all accepted in
       let other = few_all otherwise in
-      let most : max (controls_in_all accepted) (controls_in_all otherwise) ≤ body_nodes accepted + body_nodes otherwise = max-le (omega (arith, one)) (omega (arith, other)) in
+      let most : max (controls_in_all accepted) (controls_in_all otherwise) ≤ body_nodes accepted
+      + body_nodes otherwise = max-le (omega (arith, one)) (omega (arith, other)) in
       omega (arith, most)
   few (loop x low high body) = omega (arith, few_all body)
 
@@ -186,7 +216,8 @@ mutual
 pub few_controls : (p : FlatProgram) → IsSized p → controls_in_all p.body ≤ most_nodes
 few_controls p sized = omega (arith, few_all p.body, sized.counted, sized.nodes)
 
-pub bounded : (p : FlatProgram) → IsTypedProgram p → IsSized p → (ranged p).work ≤ most_work → IsBounded (straightened (ranged p))
+pub bounded : (p : FlatProgram) → IsTypedProgram p → IsSized p → (ranged p).work ≤ most_work
+    → IsBounded (straightened (ranged p))
 bounded p typed sized fits = record {
   lengths = sized.lengths;
   parameters = sized.parameters;

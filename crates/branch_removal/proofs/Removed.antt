@@ -38,20 +38,25 @@ module _ (p : FlatProgram) (typed : IsTypedProgram p) where
   first_among = parameters_among p.profile p.parameters p.declared typed.parameters
 
   end_among : AreAmong (end_types p) (types_of p.profile p.declared)
-  end_among = among_after_all p.profile p.declared (parameter_types p.profile p.parameters) Public p.body typed.body first_among
+  end_among = among_after_all p.profile p.declared (parameter_types p.profile p.parameters) Public p.body typed.body
+      first_among
 
   typed_straight : IsTypedStraight (straightened (ranged p))
   typed_straight = record {
     parameters = typed.parameters;
-    body = typed_all p.profile p.declared (controls_in_all p.body) (parameter_types p.profile p.parameters) Public p.body typed.body first_among None 0 tt (omega arith);
-    hidden = hidden_all p.profile p.declared (parameter_types p.profile p.parameters) Public p.body typed.body first_among None 0 tt;
+    body = typed_all p.profile p.declared (controls_in_all p.body) (parameter_types p.profile p.parameters) Public
+        p.body typed.body first_among None 0 tt (omega arith);
+    hidden = hidden_all p.profile p.declared (parameter_types p.profile p.parameters) Public p.body typed.body
+        first_among None 0 tt;
     result = result_among (end_types p) (types_of p.profile p.declared) end_among p.returned p.value typed.result;
   }
 
   -- a parameter is in scope at the end
-  parameter_stays : (k : ℕ) (parameter : Param) → slice_get p.parameters k ≡ Some parameter → (end_types p).at k ≡ Some (declaration_of parameter)
+  parameter_stays : (k : ℕ) (parameter : Param) → slice_get p.parameters k ≡ Some parameter
+      → (end_types p).at k ≡ Some (declaration_of parameter)
   parameter_stays k parameter there =
-      stays_all p.declared (parameter_types p.profile p.parameters) Public p.body typed.body k (declaration_of parameter) (parameter_at p.parameters k parameter there)
+      stays_all p.declared (parameter_types p.profile p.parameters) Public p.body typed.body k
+      (declaration_of parameter) (parameter_at p.parameters k parameter there)
 
   module _ (args : List Arg) where
     same_end : Agree everything (end_types p) (end_of (straightened (ranged p)) args) (flat.end_of p args)
@@ -62,22 +67,43 @@ module _ (p : FlatProgram) (typed : IsTypedProgram p) where
     same_outcome =
         ap₂ (λ (v : Option ℕ) (arrays : List (List ℕ)). record { returned = v; arrays = arrays })
         (one_result (end_types p) _ _ same_end p.returned p.value typed.result)
-        (all_arrays p.parameters _ _ (λ k parameter there. same_end k (declaration_of parameter) (parameter_stays k parameter there) tt))
+        (all_arrays p.parameters _ _ (λ k parameter there.
+        same_end k (declaration_of parameter) (parameter_stays k parameter there) tt))
 
-    fine_path : (turns : List ℕ) → IsSafe p turns → AreWithin p.parameters args → AreFine turns (path_of (straightened (ranged p)) args)
+    fine_path : (turns : List ℕ) → IsSafe p turns → AreWithin p.parameters args
+        → AreFine turns (path_of (straightened (ranged p)) args)
     fine_path turns safe within =
         let s = start (straightened (ranged p)) args in
-        let run = follow_all p.profile p.declared (parameter_types p.profile p.parameters) Public p.body typed.body first_among None 0 tt s (given p.declared args) (λ y d known public. refl) in
-        fine_both turns (path_along s (removed_all None 0 p.body)) (path_of_result (end_of (straightened (ranged p)) args) p.value)
-        (fine_all p.profile p.declared turns (parameter_types p.profile p.parameters) Public p.body typed.body first_among None 0 tt s (given p.declared args) (λ y d known public. refl)
+        let run = follow_all p.profile p.declared (parameter_types p.profile p.parameters) Public p.body typed.body
+        first_among None 0 tt s (given p.declared args) (λ y d known public. refl) in
+        fine_both turns (path_along s (removed_all None 0 p.body))
+        (path_of_result (end_of (straightened (ranged p)) args) p.value)
+        (fine_all p.profile p.declared turns (parameter_types p.profile p.parameters) Public p.body typed.body
+        first_among None 0 tt s (given p.declared args) (λ y d known public. refl)
         (λ t q leads. fine_front turns q (path_of_result t p.value)
-        (safe args _ within (record { end = t; front = q; back = path_of_result t p.value; body = leads; result = returns p.profile p.declared t p.value; whole = refl }))))
-        (fine_alike turns (end_types p).profile (path_of_result (end_of (straightened (ranged p)) args) p.value) (path_of_result run.end p.value)
+        (safe args _ within (record {
+          end = t;
+          front = q;
+          back = path_of_result t p.value;
+          body = leads;
+          result = returns p.profile p.declared t p.value;
+          whole = refl;
+        }))))
+        (fine_alike turns (end_types p).profile (path_of_result (end_of (straightened (ranged p)) args) p.value)
+        (path_of_result run.end p.value)
         (result_seen (end_types p) _ _ run.agree p.returned p.value typed.result)
         (fine_back turns run.path (path_of_result run.end p.value)
-        (safe args _ within (record { end = run.end; front = run.path; back = path_of_result run.end p.value; body = run.leads; result = returns p.profile p.declared run.end p.value; whole = refl }))))
+        (safe args _ within (record {
+          end = run.end;
+          front = run.path;
+          back = path_of_result run.end p.value;
+          body = run.leads;
+          result = returns p.profile p.declared run.end p.value;
+          whole = refl;
+        }))))
 
-is_removed : (p : FlatProgram) → IsTypedProgram p → IsSized p → IsSafe p (ranged p).turns → (ranged p).work ≤ most_work → IsRemoved (ranged p) (straightened (ranged p))
+is_removed : (p : FlatProgram) → IsTypedProgram p → IsSized p → IsSafe p (ranged p).turns
+    → (ranged p).work ≤ most_work → IsRemoved (ranged p) (straightened (ranged p))
 is_removed p typed sized safe fits = record {
   profile = refl;
   parameters = refl;
@@ -95,7 +121,8 @@ is_removed p typed sized safe fits = record {
 }
 
 -- straight code of these controls and statements
-pub as_listed : (r : RangedProgram) (controls : ℕ) (body : StraightBlock) (value : Option TermTree) → controls ≡ controls_in_all r.flat.body → body ≡ removed_all None 0 r.flat.body → value ≡ r.flat.value
+pub as_listed : (r : RangedProgram) (controls : ℕ) (body : StraightBlock) (value : Option TermTree)
+    → controls ≡ controls_in_all r.flat.body → body ≡ removed_all None 0 r.flat.body → value ≡ r.flat.value
     → record {
       profile = r.flat.profile;
       parameters = r.flat.parameters;
@@ -114,4 +141,6 @@ as_listed r controls body value counted same given = rw (counted, same, given) r
 pub removed_as_promised : (r : RangedProgram) → IsFlat r.flat → IsRanged r → IsRemoved r (straightened r)
 removed_as_promised r flat kept =
     subst (λ (q : RangedProgram). IsRemoved q (straightened q)) (sym kept.counted)
-    (is_removed r.flat flat.typed flat.sized (subst (λ (q : RangedProgram). IsSafe r.flat q.turns) kept.counted kept.safe) (subst (λ (q : RangedProgram). q.work ≤ most_work) kept.counted kept.worked))
+    (is_removed r.flat flat.typed flat.sized
+    (subst (λ (q : RangedProgram). IsSafe r.flat q.turns) kept.counted kept.safe)
+    (subst (λ (q : RangedProgram). q.work ≤ most_work) kept.counted kept.worked))

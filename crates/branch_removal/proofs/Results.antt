@@ -1,5 +1,6 @@
 -- Where runs begin, and what is compared of them at the end.
-use Rattle.std.proofs.Common.{◌≡◌, ℕ, zero, suc, ◌+◌, if◌then◌else◌, List, [], ◌∷◌, ◌++◌, length, map, take, drop, Option, None, Some, IfSome, slice_get, refl, sym, ap, ap₂, ◌∙◌, subst, arith}
+use Rattle.std.proofs.Common.{◌≡◌, ℕ, zero, suc, ◌+◌, if◌then◌else◌, List, [], ◌∷◌, ◌++◌, length, map, take, drop}
+use Rattle.std.proofs.Common.{Option, None, Some, IfSome, slice_get, refl, sym, ap, ap₂, ◌∙◌, subst, arith}
 use Rattle.std.specs.Option.{option_map}
 use Rattle.std.proofs.lemmas.Option.{none-some, same_Some}
 use Rattle.arguments.specs.Agreement.{EqualWherePublic}
@@ -24,26 +25,31 @@ use Rattle.branch_removal.proofs.Values.{public_suited}
 
 -- The parameters are the first variables.
 
-front_get : {A : Type 0} (n : ℕ) (xs : List A) (x : ℕ) (d : A) → slice_get (take n xs) x ≡ Some d → slice_get xs x ≡ Some d
+front_get : {A : Type 0} (n : ℕ) (xs : List A) (x : ℕ) (d : A) → slice_get (take n xs) x ≡ Some d
+    → slice_get xs x ≡ Some d
 front_get zero xs x d there = absurd (none-some d there)
 front_get (suc n) [] x d there = there
 front_get (suc n) (y ∷ xs) zero d there = there
 front_get (suc n) (y ∷ xs) (suc x) d there = front_get n xs x d there
 
-pub parameters_among : (profile : Profile) (parameters : List Param) (declared : List FlatVariable) → take (length parameters) declared ≡ map declaration_of parameters
+pub parameters_among : (profile : Profile) (parameters : List Param) (declared : List FlatVariable)
+    → take (length parameters) declared ≡ map declaration_of parameters
     → AreAmong (types_of profile (map declaration_of parameters)) (types_of profile declared)
 parameters_among profile parameters declared first = record {
   profile = refl;
-  at = λ x d there. front_get (length parameters) declared x d (ap (λ (ds : List FlatVariable). slice_get ds x) first ∙ there);
+  at = λ x d there. front_get (length parameters) declared x d
+      (ap (λ (ds : List FlatVariable). slice_get ds x) first ∙ there);
 }
 
-pub parameter_at : (parameters : List Param) (k : ℕ) (p : Param) → slice_get parameters k ≡ Some p → slice_get (map declaration_of parameters) k ≡ Some (declaration_of p)
+pub parameter_at : (parameters : List Param) (k : ℕ) (p : Param) → slice_get parameters k ≡ Some p
+    → slice_get (map declaration_of parameters) k ≡ Some (declaration_of p)
 parameter_at [] k p there = absurd (none-some p there)
 parameter_at (q ∷ parameters) zero p there = ap (λ r. Some (declaration_of r)) (same_Some q p there)
 parameter_at (q ∷ parameters) (suc k) p there = parameter_at parameters k p there
 
 -- arguments that agree are given to both
-pub given_in_step : (profile : Profile) (parameters : List Param) (declared : List FlatVariable) (one other : List Arg) → take (length parameters) declared ≡ map declaration_of parameters
+pub given_in_step : (profile : Profile) (parameters : List Param) (declared : List FlatVariable)
+    (one other : List Arg) → take (length parameters) declared ≡ map declaration_of parameters
     → AreWithin parameters one → AreWithin parameters other → EqualWherePublic parameters one other
     → Agree what_is_public (types_of profile declared) (given declared one) (given declared other)
 given_in_step profile [] declared [] [] first a b equal x d there public = refl
@@ -62,7 +68,8 @@ given_in_step profile (p ∷ ps) (e ∷ declared) (v ∷ one) (w ∷ other) firs
 -- Results.
 
 -- the arrays of both are the same where the parameters hold the same
-same_arrays : (parameters : List Param) (x : ℕ) (m n : Values) → ((k : ℕ) (p : Param) → slice_get parameters k ≡ Some p → m (x + k) ≡ n (x + k))
+same_arrays : (parameters : List Param) (x : ℕ) (m n : Values)
+    → ((k : ℕ) (p : Param) → slice_get parameters k ≡ Some p → m (x + k) ≡ n (x + k))
     → arrays_from x parameters m ≡ arrays_from x parameters n
 same_arrays [] x m n same = refl
 same_arrays (p ∷ ps) x m n same =
@@ -71,13 +78,19 @@ same_arrays (p ∷ ps) x m n same =
     (same_arrays ps (x + 1) m n (λ k q there. subst (λ y. m y ≡ n y) (omega arith) (same (suc k) q there)))
 
 -- the next array, where it is public
-next_arrays : (form : Form) (label : Label) (here there : List ℕ) (ps : List Param) (ones others : List (List ℕ)) → (label ≡ Public → here ≡ there)
+next_arrays : (form : Form) (label : Label) (here there : List ℕ) (ps : List Param) (ones others : List (List ℕ))
+    → (label ≡ Public → here ≡ there)
     → public_arrays ps ones ≡ public_arrays ps others
-    → (if is_mutable form then next_public label (array_of form here ++ ones) ++ public_arrays ps (drop 1 (array_of form here ++ ones)) else public_arrays ps (array_of form here ++ ones))
-    ≡ (if is_mutable form then next_public label (array_of form there ++ others) ++ public_arrays ps (drop 1 (array_of form there ++ others)) else public_arrays ps (array_of form there ++ others))
+    → (if is_mutable form then next_public label (array_of form here ++ ones)
+    ++ public_arrays ps (drop 1 (array_of form here ++ ones))
+    else public_arrays ps (array_of form here ++ ones))
+    ≡ (if is_mutable form then next_public label (array_of form there ++ others)
+    ++ public_arrays ps (drop 1 (array_of form there ++ others))
+    else public_arrays ps (array_of form there ++ others))
 next_arrays SingleWord label here there ps ones others equal more = more
 next_arrays FixedArray label here there ps ones others equal more = more
-next_arrays MutableArray Public here there ps ones others equal more = ap₂ (λ (v : List ℕ) (vs : List (List ℕ)). v ∷ vs) (equal refl) more
+next_arrays MutableArray Public here there ps ones others equal more =
+    ap₂ (λ (v : List ℕ) (vs : List (List ℕ)). v ∷ vs) (equal refl) more
 next_arrays MutableArray Secret here there ps ones others equal more = more
 
 same_public_arrays : (parameters : List Param) (x : ℕ) (m n : Values)
@@ -87,23 +100,30 @@ same_public_arrays [] x m n same = refl
 same_public_arrays (p ∷ ps) x m n same =
     next_arrays p.form p.label (m x) (n x) ps (arrays_from (x + 1) ps m) (arrays_from (x + 1) ps n)
     (λ public. subst (λ y. m y ≡ n y) (omega arith) (same 0 p refl public))
-    (same_public_arrays ps (x + 1) m n (λ k q there public. subst (λ y. m y ≡ n y) (omega arith) (same (suc k) q there public)))
+    (same_public_arrays ps (x + 1) m n (λ k q there public.
+    subst (λ y. m y ≡ n y) (omega arith) (same (suc k) q there public)))
 
 -- from the first parameter on
-pub all_arrays : (parameters : List Param) (m n : Values) → ((k : ℕ) (p : Param) → slice_get parameters k ≡ Some p → m k ≡ n k)
+pub all_arrays : (parameters : List Param) (m n : Values)
+    → ((k : ℕ) (p : Param) → slice_get parameters k ≡ Some p → m k ≡ n k)
     → arrays_from 0 parameters m ≡ arrays_from 0 parameters n
-all_arrays parameters m n same = same_arrays parameters 0 m n (λ k p there. subst (λ y. m y ≡ n y) (omega arith) (same k p there))
+all_arrays parameters m n same =
+    same_arrays parameters 0 m n (λ k p there. subst (λ y. m y ≡ n y) (omega arith) (same k p there))
 
 pub all_public_arrays : (parameters : List Param) (m n : Values)
     → ((k : ℕ) (p : Param) → slice_get parameters k ≡ Some p → p.label ≡ Public → m k ≡ n k)
     → public_arrays parameters (arrays_from 0 parameters m) ≡ public_arrays parameters (arrays_from 0 parameters n)
 all_public_arrays parameters m n same =
-    same_public_arrays parameters 0 m n (λ k p there public. subst (λ y. m y ≡ n y) (omega arith) (same k p there public))
+    same_public_arrays parameters 0 m n (λ k p there public.
+    subst (λ y. m y ≡ n y) (omega arith) (same k p there public))
 
 -- a result that is public, where there is one
-pub same_return : (types : Types) (m n : Values) → Agree what_is_public types m n → (returned : Option WordType) (value : Option TermTree) → IsResult types returned value
-    → IfSome returned (λ (word : WordType). word.label ≡ Public) → option_map (value_in m) value ≡ option_map (value_in n) value
+pub same_return : (types : Types) (m n : Values) → Agree what_is_public types m n
+    → (returned : Option WordType) (value : Option TermTree) → IsResult types returned value
+    → IfSome returned (λ (word : WordType). word.label ≡ Public)
+    → option_map (value_in m) value ≡ option_map (value_in n) value
 same_return types m n agree None None typed public = refl
 same_return types m n agree None (Some value) typed public = absurd typed
 same_return types m n agree (Some word) None typed public = absurd typed
-same_return types m n agree (Some word) (Some value) typed public = ap Some (public_suited types m n agree word value typed public)
+same_return types m n agree (Some word) (Some value) typed public =
+    ap Some (public_suited types m n agree word value typed public)

@@ -1,7 +1,9 @@
 -- Runs of straight code one after the other, turns of loops, and the control values that statements leave alone.
-use Rattle.std.proofs.Common.{◌≡◌, ℕ, zero, suc, ◌+◌, ◌-◌, ◌<◌, ◌==◌, Bool, true, false, cond, List, [], ◌∷◌, ◌++◌, Option, None, Some, slice_set, refl, sym, ap, ◌∙◌, append_assoc, subst, arith}
+use Rattle.std.proofs.Common.{◌≡◌, ℕ, zero, suc, ◌+◌, ◌-◌, ◌<◌, ◌==◌, Bool, true, false, cond, List, [], ◌∷◌, ◌++◌}
+use Rattle.std.proofs.Common.{Option, None, Some, slice_set, refl, sym, ap, ◌∙◌, append_assoc, subst, arith}
 use Rattle.std.proofs.lemmas.Bool.{cond-false, cond-true, ne_eqb, eq-eqb}
-use Rattle.inline.specs.Flat.{FlatTree, declare, array, assign, put, hold, skip, branch, loop, FlatBlock, nothing, first}
+use Rattle.inline.specs.Flat.{FlatTree, declare, array, assign, put, hold, skip, branch, loop, FlatBlock, nothing}
+use Rattle.inline.specs.Flat.{first}
 use Rattle.inline.specs.FlatMeaning.{turns, path_of_turns}
 use Rattle.inline.specs.Path.{Path, seen}
 use Rattle.language.specs.declared.signature.Label.TheVariants.{Public, Secret}
@@ -9,12 +11,14 @@ use Rattle.word.specs.declared.profile.Profile.{Profile}
 use Rattle.branch_removal.specs.private.Removal.{take_within, removed, removed_all}
 use Rattle.branch_removal.specs.Straight.{StraightTree, take, StraightBlock, chain}
 use Rattle.branch_removal.specs.Straight as straight
-use Rattle.branch_removal.specs.StraightMeaning.{StraightState, with_variable, with_controls, value_at, counted, after, after_all, path_at, path_along}
+use Rattle.branch_removal.specs.StraightMeaning.{StraightState, with_variable, with_controls, value_at, counted}
+use Rattle.branch_removal.specs.StraightMeaning.{after, after_all, path_at, path_along}
 use Rattle.branch_removal.proofs.SeenLemmas.{both_seen}
 
 -- One block and then another.
 
-pub after-chain : (s : StraightState) (these those : StraightBlock) → after_all s (chain these those) ≡ after_all (after_all s these) those
+pub after-chain : (s : StraightState) (these those : StraightBlock)
+    → after_all s (chain these those) ≡ after_all (after_all s these) those
 after-chain s straight.nothing those = refl
 after-chain s (straight.first statement these) those = after-chain (after s statement) these those
 
@@ -23,7 +27,8 @@ pub path-chain : (s : StraightState) (these those : StraightBlock)
 path-chain s straight.nothing those = refl
 path-chain s (straight.first statement these) those =
     ap (λ rest. path_at s statement ++ rest) (path-chain (after s statement) these those)
-    ∙ sym (append_assoc (path_at s statement) (path_along (after s statement) these) (path_along (after_all (after s statement) these) those))
+    ∙ sym (append_assoc (path_at s statement) (path_along (after s statement) these)
+    (path_along (after_all (after s statement) these) those))
 
 -- Turns.
 
@@ -45,47 +50,56 @@ pub turns_relate_from : {S T : Type 0} (R : S → T → Type 0) (f : ℕ → S �
     → ((i : ℕ) (s : S) (t : T) → R s t → R (f i s) (g i t))
     → (n k i j : ℕ) → n ≡ k → i ≡ j → (s : S) (t : T) → R s t → R (turns n i f s) (turns k j g t)
 turns_relate_from R f g keep n k i j many from s t r =
-    subst (λ l. R (turns n i f s) (turns l j g t)) many (subst (λ l. R (turns n i f s) (turns n l g t)) from (turns_relate R f g keep n i s t r))
+    subst (λ l. R (turns n i f s) (turns l j g t)) many
+    (subst (λ l. R (turns n i f s) (turns n l g t)) from (turns_relate R f g keep n i s t r))
 
 -- where the same is seen of the turns of two loops, it is of the loops
 pub turns_seen : (profile : Profile) {S : Type 0} (R : S → S → Type 0) (turn : ℕ → S → S) (path : ℕ → S → Path)
     → ((i : ℕ) (s t : S) → R s t → R (turn i s) (turn i t))
     → ((i : ℕ) (s t : S) → R s t → seen profile (path i s) ≡ seen profile (path i t))
-    → (n i : ℕ) (s t : S) → R s t → seen profile (path_of_turns n i turn path s) ≡ seen profile (path_of_turns n i turn path t)
+    → (n i : ℕ) (s t : S) → R s t → seen profile (path_of_turns n i turn path s)
+    ≡ seen profile (path_of_turns n i turn path t)
 turns_seen profile R turn path keep one zero i s t r = refl
 turns_seen profile R turn path keep one (suc n) i s t r =
-    both_seen profile (path i s) (path_of_turns n (i + 1) turn path (turn i s)) (path i t) (path_of_turns n (i + 1) turn path (turn i t))
+    both_seen profile (path i s) (path_of_turns n (i + 1) turn path (turn i s)) (path i t)
+    (path_of_turns n (i + 1) turn path (turn i t))
     (one i s t r) (turns_seen profile R turn path keep one n (i + 1) (turn i s) (turn i t) (keep i s t r))
 
 -- Control values.
 
 -- both control values of a condition, and those below them
-pub first_control : (s : StraightState) (control : ℕ) (a b : Bool) → (with_controls s control a b).controls control ≡ a
+pub first_control : (s : StraightState) (control : ℕ) (a b : Bool)
+    → (with_controls s control a b).controls control ≡ a
 first_control s control a b = cond-true (control == control) a _ (eq-eqb control control refl)
 
-pub second_control : (s : StraightState) (control : ℕ) (a b : Bool) → (with_controls s control a b).controls (control + 1) ≡ b
+pub second_control : (s : StraightState) (control : ℕ) (a b : Bool)
+    → (with_controls s control a b).controls (control + 1) ≡ b
 second_control s control a b =
     cond-false (control + 1 == control) a _ (ne_eqb (control + 1) control (λ e. omega arith))
     ∙ cond-true (control + 1 == control + 1) b (s.controls (control + 1)) (eq-eqb (control + 1) (control + 1) refl)
 
-pub lower_control : (s : StraightState) (control : ℕ) (a b : Bool) (c : ℕ) → c < control → (with_controls s control a b).controls c ≡ s.controls c
+pub lower_control : (s : StraightState) (control : ℕ) (a b : Bool) (c : ℕ) → c < control
+    → (with_controls s control a b).controls c ≡ s.controls c
 lower_control s control a b c below =
     cond-false (c == control) a _ (ne_eqb c control (λ e. omega arith))
     ∙ cond-false (c == control + 1) b (s.controls c) (ne_eqb c (control + 1) (λ e. omega arith))
 
-under_controls : (b : Bool) (s : StraightState) (x : ℕ) (v : List ℕ) → (cond b (with_variable s x v) s).controls ≡ s.controls
+under_controls : (b : Bool) (s : StraightState) (x : ℕ) (v : List ℕ)
+    → (cond b (with_variable s x v) s).controls ≡ s.controls
 under_controls true s x v = refl
 under_controls false s x v = refl
 
 -- of two blocks that both leave a control value alone
-either_control : (b : Bool) (s one other : StraightState) (c : ℕ) → one.controls c ≡ s.controls c → other.controls c ≡ s.controls c
+either_control : (b : Bool) (s one other : StraightState) (c : ℕ) → one.controls c ≡ s.controls c
+    → other.controls c ≡ s.controls c
     → (cond b other one).controls c ≡ s.controls c
 either_control true s one other c accepted otherwise = otherwise
 either_control false s one other c accepted otherwise = accepted
 
 mutual
   -- a statement takes no control value below its own
-  pub controls_stay : (within : Option ℕ) (control : ℕ) (statement : FlatTree) (s : StraightState) (c : ℕ) → c < control
+  pub controls_stay : (within : Option ℕ) (control : ℕ) (statement : FlatTree) (s : StraightState) (c : ℕ)
+      → c < control
       → (after_all s (removed within control statement)).controls c ≡ s.controls c
   controls_stay within control (declare x word mutable value) s c below = refl
   controls_stay within control (array x word mutable size []) s c below = refl
@@ -101,22 +115,27 @@ mutual
   controls_stay within control (branch Secret condition accepted otherwise) s c below =
       let taken : StraightState = after s (take_within within control condition) in
       let code : StraightBlock = removed_all (Some control) (control + 2) accepted in
-      ap (λ (t : StraightState). t.controls c) (after-chain taken code (removed_all (Some (control + 1)) (control + 2) otherwise))
+      ap (λ (t : StraightState). t.controls c)
+      (after-chain taken code (removed_all (Some (control + 1)) (control + 2) otherwise))
       ∙ (controls_stay_all (Some (control + 1)) (control + 2) otherwise (after_all taken code) c (omega arith)
       ∙ (controls_stay_all (Some control) (control + 2) accepted taken c (omega arith)
       ∙ lower_control s control _ _ c below))
   controls_stay within control (branch Public condition accepted otherwise) s c below =
-      either_control (value_at s condition == 0) s (after_all s (removed_all within control accepted)) (after_all s (removed_all within control otherwise)) c
+      either_control (value_at s condition == 0) s (after_all s (removed_all within control accepted))
+      (after_all s (removed_all within control otherwise)) c
       (controls_stay_all within control accepted s c below) (controls_stay_all within control otherwise s c below)
   controls_stay within control (loop x low high body) s c below =
-      turns_keep (λ (t : StraightState). t.controls c ≡ s.controls c) (λ i t. after_all (counted x i t) (removed_all within control body))
+      turns_keep (λ (t : StraightState). t.controls c ≡ s.controls c)
+      (λ i t. after_all (counted x i t) (removed_all within control body))
       (λ i t same. controls_stay_all within control body (counted x i t) c below ∙ same)
       (value_at s high - value_at s low) (value_at s low) s refl
 
-  pub controls_stay_all : (within : Option ℕ) (control : ℕ) (body : FlatBlock) (s : StraightState) (c : ℕ) → c < control
+  pub controls_stay_all : (within : Option ℕ) (control : ℕ) (body : FlatBlock) (s : StraightState) (c : ℕ)
+      → c < control
       → (after_all s (removed_all within control body)).controls c ≡ s.controls c
   controls_stay_all within control nothing s c below = refl
   controls_stay_all within control (first statement rest) s c below =
-      ap (λ (t : StraightState). t.controls c) (after-chain s (removed within control statement) (removed_all within control rest))
+      ap (λ (t : StraightState). t.controls c)
+      (after-chain s (removed within control statement) (removed_all within control rest))
       ∙ (controls_stay_all within control rest (after_all s (removed within control statement)) c below
       ∙ controls_stay within control statement s c below)

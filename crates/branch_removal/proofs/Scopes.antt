@@ -1,10 +1,14 @@
 -- What is in scope stays in scope, as it is declared, and is declared so in the list of all variables.
-use Rattle.std.proofs.Common.{◌≡◌, ℕ, ◌==◌, Bool, true, false, cond, List, [], ◌∷◌, Option, None, Some, slice_get, refl, sym, ap, ◌∙◌, subst}
+use Rattle.std.proofs.Common.{◌≡◌, ℕ, ◌==◌, Bool, true, false, cond, List, [], ◌∷◌, Option, None, Some, slice_get}
+use Rattle.std.proofs.Common.{refl, sym, ap, ◌∙◌, subst}
 use Rattle.std.proofs.lemmas.Bool.{eqb-true, false_from_ne_true, cond-false}
 use Rattle.std.proofs.lemmas.Option.{none-some}
 use Rattle.inline.specs.declared.flat.FlatVariable.{FlatVariable}
-use Rattle.inline.specs.Flat.{TermTree, FlatTree, declare, array, assign, put, hold, skip, branch, loop, FlatBlock, nothing, first}
-use Rattle.inline.specs.FlatTyping.{Types, with_type, types_of, HasType, of_number, of_truth, of_variable, of_prefix, of_binary, of_rotation, of_conversion, of_selection, of_element, Suits, AllSuit, IsResult, IsTyped, AreTyped, types_after, types_after_all}
+use Rattle.inline.specs.Flat.{TermTree, FlatTree, declare, array, assign, put, hold, skip, branch, loop, FlatBlock}
+use Rattle.inline.specs.Flat.{nothing, first}
+use Rattle.inline.specs.FlatTyping.{Types, with_type, types_of, HasType, of_number, of_truth, of_variable, of_prefix}
+use Rattle.inline.specs.FlatTyping.{of_binary, of_rotation, of_conversion, of_selection, of_element, Suits, AllSuit}
+use Rattle.inline.specs.FlatTyping.{IsResult, IsTyped, AreTyped, types_after, types_after_all}
 use Rattle.branch_removal.specs.StraightTyping.{types_but}
 use Rattle.language.specs.declared.signature.Label.{Label}
 use Rattle.language.specs.declared.typing.WordType.{WordType}
@@ -20,14 +24,16 @@ apart types x y d new known =
 -- what is in scope is as it was where a new variable is declared
 pub stays_beside : (types : Types) (x : ℕ) (new : FlatVariable) → types.at x ≡ None
     → (y : ℕ) (d : FlatVariable) → types.at y ≡ Some d → (with_type types x new).at y ≡ Some d
-stays_beside types x new absent y d known = cond-false (y == x) (Some new) (types.at y) (apart types x y d absent known) ∙ known
+stays_beside types x new absent y d known =
+    cond-false (y == x) (Some new) (types.at y) (apart types x y d absent known) ∙ known
 
 module _ (declared : List FlatVariable) where
   mutual
     pub stays : (types : Types) (label : Label) (statement : FlatTree) → IsTyped declared types label statement
         → (y : ℕ) (d : FlatVariable) → types.at y ≡ Some d → (types_after types statement).at y ≡ Some d
     stays types label (declare x word mutable value) typed y d known = stays_beside types x _ typed.0.new y d known
-    stays types label (array x word mutable size values) typed y d known = stays_beside types x _ typed.0.new y d known
+    stays types label (array x word mutable size values) typed y d known =
+        stays_beside types x _ typed.0.new y d known
     stays types label (assign x value) typed y d known = known
     stays types label (put place x size index value) typed y d known = known
     stays types label (hold x place size index) typed y d known = stays_beside types x _ typed.0.new y d known
@@ -54,67 +60,89 @@ module _ (types all : Types) (among : AreAmong types all) where
   has_type_among (of_variable {x = x} {mutable = mutable} is) = of_variable {mutable = mutable} (among.at x _ is)
   has_type_among (of_prefix has takes even) = of_prefix (has_type_among has) takes even
   has_type_among (of_binary {operator = operator} {one = one} {other = other} {whole = whole} has more makes even) =
-      of_binary (has_type_among has) (has_type_among more) (subst (λ profile. Makes profile (operation_of operator) one other whole) among.profile makes) even
+      of_binary (has_type_among has) (has_type_among more)
+      (subst (λ profile. Makes profile (operation_of operator) one other whole) among.profile makes) even
   has_type_among (of_rotation has numeric low high even) = of_rotation (has_type_among has) numeric low high even
   has_type_among (of_conversion has numeric) = of_conversion (has_type_among has) numeric
-  has_type_among (of_selection chooser has more) = of_selection (has_type_among chooser) (has_type_among has) (has_type_among more)
-  has_type_among (of_element {x = x} {mutable = mutable} is index) = of_element {mutable = mutable} (among.at x _ is) (has_type_among index)
+  has_type_among (of_selection chooser has more) =
+      of_selection (has_type_among chooser) (has_type_among has) (has_type_among more)
+  has_type_among (of_element {x = x} {mutable = mutable} is index) =
+      of_element {mutable = mutable} (among.at x _ is) (has_type_among index)
 
   pub suits_among : (wanted : WordType) (e : TermTree) → Suits types wanted e → Suits all wanted e
-  suits_among wanted e suits = record { word = suits.word; has_type = has_type_among suits.has_type; kind = suits.kind; label = suits.label }
+  suits_among wanted e suits = record {
+    word = suits.word;
+    has_type = has_type_among suits.has_type;
+    kind = suits.kind;
+    label = suits.label;
+  }
 
   pub suit_among : (wanted : WordType) (es : List TermTree) → AllSuit types wanted es → AllSuit all wanted es
   suit_among wanted [] suits = tt
   suit_among wanted (e ∷ es) suits = (suits_among wanted e suits.0, suit_among wanted es suits.1)
 
-  pub result_among : (returned : Option WordType) (value : Option TermTree) → IsResult types returned value → IsResult all returned value
+  pub result_among : (returned : Option WordType) (value : Option TermTree) → IsResult types returned value
+      → IsResult all returned value
   result_among None None result = tt
   result_among None (Some value) result = absurd result
   result_among (Some word) None result = absurd result
   result_among (Some word) (Some value) result = suits_among word value result
 
 -- a variable that is listed as it is declared
-pub among_beside : (profile : Profile) (declared : List FlatVariable) (types : Types) (x : ℕ) (new : FlatVariable) → slice_get declared x ≡ Some new
+pub among_beside : (profile : Profile) (declared : List FlatVariable) (types : Types) (x : ℕ) (new : FlatVariable)
+    → slice_get declared x ≡ Some new
     → AreAmong types (types_of profile declared) → AreAmong (with_type types x new) (types_of profile declared)
-among_beside profile declared types x new listed among = record { profile = among.profile; at = λ y d known. beside y d known }
+among_beside profile declared types x new listed among =
+    record { profile = among.profile; at = λ y d known. beside y d known }
   where
     beside : (y : ℕ) (d : FlatVariable) → (with_type types x new).at y ≡ Some d → slice_get declared y ≡ Some d
     beside y d known = by_number (y == x) refl known
       where
-        by_number : (b : Bool) → (y == x) ≡ b → cond b (Some new) (types.at y) ≡ Some d → slice_get declared y ≡ Some d
+        by_number : (b : Bool) → (y == x) ≡ b → cond b (Some new) (types.at y) ≡ Some d
+            → slice_get declared y ≡ Some d
         by_number true is known = ap (slice_get declared) (eqb-true y x is) ∙ (listed ∙ known)
         by_number false is known = among.at y d known
 
 module _ (profile : Profile) (declared : List FlatVariable) where
   mutual
     pub among_after : (types : Types) (label : Label) (statement : FlatTree) → IsTyped declared types label statement
-        → AreAmong types (types_of profile declared) → AreAmong (types_after types statement) (types_of profile declared)
-    among_after types label (declare x word mutable value) typed among = among_beside profile declared types x _ typed.0.listed among
-    among_after types label (array x word mutable size values) typed among = among_beside profile declared types x _ typed.0.listed among
+        → AreAmong types (types_of profile declared)
+        → AreAmong (types_after types statement) (types_of profile declared)
+    among_after types label (declare x word mutable value) typed among =
+        among_beside profile declared types x _ typed.0.listed among
+    among_after types label (array x word mutable size values) typed among =
+        among_beside profile declared types x _ typed.0.listed among
     among_after types label (assign x value) typed among = among
     among_after types label (put place x size index value) typed among = among
-    among_after types label (hold x place size index) typed among = among_beside profile declared types x _ typed.0.listed among
+    among_after types label (hold x place size index) typed among =
+        among_beside profile declared types x _ typed.0.listed among
     among_after types label skip typed among = among
     among_after types label (branch own condition accepted otherwise) typed among = among
     among_after types label (loop x low high body) typed among = among
 
     pub among_after_all : (types : Types) (label : Label) (body : FlatBlock) → AreTyped declared types label body
-        → AreAmong types (types_of profile declared) → AreAmong (types_after_all types body) (types_of profile declared)
+        → AreAmong types (types_of profile declared)
+        → AreAmong (types_after_all types body) (types_of profile declared)
     among_after_all types label nothing typed among = among
     among_after_all types label (first statement rest) typed among =
-        among_after_all (types_after types statement) label rest typed.1 (among_after types label statement typed.0 among)
+        among_after_all (types_after types statement) label rest typed.1
+        (among_after types label statement typed.0 among)
 
 -- what is in scope is among all variables but a new one
-pub among_but : (profile : Profile) (declared : List FlatVariable) (types : Types) (x : ℕ) → types.at x ≡ None → AreAmong types (types_of profile declared) → AreAmong types (types_but profile declared x)
+pub among_but : (profile : Profile) (declared : List FlatVariable) (types : Types) (x : ℕ) → types.at x ≡ None
+    → AreAmong types (types_of profile declared) → AreAmong types (types_but profile declared x)
 among_but profile declared types x new among = record {
   profile = among.profile;
-  at = λ y d known. cond-false (y == x) None (slice_get declared y) (apart types x y d new known) ∙ among.at y d known;
+  at = λ y d known. cond-false (y == x) None (slice_get declared y) (apart types x y d new known)
+      ∙ among.at y d known;
 }
 
 -- and these are among all
-pub but_among : (profile : Profile) (declared : List FlatVariable) (x : ℕ) → AreAmong (types_but profile declared x) (types_of profile declared)
+pub but_among : (profile : Profile) (declared : List FlatVariable) (x : ℕ)
+    → AreAmong (types_but profile declared x) (types_of profile declared)
 but_among profile declared x = record { profile = refl; at = λ y d known. by_number y d (y == x) known }
   where
-    by_number : (y : ℕ) (d : FlatVariable) (b : Bool) → cond b None (slice_get declared y) ≡ Some d → slice_get declared y ≡ Some d
+    by_number : (y : ℕ) (d : FlatVariable) (b : Bool) → cond b None (slice_get declared y) ≡ Some d
+        → slice_get declared y ≡ Some d
     by_number y d true known = absurd (none-some d known)
     by_number y d false known = known

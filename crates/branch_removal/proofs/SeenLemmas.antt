@@ -12,7 +12,8 @@ seen-append profile (mark ∷ a) b =
     ∙ sym (append_assoc (shown_of profile mark) (seen profile a) (seen profile b))
 
 -- so the same is seen where the same is seen of each
-pub both_seen : (profile : Profile) (a b c d : Path) → seen profile a ≡ seen profile c → seen profile b ≡ seen profile d
+pub both_seen : (profile : Profile) (a b c d : Path) → seen profile a ≡ seen profile c
+    → seen profile b ≡ seen profile d
     → seen profile (a ++ b) ≡ seen profile (c ++ d)
 both_seen profile a b c d one other =
     seen-append profile a b ∙ (ap₂ (λ (p q : Path). p ++ q) one other ∙ sym (seen-append profile c d))
@@ -27,7 +28,8 @@ module _ (turns : List ℕ) (profile : Profile) where
   fine_seen (divided place left right ∷ rest) fine = (fine.0, fine_seen rest fine.1)
   fine_seen (multiplied left right ∷ rest) fine = by_profile profile (fine_seen rest fine.1)
     where
-      by_profile : (p : Profile) → AreFine turns (seen profile rest) → AreFine turns (shown_of p (multiplied left right) ++ seen profile rest)
+      by_profile : (p : Profile) → AreFine turns (seen profile rest)
+          → AreFine turns (shown_of p (multiplied left right) ++ seen profile rest)
       by_profile P1 more = more
       by_profile P2 more = (tt, more)
 
@@ -40,7 +42,8 @@ module _ (turns : List ℕ) (profile : Profile) where
   seen_fine (divided place left right ∷ rest) fine = (fine.0, seen_fine rest fine.1)
   seen_fine (multiplied left right ∷ rest) fine = (tt, seen_fine rest (by_profile profile fine))
     where
-      by_profile : (p : Profile) → AreFine turns (shown_of p (multiplied left right) ++ seen profile rest) → AreFine turns (seen profile rest)
+      by_profile : (p : Profile) → AreFine turns (shown_of p (multiplied left right) ++ seen profile rest)
+          → AreFine turns (seen profile rest)
       by_profile P1 more = more
       by_profile P2 more = more.1
 

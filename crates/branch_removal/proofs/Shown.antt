@@ -18,7 +18,8 @@ use Rattle.branch_removal.specs.StraightMeaning.{start, end_of, path_along, outc
 use Rattle.branch_removal.specs.StraightTyping.{IsTypedStraight}
 use Rattle.branch_removal.proofs.Agreement.{Agree, what_is_public}
 use Rattle.branch_removal.proofs.Public.{in_step_all, same_seen_all}
-use Rattle.branch_removal.proofs.Results.{parameters_among, parameter_at, given_in_step, all_public_arrays, same_return}
+use Rattle.branch_removal.proofs.Results.{parameters_among, parameter_at, given_in_step, all_public_arrays}
+use Rattle.branch_removal.proofs.Results.{same_return}
 use Rattle.branch_removal.proofs.Scopes.{AreAmong}
 use Rattle.branch_removal.proofs.SeenLemmas.{both_seen}
 use Rattle.branch_removal.proofs.Values.{result_seen}
@@ -29,10 +30,12 @@ module _ (p : StraightProgram) (typed : IsTypedStraight p) where
 
   module _ (one other : List Arg) (agree : arguments.Agree p.parameters one other) where
     first_agree : Agree what_is_public (types_of p.profile p.declared) (given p.declared one) (given p.declared other)
-    first_agree = given_in_step p.profile p.parameters p.declared one other typed.parameters agree.one_within agree.other_within agree.equal
+    first_agree = given_in_step p.profile p.parameters p.declared one other typed.parameters agree.one_within
+        agree.other_within agree.equal
 
     end_agree : Agree what_is_public (types_of p.profile p.declared) (end_of p one) (end_of p other)
-    end_agree = in_step_all p.profile p.declared p.controls p.body typed.body typed.hidden (start p one) (start p other) first_agree
+    end_agree = in_step_all p.profile p.declared p.controls p.body typed.body typed.hidden (start p one)
+        (start p other) first_agree
 
     pub same_paths : seen p.profile (path_of p one) ≡ seen p.profile (path_of p other)
     same_paths =
@@ -46,12 +49,15 @@ module _ (p : StraightProgram) (typed : IsTypedStraight p) where
 
     pub same_public : AgreeInPublic p.parameters p.returned (outcome_of p one) (outcome_of p other)
     same_public = record {
-      returned_equal = λ public. same_return (types_of p.profile p.declared) _ _ end_agree p.returned p.value typed.result public;
+      returned_equal = λ public. same_return (types_of p.profile p.declared) _ _ end_agree p.returned p.value
+          typed.result public;
       arrays_equal = all_public_arrays p.parameters _ _ (λ k parameter there public.
-          end_agree k (declaration_of parameter) (first_among.at k (declaration_of parameter) (parameter_at p.parameters k parameter there)) public);
+          end_agree k (declaration_of parameter)
+          (first_among.at k (declaration_of parameter) (parameter_at p.parameters k parameter there)) public);
     }
 
-module _ (ranged : RangedProgram) (before after : StraightProgram) (removed : IsRemoved ranged before) (replaced : IsReplaced before after) where
+module _ (ranged : RangedProgram) (before after : StraightProgram) (removed : IsRemoved ranged before)
+    (replaced : IsReplaced before after) where
   within : (args : List Arg) → AreWithin after.parameters args → AreWithin before.parameters args
   within args fits = subst (λ (params : List Param). AreWithin params args) replaced.parameters fits
 

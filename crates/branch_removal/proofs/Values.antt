@@ -1,6 +1,8 @@
--- Where two states hold the same in public variables, a public expression has one value in both, and of the path of any
--- expression the same is seen. Where they hold the same in all variables, any expression has one value and one path.
-use Rattle.std.proofs.Common.{◌≡◌, ◌≢◌, ℕ, ◌==◌, List, [], ◌∷◌, ◌++◌, map, if◌then◌else◌, slice_index, Option, None, Some, refl, ap, ap₂, ◌∙◌, true≢false}
+-- Where two states hold the same in public variables, a public expression has one value in both, and of the path of
+-- any expression the same is seen. Where they hold the same in all variables, any expression has one value and one
+-- path.
+use Rattle.std.proofs.Common.{◌≡◌, ◌≢◌, ℕ, ◌==◌, List, [], ◌∷◌, ◌++◌, map, if◌then◌else◌, slice_index, Option, None}
+use Rattle.std.proofs.Common.{Some, refl, ap, ap₂, ◌∙◌, true≢false}
 use Rattle.std.specs.Option.{option_map}
 use Rattle.word.specs.Operators.{converted, rotated_left}
 use Rattle.word.specs.declared.place.Place.{Place}
@@ -8,18 +10,23 @@ use Rattle.word.specs.declared.profile.Profile.{Profile}
 use Rattle.word.specs.declared.profile.Profile.TheVariants.{P1, P2}
 use Rattle.inline.specs.Flat.{TermTree}
 use Rattle.inline.specs.FlatMeaning.{Values, value_in, path_in, path_in_all, marks_of, path_of_result}
-use Rattle.inline.specs.FlatTyping.{Types, HasType, of_number, of_truth, of_variable, of_prefix, of_binary, of_rotation, of_conversion, of_selection, of_element, Suits, AllSuit, IsResult}
+use Rattle.inline.specs.FlatTyping.{Types, HasType, of_number, of_truth, of_variable, of_prefix, of_binary}
+use Rattle.inline.specs.FlatTyping.{of_rotation, of_conversion, of_selection, of_element, Suits, AllSuit, IsResult}
 use Rattle.inline.specs.Path.{Path, indexed, divided, multiplied, seen}
 use Rattle.language.specs.declared.signature.Label.{Label}
 use Rattle.language.specs.declared.signature.Label.TheVariants.{Public, Secret}
 use Rattle.language.specs.declared.tree.BinaryOperator.{BinaryOperator}
-use Rattle.language.specs.declared.tree.BinaryOperator.TheVariants.{Either, Both, Equal, Unequal, Less, LessOrEqual, Greater, GreaterOrEqual, BitOr, BitXor, BitAnd, ShiftLeft, ShiftRight, Add, Subtract, Multiply, Divide, Remainder}
+use Rattle.language.specs.declared.tree.BinaryOperator.TheVariants.{Either, Both, Equal, Unequal, Less, LessOrEqual}
+use Rattle.language.specs.declared.tree.BinaryOperator.TheVariants.{Greater, GreaterOrEqual, BitOr, BitXor, BitAnd}
+use Rattle.language.specs.declared.tree.BinaryOperator.TheVariants.{ShiftLeft, ShiftRight, Add, Subtract, Multiply}
+use Rattle.language.specs.declared.tree.BinaryOperator.TheVariants.{Divide, Remainder}
 use Rattle.language.specs.declared.operation.Operation.{Operation}
 use Rattle.language.specs.declared.typing.WordType.{WordType}
 use Rattle.language.specs.ExprTyping.{operation_of}
 use Rattle.language.specs.Operators.{operated, prefix_value, width_of}
 use Rattle.language.specs.Types.{joined, is_secret}
-use Rattle.language.specs.WellTyped.{Makes, arithmetic, multiplication, division as divides_public, shift, equality, order, logic, both_public as public_factors}
+use Rattle.language.specs.WellTyped.{Makes, arithmetic, multiplication, division as divides_public, shift, equality}
+use Rattle.language.specs.WellTyped.{order, logic, both_public as public_factors}
 use Rattle.branch_removal.proofs.SeenLemmas.{both_seen}
 use Rattle.branch_removal.proofs.Agreement.{Agree, everything, what_is_public}
 
@@ -31,7 +38,8 @@ joined_public Public n h = (refl, h)
 joined_public Secret n h = absurd (secret≢public h)
 
 -- what is made of two words is public only where both are
-public_operands : {profile : Profile} {operation : Operation} {a b whole : WordType} → Makes profile operation a b whole → whole.label ≡ Public → (a.label ≡ Public) × (b.label ≡ Public)
+public_operands : {profile : Profile} {operation : Operation} {a b whole : WordType}
+    → Makes profile operation a b whole → whole.label ≡ Public → (a.label ≡ Public) × (b.label ≡ Public)
 public_operands (arithmetic {l = l} {m = m} numeric) label = joined_public l m label
 public_operands (multiplication {l = l} {m = m} numeric may) label = joined_public l m label
 public_operands (divides_public numeric) label = (refl, refl)
@@ -40,14 +48,19 @@ public_operands (equality {l = l} {m = m}) label = joined_public l m label
 public_operands (order {l = l} {m = m} numeric) label = joined_public l m label
 public_operands (logic {l = l} {m = m}) label = joined_public l m label
 
--- of two operations the same is seen where their public operands are the same: what an observer sees of an operation is public
-same_marks : (profile : Profile) (place : Place) (operator : BinaryOperator) {one other whole : WordType} → Makes profile (operation_of operator) one other whole
+-- of two operations the same is seen where their public operands are the same: what an observer sees of an operation
+-- is public
+same_marks : (profile : Profile) (place : Place) (operator : BinaryOperator) {one other whole : WordType}
+    → Makes profile (operation_of operator) one other whole
     → (a b c d : ℕ) → (one.label ≡ Public → a ≡ c) → (other.label ≡ Public → b ≡ d)
     → seen profile (marks_of place operator a b) ≡ seen profile (marks_of place operator c d)
 same_marks P1 place Multiply makes a b c d left right = refl
-same_marks P2 place Multiply (multiplication numeric public_factors) a b c d left right = ap₂ (λ u v. multiplied u v ∷ []) (left refl) (right refl)
-same_marks profile place Divide (divides_public numeric) a b c d left right = ap₂ (λ u v. divided place u v ∷ []) (left refl) (right refl)
-same_marks profile place Remainder (divides_public numeric) a b c d left right = ap₂ (λ u v. divided place u v ∷ []) (left refl) (right refl)
+same_marks P2 place Multiply (multiplication numeric public_factors) a b c d left right =
+    ap₂ (λ u v. multiplied u v ∷ []) (left refl) (right refl)
+same_marks profile place Divide (divides_public numeric) a b c d left right =
+    ap₂ (λ u v. divided place u v ∷ []) (left refl) (right refl)
+same_marks profile place Remainder (divides_public numeric) a b c d left right =
+    ap₂ (λ u v. divided place u v ∷ []) (left refl) (right refl)
 same_marks profile place Either makes a b c d left right = refl
 same_marks profile place Both makes a b c d left right = refl
 same_marks profile place Equal makes a b c d left right = refl
@@ -66,33 +79,44 @@ same_marks profile place Subtract makes a b c d left right = refl
 
 module _ (types : Types) (one other : Values) where
   module _ (agree : Agree what_is_public types one other) where
-    pub public_value : {e : TermTree} {whole : WordType} → HasType types e whole → whole.label ≡ Public → value_in one e ≡ value_in other e
+    pub public_value : {e : TermTree} {whole : WordType} → HasType types e whole → whole.label ≡ Public
+        → value_in one e ≡ value_in other e
     public_value (of_number below) label = refl
     public_value of_truth label = refl
     public_value (of_variable {x = x} is) label = ap (λ numbers. slice_index numbers 0) (agree x _ is label)
-    public_value (of_prefix {operator = operator} {width = width} has takes even) label = ap (prefix_value operator width) (public_value has label)
+    public_value (of_prefix {operator = operator} {width = width} has takes even) label =
+        ap (prefix_value operator width) (public_value has label)
     public_value (of_binary {operator = operator} {width = width} has more makes even) label =
         let labels = public_operands makes label in
         ap₂ (operated operator width) (public_value has labels.0) (public_value more labels.1)
-    public_value (of_rotation {width = width} {amount = amount} has numeric low high even) label = ap (λ v. rotated_left width v amount) (public_value has label)
-    public_value (of_conversion {kind = kind} has numeric) label = ap (converted (width_of kind)) (public_value has label)
-    public_value (of_selection {condition = condition} {accepted = accepted} {otherwise = otherwise} {l = l} {m = m} {n = n} chooser has more) label =
+    public_value (of_rotation {width = width} {amount = amount} has numeric low high even) label =
+        ap (λ v. rotated_left width v amount) (public_value has label)
+    public_value (of_conversion {kind = kind} has numeric) label =
+        ap (converted (width_of kind)) (public_value has label)
+    public_value (of_selection {condition = condition} {accepted = accepted} {otherwise = otherwise} {l = l} {m =
+        m} {n = n} chooser has more) label =
         let outer = joined_public l (joined m n) label in
         let labels = joined_public m n outer.1 in
         ap (λ z. if z == 0 then value_in one otherwise else value_in one accepted) (public_value chooser outer.0)
-        ∙ ap₂ (λ z u. if value_in other condition == 0 then z else u) (public_value more labels.1) (public_value has labels.0)
+        ∙ ap₂ (λ z u. if value_in other condition == 0 then z else u) (public_value more labels.1)
+        (public_value has labels.0)
     public_value (of_element {x = x} is index) label = ap₂ slice_index (agree x _ is label) (public_value index refl)
 
     -- so does what suits where a public value is wanted
-    pub public_suited : (wanted : WordType) (e : TermTree) → Suits types wanted e → wanted.label ≡ Public → value_in one e ≡ value_in other e
+    pub public_suited : (wanted : WordType) (e : TermTree) → Suits types wanted e → wanted.label ≡ Public
+        → value_in one e ≡ value_in other e
     public_suited wanted e suits label = public_value suits.has_type (suits.label label)
 
-    pub public_all : (wanted : WordType) (es : List TermTree) → AllSuit types wanted es → wanted.label ≡ Public → map (value_in one) es ≡ map (value_in other) es
+    pub public_all : (wanted : WordType) (es : List TermTree) → AllSuit types wanted es → wanted.label ≡ Public
+        → map (value_in one) es ≡ map (value_in other) es
     public_all wanted [] suits label = refl
-    public_all wanted (e ∷ es) suits label = ap₂ (λ (v : ℕ) (vs : List ℕ). v ∷ vs) (public_suited wanted e suits.0 label) (public_all wanted es suits.1 label)
+    public_all wanted (e ∷ es) suits label =
+        ap₂ (λ (v : ℕ) (vs : List ℕ). v ∷ vs) (public_suited wanted e suits.0 label)
+        (public_all wanted es suits.1 label)
 
     -- what is seen of the path is public
-    pub one_seen : {e : TermTree} {whole : WordType} → HasType types e whole → seen types.profile (path_in one e) ≡ seen types.profile (path_in other e)
+    pub one_seen : {e : TermTree} {whole : WordType} → HasType types e whole
+        → seen types.profile (path_in one e) ≡ seen types.profile (path_in other e)
     one_seen (of_number below) = refl
     one_seen of_truth = refl
     one_seen (of_variable is) = refl
@@ -102,24 +126,31 @@ module _ (types : Types) (one other : Values) where
         let b = value_in one right in
         let c = value_in other left in
         let d = value_in other right in
-        both_seen types.profile (path_in one left ++ path_in one right) (marks_of place operator a b) (path_in other left ++ path_in other right) (marks_of place operator c d)
-        (both_seen types.profile (path_in one left) (path_in one right) (path_in other left) (path_in other right) (one_seen has) (one_seen more))
-        (same_marks types.profile place operator makes a b c d (λ label. public_value has label) (λ label. public_value more label))
+        both_seen types.profile (path_in one left ++ path_in one right) (marks_of place operator a b)
+        (path_in other left ++ path_in other right) (marks_of place operator c d)
+        (both_seen types.profile (path_in one left) (path_in one right) (path_in other left) (path_in other right)
+        (one_seen has) (one_seen more))
+        (same_marks types.profile place operator makes a b c d (λ label. public_value has label)
+        (λ label. public_value more label))
     one_seen (of_rotation has numeric low high even) = one_seen has
     one_seen (of_conversion has numeric) = one_seen has
     one_seen (of_selection {condition = condition} {accepted = accepted} {otherwise = otherwise} chooser has more) =
-        both_seen types.profile (path_in one condition ++ path_in one accepted) (path_in one otherwise) (path_in other condition ++ path_in other accepted) (path_in other otherwise)
-        (both_seen types.profile (path_in one condition) (path_in one accepted) (path_in other condition) (path_in other accepted) (one_seen chooser) (one_seen has))
+        both_seen types.profile (path_in one condition ++ path_in one accepted) (path_in one otherwise)
+        (path_in other condition ++ path_in other accepted) (path_in other otherwise)
+        (both_seen types.profile (path_in one condition) (path_in one accepted) (path_in other condition)
+        (path_in other accepted) (one_seen chooser) (one_seen has))
         (one_seen more)
     one_seen (of_element {place = place} {size = size} {index = index} is has) =
-        both_seen types.profile (path_in one index) (indexed place size (value_in one index) ∷ []) (path_in other index) (indexed place size (value_in other index) ∷ [])
+        both_seen types.profile (path_in one index) (indexed place size (value_in one index) ∷ [])
+        (path_in other index) (indexed place size (value_in other index) ∷ [])
         (one_seen has) (ap (λ i. indexed place size i ∷ []) (public_value has refl))
 
     pub all_seen : (wanted : WordType) (es : List TermTree) → AllSuit types wanted es
         → seen types.profile (path_in_all one es) ≡ seen types.profile (path_in_all other es)
     all_seen wanted [] suits = refl
     all_seen wanted (e ∷ es) suits =
-        both_seen types.profile (path_in one e) (path_in_all one es) (path_in other e) (path_in_all other es) (one_seen suits.0.has_type) (all_seen wanted es suits.1)
+        both_seen types.profile (path_in one e) (path_in_all one es) (path_in other e) (path_in_all other es)
+        (one_seen suits.0.has_type) (all_seen wanted es suits.1)
 
     pub result_seen : (returned : Option WordType) (value : Option TermTree) → IsResult types returned value
         → seen types.profile (path_of_result one value) ≡ seen types.profile (path_of_result other value)
@@ -133,18 +164,23 @@ module _ (types : Types) (one other : Values) where
     one_value (of_number below) = refl
     one_value of_truth = refl
     one_value (of_variable {x = x} is) = ap (λ numbers. slice_index numbers 0) (agree x _ is tt)
-    one_value (of_prefix {operator = operator} {width = width} has takes even) = ap (prefix_value operator width) (one_value has)
-    one_value (of_binary {operator = operator} {width = width} has more makes even) = ap₂ (operated operator width) (one_value has) (one_value more)
-    one_value (of_rotation {width = width} {amount = amount} has numeric low high even) = ap (λ v. rotated_left width v amount) (one_value has)
+    one_value (of_prefix {operator = operator} {width = width} has takes even) =
+        ap (prefix_value operator width) (one_value has)
+    one_value (of_binary {operator = operator} {width = width} has more makes even) =
+        ap₂ (operated operator width) (one_value has) (one_value more)
+    one_value (of_rotation {width = width} {amount = amount} has numeric low high even) =
+        ap (λ v. rotated_left width v amount) (one_value has)
     one_value (of_conversion {kind = kind} has numeric) = ap (converted (width_of kind)) (one_value has)
     one_value (of_selection {condition = condition} {accepted = accepted} {otherwise = otherwise} chooser has more) =
         ap (λ z. if z == 0 then value_in one otherwise else value_in one accepted) (one_value chooser)
         ∙ ap₂ (λ z u. if value_in other condition == 0 then z else u) (one_value more) (one_value has)
     one_value (of_element {x = x} is index) = ap₂ slice_index (agree x _ is tt) (one_value index)
 
-    pub all_values : (wanted : WordType) (es : List TermTree) → AllSuit types wanted es → map (value_in one) es ≡ map (value_in other) es
+    pub all_values : (wanted : WordType) (es : List TermTree) → AllSuit types wanted es
+        → map (value_in one) es ≡ map (value_in other) es
     all_values wanted [] suits = refl
-    all_values wanted (e ∷ es) suits = ap₂ (λ (v : ℕ) (vs : List ℕ). v ∷ vs) (one_value suits.0.has_type) (all_values wanted es suits.1)
+    all_values wanted (e ∷ es) suits =
+        ap₂ (λ (v : ℕ) (vs : List ℕ). v ∷ vs) (one_value suits.0.has_type) (all_values wanted es suits.1)
 
     -- and any expression one path
     pub one_path : {e : TermTree} {whole : WordType} → HasType types e whole → path_in one e ≡ path_in other e
@@ -162,9 +198,11 @@ module _ (types : Types) (one other : Values) where
     one_path (of_element {place = place} {size = size} is index) =
         ap₂ (λ (p : Path) (i : ℕ). p ++ indexed place size i ∷ []) (one_path index) (one_value index)
 
-    pub one_path_all : (wanted : WordType) (es : List TermTree) → AllSuit types wanted es → path_in_all one es ≡ path_in_all other es
+    pub one_path_all : (wanted : WordType) (es : List TermTree) → AllSuit types wanted es
+        → path_in_all one es ≡ path_in_all other es
     one_path_all wanted [] suits = refl
-    one_path_all wanted (e ∷ es) suits = ap₂ (λ (p q : Path). p ++ q) (one_path suits.0.has_type) (one_path_all wanted es suits.1)
+    one_path_all wanted (e ∷ es) suits =
+        ap₂ (λ (p q : Path). p ++ q) (one_path suits.0.has_type) (one_path_all wanted es suits.1)
 
     pub one_result : (returned : Option WordType) (value : Option TermTree) → IsResult types returned value
         → option_map (value_in one) value ≡ option_map (value_in other) value

@@ -4,7 +4,8 @@ use Rattle.std.specs.List.{AllByRecursion}
 use Rattle.inline.specs.Limits.{most_variable_bytes}
 use Rattle.inline.specs.Flat.{declaration_of}
 use Rattle.inline.specs.FlatSize.{HasLength, declared_words, term_nodes, terms_nodes, value_nodes}
-use Rattle.branch_removal.specs.Straight.{StraightTree, set, clear, fill, put, take, set_under, put_under, branch, repeats, StraightBlock, nothing, first, StraightProgram}
+use Rattle.branch_removal.specs.Straight.{StraightTree, set, clear, fill, put, take, set_under, put_under, branch}
+use Rattle.branch_removal.specs.Straight.{repeats, StraightBlock, nothing, first, StraightProgram}
 use Rattle.intervals.specs.Limits.{most_work}
 use Rattle.language.specs.Limits.{most_nodes, most_declared_bytes}
 use Rattle.language.specs.declared.signature.Param.{Param}
@@ -19,7 +20,8 @@ abbrev mutual
   statement_nodes (take control within condition) = 1 + term_nodes condition
   statement_nodes (set_under control x value) = 1 + term_nodes value
   statement_nodes (put_under control place x size index value) = 1 + (1 + term_nodes index) + term_nodes value
-  statement_nodes (branch condition accepted otherwise) = 1 + term_nodes condition + block_nodes accepted + block_nodes otherwise
+  statement_nodes (branch condition accepted otherwise) =
+      1 + term_nodes condition + block_nodes accepted + block_nodes otherwise
   statement_nodes (repeats x low high body) = 1 + term_nodes low + term_nodes high + block_nodes body
 
   pub block_nodes : StraightBlock → ℕ
@@ -36,8 +38,10 @@ abbrev mutual
   statement_work turns (take control within condition) = 1 + term_nodes condition
   statement_work turns (set_under control x value) = 1 + term_nodes value
   statement_work turns (put_under control place x size index value) = 1 + (1 + term_nodes index) + term_nodes value
-  statement_work turns (branch condition accepted otherwise) = 1 + term_nodes condition + block_work turns accepted + block_work turns otherwise
-  statement_work turns (repeats x low high body) = term_nodes low + term_nodes high + (slice_index turns x + 1) * (1 + block_work turns body)
+  statement_work turns (branch condition accepted otherwise) =
+      1 + term_nodes condition + block_work turns accepted + block_work turns otherwise
+  statement_work turns (repeats x low high body) =
+      term_nodes low + term_nodes high + (slice_index turns x + 1) * (1 + block_work turns body)
 
   pub block_work : List ℕ → StraightBlock → ℕ
   block_work turns nothing = 0
@@ -70,5 +74,6 @@ pub record IsBounded (p : StraightProgram) : Type 0 where
   pub nodes : p.nodes ≤ most_nodes
   pub worked : block_work p.turns p.body + value_nodes p.value ≤ p.work
   pub work_fits : p.work ≤ most_work
-  -- there are at most two control values for each condition that is taken, and one for each node fewer than the source has
+  -- there are at most two control values for each condition that is taken, and one for each node fewer than the
+  -- source has
   pub controls : p.controls + (block_nodes p.body + value_nodes p.value) ≤ p.nodes + 2 * taken_in_all p.body

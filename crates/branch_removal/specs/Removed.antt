@@ -25,13 +25,17 @@ pub record IsRemoved (ranged : RangedProgram) (straight : StraightProgram) : Typ
   pub declared : straight.declared ≡ ranged.flat.declared
   -- the limits on size are kept
   pub bounded : IsBounded straight
-  -- it is well typed: what branches, bounds, indices and divisions go by is public, and so is what the observer sees multiplied
+  -- it is well typed: what branches, bounds, indices and divisions go by is public, and so is what the observer sees
+  -- multiplied
   pub typed : IsTypedStraight straight
   -- the outcome is that of the body with real branches
-  pub outcome : (args : List Arg) → AreWithin straight.parameters args → outcome_of straight args ≡ outcome_of_flat ranged.flat args
+  pub outcome : (args : List Arg) → AreWithin straight.parameters args
+      → outcome_of straight args ≡ outcome_of_flat ranged.flat args
   -- no fault is met, and no loop makes more turns than are counted
   pub fine : (args : List Arg) → AreWithin straight.parameters args → AreFine straight.turns (path_of straight args)
   -- on arguments that are equal where they are public, what the observer sees of the path is one and the same
-  pub paths : (one other : List Arg) → Agree straight.parameters one other → seen straight.profile (path_of straight one) ≡ seen straight.profile (path_of straight other)
+  pub paths : (one other : List Arg) → Agree straight.parameters one other
+      → seen straight.profile (path_of straight one) ≡ seen straight.profile (path_of straight other)
   -- and so are the return and the `mut` arrays, where they are public
-  pub public : (one other : List Arg) → Agree straight.parameters one other → AgreeInPublic straight.parameters straight.returned (outcome_of straight one) (outcome_of straight other)
+  pub public : (one other : List Arg) → Agree straight.parameters one other
+      → AgreeInPublic straight.parameters straight.returned (outcome_of straight one) (outcome_of straight other)

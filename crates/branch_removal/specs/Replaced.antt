@@ -21,4 +21,5 @@ pub record IsReplaced (before after : StraightProgram) : Type 0 where
   -- the outcome is what it was
   pub outcome : (args : List Arg) → AreWithin before.parameters args → outcome_of after args ≡ outcome_of before args
   -- where no fault was met, and no loop made more turns than are counted, it is so still
-  pub fine : (args : List Arg) → AreWithin before.parameters args → AreFine before.turns (path_of before args) → AreFine after.turns (path_of after args)
+  pub fine : (args : List Arg) → AreWithin before.parameters args → AreFine before.turns (path_of before args)
+      → AreFine after.turns (path_of after args)

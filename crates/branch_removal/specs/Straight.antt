@@ -1,6 +1,11 @@
--- Straight code as values, without where it lies in memory: branches and loops are left only where what decides them is public.
+-- Straight code as values, without where it lies in memory: branches and loops are left only where what decides them
+-- is public.
 use Rattle.std.specs.Prelude.{ℕ, List, [], ◌∷◌, map, Option}
-use Rattle.branch_removal.specs.declared.straight.StraightStatement.{StraightStatement, Set, Clear, Fill, Put, Take, SetUnder, PutUnder, Branch', Repeat', Row_of-StraightStatement, end_of-StraightStatement, more_of-StraightStatement}
+use Rattle.branch_removal.specs.declared.straight.StraightStatement.{StraightStatement, Set, Clear, Fill, Put, Take}
+use Rattle.branch_removal.specs.declared.straight.StraightStatement.{SetUnder, PutUnder, Branch', Repeat'}
+use Rattle.branch_removal.specs.declared.straight.StraightStatement.{Row_of-StraightStatement}
+use Rattle.branch_removal.specs.declared.straight.StraightStatement.{end_of-StraightStatement}
+use Rattle.branch_removal.specs.declared.straight.StraightStatement.{more_of-StraightStatement}
 use Rattle.inline.specs.declared.flat.FlatVariable.{FlatVariable}
 use Rattle.inline.specs.Flat.{TermTree, term_tree}
 use Rattle.language.specs.declared.signature.Param.{Param}
@@ -81,7 +86,8 @@ abbrev mutual
   straight_tree (Take c within condition) = take c within (term_tree condition)
   straight_tree (SetUnder c x value) = set_under c x (term_tree value)
   straight_tree (PutUnder c place x size index value) = put_under c place x size (term_tree index) (term_tree value)
-  straight_tree (Branch' condition shape accepted shape' otherwise) = branch (term_tree condition) (straight_row accepted) (straight_row otherwise)
+  straight_tree (Branch' condition shape accepted shape' otherwise) =
+      branch (term_tree condition) (straight_row accepted) (straight_row otherwise)
   straight_tree (Repeat' x low high shape body) = repeats x (term_tree low) (term_tree high) (straight_row body)
 
   -- the statements of an arm or a loop

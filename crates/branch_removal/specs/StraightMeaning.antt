@@ -1,11 +1,14 @@
--- What straight code means: from what the variables hold and the control values, what they are in the end, and the path
--- of the run. A condition is taken once into control values, and an assignment under a control value sets its target
--- where that value is true and else keeps it.
-use Rattle.std.specs.Prelude.{ℕ, ◌+◌, ◌-◌, ◌==◌, Bool, true, false, not, ◌&&◌, List, [], ◌∷◌, ◌++◌, map, replicate, Option, None, Some, if◌then◌else◌, slice_set}
+-- What straight code means: from what the variables hold and the control values, what they are in the end, and the
+-- path of the run. A condition is taken once into control values, and an assignment under a control value sets its
+-- target where that value is true and else keeps it.
+use Rattle.std.specs.Prelude.{ℕ, ◌+◌, ◌-◌, ◌==◌, Bool, true, false, not, ◌&&◌, List, [], ◌∷◌, ◌++◌, map, replicate}
+use Rattle.std.specs.Prelude.{Option, None, Some, if◌then◌else◌, slice_set}
 use Rattle.inline.specs.Flat.{TermTree}
-use Rattle.inline.specs.FlatMeaning.{Values, with_value, value_in, path_in, path_in_all, turns, path_of_turns, given, results_of, path_of_result}
+use Rattle.inline.specs.FlatMeaning.{Values, with_value, value_in, path_in, path_in_all, turns, path_of_turns, given}
+use Rattle.inline.specs.FlatMeaning.{results_of, path_of_result}
 use Rattle.inline.specs.Path.{Path, decided, bounded, indexed}
-use Rattle.branch_removal.specs.Straight.{StraightTree, set, clear, fill, put, take, set_under, put_under, branch, repeats, StraightBlock, nothing, first, StraightProgram}
+use Rattle.branch_removal.specs.Straight.{StraightTree, set, clear, fill, put, take, set_under, put_under, branch}
+use Rattle.branch_removal.specs.Straight.{repeats, StraightBlock, nothing, first, StraightProgram}
 use Rattle.language.specs.Results.{Results}
 use Rattle.language.specs.declared.values.Arg.{Arg}
 
@@ -29,7 +32,11 @@ with_element s x i v = with_variable s x (slice_set (s.variables x) i v)
 -- both control values of a condition
 abbrev pub with_controls : StraightState → ℕ → Bool → Bool → StraightState
 with_controls s control accepted otherwise =
-    record { variables = s.variables; controls = λ c. if c == control then accepted else (if c == control + 1 then otherwise else s.controls c) }
+    record {
+      variables = s.variables;
+      controls = λ c. if c == control then accepted
+          else (if c == control + 1 then otherwise else s.controls c);
+    }
 
 -- the value of an expression
 abbrev pub value_at : StraightState → TermTree → ℕ
@@ -50,9 +57,12 @@ abbrev mutual
       (holds s within && not (value_at s condition == 0))
       (holds s within && (value_at s condition == 0))
   after s (set_under control x value) = if s.controls control then with_variable s x (value_at s value ∷ []) else s
-  after s (put_under control place x size index value) = if s.controls control then with_element s x (value_at s index) (value_at s value) else s
-  after s (branch condition accepted otherwise) = if value_at s condition == 0 then after_all s otherwise else after_all s accepted
-  after s (repeats x low high body) = turns (value_at s high - value_at s low) (value_at s low) (λ i t. after_all (counted x i t) body) s
+  after s (put_under control place x size index value) = if s.controls control
+      then with_element s x (value_at s index) (value_at s value) else s
+  after s (branch condition accepted otherwise) = if value_at s condition == 0 then after_all s otherwise
+      else after_all s accepted
+  after s (repeats x low high body) =
+      turns (value_at s high - value_at s low) (value_at s low) (λ i t. after_all (counted x i t) body) s
 
   pub after_all : StraightState → StraightBlock → StraightState
   after_all s nothing = s
@@ -64,15 +74,19 @@ abbrev mutual
   path_at s (set x value) = path_in s.variables value
   path_at s (clear x size) = []
   path_at s (fill x values) = path_in_all s.variables values
-  path_at s (put place x size index value) = path_in s.variables index ++ indexed place size (value_at s index) ∷ path_in s.variables value
+  path_at s (put place x size index value) = path_in s.variables index ++ indexed place size (value_at s index)
+      ∷ path_in s.variables value
   path_at s (take control within condition) = path_in s.variables condition
   path_at s (set_under control x value) = path_in s.variables value
-  path_at s (put_under control place x size index value) = path_in s.variables index ++ indexed place size (value_at s index) ∷ path_in s.variables value
+  path_at s (put_under control place x size index value) =
+      path_in s.variables index ++ indexed place size (value_at s index) ∷ path_in s.variables value
   path_at s (branch condition accepted otherwise) =
-      path_in s.variables condition ++ decided (value_at s condition) ∷ (if value_at s condition == 0 then path_along s otherwise else path_along s accepted)
+      path_in s.variables condition ++ decided (value_at s condition)
+      ∷ (if value_at s condition == 0 then path_along s otherwise else path_along s accepted)
   path_at s (repeats x low high body) =
       path_in s.variables low ++ path_in s.variables high ++ bounded x (value_at s low) (value_at s high)
-      ∷ path_of_turns (value_at s high - value_at s low) (value_at s low) (λ i t. after_all (counted x i t) body) (λ i t. path_along (counted x i t) body) s
+      ∷ path_of_turns (value_at s high - value_at s low) (value_at s low) (λ i t. after_all (counted x i t) body)
+      (λ i t. path_along (counted x i t) body) s
 
   pub path_along : StraightState → StraightBlock → Path
   path_along s nothing = []

@@ -1,7 +1,9 @@
--- Types of straight code, for an observer. All variables are known everywhere; what branches, loops, indices and divisions go
--- by is public, and so is what is multiplied where the observer sees that.
-use Rattle.std.specs.Prelude.{◌≡◌, ℕ, ◌+◌, ◌<◌, ◌==◌, if◌then◌else◌, Bool, false, List, [], length, map, take as first_of, Option, None, Some, slice_get}
-use Rattle.branch_removal.specs.Straight.{StraightTree, set, clear, fill, put, take, set_under, put_under, branch, repeats, StraightBlock, nothing, first, StraightProgram}
+-- Types of straight code, for an observer. All variables are known everywhere; what branches, loops, indices and
+-- divisions go by is public, and so is what is multiplied where the observer sees that.
+use Rattle.std.specs.Prelude.{◌≡◌, ℕ, ◌+◌, ◌<◌, ◌==◌, if◌then◌else◌, Bool, false, List, [], length, map}
+use Rattle.std.specs.Prelude.{take as first_of, Option, None, Some, slice_get}
+use Rattle.branch_removal.specs.Straight.{StraightTree, set, clear, fill, put, take, set_under, put_under, branch}
+use Rattle.branch_removal.specs.Straight.{repeats, StraightBlock, nothing, first, StraightProgram}
 use Rattle.inline.specs.declared.flat.FlatVariable.{FlatVariable}
 use Rattle.inline.specs.Flat.{TermTree, word_as, array_as, declaration_of}
 use Rattle.inline.specs.FlatTyping.{Types, types_of, HasType, Suits, AllSuit, IsResult, counter_type}
@@ -24,14 +26,16 @@ abbrev pub types_but : Profile → List FlatVariable → ℕ → Types
 types_but profile declared x = record { profile = profile; at = λ y. if y == x then None else slice_get declared y }
 
 -- an array of so many elements, and values for them, which do not go by what it held before
-pub record IsFilled (profile : Profile) (declared : List FlatVariable) (x size : ℕ) (values : List TermTree) : Type 0 where
+pub record IsFilled (profile : Profile) (declared : List FlatVariable) (x size : ℕ) (values : List TermTree) :
+    Type 0 where
   pub word : WordType
   pub mutable : Bool
   pub known : slice_get declared x ≡ Some (array_as word mutable size)
   pub suit : AllSuit (types_but profile declared x) word values
 
 -- an array of so many elements, a public index, and a value for the element
-pub record IsPut (profile : Profile) (declared : List FlatVariable) (x size : ℕ) (index value : TermTree) : Type 0 where
+pub record IsPut (profile : Profile) (declared : List FlatVariable) (x size : ℕ) (index value : TermTree) :
+    Type 0 where
   pub word : WordType
   pub mutable : Bool
   pub known : slice_get declared x ≡ Some (array_as word mutable size)
@@ -51,18 +55,23 @@ abbrev mutual
   IsTyped profile declared controls (fill x values) = IsFilled profile declared x (length values) values
   IsTyped profile declared controls (put place x size index value) = IsPut profile declared x size index value
   IsTyped profile declared controls (take control within condition) =
-      (control + 1 < controls) × IsAmong controls within × ((label : Label) × HasType (types_of profile declared) condition (labelled Boolean label))
-  IsTyped profile declared controls (set_under control x value) = (control < controls) × IsSet profile declared x value
-  IsTyped profile declared controls (put_under control place x size index value) = (control < controls) × IsPut profile declared x size index value
+      (control + 1 < controls) × IsAmong controls within
+      × ((label : Label) × HasType (types_of profile declared) condition (labelled Boolean label))
+  IsTyped profile declared controls (set_under control x value) = (control < controls)
+      × IsSet profile declared x value
+  IsTyped profile declared controls (put_under control place x size index value) = (control < controls)
+      × IsPut profile declared x size index value
   IsTyped profile declared controls (branch condition accepted otherwise) =
-      HasType (types_of profile declared) condition (labelled Boolean Public) × AreTyped profile declared controls accepted × AreTyped profile declared controls otherwise
+      HasType (types_of profile declared) condition (labelled Boolean Public)
+      × AreTyped profile declared controls accepted × AreTyped profile declared controls otherwise
   IsTyped profile declared controls (repeats x low high body) =
       HasType (types_of profile declared) low counter_type × HasType (types_of profile declared) high counter_type
       × (slice_get declared x ≡ Some (word_as counter_type false)) × AreTyped profile declared controls body
 
   pub AreTyped : Profile → List FlatVariable → ℕ → StraightBlock → Type 0
   AreTyped profile declared controls nothing = Unit {0}
-  AreTyped profile declared controls (first statement rest) = IsTyped profile declared controls statement × AreTyped profile declared controls rest
+  AreTyped profile declared controls (first statement rest) = IsTyped profile declared controls statement
+      × AreTyped profile declared controls rest
 
 -- a secret variable
 abbrev pub IsSecret : List FlatVariable → ℕ → Type 0

@@ -2,7 +2,8 @@
 use Rattle.std.specs.Prelude.{ℕ, nat_le, List, [], ◌∷◌, ◌++◌, Option, None, Some, if◌then◌else◌}
 use Rattle.std.specs.Option.{option_or}
 use Rattle.std.specs.Str.{bytes_eq}
-use Rattle.language.specs.Tree.{CallTree, RightTree, called, computed, StatementTree, declaration, array, assignment, element_assignment, call, conditional, loop, BlockTree, nothing, first, ProcedureTree}
+use Rattle.language.specs.Tree.{CallTree, RightTree, called, computed, StatementTree, declaration, array, assignment}
+use Rattle.language.specs.Tree.{element_assignment, call, conditional, loop, BlockTree, nothing, first, ProcedureTree}
 use Rattle.word.specs.declared.place.Place.{Place}
 
 -- the last procedure whose name stands behind so many bytes or fewer
@@ -26,7 +27,8 @@ abbrev mutual
   calls_in name (assignment place target text right) = calls_in_right name right
   calls_in name (element_assignment place bracket target text index right) = calls_in_right name right
   calls_in name (call c) = calls_at name c
-  calls_in name (conditional place condition accepted otherwise) = calls_in_all name accepted ++ calls_in_all name otherwise
+  calls_in name (conditional place condition accepted otherwise) =
+      calls_in_all name accepted ++ calls_in_all name otherwise
   calls_in name (loop place counter text low high body) = calls_in_all name body
 
   pub calls_in_all : List ℕ → BlockTree → List Place

@@ -19,15 +19,25 @@ use Rattle.certificates.specs.KnownImage.{known_at}
 use Rattle.certified_runs.specs.declared.certifying.CertifiedEnd.{CertifiedEnd}
 
 -- the first fault
-pub refused_certified : (image : Fields) (given : List (Option Arg)) (shifts : Shifts) (fault : ArgumentFault) (e : RunFault) → e ≡ Argument fault.rule fault.index → fault_of_given (params_of image) given ≡ Some fault → Certified image given shifts (Err e)
-refused_certified image given shifts fault e is first = subst (λ (x : RunFault). Certified image given shifts (Err x)) (sym is) (refused first)
+pub refused_certified : (image : Fields) (given : List (Option Arg)) (shifts : Shifts) (fault : ArgumentFault)
+    (e : RunFault) → e ≡ Argument fault.rule fault.index → fault_of_given (params_of image) given ≡ Some fault
+    → Certified image given shifts (Err e)
+refused_certified image given shifts fault e is first =
+    subst (λ (x : RunFault). Certified image given shifts (Err x)) (sym is) (refused first)
 
 -- out of memory
-pub memory_certified : (image : Fields) (given : List (Option Arg)) (shifts : Shifts) (answer : Result CertifiedEnd RunFault) → fault_of_given (params_of image) given ≡ None → answer ≡ Err Memory → Certified image given shifts answer
-memory_certified image given shifts answer none is = subst (λ (x : Result CertifiedEnd RunFault). Certified image given shifts x) (sym is) (out_of_memory none)
+pub memory_certified : (image : Fields) (given : List (Option Arg)) (shifts : Shifts)
+    (answer : Result CertifiedEnd RunFault) → fault_of_given (params_of image) given ≡ None → answer ≡ Err Memory
+    → Certified image given shifts answer
+memory_certified image given shifts answer none is =
+    subst (λ (x : Result CertifiedEnd RunFault). Certified image given shifts x) (sym is) (out_of_memory none)
 
 -- a run
-pub run_certified : (image : Fields) (given : List (Option Arg)) (shifts : Shifts) (code : Code) (steps : ℕ) (k : Known) (seen : List Observation) (ending : RunEnding) (end : CertifiedEnd) → fault_of_given (params_of image) given ≡ None → code ≡ code_at code_base image → steps ≡ image.max_steps → k ≡ known_at code_base frame_base image given shifts → CertifiedRun code steps k seen ending → end ≡ end_of seen ending → Certified image given shifts (Ok end)
+pub run_certified : (image : Fields) (given : List (Option Arg)) (shifts : Shifts) (code : Code) (steps : ℕ)
+    (k : Known) (seen : List Observation) (ending : RunEnding) (end : CertifiedEnd)
+    → fault_of_given (params_of image) given ≡ None → code ≡ code_at code_base image → steps ≡ image.max_steps
+    → k ≡ known_at code_base frame_base image given shifts → CertifiedRun code steps k seen ending
+    → end ≡ end_of seen ending → Certified image given shifts (Ok end)
 run_certified image given shifts code steps k seen ending end none code_is steps_is known_is run is =
     subst (λ (x : CertifiedEnd). Certified image given shifts (Ok x)) (sym is)
     (certified none

@@ -1,5 +1,5 @@
--- What is given of arguments: each has a value, or stands for every value of its type. Which arguments agree with that, and what is
--- wrong with it.
+-- What is given of arguments: each has a value, or stands for every value of its type. Which arguments agree with
+-- that, and what is wrong with it.
 use Rattle.std.specs.Prelude.{List, [], ◌∷◌, Option, Some, None}
 use Rattle.arguments.specs.Faults.{rule_of, fault_by}
 use Rattle.arguments.specs.Within.{AreWithin}
@@ -14,8 +14,10 @@ use Rattle.language.specs.declared.values.Arg.{Arg}
 -- arguments, one for each that is given or not, which have the given values
 pub data Fits : List (Option Arg) → List Arg → Type 0 where
   no_more : Fits [] []
-  as_given : {arg : Arg} {given : List (Option Arg)} {args : List Arg} → Fits given args → Fits (Some arg ∷ given) (arg ∷ args)
-  any_value : {arg : Arg} {given : List (Option Arg)} {args : List Arg} → Fits given args → Fits (None ∷ given) (arg ∷ args)
+  as_given : {arg : Arg} {given : List (Option Arg)} {args : List Arg} → Fits given args
+      → Fits (Some arg ∷ given) (arg ∷ args)
+  any_value : {arg : Arg} {given : List (Option Arg)} {args : List Arg} → Fits given args
+      → Fits (None ∷ given) (arg ∷ args)
 
 -- arguments within the parameter types that have the given values
 pub record Completes (params : List Param) (given : List (Option Arg)) (args : List Arg) : Type 0 where

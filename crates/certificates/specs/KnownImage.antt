@@ -1,5 +1,5 @@
--- An image loaded with what is given of its arguments, and what is known of that state: all but the bytes of the arguments that are
--- not given.
+-- An image loaded with what is given of its arguments, and what is known of that state: all but the bytes of the
+-- arguments that are not given.
 use Rattle.std.specs.Prelude.{ℕ, ◌+◌, ◌*◌, Bool, true, false, List, [], ◌∷◌, Option, Some, None, is_some}
 use Rattle.certified_runs.specs.Known.{Known, with_bytes_known}
 use Rattle.certified_runs.specs.declared.shifts.Shifts.{Shifts}
@@ -29,7 +29,8 @@ with_one frame bytes slot None = bytes
 abbrev pub known_with_one : ℕ → (ℕ → Bool) → Slot → Option Arg → ℕ → Bool
 known_with_one frame known slot (Some arg) = known
 known_with_one frame known slot None =
-    with_bytes_known known (argument_bytes slot.param.form slot.param.kind slot.param.length) (frame + slot.offset) false
+    with_bytes_known known (argument_bytes slot.param.form slot.param.kind slot.param.length)
+    (frame + slot.offset) false
 
 -- the bytes with each argument that is given at its parameter's slot
 abbrev pub with_given : ℕ → ByteMap → List Slot → List (Option Arg) → ByteMap
@@ -41,10 +42,11 @@ with_given frame bytes (slot ∷ slots) (one ∷ given) = with_given frame (with
 abbrev pub known_with_given : ℕ → (ℕ → Bool) → List Slot → List (Option Arg) → ℕ → Bool
 known_with_given frame known [] given = known
 known_with_given frame known (slot ∷ slots) [] = known
-known_with_given frame known (slot ∷ slots) (one ∷ given) = known_with_given frame (known_with_one frame known slot one) slots given
+known_with_given frame known (slot ∷ slots) (one ∷ given) =
+    known_with_given frame (known_with_one frame known slot one) slots given
 
--- loaded as an image is with arguments: all registers are known, and the frame's bytes but those of arguments that are not given, where
--- zeros stand; and amounts of shifts are seen or not
+-- loaded as an image is with arguments: all registers are known, and the frame's bytes but those of arguments that
+-- are not given, where zeros stand; and amounts of shifts are seen or not
 abbrev pub known_at : ℕ → ℕ → Fields → List (Option Arg) → Shifts → Known
 known_at code_base frame_base image given shifts = record {
   state = record {

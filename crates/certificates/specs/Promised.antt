@@ -21,10 +21,12 @@ AllShow image given seen stop =
 -- after another
 abbrev pub AllShiftBy : Fields → List (Option Arg) → List ℕ → Type 0
 AllShiftBy image given amounts =
-    (args : List Arg) → Completes (params_of image) given args → ShiftsBy (code_at code_base image) image.max_steps (loaded_at code_base frame_base image args) amounts
+    (args : List Arg) → Completes (params_of image) given args
+    → ShiftsBy (code_at code_base image) image.max_steps (loaded_at code_base frame_base image args) amounts
 
 -- the entries of every such run begin with these
 abbrev pub AllBegin : Fields → List (Option Arg) → List Entry → Type 0
 AllBegin image given first =
     (args : List Arg) (shown : List Observation) (stop : Stop)
-    → Completes (params_of image) given args → ImageEnds image args shown stop → take (length first) (entries_of shown) ≡ first
+    → Completes (params_of image) given args → ImageEnds image args shown stop
+    → take (length first) (entries_of shown) ≡ first

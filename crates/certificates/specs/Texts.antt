@@ -18,7 +18,8 @@ numbers_given text = if bytes_eq text unknown_text then None else numbers_of tex
 
 -- the rule that a text breaks at its parameter
 abbrev pub rule_of_given_text : Param → List ℕ → Option ArgumentRule
-rule_of_given_text param text = if bytes_eq text unknown_text then rule_of_unknown param.label else rule_of_text param text
+rule_of_given_text param text = if bytes_eq text unknown_text then rule_of_unknown param.label
+    else rule_of_text param text
 
 -- the first fault of texts
 abbrev pub fault_of_given_texts : List Param → List (List ℕ) → Option ArgumentFault

@@ -1,6 +1,7 @@
 -- The turn of the machine that the engine makes is the turn of what is known.
 use Rattle.std.specs.Prelude.{nat_eq, is_some}
-use Rattle.std.proofs.Common.{◌≡◌, ◌≢◌, ℕ, ◌%◌, ◌≤◌, Bool, true, false, cond, List, [], ◌∷◌, length, Option, Some, None, refl, sym, ◌∙◌, subst, arith}
+use Rattle.std.proofs.Common.{◌≡◌, ◌≢◌, ℕ, ◌%◌, ◌≤◌, Bool, true, false, cond, List, [], ◌∷◌, length, Option, Some}
+use Rattle.std.proofs.Common.{None, refl, sym, ◌∙◌, subst, arith}
 use Rattle.std.proofs.lemmas.Option.{same_Some}
 use Rattle.rv_code.specs.declared.instructions.Instr.{Instr}
 use Rattle.rv_code.specs.declared.instructions.Instr.TheVariants.{Store}
@@ -36,21 +37,29 @@ one_instruction {i = i} {j = j} one other =
     words_differ i j one.in_range other.in_range (same_Some (word_of i) (word_of j) (sym one.word ∙ other.word))
 
 -- where a store goes on, its bytes are data
-stored_there : (profile : Profile) (operation : StoreOperation) (a v : ℕ) (s t : State) (o : Observation) → ending_of profile (Stores operation a v) s ≡ goes_on o t → is_some (number_at s.bytes (byte_count (store_size operation)) a) ≡ true
+stored_there : (profile : Profile) (operation : StoreOperation) (a v : ℕ) (s t : State) (o : Observation)
+    → ending_of profile (Stores operation a v) s ≡ goes_on o t
+    → is_some (number_at s.bytes (byte_count (store_size operation)) a) ≡ true
 unfolding ending_of
 stored_there profile operation a v s t o goes =
-    over (nat_eq (a % byte_count (store_size operation)) 0) (number_at s.bytes (byte_count (store_size operation)) a) _ goes (λ e. cc)
+    over (nat_eq (a % byte_count (store_size operation)) 0) (number_at s.bytes (byte_count (store_size operation)) a)
+    _ goes (λ e. cc)
   where
-    over : (even : Bool) (old : Option ℕ) (other : Ending) → cond even (stored s (store_size operation) a v old) other ≡ goes_on o t → other ≢ goes_on o t → is_some old ≡ true
+    over : (even : Bool) (old : Option ℕ) (other : Ending)
+        → cond even (stored s (store_size operation) a v old) other ≡ goes_on o t → other ≢ goes_on o t
+        → is_some old ≡ true
     over true (Some old) other is apart = refl
     over true None other is apart = cc
     over false old other is apart = absurd (apart is)
 
 -- where a turn goes on, what it stores is data, and has marks
-stores_data : (marks : ByteMap) (profile : Profile) (i : Instr) (s t : State) (o : Observation) → HaveOneExtent marks s.bytes → ending_of profile (effect_of i s.pc s.regs) s ≡ goes_on o t → StoresData marks i (accessed i s.regs)
+stores_data : (marks : ByteMap) (profile : Profile) (i : Instr) (s t : State) (o : Observation)
+    → HaveOneExtent marks s.bytes → ending_of profile (effect_of i s.pc s.regs) s ≡ goes_on o t
+    → StoresData marks i (accessed i s.regs)
 stores_data marks profile (Store operation rs2 rs1 offset) s t o extent goes =
     let a = address_of s.regs rs1 offset in
-    number_extent s.bytes marks extent (byte_count (store_size operation)) a ∙ stored_there profile operation a (register s.regs rs2) s t o goes
+    number_extent s.bytes marks extent (byte_count (store_size operation)) a
+    ∙ stored_there profile operation a (register s.regs rs2) s t o goes
 stores_data marks profile _ s t o extent goes = tt
 
 -- Turns.
@@ -65,41 +74,65 @@ led_extent {code} {s} {t} {o} turn =
     of_same (stops seen stop) same = absurd same
 
 -- which addresses are data stays
-pub extent_kept : {code : Code} {s t : State} {ending : Ending} {answer : Option Stop} {seen : List Observation} → Turn code s ending → Done s ending answer t seen → HaveOneExtent t.bytes s.bytes
+pub extent_kept : {code : Code} {s t : State} {ending : Ending} {answer : Option Stop} {seen : List Observation}
+    → Turn code s ending → Done s ending answer t seen → HaveOneExtent t.bytes s.bytes
 extent_kept turn went_on = led_extent turn
 extent_kept turn stopped = λ a. refl
 extent_kept turn (refused shows) = λ a. refl
 
 -- a turn that is not refused stops where it is said to
-pub stopped_so : {code : Code} {s t : State} {ending : Ending} {stop : Stop} {seen : List Observation} → Turn code s ending → Done s ending (Some stop) t seen → Some stop ≢ Some RecorderRefused → Turn code s (stops seen stop)
+pub stopped_so : {code : Code} {s t : State} {ending : Ending} {stop : Stop} {seen : List Observation}
+    → Turn code s ending → Done s ending (Some stop) t seen → Some stop ≢ Some RecorderRefused
+    → Turn code s (stops seen stop)
 stopped_so turn stopped calm = turn
 stopped_so turn (refused shows) calm = absurd (calm refl)
 
 -- what is known is its parts
-same_known : (t : State) {r r' b b' : ℕ → Bool} {w w' : Shifts} → r ≡ r' → b ≡ b' → w ≡ w' → ◌≡◌ {A = Known} (record { state = t; registers = r; bytes = b; shifts = w }) (record { state = t; registers = r'; bytes = b'; shifts = w' })
+same_known : (t : State) {r r' b b' : ℕ → Bool} {w w' : Shifts} → r ≡ r' → b ≡ b' → w ≡ w'
+    → ◌≡◌ {A = Known} (record { state = t; registers = r; bytes = b; shifts = w })
+    (record { state = t; registers = r'; bytes = b'; shifts = w' })
 same_known t same_registers same_bytes same_shifts = cc
 
-module _ (code : Code) (k : Known) (i : Instr) (at : IsAt code k.state.pc i) (sure : decides code.profile k.shifts i k.registers ≡ true) where
+module _ (code : Code) (k : Known) (i : Instr) (at : IsAt code k.state.pc i)
+    (sure : decides code.profile k.shifts i k.registers ≡ true) where
   -- the turn went on, and the change of its instruction was made
-  pub has_led : (t : State) (registers bytes : ℕ → Bool) (shifts : Shifts) (ending : Ending) (seen : List Observation) (entries : ℕ) → Turn code k.state ending → Done k.state ending None t seen
-      → registers ≡ registers_after i k → bytes ≡ bytes_after i k → shifts ≡ k.shifts → length (entries_of seen) ≡ entries → HasTurned code k (LeadsOn entries) (record { state = t; registers = registers; bytes = bytes; shifts = shifts })
-  has_led t registers bytes shifts ending seen entries turn (went_on {o = o}) is is' as_seen many =
-      (o, subst (λ n. KnownTurn code k (leads_on o n)) (sym (same_known t is is' as_seen)) (decided i at sure turn), many)
+  pub has_led : (t : State) (registers bytes : ℕ → Bool) (shifts : Shifts) (ending : Ending) (seen : List Observation)
+      (entries : ℕ) → Turn code k.state ending → Done k.state ending None t seen
+      → registers ≡ registers_after i k → bytes ≡ bytes_after i k → shifts ≡ k.shifts
+      → length (entries_of seen) ≡ entries
+      → HasTurned code k (LeadsOn entries)
+      (record { state = t; registers = registers; bytes = bytes; shifts = shifts })
+  has_led t registers bytes shifts ending seen entries turn (went_on {o = o}) is is' as_seen many = (
+    o,
+    subst (λ n. KnownTurn code k (leads_on o n)) (sym (same_known t is is' as_seen)) (decided i at sure turn),
+    many,
+  )
 
   -- the turn stopped
-  pub has_stopped : (t : State) (next : Known) (ending : Ending) (stop : Stop) (seen : List Observation) (entries : ℕ) → Turn code k.state ending → Done k.state ending (Some stop) t seen
-      → Some stop ≢ Some RecorderRefused → length (entries_of seen) ≡ entries → HasTurned code k (Ends entries stop) next
-  has_stopped t next ending stop seen entries turn done calm many =
-      (seen, certified.stopped (λ j there. subst (λ x. decides code.profile k.shifts x k.registers ≡ true) (one_instruction at there) sure) (stopped_so turn done calm), many)
+  pub has_stopped : (t : State) (next : Known) (ending : Ending) (stop : Stop) (seen : List Observation) (entries : ℕ)
+      → Turn code k.state ending → Done k.state ending (Some stop) t seen
+      → Some stop ≢ Some RecorderRefused → length (entries_of seen) ≡ entries
+      → HasTurned code k (Ends entries stop) next
+  has_stopped t next ending stop seen entries turn done calm many = (
+    seen,
+    certified.stopped (λ j there. subst (λ x. decides code.profile k.shifts x k.registers ≡ true)
+        (one_instruction at there) sure) (stopped_so turn done calm),
+    many,
+  )
 
   -- what is stored where the turn goes on is data
-  pub led_stores : (marks : ByteMap) (t : State) (ending : Ending) (seen : List Observation) → HaveOneExtent marks k.state.bytes → Turn code k.state ending → Done k.state ending None t seen → StoresData marks i (accessed i k.state.regs)
+  pub led_stores : (marks : ByteMap) (t : State) (ending : Ending) (seen : List Observation)
+      → HaveOneExtent marks k.state.bytes → Turn code k.state ending → Done k.state ending None t seen
+      → StoresData marks i (accessed i k.state.regs)
   led_stores marks t ending seen extent turn (went_on {o = o}) =
-      stores_data marks code.profile i k.state t o extent (Turn-determined (executes i at.aligned at.word at.in_range refl) turn)
+      stores_data marks code.profile i k.state t o extent
+      (Turn-determined (executes i at.aligned at.word at.in_range refl) turn)
 
 -- a turn that stops has two entries at most
-pub few_entries : {code : Code} {k : Known} {seen : List Observation} {stop : Stop} → KnownTurn code k (ends seen stop) → length (entries_of seen) ≤ 2
-few_entries {code} {k} {seen} {stop} (certified.stopped known turn) = few seen (turn_stops code k.state seen stop turn).1
+pub few_entries : {code : Code} {k : Known} {seen : List Observation} {stop : Stop}
+    → KnownTurn code k (ends seen stop) → length (entries_of seen) ≤ 2
+few_entries {code} {k} {seen} {stop} (certified.stopped known turn) =
+    few seen (turn_stops code k.state seen stop turn).1
   where
     few : (list : List Observation) → length list ≤ 1 → length (entries_of list) ≤ 2
     few [] one = omega arith

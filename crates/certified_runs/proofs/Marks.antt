@@ -1,6 +1,8 @@
 -- Flags and marks: what is read of them, and what becomes of them when some are set.
 use Rattle.std.specs.Prelude.{nat_eq, slice_index_or, slice_set, is_some, ◌&&◌}
-use Rattle.std.proofs.Common.{◌≡◌, ◌≢◌, ℕ, zero, suc, ◌+◌, ◌*◌, ◌/◌, ◌%◌, ◌<◌, ◌≤◌, Bool, true, false, cond, List, length, Option, Some, None, eq-eqb, ne_eqb, refl, sym, ap, ◌∙◌, ⊎_elim, arith, replicate, get_or-set_same, get_or-set_other}
+use Rattle.std.proofs.Common.{◌≡◌, ◌≢◌, ℕ, zero, suc, ◌+◌, ◌*◌, ◌/◌, ◌%◌, ◌<◌, ◌≤◌, Bool, true, false, cond, List}
+use Rattle.std.proofs.Common.{length, Option, Some, None, eq-eqb, ne_eqb, refl, sym, ap, ◌∙◌, ⊎_elim, arith}
+use Rattle.std.proofs.Common.{replicate, get_or-set_same, get_or-set_other}
 use Rattle.std.specs.Option.{option_eq}
 use Rattle.std.proofs.Math.Path.{fun_ext}
 use Rattle.std.proofs.lemmas.Bool.{cases_eq, cases_lt, le-leb, lt-leb, lt-ltb, le-ltb}
@@ -8,7 +10,8 @@ use Rattle.rv_machine.specs.declared.memory.Size.{Size}
 use Rattle.rv_machine.specs.declared.memory.Size.TheVariants.{Byte, Half, Word}
 use Rattle.rv_machine.specs.Bytes.{ByteMap, joined, number_at, with_number}
 use Rattle.rv_machine.specs.Sizes.{byte_count}
-use Rattle.certified_runs.proofs.Below.{number_at-zero, number_at-suc, with_number-suc, with_byte_same, with_byte_other, with_number_below, with_number_above, is_some-with_number}
+use Rattle.certified_runs.proofs.Below.{number_at-zero, number_at-suc, with_number-suc, with_byte_same}
+use Rattle.certified_runs.proofs.Below.{with_byte_other, with_number_below, with_number_above, is_some-with_number}
 use Rattle.certified_runs.specs.Known.{knows_bytes, with_register_known, with_bytes_known}
 use Rattle.certified_runs.specs.Parts.{known_registers, all_registers, is_known_mark, known_bytes}
 use Rattle.certified_runs.specs.private.Changes.{mark_of}
@@ -26,14 +29,19 @@ pub all_flags : (n : ℕ) → known_registers (replicate n true) ≡ all_registe
 all_flags n = fun_ext (all_set n)
 
 -- one flag was set anew
-pub flag_put : (flags : List Bool) (rd : ℕ) (known : Bool) → rd < length flags → known_registers (slice_set flags rd known) ≡ with_register_known (known_registers flags) rd known
+pub flag_put : (flags : List Bool) (rd : ℕ) (known : Bool) → rd < length flags
+    → known_registers (slice_set flags rd known) ≡ with_register_known (known_registers flags) rd known
 flag_put flags rd known within = fun_ext at
   where
-    at : (r : ℕ) → known_registers (slice_set flags rd known) r ≡ with_register_known (known_registers flags) rd known r
+    at : (r : ℕ) → known_registers (slice_set flags rd known) r
+        ≡ with_register_known (known_registers flags) rd known r
     at r =
         ⊎_elim
-        (λ (e : r ≡ rd). ap (λ x. slice_index_or (slice_set flags rd known) x true) e ∙ get_or-set_same flags rd known true within ∙ sym (ap (λ b. cond b known (slice_index_or flags r true)) (eq-eqb r rd e)))
-        (λ (e : r ≢ rd). get_or-set_other flags rd r known true e ∙ sym (ap (λ b. cond b known (slice_index_or flags r true)) (ne_eqb r rd e)))
+        (λ (e : r ≡ rd). ap (λ x. slice_index_or (slice_set flags rd known) x true) e
+        ∙ get_or-set_same flags rd known true within
+        ∙ sym (ap (λ b. cond b known (slice_index_or flags r true)) (eq-eqb r rd e)))
+        (λ (e : r ≢ rd). get_or-set_other flags rd r known true e
+        ∙ sym (ap (λ b. cond b known (slice_index_or flags r true)) (ne_eqb r rd e)))
         (cases_eq r rd)
 
 -- Bytes.
@@ -59,11 +67,13 @@ zero_parts (Some l) None = and_none (nat_eq l 0)
 zero_parts None p = refl
 
 -- bytes are known where the number of their marks is 0
-pub zero_marks : (marks : ByteMap) (n a : ℕ) → is_known_mark (number_at marks n a) ≡ knows_bytes (known_bytes marks) n a
+pub zero_marks : (marks : ByteMap) (n a : ℕ)
+    → is_known_mark (number_at marks n a) ≡ knows_bytes (known_bytes marks) n a
 unfolding knows_bytes
 zero_marks marks zero a = ap is_known_mark (number_at-zero marks a)
 zero_marks marks (suc n) a =
-    ap is_known_mark (number_at-suc marks n a) ∙ zero_parts (marks a) (number_at marks n (a + 1)) ∙ ap (λ b. is_known_mark (marks a) && b) (zero_marks marks n (a + 1))
+    ap is_known_mark (number_at-suc marks n a) ∙ zero_parts (marks a) (number_at marks n (a + 1))
+    ∙ ap (λ b. is_known_mark (marks a) && b) (zero_marks marks n (a + 1))
 
 -- a number of marks that was read is 0
 pub eq_zero : (o : Option ℕ) → option_eq nat_eq o (Some 0) ≡ is_known_mark o
@@ -83,32 +93,41 @@ are_marks false Byte = (refl, tt)
 are_marks false Half = (refl, (refl, tt))
 are_marks false Word = (refl, (refl, (refl, (refl, tt))))
 
-marked_inside : (marks : ByteMap) (known : Bool) (n a v x : ℕ) → AreMarks known n v → a ≤ x → x < a + n → known_bytes (with_number marks n a v) x ≡ known
+marked_inside : (marks : ByteMap) (known : Bool) (n a v x : ℕ) → AreMarks known n v → a ≤ x → x < a + n
+    → known_bytes (with_number marks n a v) x ≡ known
 marked_inside marks known zero a v x are low high = absurd (omega arith)
 marked_inside marks known (suc n) a v x are low high =
     let above = with_number marks n (a + 1) (v / 256) in
     let step = ap (λ (m : ByteMap). is_known_mark (m x)) (with_number-suc marks n a v) in
     ⊎_elim
     (λ (e : x ≡ a). step ∙ ap is_known_mark (with_byte_same above a (v % 256) x e) ∙ are.0)
-    (λ (e : x ≢ a). step ∙ ap is_known_mark (with_byte_other above a (v % 256) x e) ∙ marked_inside marks known n (a + 1) (v / 256) x are.1 (omega arith) (omega arith))
+    (λ (e : x ≢ a). step ∙ ap is_known_mark (with_byte_other above a (v % 256) x e)
+    ∙ marked_inside marks known n (a + 1) (v / 256) x are.1 (omega arith) (omega arith))
     (cases_eq x a)
 
 -- so many bytes were marked anew
-pub marks_put : (marks : ByteMap) (known : Bool) (size : Size) (a : ℕ) → known_bytes (with_number marks (byte_count size) a (mark_of known)) ≡ with_bytes_known (known_bytes marks) (byte_count size) a known
+pub marks_put : (marks : ByteMap) (known : Bool) (size : Size) (a : ℕ)
+    → known_bytes (with_number marks (byte_count size) a (mark_of known))
+    ≡ with_bytes_known (known_bytes marks) (byte_count size) a known
 marks_put marks known size a = fun_ext at
   where
-    at : (x : ℕ) → known_bytes (with_number marks (byte_count size) a (mark_of known)) x ≡ with_bytes_known (known_bytes marks) (byte_count size) a known x
+    at : (x : ℕ) → known_bytes (with_number marks (byte_count size) a (mark_of known)) x
+        ≡ with_bytes_known (known_bytes marks) (byte_count size) a known x
     at x =
         ⊎_elim
-        (λ (below : x < a). rw (lt-leb a x below) (ap is_known_mark (with_number_below marks (byte_count size) a (mark_of known) x below)))
+        (λ (below : x < a). rw (lt-leb a x below)
+        (ap is_known_mark (with_number_below marks (byte_count size) a (mark_of known) x below)))
         (λ (low : a ≤ x). ⊎_elim
-        (λ (high : x < a + byte_count size). rw (le-leb a x low, lt-ltb x (a + byte_count size) high) (marked_inside marks known (byte_count size) a (mark_of known) x (are_marks known size) low high))
-        (λ (above : a + byte_count size ≤ x). rw (le-leb a x low, le-ltb x (a + byte_count size) above) (ap is_known_mark (with_number_above marks (byte_count size) a (mark_of known) x above)))
+        (λ (high : x < a + byte_count size). rw (le-leb a x low, lt-ltb x (a + byte_count size) high)
+        (marked_inside marks known (byte_count size) a (mark_of known) x (are_marks known size) low high))
+        (λ (above : a + byte_count size ≤ x). rw (le-leb a x low, le-ltb x (a + byte_count size) above)
+        (ap is_known_mark (with_number_above marks (byte_count size) a (mark_of known) x above)))
         (cases_lt x (a + byte_count size)))
         (cases_lt x a)
 
 -- which bytes there are stays where a memory is asked to store a number
-pub store_extent : (old new : ByteMap) (n a v : ℕ) (answer : Bool) → answer ≡ is_some (number_at old n a) → (answer ≡ true → new ≡ with_number old n a v) → (answer ≡ false → new ≡ old) → HaveOneExtent new old
+pub store_extent : (old new : ByteMap) (n a v : ℕ) (answer : Bool) → answer ≡ is_some (number_at old n a)
+    → (answer ≡ true → new ≡ with_number old n a v) → (answer ≡ false → new ≡ old) → HaveOneExtent new old
 store_extent old new n a v true is stored unchanged = λ x.
     ap (λ (m : ByteMap). is_some (m x)) (stored refl) ∙ is_some-with_number old n a v x (sym is)
 store_extent old new n a v false is stored unchanged = λ x. ap (λ (m : ByteMap). is_some (m x)) (unchanged refl)

@@ -3,7 +3,8 @@ use Rattle.std.specs.Prelude.{ℕ, zero, suc, ◌%◌, ◌||◌, Bool, true, fal
 use Rattle.rv_code.specs.declared.instructions.Instr.{Instr}
 use Rattle.rv_code.specs.declared.instructions.Instr.TheVariants.{Register}
 use Rattle.rv_code.specs.declared.operations.RegisterOperation.{RegisterOperation}
-use Rattle.rv_code.specs.declared.operations.RegisterOperation.TheVariants.{Add, Sub, Sll, Slt, Sltu, Xor, Srl, Sra, Or, And}
+use Rattle.rv_code.specs.declared.operations.RegisterOperation.TheVariants.{Add, Sub, Sll, Slt, Sltu, Xor, Srl, Sra}
+use Rattle.rv_code.specs.declared.operations.RegisterOperation.TheVariants.{Or, And}
 use Rattle.rv_machine.specs.declared.observation.Observation.{Observation}
 use Rattle.rv_machine.specs.declared.stops.Stop.{Stop}
 use Rattle.rv_machine.specs.Machine.{State, Code, IsAt, goes_on, stops, Turn}
@@ -34,8 +35,12 @@ abbrev pub amounts_of : Instr → (ℕ → ℕ) → List ℕ
 amounts_of (Register operation rd rs1 rs2) regs = if is_shift operation then register regs rs2 % 32 ∷ [] else []
 amounts_of _ regs = []
 
--- in a run of at most so many turns that no recorder cuts short, the shifts by registers go by these amounts, one after another
+-- in a run of at most so many turns that no recorder cuts short, the shifts by registers go by these amounts, one
+-- after another
 pub data ShiftsBy (code : Code) : ℕ → State → List ℕ → Type 0 where
   spent : {s : State} → ShiftsBy code zero s []
-  halts : {n : ℕ} {s : State} {seen : List Observation} {stop : Stop} → Turn code s (stops seen stop) → ShiftsBy code (suc n) s []
-  turns : {n : ℕ} {s t : State} {o : Observation} {amounts : List ℕ} (i : Instr) → IsAt code s.pc i → Turn code s (goes_on o t) → ShiftsBy code n t amounts → ShiftsBy code (suc n) s (amounts_of i s.regs ++ amounts)
+  halts : {n : ℕ} {s : State} {seen : List Observation} {stop : Stop} → Turn code s (stops seen stop)
+      → ShiftsBy code (suc n) s []
+  turns : {n : ℕ} {s t : State} {o : Observation} {amounts : List ℕ} (i : Instr) → IsAt code s.pc i
+      → Turn code s (goes_on o t) → ShiftsBy code n t amounts
+      → ShiftsBy code (suc n) s (amounts_of i s.regs ++ amounts)

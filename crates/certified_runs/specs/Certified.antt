@@ -2,7 +2,9 @@
 use Rattle.std.specs.Prelude.{◌≡◌, ℕ, Bool, true, false, List, [], ◌∷◌}
 use Rattle.std.proofs.Common.{zero, suc}
 use Rattle.rv_code.specs.declared.instructions.Instr.{Instr}
-use Rattle.rv_code.specs.declared.instructions.Instr.TheVariants.{Upper, Jump, JumpRegister, Branch, Load, Store, Immediate, Shift, Register, Multiply, Divide, Fence, Ecall, Ebreak}
+use Rattle.rv_code.specs.declared.instructions.Instr.TheVariants.{Upper, Jump, JumpRegister, Branch, Load, Store}
+use Rattle.rv_code.specs.declared.instructions.Instr.TheVariants.{Immediate, Shift, Register, Multiply, Divide, Fence}
+use Rattle.rv_code.specs.declared.instructions.Instr.TheVariants.{Ecall, Ebreak}
 use Rattle.rv_machine.specs.declared.observation.Observation.{Observation}
 use Rattle.rv_machine.specs.declared.stops.Stop.{Stop}
 use Rattle.rv_machine.specs.declared.stops.Stop.TheVariants.{Budget}
@@ -20,9 +22,9 @@ abbrev pub decides_product : Profile → Bool → Bool
 decides_product P1 known = true
 decides_product P2 known = known
 
--- whether what an instruction shows, and where it leads, is decided by what is known of the registers: what a branch compares, a
--- jump goes by, an access is addressed by, a division is of, and, where its operands are seen, a product; and by what a
--- register is shifted, where that is seen
+-- whether what an instruction shows, and where it leads, is decided by what is known of the registers: what a branch
+-- compares, a jump goes by, an access is addressed by, a division is of, and, where its operands are seen, a product;
+-- and by what a register is shifted, where that is seen
 abbrev pub decides : Profile → Shifts → Instr → (ℕ → Bool) → Bool
 decides profile shifts (Upper operation rd immediate) known = true
 decides profile shifts (Jump rd offset) known = true
@@ -46,12 +48,15 @@ registers_after (Jump rd offset) k = with_register_known k.registers rd true
 registers_after (JumpRegister rd rs1 offset) k = with_register_known k.registers rd true
 registers_after (Branch test rs1 rs2 offset) k = k.registers
 registers_after (Load operation rd rs1 offset) k =
-    with_register_known k.registers rd (knows_bytes k.bytes (byte_count (load_size operation)) (address_of k.state.regs rs1 offset))
+    with_register_known k.registers rd
+    (knows_bytes k.bytes (byte_count (load_size operation)) (address_of k.state.regs rs1 offset))
 registers_after (Store operation rs2 rs1 offset) k = k.registers
 registers_after (Immediate operation rd rs1 immediate) k = with_register_known k.registers rd (knows k.registers rs1)
 registers_after (Shift operation rd rs1 amount) k = with_register_known k.registers rd (knows k.registers rs1)
-registers_after (Register operation rd rs1 rs2) k = with_register_known k.registers rd (knows_both k.registers rs1 rs2)
-registers_after (Multiply operation rd rs1 rs2) k = with_register_known k.registers rd (knows_both k.registers rs1 rs2)
+registers_after (Register operation rd rs1 rs2) k =
+    with_register_known k.registers rd (knows_both k.registers rs1 rs2)
+registers_after (Multiply operation rd rs1 rs2) k =
+    with_register_known k.registers rd (knows_both k.registers rs1 rs2)
 registers_after (Divide operation rd rs1 rs2) k = with_register_known k.registers rd (knows_both k.registers rs1 rs2)
 registers_after (Fence mode before after rs1 rd) k = k.registers
 registers_after Ecall k = k.registers
@@ -60,15 +65,16 @@ registers_after Ebreak k = k.registers
 -- the known bytes after an instruction: those that it stored are known where the register is
 abbrev pub bytes_after : Instr → Known → ℕ → Bool
 bytes_after (Store operation rs2 rs1 offset) k =
-    with_bytes_known k.bytes (byte_count (store_size operation)) (address_of k.state.regs rs1 offset) (knows k.registers rs2)
+    with_bytes_known k.bytes (byte_count (store_size operation)) (address_of k.state.regs rs1 offset)
+    (knows k.registers rs2)
 bytes_after _ k = k.bytes
 
 -- what is known after an instruction that leads to this state
 abbrev pub known_after : Instr → Known → State → Known
 known_after i k t = record { state = t; registers = registers_after i k; bytes = bytes_after i k; shifts = k.shifts }
 
--- how a turn ends: it shows an observation and goes on, or it stops, having shown at most one, or what it shows may depend on what is
--- unknown
+-- how a turn ends: it shows an observation and goes on, or it stops, having shown at most one, or what it shows may
+-- depend on what is unknown
 pub data KnownEnding : Type 0 where
   leads_on : Observation → Known → KnownEnding
   ends : List Observation → Stop → KnownEnding
@@ -76,11 +82,17 @@ pub data KnownEnding : Type 0 where
 
 -- one turn of what is known
 pub data KnownTurn (code : Code) (k : Known) : KnownEnding → Type 0 where
-  decided : {o : Observation} {t : State} (i : Instr) → IsAt code k.state.pc i → decides code.profile k.shifts i k.registers ≡ true → Turn code k.state (goes_on o t) → KnownTurn code k (leads_on o (known_after i k t))
-  stopped : {seen : List Observation} {stop : Stop} → ((i : Instr) → IsAt code k.state.pc i → decides code.profile k.shifts i k.registers ≡ true) → Turn code k.state (stops seen stop) → KnownTurn code k (ends seen stop)
-  undecided : (i : Instr) → IsAt code k.state.pc i → decides code.profile k.shifts i k.registers ≡ false → KnownTurn code k depends
+  decided : {o : Observation} {t : State} (i : Instr) → IsAt code k.state.pc i
+      → decides code.profile k.shifts i k.registers ≡ true → Turn code k.state (goes_on o t)
+      → KnownTurn code k (leads_on o (known_after i k t))
+  stopped : {seen : List Observation} {stop : Stop}
+      → ((i : Instr) → IsAt code k.state.pc i → decides code.profile k.shifts i k.registers ≡ true)
+      → Turn code k.state (stops seen stop) → KnownTurn code k (ends seen stop)
+  undecided : (i : Instr) → IsAt code k.state.pc i → decides code.profile k.shifts i k.registers ≡ false
+      → KnownTurn code k depends
 
--- how a run ends: it is the same for all that is unknown and stops so, or the turn at this program counter may depend on it
+-- how a run ends: it is the same for all that is unknown and stops so, or the turn at this program counter may depend
+-- on it
 pub data RunEnding : Type 0 where
   same : Stop → RunEnding
   may_differ : ℕ → RunEnding
@@ -88,6 +100,9 @@ pub data RunEnding : Type 0 where
 -- turns until one stops or depends, or as many as the budget; what they show
 pub data CertifiedRun (code : Code) : ℕ → Known → List Observation → RunEnding → Type 0 where
   spent : {k : Known} → CertifiedRun code zero k [] (same Budget)
-  halts : {n : ℕ} {k : Known} {seen : List Observation} {stop : Stop} → KnownTurn code k (ends seen stop) → CertifiedRun code (suc n) k seen (same stop)
+  halts : {n : ℕ} {k : Known} {seen : List Observation} {stop : Stop} → KnownTurn code k (ends seen stop)
+      → CertifiedRun code (suc n) k seen (same stop)
   cut : {n : ℕ} {k : Known} → KnownTurn code k depends → CertifiedRun code (suc n) k [] (may_differ k.state.pc)
-  turns : {n : ℕ} {k next : Known} {o : Observation} {seen : List Observation} {ending : RunEnding} → KnownTurn code k (leads_on o next) → CertifiedRun code n next seen ending → CertifiedRun code (suc n) k (o ∷ seen) ending
+  turns : {n : ℕ} {k next : Known} {o : Observation} {seen : List Observation} {ending : RunEnding}
+      → KnownTurn code k (leads_on o next) → CertifiedRun code n next seen ending
+      → CertifiedRun code (suc n) k (o ∷ seen) ending

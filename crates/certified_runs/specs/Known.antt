@@ -7,7 +7,8 @@ use Rattle.rv_machine.specs.Machine.{State}
 use Rattle.rv_machine.specs.Registers.{register}
 use Rattle.certified_runs.specs.declared.shifts.Shifts.{Shifts}
 
--- a state, of which these registers and the bytes at these addresses are known; what it holds elsewhere does not matter.
+-- a state, of which these registers and the bytes at these addresses are known; what it holds elsewhere does not
+-- matter.
 -- The observer sees the amounts of shifts by registers or not
 pub record Known : Type 0 where
   pub state : State

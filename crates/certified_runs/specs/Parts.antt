@@ -23,4 +23,9 @@ known_bytes marks a = is_known_mark (marks a)
 
 -- a state of which what these flags and marks say is known, where amounts of shifts are seen or not
 abbrev pub known_of : State → List Bool → ByteMap → Shifts → Known
-known_of s flags marks shifts = record { state = s; registers = known_registers flags; bytes = known_bytes marks; shifts = shifts }
+known_of s flags marks shifts = record {
+  state = s;
+  registers = known_registers flags;
+  bytes = known_bytes marks;
+  shifts = shifts;
+}

@@ -1,11 +1,14 @@
 -- The arguments, loaded: what the variables hold, and what lies in the slots; and what the slots hold in the end.
-use Rattle.std.proofs.Common.{◌≡◌, ◌⊎◌, inl, inr, ℕ, zero, suc, ◌+◌, ◌*◌, ◌%◌, ◌^◌, ◌<◌, ◌≤◌, true, false, List, [], ◌∷◌, ◌++◌, length, map, take, drop, replicate, Option, None, Some, is_some, slice_get, slice_index, refl, sym, ap, ap₂, ◌∙◌, subst, arith, unwrap_or}
+use Rattle.std.proofs.Common.{◌≡◌, ◌⊎◌, inl, inr, ℕ, zero, suc, ◌+◌, ◌*◌, ◌%◌, ◌^◌, ◌<◌, ◌≤◌, true, false, List, []}
+use Rattle.std.proofs.Common.{◌∷◌, ◌++◌, length, map, take, drop, replicate, Option, None, Some, is_some, slice_get}
+use Rattle.std.proofs.Common.{slice_index, refl, sym, ap, ap₂, ◌∙◌, subst, arith, unwrap_or}
 use Rattle.codegen.proofs.Machine.{result_offset, control_offset, slots_from, variable_offset, with_numbers}
 use Rattle.codegen.proofs.Machine.{with_argument, with_arguments, word_in, numbers_at, array_in, arrays_in, ByteMap}
 use Rattle.codegen.proofs.Machine.{number_at, with_number, zeros, State, result_slot}
 use Rattle.codegen.proofs.Language.{AreWithin, IsWithin, HasShape, greatest_of, words_of, FlatVariable, Fits, IsHeld}
 use Rattle.codegen.proofs.Language.{IsWithinKind, numbers_in, declaration_of, TermTree, given, Values, value_in}
-use Rattle.codegen.proofs.Language.{array_of, arrays_from, declared_words, types_of, Types, IsResult, Form, SingleWord}
+use Rattle.codegen.proofs.Language.{array_of, arrays_from, declared_words, types_of, Types, IsResult, Form}
+use Rattle.codegen.proofs.Language.{SingleWord}
 use Rattle.codegen.proofs.Language.{FixedArray, MutableArray, Kind, Boolean, Label, Param, WordType, Arg, Word, Array}
 use Rattle.codegen.proofs.Language.{element_bytes, array_words, bits_of, Profile}
 use Rattle.codegen.proofs.Logic.{length-replicate, take-append-drop, All-replicate, number_at_same, place_within}
@@ -24,7 +27,8 @@ kept_whole kind None v h = omega (arith, h)
 kept_whole Boolean (Some n) v h = omega (arith, h)
 kept_whole kind (Some n) v h = omega (arith, h)
 
-in_words : (word : WordType) (elements : Option ℕ) → bytes_by word.kind elements * numbers_in elements ≤ 4 * flat_size.words_by word elements
+in_words : (word : WordType) (elements : Option ℕ)
+    → bytes_by word.kind elements * numbers_in elements ≤ 4 * flat_size.words_by word elements
 in_words word None = omega arith
 in_words word (Some n) = in_array word.kind
   where
@@ -42,9 +46,11 @@ module _ (frame : ℕ) where
   abbrev Lies : Param → Arg → Type 0
   Lies p arg =
       (length (words_of arg) ≡ numbers_in (declaration_of p).elements)
-      × ((bytes : ByteMap) (low : ℕ) → with_argument frame bytes (record { param = p; offset = low }) arg ≡ with_numbers bytes (bytes_of (declaration_of p)) (frame + low) (words_of arg))
+      × ((bytes : ByteMap) (low : ℕ) → with_argument frame bytes (record { param = p; offset = low }) arg
+      ≡ with_numbers bytes (bytes_of (declaration_of p)) (frame + low) (words_of arg))
 
-  lies_by : (k : Kind) (l : Label) (n : ℕ) (form : Form) (arg : Arg) → HasShape form n arg → Lies (made k l n form) arg
+  lies_by : (k : Kind) (l : Label) (n : ℕ) (form : Form) (arg : Arg) → HasShape form n arg
+      → Lies (made k l n form) arg
   lies_by k l n SingleWord (Word w) shape = (refl, λ bytes low. refl)
   lies_by k l n FixedArray (Array ws) shape = (shape, λ bytes low. refl)
   lies_by k l n MutableArray (Array ws) shape = (shape, λ bytes low. refl)
@@ -54,54 +60,69 @@ module _ (frame : ℕ) where
   lies p arg within = lies_by p.kind p.label p.length p.form arg within.shape
 
   -- its numbers lie in its slot
-  argument_there : (p : Param) (bytes : ByteMap) (low : ℕ) (arg : Arg) (i : ℕ) → IsWithin p arg → i < numbers_in (declaration_of p).elements
-      → number_at (with_argument frame bytes (record { param = p; offset = low }) arg) (bytes_of (declaration_of p)) (frame + (low + bytes_of (declaration_of p) * i)) ≡ Some (slice_index (words_of arg) i)
+  argument_there : (p : Param) (bytes : ByteMap) (low : ℕ) (arg : Arg) (i : ℕ) → IsWithin p arg
+      → i < numbers_in (declaration_of p).elements
+      → number_at (with_argument frame bytes (record { param = p; offset = low }) arg) (bytes_of (declaration_of p))
+      (frame + (low + bytes_of (declaration_of p) * i)) ≡ Some (slice_index (words_of arg) i)
   argument_there p bytes low arg i within below =
       let d = declaration_of p in
       let h = lies p arg within in
       let long = h.0 in
       let at : frame + (low + bytes_of d * i) ≡ frame + low + bytes_of d * i = omega arith in
       ap₂ (λ (b : ByteMap) a. number_at b (bytes_of d) a) (h.1 bytes low) at
-      ∙ numbers_there bytes (bytes_of d) (frame + low) (words_of arg) i (λ j less. kept_whole p.kind d.elements (slice_index (words_of arg) j) (within.values j 0 less)) (omega (arith, below, long))
+      ∙ numbers_there bytes (bytes_of d) (frame + low) (words_of arg) i
+      (λ j less. kept_whole p.kind d.elements (slice_index (words_of arg) j) (within.values j 0 less))
+      (omega (arith, below, long))
 
   -- and end with its words
-  ends_in : (p : Param) (arg : Arg) → IsWithin p arg → bytes_of (declaration_of p) * length (words_of arg) ≤ 4 * flat_size.words_of (declaration_of p)
+  ends_in : (p : Param) (arg : Arg) → IsWithin p arg
+      → bytes_of (declaration_of p) * length (words_of arg) ≤ 4 * flat_size.words_of (declaration_of p)
   ends_in p arg within =
       let d = declaration_of p in
       subst (λ n. bytes_of d * n ≤ 4 * flat_size.words_of d) (sym (lies p arg within).0) (in_words d.word d.elements)
 
   -- bytes beside its slot are as they were
-  argument_beside : (p : Param) (bytes : ByteMap) (low : ℕ) (arg : Arg) (x : ℕ) → IsWithin p arg → (x < frame + low) ⊎ (frame + low + 4 * flat_size.words_of (declaration_of p) ≤ x)
+  argument_beside : (p : Param) (bytes : ByteMap) (low : ℕ) (arg : Arg) (x : ℕ) → IsWithin p arg
+      → (x < frame + low) ⊎ (frame + low + 4 * flat_size.words_of (declaration_of p) ≤ x)
       → with_argument frame bytes (record { param = p; offset = low }) arg x ≡ bytes x
   argument_beside p bytes low arg x within side =
-      ap (λ (b : ByteMap). b x) ((lies p arg within).1 bytes low) ∙ numbers_beside bytes (bytes_of (declaration_of p)) (frame + low) (words_of arg) x (by_side side)
+      ap (λ (b : ByteMap). b x) ((lies p arg within).1 bytes low)
+      ∙ numbers_beside bytes (bytes_of (declaration_of p)) (frame + low) (words_of arg) x (by_side side)
     where
-      by_side : (x < frame + low) ⊎ (frame + low + 4 * flat_size.words_of (declaration_of p) ≤ x) → (x < frame + low) ⊎ (frame + low + bytes_of (declaration_of p) * length (words_of arg) ≤ x)
+      by_side : (x < frame + low) ⊎ (frame + low + 4 * flat_size.words_of (declaration_of p) ≤ x)
+          → (x < frame + low) ⊎ (frame + low + bytes_of (declaration_of p) * length (words_of arg) ≤ x)
       by_side (inl below) = inl below
       by_side (inr above) = inr (omega (arith, above, ends_in p arg within))
 
   -- All of them.
 
   -- bytes beside all slots are as they were
-  arguments_beside : (bytes : ByteMap) (low : ℕ) (ps : List Param) (args : List Arg) (x : ℕ) → AreWithin ps args → (x < frame + low) ⊎ (frame + low + 4 * declared_words (map declaration_of ps) ≤ x)
+  arguments_beside : (bytes : ByteMap) (low : ℕ) (ps : List Param) (args : List Arg) (x : ℕ) → AreWithin ps args
+      → (x < frame + low) ⊎ (frame + low + 4 * declared_words (map declaration_of ps) ≤ x)
       → with_arguments frame bytes (slots_from low ps) args x ≡ bytes x
   arguments_beside bytes low [] args x within side = refl
   arguments_beside bytes low (p ∷ ps) (arg ∷ args) x within (inl below) =
-      arguments_beside (with_argument frame bytes (record { param = p; offset = low }) arg) (low + 4 * flat_size.words_of (declaration_of p)) ps args x within.1 (inl (omega (arith, below)))
+      arguments_beside (with_argument frame bytes (record { param = p; offset = low }) arg)
+      (low + 4 * flat_size.words_of (declaration_of p)) ps args x within.1 (inl (omega (arith, below)))
       ∙ argument_beside p bytes low arg x within.0 (inl below)
   arguments_beside bytes low (p ∷ ps) (arg ∷ args) x within (inr above) =
-      arguments_beside (with_argument frame bytes (record { param = p; offset = low }) arg) (low + 4 * flat_size.words_of (declaration_of p)) ps args x within.1 (inr (omega (arith, above)))
+      arguments_beside (with_argument frame bytes (record { param = p; offset = low }) arg)
+      (low + 4 * flat_size.words_of (declaration_of p)) ps args x within.1 (inr (omega (arith, above)))
       ∙ argument_beside p bytes low arg x within.0 (inr (omega (arith, above)))
   arguments_beside bytes low ps args x within side = absurd within
 
   -- what is data stays data
-  arguments_data : (bytes : ByteMap) (low : ℕ) (ps : List Param) (args : List Arg) (x : ℕ) → is_some (bytes x) ≡ true → is_some (with_arguments frame bytes (slots_from low ps) args x) ≡ true
+  arguments_data : (bytes : ByteMap) (low : ℕ) (ps : List Param) (args : List Arg) (x : ℕ) → is_some (bytes x) ≡ true
+      → is_some (with_arguments frame bytes (slots_from low ps) args x) ≡ true
   arguments_data bytes low [] args x here = here
   arguments_data bytes low (p ∷ ps) [] x here = here
   arguments_data bytes low (p ∷ ps) (Word w ∷ args) x here =
-      arguments_data (with_number bytes 4 (frame + low) w) (low + 4 * flat_size.words_of (declaration_of p)) ps args x (number_data bytes 4 (frame + low) w x here)
+      arguments_data (with_number bytes 4 (frame + low) w) (low + 4 * flat_size.words_of (declaration_of p)) ps args x
+      (number_data bytes 4 (frame + low) w x here)
   arguments_data bytes low (p ∷ ps) (Array ws ∷ args) x here =
-      arguments_data (with_numbers bytes (element_bytes p.kind) (frame + low) ws) (low + 4 * flat_size.words_of (declaration_of p)) ps args x (numbers_data bytes (element_bytes p.kind) (frame + low) ws x here)
+      arguments_data (with_numbers bytes (element_bytes p.kind) (frame + low) ws)
+      (low + 4 * flat_size.words_of (declaration_of p)) ps args x
+      (numbers_data bytes (element_bytes p.kind) (frame + low) ws x here)
 
 pub zero_at : (n i : ℕ) → slice_index (replicate n 0) i ≡ 0
 zero_at zero i = refl
@@ -109,7 +130,8 @@ zero_at (suc n) zero = refl
 zero_at (suc n) (suc i) = zero_at n i
 
 -- without arguments each variable holds zeros
-given_none : (declared : List FlatVariable) (x : ℕ) (d : FlatVariable) → slice_get declared x ≡ Some d → given declared [] x ≡ replicate (numbers_in d.elements) 0
+given_none : (declared : List FlatVariable) (x : ℕ) (d : FlatVariable) → slice_get declared x ≡ Some d
+    → given declared [] x ≡ replicate (numbers_in d.elements) 0
 given_none [] x d is = absurd (none-some d is)
 given_none (e ∷ ds) zero d is = ap (λ (f : FlatVariable). replicate (numbers_in f.elements) 0) (same_Some e d is)
 given_none (e ∷ ds) (suc x) d is = given_none ds x d is
@@ -119,66 +141,96 @@ module _ (frame size : ℕ) where
   abbrev IsBlank : ℕ → ByteMap → Type 0
   IsBlank low bytes = (o : ℕ) → low ≤ o → o < size → bytes (frame + o) ≡ Some 0
 
-  blank_number : (low : ℕ) (bytes : ByteMap) (n o : ℕ) → IsBlank low bytes → low ≤ o → o + n ≤ size → number_at bytes n (frame + o) ≡ Some 0
-  blank_number low bytes n o blank above inside = zero_number bytes frame n o (λ b from to. blank b (omega (arith, from, above)) (omega (arith, to, inside)))
+  blank_number : (low : ℕ) (bytes : ByteMap) (n o : ℕ) → IsBlank low bytes → low ≤ o → o + n ≤ size
+      → number_at bytes n (frame + o) ≡ Some 0
+  blank_number low bytes n o blank above inside =
+      zero_number bytes frame n o (λ b from to. blank b (omega (arith, from, above)) (omega (arith, to, inside)))
 
   -- the arguments lie in their order, and zeros after them
-  laid : (bytes : ByteMap) (low : ℕ) (ps : List Param) (args : List Arg) (more : List FlatVariable) (x : ℕ) (d : FlatVariable) (i : ℕ)
-      → AreWithin ps args → IsBlank low bytes → slice_get (map declaration_of ps ++ more) x ≡ Some d → i < numbers_in d.elements
+  laid : (bytes : ByteMap) (low : ℕ) (ps : List Param) (args : List Arg) (more : List FlatVariable) (x : ℕ)
+      (d : FlatVariable) (i : ℕ)
+      → AreWithin ps args → IsBlank low bytes → slice_get (map declaration_of ps ++ more) x ≡ Some d
+      → i < numbers_in d.elements
       → low + place_of (map declaration_of ps ++ more) x d i + bytes_of d ≤ size
-      → number_at (with_arguments frame bytes (slots_from low ps) args) (bytes_of d) (frame + (low + place_of (map declaration_of ps ++ more) x d i)) ≡ Some (slice_index (given (map declaration_of ps ++ more) args x) i)
+      → number_at (with_arguments frame bytes (slots_from low ps) args) (bytes_of d)
+      (frame + (low + place_of (map declaration_of ps ++ more) x d i))
+      ≡ Some (slice_index (given (map declaration_of ps ++ more) args x) i)
   laid bytes low [] [] more x d i within blank is below inside =
       blank_number low bytes (bytes_of d) (low + place_of more x d i) blank (omega arith) (omega (arith, inside))
-      ∙ ap Some (sym (ap (λ (l : List ℕ). slice_index l i) (given_none more x d is) ∙ zero_at (numbers_in d.elements) i))
+      ∙ ap Some (sym (ap (λ (l : List ℕ). slice_index l i) (given_none more x d is)
+      ∙ zero_at (numbers_in d.elements) i))
   laid bytes low (p ∷ ps) (arg ∷ args) more zero d i within blank is below inside =
       let e = declaration_of p in
       let next = with_argument frame bytes (record { param = p; offset = low }) arg in
       let at = low + 4 * flat_size.words_of e in
       let all = with_arguments frame next (slots_from at ps) args in
-      subst (λ (f : FlatVariable). i < numbers_in f.elements → number_at all (bytes_of f) (frame + (low + place_of (e ∷ map declaration_of ps ++ more) 0 f i)) ≡ Some (slice_index (words_of arg) i)) (same_Some e d is)
+      subst (λ (f : FlatVariable). i < numbers_in f.elements
+      → number_at all (bytes_of f) (frame + (low + place_of (e ∷ map declaration_of ps ++ more) 0 f i))
+      ≡ Some (slice_index (words_of arg) i)) (same_Some e d is)
       (λ less.
-      let here : frame + (low + place_of (e ∷ map declaration_of ps ++ more) 0 e i) ≡ frame + (low + bytes_of e * i) = omega arith in
+      let here : frame + (low + place_of (e ∷ map declaration_of ps ++ more) 0 e i) ≡ frame + (low + bytes_of e * i) =
+      omega arith in
       let w = place_within (e ∷ []) 0 e i less in
       ap (λ a. number_at all (bytes_of e) a) here
-      ∙ (number_at_same next all (bytes_of e) (frame + (low + bytes_of e * i)) (λ a from to. arguments_beside frame next at ps args a within.1 (inl (omega (arith, to, w))))
+      ∙ (number_at_same next all (bytes_of e) (frame + (low + bytes_of e * i))
+      (λ a from to. arguments_beside frame next at ps args a within.1 (inl (omega (arith, to, w))))
       ∙ argument_there frame p bytes low arg i within.0 less))
       below
   laid bytes low (p ∷ ps) (arg ∷ args) more (suc x) d i within blank is below inside =
       let next = with_argument frame bytes (record { param = p; offset = low }) arg in
       let at = low + 4 * flat_size.words_of (declaration_of p) in
       let rest = map declaration_of ps ++ more in
-      let there : frame + (low + place_of (declaration_of p ∷ rest) (suc x) d i) ≡ frame + (at + place_of rest x d i) = omega arith in
+      let there : frame + (low + place_of (declaration_of p ∷ rest) (suc x) d i)
+      ≡ frame + (at + place_of rest x d i) = omega arith in
       ap (λ a. number_at (with_arguments frame next (slots_from at ps) args) (bytes_of d) a) there
       ∙ laid next at ps args more x d i within.1
-      (λ o above less. argument_beside frame p bytes low arg (frame + o) within.0 (inr (omega (arith, above))) ∙ blank o (omega (arith, above)) less)
+      (λ o above less. argument_beside frame p bytes low arg (frame + o) within.0 (inr (omega (arith, above)))
+      ∙ blank o (omega (arith, above)) less)
       is below (omega (arith, inside))
   laid bytes low ps args more x d i within blank is below inside = absurd within
 
 -- Values within their kinds.
 
 held_argument : (p : Param) (arg : Arg) → IsWithin p arg → IsHeld (declaration_of p) (words_of arg)
-held_argument p arg within = record { count = (lies 0 p arg within).0; within = λ j d less. greatest p.kind _ (within.values j d less) }
+held_argument p arg within = record {
+  count = (lies 0 p arg within).0;
+  within = λ j d less. greatest p.kind _ (within.values j d less);
+}
 
 zero_fits : (k : Kind) → 0 < 2 ^ bits_of k
 zero_fits Boolean = omega arith
 zero_fits kind = omega arith
 
 pub held_zeros : (d : FlatVariable) → IsHeld d (replicate (numbers_in d.elements) 0)
-held_zeros d = record { count = length-replicate (numbers_in d.elements) 0; within = All-replicate (IsWithinKind d.word.kind) (numbers_in d.elements) 0 (zero_fits d.word.kind) }
+held_zeros d = record {
+  count = length-replicate (numbers_in d.elements) 0;
+  within = All-replicate (IsWithinKind d.word.kind) (numbers_in d.elements) 0 (zero_fits d.word.kind);
+}
 
 -- each variable holds what it is declared as in the beginning
-given_fits : (profile : Profile) (ps : List Param) (args : List Arg) (more : List FlatVariable) → AreWithin ps args → Fits (types_of profile (map declaration_of ps ++ more)) (given (map declaration_of ps ++ more) args)
-given_fits profile [] [] more within x d is = subst (λ (l : List ℕ). IsHeld d l) (sym (given_none more x d is)) (held_zeros d)
-given_fits profile (p ∷ ps) (arg ∷ args) more within zero d is = subst (λ (f : FlatVariable). IsHeld f (words_of arg)) (same_Some (declaration_of p) d is) (held_argument p arg within.0)
+given_fits : (profile : Profile) (ps : List Param) (args : List Arg) (more : List FlatVariable) → AreWithin ps args
+    → Fits (types_of profile (map declaration_of ps ++ more)) (given (map declaration_of ps ++ more) args)
+given_fits profile [] [] more within x d is =
+    subst (λ (l : List ℕ). IsHeld d l) (sym (given_none more x d is)) (held_zeros d)
+given_fits profile (p ∷ ps) (arg ∷ args) more within zero d is =
+    subst (λ (f : FlatVariable). IsHeld f (words_of arg)) (same_Some (declaration_of p) d is)
+    (held_argument p arg within.0)
 given_fits profile (p ∷ ps) (arg ∷ args) more within (suc x) d is = given_fits profile ps args more within.1 x d is
 given_fits profile ps args more within x d is = absurd within
 
 -- the parameters are the first variables
-pub parameters_first : (ps : List Param) (declared : List FlatVariable) → take (length ps) declared ≡ map declaration_of ps → map declaration_of ps ++ drop (length ps) declared ≡ declared
-parameters_first ps declared first = ap (λ (front : List FlatVariable). front ++ drop (length ps) declared) (sym first) ∙ take-append-drop (length ps) declared
+pub parameters_first : (ps : List Param) (declared : List FlatVariable)
+    → take (length ps) declared ≡ map declaration_of ps
+    → map declaration_of ps ++ drop (length ps) declared ≡ declared
+parameters_first ps declared first =
+    ap (λ (front : List FlatVariable). front ++ drop (length ps) declared) (sym first)
+    ∙ take-append-drop (length ps) declared
 
-module _ (z : Setting) (ps : List Param) (args : List Arg) (first : take (length ps) z.declared ≡ map declaration_of ps) (few : declared_words (map declaration_of ps) ≤ declared_words z.declared)
-    (within : AreWithin ps args) (s : State) (base : s.regs 2 ≡ z.frame) (bytes : s.bytes ≡ with_arguments z.frame (zeros z.frame z.size) (slots_from 0 ps) args) where
+module _ (z : Setting) (ps : List Param) (args : List Arg)
+    (first : take (length ps) z.declared ≡ map declaration_of ps)
+    (few : declared_words (map declaration_of ps) ≤ declared_words z.declared)
+    (within : AreWithin ps args) (s : State) (base : s.regs 2 ≡ z.frame)
+    (bytes : s.bytes ≡ with_arguments z.frame (zeros z.frame z.size) (slots_from 0 ps) args) where
   abbrev more : List FlatVariable
   more = drop (length ps) z.declared
 
@@ -187,42 +239,56 @@ module _ (z : Setting) (ps : List Param) (args : List Arg) (first : take (length
 
   behind : (o : ℕ) → result_offset z.declared ≤ o → o < z.size → s.bytes (z.frame + o) ≡ Some 0
   behind o above inside =
-      ap (λ (b : ByteMap). b (z.frame + o)) bytes ∙ (arguments_beside z.frame (zeros z.frame z.size) 0 ps args (z.frame + o) within (inr (omega (arith, few, above))) ∙ blank o inside)
+      ap (λ (b : ByteMap). b (z.frame + o)) bytes
+      ∙ (arguments_beside z.frame (zeros z.frame z.size) 0 ps args (z.frame + o) within
+      (inr (omega (arith, few, above))) ∙ blank o inside)
 
-  laid_there : (x : ℕ) (d : FlatVariable) (i : ℕ) → slice_get z.declared x ≡ Some d → i < numbers_in d.elements → place_of z.declared x d i + bytes_of d ≤ z.size
-      → number_at (with_arguments z.frame (zeros z.frame z.size) (slots_from 0 ps) args) (bytes_of d) (z.frame + (0 + place_of z.declared x d i)) ≡ Some (slice_index (given z.declared args x) i)
+  laid_there : (x : ℕ) (d : FlatVariable) (i : ℕ) → slice_get z.declared x ≡ Some d → i < numbers_in d.elements
+      → place_of z.declared x d i + bytes_of d ≤ z.size
+      → number_at (with_arguments z.frame (zeros z.frame z.size) (slots_from 0 ps) args) (bytes_of d)
+      (z.frame + (0 + place_of z.declared x d i)) ≡ Some (slice_index (given z.declared args x) i)
   laid_there x d i =
-      subst (λ (ds : List FlatVariable). slice_get ds x ≡ Some d → i < numbers_in d.elements → place_of ds x d i + bytes_of d ≤ z.size
-      → number_at (with_arguments z.frame (zeros z.frame z.size) (slots_from 0 ps) args) (bytes_of d) (z.frame + (0 + place_of ds x d i)) ≡ Some (slice_index (given ds args x) i))
+      subst (λ (ds : List FlatVariable). slice_get ds x ≡ Some d → i < numbers_in d.elements
+      → place_of ds x d i + bytes_of d ≤ z.size
+      → number_at (with_arguments z.frame (zeros z.frame z.size) (slots_from 0 ps) args) (bytes_of d)
+      (z.frame + (0 + place_of ds x d i)) ≡ Some (slice_index (given ds args x) i))
       (parameters_first ps z.declared first)
-      (λ is below inside. laid z.frame z.size (zeros z.frame z.size) 0 ps args more x d i within (λ o low. blank o) is below (omega (arith, inside)))
+      (λ is below inside. laid z.frame z.size (zeros z.frame z.size) 0 ps args more x d i within (λ o low. blank o) is
+      below (omega (arith, inside)))
 
   -- the beginning of a run
   pub loaded : Laid z (record { variables = given z.declared args; controls = λ c. false }) s
   loaded = record {
     held = record {
       base = base;
-      data_there = λ o inside. ap (λ (b : ByteMap). is_some (b (z.frame + o))) bytes ∙ arguments_data z.frame (zeros z.frame z.size) 0 ps args (z.frame + o) (ap is_some (blank o inside));
+      data_there = λ o inside. ap (λ (b : ByteMap). is_some (b (z.frame + o))) bytes
+          ∙ arguments_data z.frame (zeros z.frame z.size) 0 ps args (z.frame + o) (ap is_some (blank o inside));
     };
-    fits = subst (λ (ds : List FlatVariable). Fits (types_of z.code.profile ds) (given ds args)) (parameters_first ps z.declared first) (given_fits z.code.profile ps args more within);
+    fits = subst (λ (ds : List FlatVariable). Fits (types_of z.code.profile ds) (given ds args))
+        (parameters_first ps z.declared first) (given_fits z.code.profile ps args more within);
     slots_there = λ x d i is below.
         let from : place_of z.declared x d i ≡ 0 + place_of z.declared x d i = omega arith in
         ap (λ (b : ByteMap). number_at b (bytes_of d) (z.frame + place_of z.declared x d i)) bytes
-        ∙ ap (λ o. number_at (with_arguments z.frame (zeros z.frame z.size) (slots_from 0 ps) args) (bytes_of d) (z.frame + o)) from
+        ∙ ap (λ o. number_at (with_arguments z.frame (zeros z.frame z.size) (slots_from 0 ps) args) (bytes_of d)
+        (z.frame + o)) from
         ∙ laid_there x d i is below (place_ends z x d i is below);
     controls_there = λ c below.
         let room = z.room in
-        zero_number s.bytes z.frame 4 (control_offset z.declared c) (λ b from to. behind b (omega (arith, from)) (omega (arith, to, below, room)));
+        zero_number s.bytes z.frame 4 (control_offset z.declared c)
+        (λ b from to. behind b (omega (arith, from)) (omega (arith, to, below, room)));
   }
 
 -- In the end: the result, and the arrays that may be changed.
 
 -- numbers that are there, one after another
-numbers_are : (bytes : ByteMap) (size at : ℕ) (vs : List ℕ) → ((i : ℕ) → i < length vs → number_at bytes size (at + size * i) ≡ Some (slice_index vs i)) → numbers_at bytes size at (length vs) ≡ vs
+numbers_are : (bytes : ByteMap) (size at : ℕ) (vs : List ℕ)
+    → ((i : ℕ) → i < length vs → number_at bytes size (at + size * i) ≡ Some (slice_index vs i))
+    → numbers_at bytes size at (length vs) ≡ vs
 numbers_are bytes size at [] there = refl
 numbers_are bytes size at (v ∷ vs) there =
     let here : at ≡ at + size * 0 = omega arith in
-    let first : unwrap_or (number_at bytes size at) 0 ≡ v = ap (λ a. unwrap_or (number_at bytes size a) 0) here ∙ ap (λ o. unwrap_or o 0) (there 0 (omega arith)) in
+    let first : unwrap_or (number_at bytes size at) 0 ≡ v = ap (λ a. unwrap_or (number_at bytes size a) 0) here
+    ∙ ap (λ o. unwrap_or o 0) (there 0 (omega arith)) in
     let rest = numbers_are bytes size (at + size) vs (λ i less.
     let e : at + size + size * i ≡ at + size * suc i = omega arith in
     ap (λ a. number_at bytes size a) e ∙ there (suc i) (omega (arith, less))) in
@@ -231,41 +297,61 @@ numbers_are bytes size at (v ∷ vs) there =
 -- a list has the length of a declaration, and its numbers lie from an address on
 abbrev pub LiesAt : ByteMap → FlatVariable → ℕ → List ℕ → Type 0
 LiesAt bytes d at vs =
-    (length vs ≡ numbers_in d.elements) × ((i : ℕ) → i < numbers_in d.elements → number_at bytes (bytes_of d) (at + bytes_of d * i) ≡ Some (slice_index vs i))
+    (length vs ≡ numbers_in d.elements)
+    × ((i : ℕ) → i < numbers_in d.elements → number_at bytes (bytes_of d) (at + bytes_of d * i)
+    ≡ Some (slice_index vs i))
 
 -- one parameter's slot
 array_is : (frame : ℕ) (bytes : ByteMap) (kind : Kind) (label : Label) (n low : ℕ) (form : Form) (vs : List ℕ)
-    → ((size : ℕ) → (declaration_of (record { kind = kind; label = label; form = form; length = n })).elements ≡ Some size → LiesAt bytes (declaration_of (record { kind = kind; label = label; form = form; length = n })) (frame + low) vs)
-    → array_in frame bytes form (record { param = record { kind = kind; label = label; form = form; length = n }; offset = low }) ≡ array_of form vs
+    → ((size : ℕ) → (declaration_of (record { kind = kind; label = label; form = form; length = n })).elements
+    ≡ Some size → LiesAt bytes (declaration_of (record { kind = kind; label = label; form = form; length = n }))
+    (frame + low) vs)
+    → array_in frame bytes form (record {
+      param = record { kind = kind; label = label; form = form; length = n };
+      offset = low;
+    }) ≡ array_of form vs
 array_is frame bytes kind label n low SingleWord vs lies = refl
 array_is frame bytes kind label n low FixedArray vs lies = refl
 array_is frame bytes kind label n low MutableArray vs lies =
     let here = lies n refl in
     let long = here.0 in
     ap (λ (ws : List ℕ). ws ∷ [])
-    (ap (λ m. numbers_at bytes (element_bytes kind) (frame + low) m) (sym long) ∙ numbers_are bytes (element_bytes kind) (frame + low) vs (λ i less. here.1 i (omega (arith, less, long))))
+    (ap (λ m. numbers_at bytes (element_bytes kind) (frame + low) m) (sym long)
+    ∙ numbers_are bytes (element_bytes kind) (frame + low) vs (λ i less. here.1 i (omega (arith, less, long))))
 
 -- The arrays, where each array's numbers lie in its slot: the first of them has this number and lies at this offset.
 pub arrays_are : (frame : ℕ) (bytes : ByteMap) (m : Values) (ps : List Param) (more : List FlatVariable) (x low : ℕ)
-    → ((y : ℕ) (d : FlatVariable) (size : ℕ) → slice_get (map declaration_of ps ++ more) y ≡ Some d → d.elements ≡ Some size → LiesAt bytes d (frame + (low + variable_offset (map declaration_of ps ++ more) y)) (m (x + y)))
+    → ((y : ℕ) (d : FlatVariable) (size : ℕ) → slice_get (map declaration_of ps ++ more) y ≡ Some d
+    → d.elements ≡ Some size
+    → LiesAt bytes d (frame + (low + variable_offset (map declaration_of ps ++ more) y)) (m (x + y)))
     → arrays_in frame bytes (slots_from low ps) ≡ arrays_from x ps m
 arrays_are frame bytes m [] more x low there = refl
 arrays_are frame bytes m (p ∷ ps) more x low there =
     let d = declaration_of p in
     let rest = map declaration_of ps ++ more in
-    let moved : (y : ℕ) (f : FlatVariable) (a b i j : ℕ) → a ≡ b → i ≡ j → LiesAt bytes f a (m i) → LiesAt bytes f b (m j) = λ y f a b i j e k h. subst (λ c. LiesAt bytes f c (m j)) e (subst (λ n. LiesAt bytes f a (m n)) k h) in
+    let moved : (y : ℕ) (f : FlatVariable) (a b i j : ℕ) → a ≡ b → i ≡ j → LiesAt bytes f a (m i)
+    → LiesAt bytes f b (m j) = λ y f a b i j e k h.
+    subst (λ c. LiesAt bytes f c (m j)) e (subst (λ n. LiesAt bytes f a (m n)) k h) in
     ap₂ (λ (one others : List (List ℕ)). one ++ others)
-    (array_is frame bytes p.kind p.label p.length low p.form (m x) (λ size is. moved 0 d (frame + (low + variable_offset (d ∷ rest) 0)) (frame + low) (x + 0) x (omega arith) (omega arith) (there 0 d size refl is)))
+    (array_is frame bytes p.kind p.label p.length low p.form (m x)
+    (λ size is. moved 0 d (frame + (low + variable_offset (d ∷ rest) 0)) (frame + low) (x + 0) x (omega arith)
+    (omega arith) (there 0 d size refl is)))
     (arrays_are frame bytes m ps more (x + 1) (low + 4 * flat_size.words_of d)
-    (λ y f size get is. moved y f (frame + (low + variable_offset (d ∷ rest) (suc y))) (frame + (low + 4 * flat_size.words_of d + variable_offset rest y)) (x + suc y) (x + 1 + y) (omega arith) (omega arith) (there (suc y) f size get is)))
+    (λ y f size get is. moved y f (frame + (low + variable_offset (d ∷ rest) (suc y)))
+    (frame + (low + 4 * flat_size.words_of d + variable_offset rest y)) (x + suc y) (x + 1 + y) (omega arith)
+    (omega arith) (there (suc y) f size get is)))
 
 -- where there is a result, its slot has it
 abbrev pub Left : ℕ → List FlatVariable → Option TermTree → Values → ByteMap → Type 0
 Left frame declared None m bytes = Unit {0}
-Left frame declared (Some value) m bytes = number_at bytes 4 (frame + result_offset declared) ≡ Some (value_in m value)
+Left frame declared (Some value) m bytes = number_at bytes 4 (frame + result_offset declared)
+    ≡ Some (value_in m value)
 
-pub returned_is : (frame : ℕ) (declared : List FlatVariable) (types : Types) (returned : Option WordType) (value : Option TermTree) (m : Values) (bytes : ByteMap) → IsResult types returned value → Left frame declared value m bytes
-    → option_map (λ slot. word_in frame bytes slot.offset) (option_map (result_slot declared) returned) ≡ option_map (value_in m) value
+pub returned_is : (frame : ℕ) (declared : List FlatVariable) (types : Types) (returned : Option WordType)
+    (value : Option TermTree) (m : Values) (bytes : ByteMap) → IsResult types returned value
+    → Left frame declared value m bytes
+    → option_map (λ slot. word_in frame bytes slot.offset) (option_map (result_slot declared) returned)
+    ≡ option_map (value_in m) value
 returned_is frame declared types None None m bytes typed left = refl
 returned_is frame declared types (Some word) (Some value) m bytes typed left = ap (λ o. Some (unwrap_or o 0)) left
 returned_is frame declared types returned value m bytes typed left = absurd typed

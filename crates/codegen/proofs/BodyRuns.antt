@@ -1,7 +1,10 @@
--- The code of a program, run: its body wherever its words stand, and the loaded image to its end. So the image is the code's.
-use Rattle.std.proofs.Common.{◌≡◌, ℕ, ◌+◌, ◌*◌, List, [], ◌∷◌, ◌++◌, length, map, drop, Some, slice_get, slice_index, is_some, refl, sym, ap, ap₂, ◌∙◌, subst, arith, None, Option}
+-- The code of a program, run: its body wherever its words stand, and the loaded image to its end. So the image is the
+-- code's.
+use Rattle.std.proofs.Common.{◌≡◌, ℕ, ◌+◌, ◌*◌, List, [], ◌∷◌, ◌++◌, length, map, drop, Some, slice_get, slice_index}
+use Rattle.std.proofs.Common.{is_some, refl, sym, ap, ap₂, ◌∙◌, subst, arith, None, Option}
 use Rattle.codegen.proofs.Language.{AreWithin, StraightProgram, StraightState, after_all, path_along, outcome_of}
-use Rattle.codegen.proofs.Language.{path_of, FlatVariable, types_of, Path, AreFine, seen, Arg, Profile, declaration_of}
+use Rattle.codegen.proofs.Language.{path_of, FlatVariable, types_of, Path, AreFine, seen, Arg, Profile}
+use Rattle.codegen.proofs.Language.{declaration_of}
 use Rattle.codegen.proofs.Language.{Param, WordType}
 use Rattle.codegen.proofs.Logic.{length-map, All-append, option_map, setting as pieces_of}
 use Rattle.branch_removal.specs.StraightMeaning.{start as start_of}
@@ -16,7 +19,9 @@ use Rattle.codegen.proofs.Standing.{words_alone, body_words_before, placed_alone
 use Rattle.codegen.proofs.StatementRuns.{block_runs}
 use Rattle.codegen.proofs.EntryRuns.{entry_runs}
 use Rattle.codegen.proofs.Slots.{Laid, laid_same}
-use Rattle.codegen.proofs.Logic.{bytes_of, place_of, Setting, seen_by, Straight, Steps, Runs, seq, quietly, gives, cheaper, beside, All-one, Placed, Placed-left, Placed-right, Halts-after, ecall_halts}
+use Rattle.codegen.proofs.Logic.{bytes_of, place_of, Setting, seen_by, Straight, Steps, Runs, seq, quietly, gives}
+use Rattle.codegen.proofs.Logic.{cheaper, beside, All-one, Placed, Placed-left, Placed-right, Halts-after}
+use Rattle.codegen.proofs.Logic.{ecall_halts}
 use Rattle.rv_code.specs.declared.instructions.Instr.TheVariants as instr
 use Rattle.rv_machine.specs.Machine as machine
 use Rattle.codegen.proofs.ImageLemmas.{program_length, room_frame}
@@ -35,14 +40,17 @@ unfolding body_code
 program_code-body a p = refl
 
 -- the words of an image's body are its code's
-pub body_words-image : (a : Allocation) (p : StraightProgram) → body_words (image_of a p).words ≡ map word_of (body_code a p)
+pub body_words-image : (a : Allocation) (p : StraightProgram)
+    → body_words (image_of a p).words ≡ map word_of (body_code a p)
 unfolding body_code
 body_words-image a p = body_words_before (body_code a p) instr.Ecall
 
-pub body_length : (a : Allocation) (p : StraightProgram) → length (body_words (image_of a p).words) ≡ length (body_code a p)
+pub body_length : (a : Allocation) (p : StraightProgram)
+    → length (body_words (image_of a p).words) ≡ length (body_code a p)
 body_length a p = ap (λ (ws : List ℕ). length ws) (body_words-image a p) ∙ length-map {B = ℕ} (body_code a p) word_of
 
-module _ (a : Allocation) (p : StraightProgram) (room : HasRoom p) (fitting : IsFitting p a) (code : Code) (start frame : ℕ) (there : IsPlaced (image_of a p) code start frame) where
+module _ (a : Allocation) (p : StraightProgram) (room : HasRoom p) (fitting : IsFitting p a) (code : Code)
+    (start frame : ℕ) (there : IsPlaced (image_of a p) code start frame) where
   -- as if the body's words stood alone
   abbrev setting : Setting
   setting = record {
@@ -86,42 +94,60 @@ module _ (a : Allocation) (p : StraightProgram) (room : HasRoom p) (fitting : Is
   straight : Straight (pieces_of setting) start (60 + 32 * p.work) steps (body_code a p) (Laid setting) Finished
   straight = body_runs.placed_at start (placed_alone p.profile code start (body_code a p) standing)
 
-  begins : (args : List Arg) (s : machine.State) → IsLoaded (image_of a p) frame args s → AreWithin p.parameters args → Laid setting (start_of p args) s
+  begins : (args : List Arg) (s : machine.State) → IsLoaded (image_of a p) frame args s → AreWithin p.parameters args
+      → Laid setting (start_of p args) s
   begins args s laid within =
       let first = loaded_at 0 frame (image_of a p) args in
       let begun = loaded setting p.parameters args room.typed.parameters room.parameters within first refl refl in
       laid_same setting setting.size (omega arith) (start_of p args) first s begun
-      (record { base = laid.base; data_there = λ o inside. ap is_some (laid.frame_there o inside) ∙ begun.held.data_there o inside })
+      (record {
+        base = laid.base;
+        data_there = λ o inside. ap is_some (laid.frame_there o inside)
+            ∙ begun.held.data_there o inside;
+      })
       laid.frame_there
 
-  outcome : (args : List Arg) (s t : machine.State) → Finished (start_of p args) s t → results_in frame (image_of a p) t.bytes ≡ outcome_of p args
+  outcome : (args : List Arg) (s t : machine.State) → Finished (start_of p args) s t
+      → results_in frame (image_of a p) t.bytes ≡ outcome_of p args
   unfolding Finished
   outcome args s t done =
       let m = (last_state p (start_of p args)).variables in
       ap₂ (λ r arrays. record { returned = r; arrays = arrays })
-      (returned_is frame p.declared (types_of p.profile p.declared) p.returned p.value m t.bytes room.typed.result done.left)
+      (returned_is frame p.declared (types_of p.profile p.declared) p.returned p.value m t.bytes
+      room.typed.result done.left)
       (arrays_are frame t.bytes m p.parameters (drop (length p.parameters) p.declared) 0 0
-      (subst (λ (ds : List FlatVariable). (y : ℕ) (d : FlatVariable) (size : ℕ) → slice_get ds y ≡ Some d → d.elements ≡ Some size → LiesAt t.bytes d (frame + (0 + variable_offset ds y)) (m (0 + y))) (sym (parameters_first p.parameters p.declared room.typed.parameters))
+      (subst (λ (ds : List FlatVariable). (y : ℕ) (d : FlatVariable) (size : ℕ) → slice_get ds y ≡ Some d
+      → d.elements ≡ Some size → LiesAt t.bytes d (frame + (0 + variable_offset ds y)) (m (0 + y)))
+      (sym (parameters_first p.parameters p.declared room.typed.parameters))
       (λ y d size is array.
       let e : 0 + y ≡ y = omega arith in (
         ap (λ k. length (m k)) e ∙ (done.ready.fits y d is).count,
         λ i below.
-            let f : frame + (0 + variable_offset p.declared y) + bytes_of d * i ≡ frame + place_of p.declared y d i = omega arith in
-            ap (λ a. number_at t.bytes (bytes_of d) a) f ∙ (done.ready.variables_there y d i is (fitting.allocated.words y d size is array) below ∙ ap (λ k. Some (slice_index (m k) i)) (sym e)),
+            let f : frame + (0 + variable_offset p.declared y) + bytes_of d * i ≡ frame + place_of p.declared y d i =
+            omega arith in
+            ap (λ a. number_at t.bytes (bytes_of d) a) f
+            ∙ (done.ready.variables_there y d i is (fitting.allocated.words y d size is array) below
+            ∙ ap (λ k. Some (slice_index (m k) i)) (sym e)),
       ))))
 
   -- among the other words of the code
-  among : {n : ℕ} {s t : machine.State} {seen : List Observation} → Leads setting.code n s seen t → Leads code n s seen t
+  among : {n : ℕ} {s t : machine.State} {seen : List Observation} → Leads setting.code n s seen t
+      → Leads code n s seen t
   among {n} {s} {t} {seen} leads =
       let same : p.profile ≡ code.profile = sym there.observed in
-      leads_among code start (map word_of (body_code a p)) standing (subst (λ (profile : Profile). Leads (words_alone profile start (map word_of (body_code a p))) n s seen t) same leads)
+      leads_among code start (map word_of (body_code a p)) standing
+      (subst (λ (profile : Profile). Leads (words_alone profile start (map word_of (body_code a p))) n s seen t)
+      same leads)
 
-  runs_behind : (args : List Arg) (s : machine.State) → s.pc ≡ start → IsLoaded (image_of a p) frame args s → AreWithin p.parameters args → AreFine p.turns (path_of p args)
-      → RunsBehind p (image_of a p) code start frame args s ((straight.leak (seen_by setting (path_of p args) ++ [])).0)
+  runs_behind : (args : List Arg) (s : machine.State) → s.pc ≡ start → IsLoaded (image_of a p) frame args s
+      → AreWithin p.parameters args → AreFine p.turns (path_of p args)
+      → RunsBehind p (image_of a p) code start frame args s
+      ((straight.leak (seen_by setting (path_of p args) ++ [])).0)
   unfolding steps Finished
   runs_behind args s at laid within fine =
       let done = straight.runs (start_of p args) s [] at fine (begins args s laid within) in
-      let same : (straight.leak (seen_by setting (path_of p args) ++ [])).0 ≡ done.seen = ap (λ (r : List Observation × Path). r.0) done.shown in
+      let same : (straight.leak (seen_by setting (path_of p args) ++ [])).0 ≡ done.seen =
+      ap (λ (r : List Observation × Path). r.0) done.shown in
       subst (λ (seen : List Observation). RunsBehind p (image_of a p) code start frame args s seen) (sym same)
       (record {
         run = record {
@@ -140,7 +166,8 @@ module _ (a : Allocation) (p : StraightProgram) (room : HasRoom p) (fitting : Is
       })
 
 -- the machine follows the body's code, wherever it stands
-pub followed_in : (a : Allocation) (p : StraightProgram) → HasRoom p → IsFitting p a → (code : Code) (start frame : ℕ) → IsPlaced (image_of a p) code start frame → IsFollowedIn p (image_of a p) code start frame
+pub followed_in : (a : Allocation) (p : StraightProgram) → HasRoom p → IsFitting p a → (code : Code) (start frame : ℕ)
+    → IsPlaced (image_of a p) code start frame → IsFollowedIn p (image_of a p) code start frame
 followed_in a p room fitting code start frame there = record {
   shown = λ path. ((straight a p room fitting code start frame there).leak (path ++ [])).0;
   runs = λ args s at laid within fine. runs_behind a p room fitting code start frame there args s at laid within fine;
@@ -155,13 +182,16 @@ module _ (a : Allocation) (p : StraightProgram) (code frame : ℕ) (bases : AreB
   all_placed : Placed whole code (body_code a p ++ instr.Ecall ∷ [])
   all_placed =
       subst (λ (is : List Instr). Placed whole code is) (program_code-body a p)
-      (placed p.profile code (image_of a p).words [] (program_code a p) code bases.code_aligned bases.code_ends refl (omega arith))
+      (placed p.profile code (image_of a p).words [] (program_code a p) code bases.code_aligned bases.code_ends refl
+      (omega arith))
 
   -- the body stands in its image
   pub stands_there : IsPlaced (image_of a p) whole code frame
   stands_there = record {
     observed = refl;
-    words = subst (λ (ws : List ℕ). Stand whole code ws) (sym (body_words-image a p)) (stand_placed whole code (body_code a p) (Placed-left whole code (body_code a p) (instr.Ecall ∷ []) all_placed));
+    words = subst (λ (ws : List ℕ). Stand whole code ws) (sym (body_words-image a p))
+        (stand_placed whole code (body_code a p)
+        (Placed-left whole code (body_code a p) (instr.Ecall ∷ []) all_placed));
     frame_aligned = bases.frame_aligned;
     frame_ends = bases.frame_ends;
   }
@@ -176,7 +206,8 @@ module _ (a : Allocation) (p : StraightProgram) (code frame : ℕ) (bases : AreB
   unfolding last end_shown
   ends_there s at =
       let there = Placed-right whole code (body_code a p) (instr.Ecall ∷ []) all_placed in
-      let stands = subst (λ q. IsAt whole q instr.Ecall) (sym (at ∙ ap (λ n. code + 4 * n) (body_length a p))) (record { aligned = there.0; word = there.2; in_range = tt }) in
+      let stands = subst (λ q. IsAt whole q instr.Ecall) (sym (at ∙ ap (λ n. code + 4 * n) (body_length a p)))
+      (record { aligned = there.0; word = there.2; in_range = tt }) in
       subst (λ q. Halts whole 1 s (record { pc = q; event = None } ∷ []) Ecall s) at (ecall_halts whole s stands)
 
   -- the machine follows the code where it follows the body
@@ -194,7 +225,8 @@ module _ (a : Allocation) (p : StraightProgram) (code frame : ℕ) (bases : AreB
           end = run.end;
           halts = Halts-after run.leads (ends_there run.end run.behind);
           within_steps = omega (arith, run.within_steps);
-          within_frame = All-append Inside (body.shown (seen p.profile (path_of p args))) end_shown run.within_frame (All-one Inside (record { pc = last; event = None }) tt);
+          within_frame = All-append Inside (body.shown (seen p.profile (path_of p args))) end_shown run.within_frame
+              (All-one Inside (record { pc = last; event = None }) tt);
           outcome = follows.outcome;
         };
   }
@@ -204,16 +236,19 @@ module _ (a : Allocation) (p : StraightProgram) (code frame : ℕ) (bases : AreB
 -- the slots have the parameters
 slot_params : (low : ℕ) (ps : List Param) → map (λ (slot : Slot). slot.param) (slots_from low ps) ≡ ps
 slot_params low [] = refl
-slot_params low (p ∷ ps) = ap (λ (rest : List Param). p ∷ rest) (slot_params (low + 4 * words_of (declaration_of p)) ps)
+slot_params low (p ∷ ps) =
+    ap (λ (rest : List Param). p ∷ rest) (slot_params (low + 4 * words_of (declaration_of p)) ps)
 
 -- the result's slot has the type of the result
-slot_type : (declared : List FlatVariable) (returned : Option WordType) → option_map type_in (option_map (result_slot declared) returned) ≡ returned
+slot_type : (declared : List FlatVariable) (returned : Option WordType)
+    → option_map type_in (option_map (result_slot declared) returned) ≡ returned
 slot_type declared None = refl
 slot_type declared (Some word) = refl
 
 pub is_generated : (a : Allocation) (p : StraightProgram) → HasRoom p → IsFitting p a → IsGenerated p (image_of a p)
 is_generated a p room fitting =
-    let words : length (map word_of (program_code a p)) ≡ length (program_code a p) = length-map {B = ℕ} (program_code a p) word_of in
+    let words : length (map word_of (program_code a p)) ≡ length (program_code a p) =
+    length-map {B = ℕ} (program_code a p) word_of in
     record {
       profile = refl;
       parameters = slot_params 0 p.parameters;
@@ -221,6 +256,8 @@ is_generated a p room fitting =
       max_steps = refl;
       frame_size = room_frame a p room;
       word_count = omega (arith, program_length a p room fitting, words);
-      follows = λ code frame bases. followed_whole a p code frame bases (followed_in a p room fitting (code_at code (image_of a p)) code frame (stands_there a p code frame bases));
+      follows = λ code frame bases. followed_whole a p code frame bases
+          (followed_in a p room fitting (code_at code (image_of a p)) code frame
+          (stands_there a p code frame bases));
       anywhere = λ code start frame there. followed_in a p room fitting code start frame there;
     }

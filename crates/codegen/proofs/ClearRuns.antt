@@ -1,6 +1,8 @@
 -- The code that makes an array of zeros.
-use Rattle.std.proofs.Common.{◌≡◌, ◌≢◌, ⊎_elim, ℕ, zero, suc, ◌+◌, ◌*◌, ◌%◌, ◌<◌, ◌≤◌, ◌⊎◌, inl, inr, true, List, [], ◌∷◌, ◌++◌, length, replicate, Some, refl, sym, ap, ap₂, ◌∙◌, arith, length-append}
-use Rattle.codegen.proofs.Machine.{clear_code, statement_code, loop_code, with_numbers, variable_offset, constant_code}
+use Rattle.std.proofs.Common.{◌≡◌, ◌≢◌, ⊎_elim, ℕ, zero, suc, ◌+◌, ◌*◌, ◌%◌, ◌<◌, ◌≤◌, ◌⊎◌, inl, inr, true, List, []}
+use Rattle.std.proofs.Common.{◌∷◌, ◌++◌, length, replicate, Some, refl, sym, ap, ap₂, ◌∙◌, arith, length-append}
+use Rattle.codegen.proofs.Machine.{clear_code, statement_code, loop_code, with_numbers, variable_offset}
+use Rattle.codegen.proofs.Machine.{constant_code}
 use Rattle.codegen.proofs.Machine.{Instr, Addi, Add, Sub, Sw, ByteMap, number_at, with_number, sum_of}
 use Rattle.codegen.proofs.Machine.{difference_of, with_register}
 use Rattle.codegen.proofs.Language.{FlatVariable, array_as, path_of_turns, Path, clear, StraightState, with_variable}
@@ -8,7 +10,13 @@ use Rattle.codegen.proofs.Language.{after, IsFilled, Kind, Boolean, array_words}
 use Rattle.codegen.proofs.Logic.{cases_eq, cases_lt, length-replicate}
 use Rattle.rv_code.specs.declared.instructions.Instr.TheVariants as instr
 use Rattle.rv_machine.specs.Machine as machine
-use Rattle.codegen.proofs.Logic.{with_number-suc, with_byte_same, with_byte_other, registers_after, only_computes, is_free, computing_within, frame_runs, plain_append, after_append, constant_plain, constant_after, constant_length, kind_known, HeldAt, Held, held_regs, frame_there, bytes_of, place_of, place_within, ends_before_result, Setting, setting, none, none_low, Runs, Still, looping, never, quiet, weaken, gives, cheaper, along, as_code, Ready, number_same, HomesKept, homes_by, homes_computed, homes_then, is_scratch, scratch_low, unwritten}
+use Rattle.codegen.proofs.Logic.{with_number-suc, with_byte_same, with_byte_other, registers_after, only_computes}
+use Rattle.codegen.proofs.Logic.{is_free, computing_within, frame_runs, plain_append, after_append, constant_plain}
+use Rattle.codegen.proofs.Logic.{constant_after, constant_length, kind_known, HeldAt, Held, held_regs, frame_there}
+use Rattle.codegen.proofs.Logic.{bytes_of, place_of, place_within, ends_before_result, Setting, setting, none}
+use Rattle.codegen.proofs.Logic.{none_low, Runs, Still, looping, never, quiet, weaken, gives, cheaper, along, as_code}
+use Rattle.codegen.proofs.Logic.{Ready, number_same, HomesKept, homes_by, homes_computed, homes_then, is_scratch}
+use Rattle.codegen.proofs.Logic.{scratch_low, unwritten}
 use Rattle.codegen.proofs.Arguments.{zero_at, held_zeros}
 use Rattle.codegen.proofs.Numbers.{numbers_beside, zero_number}
 use Rattle.codegen.proofs.Slots.{Shown, ready_changed}
@@ -43,12 +51,14 @@ zeroed_there bytes a zero x low high = absurd (omega (arith, low, high))
 zeroed_there bytes a (suc n) x low high =
     let next = with_number bytes 4 a 0 in
     ⊎_elim
-    (λ (here : x < a + 4). numbers_beside next 4 (a + 4) (replicate n 0) x (inl here) ∙ zero_bytes bytes 4 a x low here)
+    (λ (here : x < a + 4). numbers_beside next 4 (a + 4) (replicate n 0) x (inl here)
+    ∙ zero_bytes bytes 4 a x low here)
     (λ (behind : a + 4 ≤ x). zeroed_there next (a + 4) n x behind (omega (arith, high))) (cases_lt x (a + 4))
 
 zeroed_beside : (bytes : ByteMap) (a n x : ℕ) → (x < a) ⊎ (a + 4 * n ≤ x) → zeroed bytes a n x ≡ bytes x
 zeroed_beside bytes a n x (inl below) = numbers_beside bytes 4 a (replicate n 0) x (inl below)
-zeroed_beside bytes a n x (inr above) = let long : length {A = ℕ} (replicate n 0) ≡ n = length-replicate n 0 in numbers_beside bytes 4 a (replicate n 0) x (inr (omega (arith, above, long)))
+zeroed_beside bytes a n x (inr above) = let long : length {A = ℕ} (replicate n 0) ≡ n = length-replicate n 0 in
+    numbers_beside bytes 4 a (replicate n 0) x (inr (omega (arith, above, long)))
 
 -- and the word behind them
 one_more : (bytes : ByteMap) (a n : ℕ) → with_number (zeroed bytes a n) 4 (a + 4 * n) 0 ≡ zeroed bytes a (suc n)
@@ -82,20 +92,30 @@ module _ (z : Setting) (offset words : ℕ) (aligned : offset % 4 ≡ 0) (inside
       let six = constant_plain is_scratch 6 offset refl (omega arith) in
       let seven = constant_plain is_scratch 7 (4 * words) refl (omega arith) in
       let front = plain_append is_scratch (constant_code 6 offset) first_sum six refl in
-      plain_append is_scratch (constant_code 6 offset ++ first_sum ++ constant_code 7 (4 * words)) last_sum (plain_append is_scratch (constant_code 6 offset ++ first_sum) (constant_code 7 (4 * words)) front seven) refl
+      plain_append is_scratch (constant_code 6 offset ++ first_sum ++ constant_code 7 (4 * words)) last_sum
+      (plain_append is_scratch (constant_code 6 offset ++ first_sum) (constant_code 7 (4 * words)) front seven)
+      refl
 
   begin_length : length begin_code ≤ 6
   begin_length = simp length-append (omega (arith, constant_length 6 offset, constant_length 7 (4 * words)))
 
-  begin_after : (regs : ℕ → ℕ) → registers_after begin_code regs ≡ registers_after last_sum (with_register (registers_after first_sum (with_register regs 6 offset)) 7 (4 * words))
+  begin_after : (regs : ℕ → ℕ) → registers_after begin_code regs
+      ≡ registers_after last_sum (with_register (registers_after first_sum (with_register regs 6 offset)) 7
+      (4 * words))
   begin_after regs =
       let ends = z.ends in
-      let six = after_append (constant_code 6 offset) first_sum regs ∙ ap (registers_after first_sum) (constant_after 6 offset (λ e. omega arith) (omega (arith, ends, inside)) regs) in
-      let seven = constant_after 7 (4 * words) (λ e. omega arith) (omega (arith, ends, inside)) (registers_after (constant_code 6 offset ++ first_sum) regs) in
+      let six = after_append (constant_code 6 offset) first_sum regs
+      ∙ ap (registers_after first_sum)
+      (constant_after 6 offset (λ e. omega arith) (omega (arith, ends, inside)) regs) in
+      let seven = constant_after 7 (4 * words) (λ e. omega arith) (omega (arith, ends, inside))
+      (registers_after (constant_code 6 offset ++ first_sum) regs) in
       after_append (constant_code 6 offset ++ first_sum ++ constant_code 7 (4 * words)) last_sum regs
-      ∙ ap (registers_after last_sum) (after_append (constant_code 6 offset ++ first_sum) (constant_code 7 (4 * words)) regs ∙ (seven ∙ ap (λ (all : ℕ → ℕ). with_register all 7 (4 * words)) six))
+      ∙ ap (registers_after last_sum)
+      (after_append (constant_code 6 offset ++ first_sum) (constant_code 7 (4 * words)) regs
+      ∙ (seven ∙ ap (λ (all : ℕ → ℕ). with_register all 7 (4 * words)) six))
 
-  begin_runs : Runs z 6 none (begin_code) (Held z) (λ env s t. Bounded 0 env t × (t.bytes ≡ s.bytes) × HomesKept z s t)
+  begin_runs : Runs z 6 none (begin_code) (Held z) (λ env s t. Bounded 0 env t × (t.bytes ≡ s.bytes)
+      × HomesKept z s t)
   begin_runs =
       let ends = z.ends in
       cheaper begin_length
@@ -106,7 +126,8 @@ module _ (z : Setting) (offset words : ℕ) (aligned : offset % 4 ≡ 0) (inside
         record {
           held = done.held;
           six = ap (λ (regs : ℕ → ℕ). regs 6) all ∙ (to offset ∙ omega (arith, ends, inside));
-          seven = ap (λ (regs : ℕ → ℕ). regs 7) all ∙ (ap (λ a. sum_of (4 * words) a) (to offset) ∙ omega (arith, ends, inside));
+          seven = ap (λ (regs : ℕ → ℕ). regs 7) all
+              ∙ (ap (λ a. sum_of (4 * words) a) (to offset) ∙ omega (arith, ends, inside));
         },
         done.same,
         homes_computed z begin_code s t begin_plain done.registers,
@@ -129,7 +150,8 @@ module _ (z : Setting) (offset words : ℕ) (aligned : offset % 4 ≡ 0) (inside
   Tested left i env s t = Bounded i env t × (t.regs 5 ≡ 4 * left) × (t.bytes ≡ s.bytes) × HomesKept z s t
 
   abbrev Turned : ℕ → StraightState → machine.State → machine.State → Type 0
-  Turned i env u v = Bounded (i + 1) env v × (v.bytes ≡ with_number u.bytes 4 (z.frame + (offset + 4 * i)) 0) × HomesKept z u v
+  Turned i env u v = Bounded (i + 1) env v × (v.bytes ≡ with_number u.bytes 4 (z.frame + (offset + 4 * i)) 0)
+      × HomesKept z u v
 
   test_runs : (left i : ℕ) → Runs z 1 none test (Turning left i) (Tested left i)
   test_runs left i =
@@ -143,7 +165,8 @@ module _ (z : Setting) (offset words : ℕ) (aligned : offset % 4 ≡ 0) (inside
           six = ap (λ (regs : ℕ → ℕ). regs 6) done.registers ∙ given.0.six;
           seven = ap (λ (regs : ℕ → ℕ). regs 7) done.registers ∙ given.0.seven;
         },
-        ap (λ (regs : ℕ → ℕ). regs 5) done.registers ∙ (ap₂ difference_of given.0.seven given.0.six ∙ omega (arith, ends, inside, count)),
+        ap (λ (regs : ℕ → ℕ). regs 5) done.registers
+            ∙ (ap₂ difference_of given.0.seven given.0.six ∙ omega (arith, ends, inside, count)),
         done.same,
         homes_computed z test s t refl done.registers,
       ))
@@ -156,11 +179,13 @@ module _ (z : Setting) (offset words : ℕ) (aligned : offset % 4 ≡ 0) (inside
       (λ env s t fine given done. (
         record {
           held = done.0;
-          six = ap (λ (regs : ℕ → ℕ). regs 6) done.1.regs ∙ (ap (λ a. sum_of a 4) given.0.six ∙ omega (arith, ends, inside, below));
+          six = ap (λ (regs : ℕ → ℕ). regs 6) done.1.regs
+              ∙ (ap (λ a. sum_of a 4) given.0.six ∙ omega (arith, ends, inside, below));
           seven = ap (λ (regs : ℕ → ℕ). regs 7) done.1.regs ∙ given.0.seven;
         },
         done.1.bytes,
-        λ r home. let some = z.allocated.some in ap (λ (regs : ℕ → ℕ). regs r) done.1.regs ∙ unwritten s.regs 6 _ r (λ e. omega (arith, some, home.0, e)),
+        λ r home. let some = z.allocated.some in ap (λ (regs : ℕ → ℕ). regs r) done.1.regs
+            ∙ unwritten s.regs 6 _ r (λ e. omega (arith, some, home.0, e)),
       ))
       (frame_runs z {P = Turning (suc left) i} is_free turn ((z.frame + (offset + 4 * i)) ∷ []) refl none_low
       (record { even = omega (arith, z.even, aligned); allowed = (omega arith, omega (arith, inside, below)) }, tt)
@@ -194,11 +219,13 @@ module _ (z : Setting) (offset words : ℕ) (aligned : offset % 4 ≡ 0) (inside
     seven = ap (λ (regs : ℕ → ℕ). regs 7) still.regs ∙ given.seven;
   }
 
-  next_zeroed : (i : ℕ) (bytes before : ByteMap) → before ≡ zeroed bytes start i → with_number before 4 (z.frame + (offset + 4 * i)) 0 ≡ zeroed bytes start (i + 1)
+  next_zeroed : (i : ℕ) (bytes before : ByteMap) → before ≡ zeroed bytes start i
+      → with_number before 4 (z.frame + (offset + 4 * i)) 0 ≡ zeroed bytes start (i + 1)
   next_zeroed i bytes before is =
       let at : z.frame + (offset + 4 * i) ≡ start + 4 * i = omega arith in
       let count : suc i ≡ i + 1 = omega arith in
-      ap₂ (λ (b : ByteMap) a. with_number b 4 a 0) is at ∙ (one_more bytes start i ∙ ap (λ n. zeroed bytes start n) count)
+      ap₂ (λ (b : ByteMap) a. with_number b 4 a 0) is at
+      ∙ (one_more bytes start i ∙ ap (λ n. zeroed bytes start n) count)
 
   zeros_runs : Runs z ((words + 1) * 5) none (loop_code test turn) (Bounded 0) (λ env s t. Over env s t)
   zeros_runs =
@@ -207,7 +234,8 @@ module _ (z : Setting) (offset words : ℕ) (aligned : offset % 4 ≡ 0) (inside
       (weaken
       (λ env s fine given. ((given, omega arith), refl, λ r home. refl))
       (λ env s t fine given over. over)
-      (looping {z = setting z} 5 (omega arith) (λ e. omega arith) {A = Turning} {B = Tested} {C = λ left i. Turning (suc left) i} {D = λ left i. Turned i}
+      (looping {z = setting z} 5 (omega arith) (λ e. omega arith) {A = Turning} {B = Tested} {C =
+      λ left i. Turning (suc left) i} {D = λ left i. Turned i}
       nothing_more as_before Inv Over (omega arith)
       (λ left i env o s inv. inv.0)
       (λ left i env o s t inv tested e. let f = tested.1 in omega (arith, e, f))
@@ -216,7 +244,10 @@ module _ (z : Setting) (offset words : ℕ) (aligned : offset % 4 ≡ 0) (inside
       (λ left i env o s t u v w inv tested still done back. (
         (bounded_still (i + 1) env v w done.0 back, let h = inv.0.1 in omega (arith, h)),
         back.bytes ∙ (done.1 ∙ next_zeroed i o.bytes u.bytes (still.bytes ∙ (tested.2 ∙ inv.1))),
-        homes_then z o s w inv.2 (homes_then z s t w tested.3 (homes_then z t u w (homes_by z t u still.regs) (homes_then z u v w done.2 (homes_by z v w back.regs)))),
+        homes_then z o s w inv.2
+            (homes_then z s t w tested.3
+            (homes_then z t u w (homes_by z t u still.regs)
+            (homes_then z u v w done.2 (homes_by z v w back.regs)))),
       ))
       (λ i env o s t u inv tested still.
       let count : i ≡ words = let h = inv.0.1 in omega (arith, h) in (
@@ -226,10 +257,16 @@ module _ (z : Setting) (offset words : ℕ) (aligned : offset % 4 ≡ 0) (inside
       ))
       test_runs turn_runs words 0)))
 
-  pub clear_bytes : Runs z (6 + (words + 1) * 5) none (clear_code offset words) (Held z) (λ env s t. HeldAt z t × (t.bytes ≡ zeroed s.bytes start words) × HomesKept z s t)
+  pub clear_bytes : Runs z (6 + (words + 1) * 5) none (clear_code offset words) (Held z) (λ env s t. HeldAt z t
+      × (t.bytes ≡ zeroed s.bytes start words) × HomesKept z s t)
   clear_bytes =
       gives
-      (λ env s t fine held done. (done.second.0, done.second.1 ∙ ap (λ (b : ByteMap). zeroed b start words) done.first.1, homes_then z s done.middle t done.first.2 done.second.2))
+      (λ env s t fine held done. (
+        done.second.0,
+        done.second.1
+            ∙ ap (λ (b : ByteMap). zeroed b start words) done.first.1,
+        homes_then z s done.middle t done.first.2 done.second.2,
+      ))
       (quiet begin_runs zeros_runs (λ env s t held begun. begun.0))
 
 -- no more words than elements
@@ -237,7 +274,8 @@ words_few : (kind : Kind) (size : ℕ) → array_words kind size ≤ size
 words_few Boolean size = omega arith
 words_few kind size = omega arith
 
-module _ (z : Setting) (depth x size : ℕ) (typed : IsFilled z.code.profile z.declared x size []) (within : depth ≤ z.depths) where
+module _ (z : Setting) (depth x size : ℕ) (typed : IsFilled z.code.profile z.declared x size [])
+    (within : depth ≤ z.depths) where
   abbrev d : FlatVariable
   d = array_as typed.word typed.mutable size
 
@@ -248,24 +286,35 @@ module _ (z : Setting) (depth x size : ℕ) (typed : IsFilled z.code.profile z.d
   count = array_words typed.word.kind size
 
   -- all zeros are shown, and all else as it was
-  ready_cleared : (env : StraightState) (s t : machine.State) → Ready z env s → HeldAt z t → t.bytes ≡ zeroed s.bytes (z.frame + place) count → HomesKept z s t → Ready z (with_variable env x (replicate size 0)) t
+  ready_cleared : (env : StraightState) (s t : machine.State) → Ready z env s → HeldAt z t
+      → t.bytes ≡ zeroed s.bytes (z.frame + place) count → HomesKept z s t
+      → Ready z (with_variable env x (replicate size 0)) t
   ready_cleared env s t ready held cleared homes =
-      ready_changed z x d typed.known (z.allocated.words x d size typed.known refl) (replicate size 0) (held_zeros d) env s t ready held
+      ready_changed z x d typed.known (z.allocated.words x d size typed.known refl) (replicate size 0) (held_zeros d)
+      env s t ready held
       (λ j less.
       let w = place_within z.declared x d j less in
       zero_number t.bytes z.frame (bytes_of d) (place_of z.declared x d j)
-      (λ b low high. ap (λ (m : ByteMap). m (z.frame + b)) cleared ∙ zeroed_there s.bytes (z.frame + place) count (z.frame + b) (omega (arith, low)) (omega (arith, high, w)))
+      (λ b low high. ap (λ (m : ByteMap). m (z.frame + b)) cleared
+      ∙ zeroed_there s.bytes (z.frame + place) count (z.frame + b) (omega (arith, low))
+      (omega (arith, high, w)))
       ∙ ap Some (sym (zero_at size j)))
       outside homes
     where
-      beside_at : (n o : ℕ) → ((b : ℕ) → o ≤ b → b < o + n → (z.frame + b < z.frame + place) ⊎ (z.frame + place + 4 * count ≤ z.frame + b)) → number_at t.bytes n (z.frame + o) ≡ number_at s.bytes n (z.frame + o)
-      beside_at n o side = number_same z s t n o (λ b low high. ap (λ (m : ByteMap). m (z.frame + b)) cleared ∙ zeroed_beside s.bytes (z.frame + place) count (z.frame + b) (side b low high))
+      beside_at : (n o : ℕ) → ((b : ℕ) → o ≤ b → b < o + n
+          → (z.frame + b < z.frame + place) ⊎ (z.frame + place + 4 * count ≤ z.frame + b))
+          → number_at t.bytes n (z.frame + o) ≡ number_at s.bytes n (z.frame + o)
+      beside_at n o side = number_same z s t n o (λ b low high. ap (λ (m : ByteMap). m (z.frame + b)) cleared
+          ∙ zeroed_beside s.bytes (z.frame + place) count (z.frame + b) (side b low high))
 
-      outside : (n o : ℕ) → (o + n ≤ place) ⊎ (place + 4 * count ≤ o) → number_at t.bytes n (z.frame + o) ≡ number_at s.bytes n (z.frame + o)
+      outside : (n o : ℕ) → (o + n ≤ place) ⊎ (place + 4 * count ≤ o)
+          → number_at t.bytes n (z.frame + o) ≡ number_at s.bytes n (z.frame + o)
       outside n o (inl h) = beside_at n o (λ b low high. inl (omega (arith, high, h)))
       outside n o (inr h) = beside_at n o (λ b low high. inr (omega (arith, low, h)))
 
-  pub clear_runs : Runs z (32 * (1 + size)) none (statement_code z.declared z.allocation z.controls z.depths depth (clear x size)) (Ready z) (Shown z depth (λ env. after env (clear x size)))
+  pub clear_runs : Runs z (32 * (1 + size)) none
+      (statement_code z.declared z.allocation z.controls z.depths depth (clear x size)) (Ready z)
+      (Shown z depth (λ env. after env (clear x size)))
   clear_runs =
       let first = ends_before_result z.declared x d typed.known in
       as_code (ap (λ k. clear_code place (array_words k size)) (kind_known z.declared x d typed.known))
@@ -274,6 +323,7 @@ module _ (z : Setting) (depth x size : ℕ) (typed : IsFilled z.code.profile z.d
       (λ env s fine ready. ready.held)
       (λ env s t fine ready done. record {
         ready = ready_cleared env s t ready done.0 done.1 done.2;
-        hidden = λ o low high. ap (λ (m : ByteMap). m (z.frame + o)) done.1 ∙ zeroed_beside s.bytes (z.frame + place) count (z.frame + o) (inr (omega (arith, first, low)));
+        hidden = λ o low high. ap (λ (m : ByteMap). m (z.frame + o)) done.1
+            ∙ zeroed_beside s.bytes (z.frame + place) count (z.frame + o) (inr (omega (arith, first, low)));
       })
       (clear_bytes z place count (omega arith) (omega (arith, first, z.room)))))

@@ -1,15 +1,25 @@
--- How long the code of statements is, and how much room they take in the frame. So well-typed statements that are not too large have their places.
+-- How long the code of statements is, and how much room they take in the frame. So well-typed statements that are not
+-- too large have their places.
 use Rattle.std.proofs.Common.{ℕ, ◌+◌, ◌*◌, ◌≤◌, nat_lt, List, [], ◌∷◌, ◌++◌, length, Option, None, Some, arith, length-append, ◌≡◌, ◌<◌, ◌==◌, Bool, true, false, slice_get, cond}
 use Rattle.codegen.proofs.Language.{statement_nodes, block_nodes, taken_in, taken_in_all, StraightTree, set, clear}
 use Rattle.codegen.proofs.Language.{fill, put, take, set_under, put_under, branch, repeats, StraightBlock, nothing}
-use Rattle.codegen.proofs.Language.{first, FlatVariable, TermTree, array_as, term_nodes, terms_nodes, declared_words, Kind}
+use Rattle.codegen.proofs.Language.{first, FlatVariable, TermTree, array_as, term_nodes, terms_nodes, declared_words}
+use Rattle.codegen.proofs.Language.{Kind}
 use Rattle.codegen.proofs.Language.{element_bytes, array_words, IsTyped, AreTyped, types_but, types_of, AllSuit}
 use Rattle.codegen.proofs.Language.{HasType, Boolean, WordType, Profile}
-use Rattle.codegen.specs.private.Emitted.{assign_code, home_of_term, put_word_code, read_code, read_register, set_code, set_under_code, within_code, element_store_code, clear_code, fill_code, test_code, count_code, statement_code, block_code, height_of_all, height_in, height_in_all, depth_in, depth_in_all, unless_home, index_code, put_code, put_element_code, put_element_under_code, put_under_code, put_under_near_code}
+use Rattle.codegen.specs.private.Emitted.{assign_code, home_of_term, put_word_code, read_code, read_register}
+use Rattle.codegen.specs.private.Emitted.{set_code, set_under_code, within_code, element_store_code, clear_code}
+use Rattle.codegen.specs.private.Emitted.{fill_code, test_code, count_code, statement_code, block_code, height_of_all}
+use Rattle.codegen.specs.private.Emitted.{height_in, height_in_all, depth_in, depth_in_all, unless_home, index_code}
+use Rattle.codegen.specs.private.Emitted.{put_code, put_element_code, put_element_under_code, put_under_code}
+use Rattle.codegen.specs.private.Emitted.{put_under_near_code}
 use Rattle.codegen.proofs.Machine.{AreNear, ArePlacedTerms, HasPlace, HavePlaces, variable_offset, control_offset}
-use Rattle.codegen.proofs.Machine.{next_offset, temporaries_offset, kind_at, near_element, height_of, Instr, slots_to, Allocation, InRegister, InSlot, into_code, Location, variable_location}
+use Rattle.codegen.proofs.Machine.{next_offset, temporaries_offset, kind_at, near_element, height_of, Instr, slots_to}
+use Rattle.codegen.proofs.Machine.{Allocation, InRegister, InSlot, into_code, Location, variable_location}
 use Rattle.codegen.specs.private.Placed.{IsPlaced}
-use Rattle.codegen.proofs.Logic.{code_length, height, one_of, load_length, store_length, constant_length, address_length, into_length, move_length, ends_before_result, typed_within, typed_among}
+use Rattle.codegen.proofs.Logic.{code_length, height, one_of, load_length, store_length, constant_length}
+use Rattle.codegen.proofs.Logic.{address_length, into_length, move_length, ends_before_result, typed_within}
+use Rattle.codegen.proofs.Logic.{typed_among}
 use Rattle.codegen.proofs.Logic.{none-some, slice_get_within}
 
 -- Pieces.
@@ -24,41 +34,69 @@ element_store_length r kind o = one_of (nat_lt o 2048) _ _ 3 (omega arith) (omeg
 clear_length : (o words : ℕ) → length (clear_code o words) ≤ 16
 clear_length o words = simp length-append (omega (arith, constant_length 6 o, constant_length 7 (4 * words)))
 
-value_length : (declared : List FlatVariable) (allocation : Allocation) (free d place : ℕ) (e : TermTree) → length (into_code declared allocation free d place e) ≤ 16 * term_nodes e
+value_length : (declared : List FlatVariable) (allocation : Allocation) (free d place : ℕ) (e : TermTree)
+    → length (into_code declared allocation free d place e) ≤ 16 * term_nodes e
 value_length declared allocation free d place e = omega (arith, into_length declared allocation free d place e)
 
-read_length : (declared : List FlatVariable) (allocation : Allocation) (free register place : ℕ) (e : TermTree) → length (read_code declared allocation free register place e) ≤ 16 * term_nodes e
+read_length : (declared : List FlatVariable) (allocation : Allocation) (free register place : ℕ) (e : TermTree)
+    → length (read_code declared allocation free register place e) ≤ 16 * term_nodes e
 read_length declared allocation free register place e = by_home (home_of_term allocation e)
   where
-    by_home : (h : Option ℕ) → length (unless_home h (into_code declared allocation free register place e)) ≤ 16 * term_nodes e
+    by_home : (h : Option ℕ) → length (unless_home h (into_code declared allocation free register place e))
+        ≤ 16 * term_nodes e
     by_home None = value_length declared allocation free register place e
     by_home (Some home) = omega arith
 
-pub assign_length : (declared : List FlatVariable) (allocation : Allocation) (free : ℕ) (e : TermTree) (o : ℕ) → length (assign_code declared allocation free e o) ≤ 16 * term_nodes e + 3
+pub assign_length : (declared : List FlatVariable) (allocation : Allocation) (free : ℕ) (e : TermTree) (o : ℕ)
+    → length (assign_code declared allocation free e o) ≤ 16 * term_nodes e + 3
 assign_length declared allocation free e o =
-    simp length-append (omega (arith, read_length declared allocation free 5 0 e, store_length (read_register allocation 5 e) o))
+    simp length-append (omega (
+      arith,
+      read_length declared allocation free 5 0 e,
+      store_length (read_register allocation 5 e) o,
+    ))
 
 -- a value into an element, at an index or at the offset that the store holds
-put_length : (declared : List FlatVariable) (allocation : Allocation) (free x : ℕ) (index value : TermTree) → length (put_element_code declared allocation free x index value) ≤ 32 * (1 + (1 + term_nodes index) + term_nodes value)
+put_length : (declared : List FlatVariable) (allocation : Allocation) (free x : ℕ) (index value : TermTree)
+    → length (put_element_code declared allocation free x index value)
+    ≤ 32 * (1 + (1 + term_nodes index) + term_nodes value)
 put_length declared allocation free x index value =
     code_length (near_element declared allocation x index)
-    (λ o. read_code declared allocation free 5 0 value ++ element_store_code (read_register allocation 5 value) (kind_at declared x) o)
+    (λ o. read_code declared allocation free 5 0 value
+    ++ element_store_code (read_register allocation 5 value) (kind_at declared x) o)
     (index_code declared allocation free index value
-    ++ put_code (read_register allocation 5 index) (read_register allocation 6 value) (kind_at declared x) (variable_offset declared x)) _
-    (λ o. simp length-append (omega (arith, read_length declared allocation free 5 0 value, element_store_length (read_register allocation 5 value) (kind_at declared x) o)))
+    ++ put_code (read_register allocation 5 index) (read_register allocation 6 value) (kind_at declared x)
+    (variable_offset declared x)) _
+    (λ o. simp length-append
+    (omega (
+      arith,
+      read_length declared allocation free 5 0 value,
+      element_store_length (read_register allocation 5 value) (kind_at declared x) o,
+    )))
     (omega (arith, length-append {A = Instr}, read_length, address_length))
 
-put_under_length : (declared : List FlatVariable) (allocation : Allocation) (free control x : ℕ) (index value : TermTree) → length (put_element_under_code declared allocation free control x index value) ≤ 32 * (1 + (1 + term_nodes index) + term_nodes value)
+put_under_length : (declared : List FlatVariable) (allocation : Allocation) (free control x : ℕ)
+    (index value : TermTree) → length (put_element_under_code declared allocation free control x index value)
+    ≤ 32 * (1 + (1 + term_nodes index) + term_nodes value)
 put_under_length declared allocation free control x index value =
     code_length (near_element declared allocation x index)
     (λ o. put_under_near_code declared allocation free control (kind_at declared x) o value)
     (index_code declared allocation free index value
-    ++ put_under_code (read_register allocation 5 index) (read_register allocation 6 value) control (kind_at declared x) (variable_offset declared x)) _
-    (λ o. omega (arith, length-append {A = Instr}, read_length declared allocation free 5 0 value, load_length 7 control, element_store_length 5 (kind_at declared x) o))
+    ++ put_under_code (read_register allocation 5 index) (read_register allocation 6 value) control
+    (kind_at declared x) (variable_offset declared x)) _
+    (λ o. omega (
+      arith,
+      length-append {A = Instr},
+      read_length declared allocation free 5 0 value,
+      load_length 7 control,
+      element_store_length 5 (kind_at declared x) o,
+    ))
     (omega (arith, length-append {A = Instr}, read_length, load_length, address_length))
 
-set_length : (declared : List FlatVariable) (allocation : Allocation) (free : ℕ) (l : Location) (e : TermTree) → length (set_code declared allocation free l e) ≤ 16 * term_nodes e + 3
-set_length declared allocation free (InRegister home) e = omega (arith, value_length declared allocation free home 0 e)
+set_length : (declared : List FlatVariable) (allocation : Allocation) (free : ℕ) (l : Location) (e : TermTree)
+    → length (set_code declared allocation free l e) ≤ 16 * term_nodes e + 3
+set_length declared allocation free (InRegister home) e =
+    omega (arith, value_length declared allocation free home 0 e)
 set_length declared allocation free (InSlot o) e = assign_length declared allocation free e o
 
 put_word_length : (r : ℕ) (l : Location) → length (put_word_code r l) ≤ 3
@@ -67,13 +105,21 @@ put_word_length r (InSlot o) = store_length r o
 
 set_under_length : (r : ℕ) (l : Location) (control : ℕ) → length (set_under_code r l control) ≤ 12
 set_under_length r (InRegister home) control = simp length-append (omega (arith, load_length 7 control))
-set_under_length r (InSlot o) control = simp length-append (omega (arith, load_length 6 o, load_length 7 control, store_length 5 o))
+set_under_length r (InSlot o) control =
+    simp length-append (omega (arith, load_length 6 o, load_length 7 control, store_length 5 o))
 
-pub fill_length : (declared : List FlatVariable) (allocation : Allocation) (free : ℕ) (kind : Kind) (o : ℕ) (es : List TermTree) → length (fill_code declared allocation free kind o es) ≤ 32 * terms_nodes es
+pub fill_length : (declared : List FlatVariable) (allocation : Allocation) (free : ℕ) (kind : Kind) (o : ℕ)
+    (es : List TermTree) → length (fill_code declared allocation free kind o es) ≤ 32 * terms_nodes es
 fill_length declared allocation free kind o [] = omega arith
 fill_length declared allocation free kind o (e ∷ es) =
     let h = height e in
-    simp length-append (omega (arith, h, read_length declared allocation free 5 0 e, element_store_length (read_register allocation 5 e) kind o, fill_length declared allocation free kind (o + element_bytes kind) es))
+    simp length-append (omega (
+      arith,
+      h,
+      read_length declared allocation free 5 0 e,
+      element_store_length (read_register allocation 5 e) kind o,
+      fill_length declared allocation free kind (o + element_bytes kind) es,
+    ))
 
 -- Statements: at most 32 instructions a node.
 module _ (declared : List FlatVariable) (allocation : Allocation) (controls depths : ℕ) where
@@ -81,41 +127,91 @@ module _ (declared : List FlatVariable) (allocation : Allocation) (controls dept
   free = temporaries_offset declared controls depths
 
   mutual
-    pub statement_length : (depth : ℕ) (s : StraightTree) → length (statement_code declared allocation controls depths depth s) ≤ 32 * statement_nodes s
+    pub statement_length : (depth : ℕ) (s : StraightTree)
+        → length (statement_code declared allocation controls depths depth s) ≤ 32 * statement_nodes s
     statement_length depth (clear x size) =
         omega (arith, clear_length (variable_offset declared x) (array_words (kind_at declared x) size))
     statement_length depth (fill x values) =
         omega (arith, fill_length declared allocation free (kind_at declared x) (variable_offset declared x) values)
     statement_length depth (branch condition accepted otherwise) =
-        omega (arith, length-append {A = Instr}, read_length, block_length depth accepted, block_length depth otherwise)
-    statement_length depth (set x value) = omega (arith, set_length declared allocation free (variable_location declared allocation x) value)
-    statement_length depth (put place x size index value) = omega (arith, put_length declared allocation free x index value)
+        omega (
+          arith,
+          length-append {A = Instr},
+          read_length,
+          block_length depth accepted,
+          block_length depth otherwise,
+        )
+    statement_length depth (set x value) =
+        omega (arith, set_length declared allocation free (variable_location declared allocation x) value)
+    statement_length depth (put place x size index value) =
+        omega (arith, put_length declared allocation free x index value)
     statement_length depth (put_under control place x size index value) =
         omega (arith, put_under_length declared allocation free (control_offset declared control) x index value)
     statement_length depth (set_under control x value) =
-        omega (arith, length-append {A = Instr}, read_length, set_under_length (read_register allocation 5 value) (variable_location declared allocation x) (control_offset declared control))
+        omega (
+          arith,
+          length-append {A = Instr},
+          read_length,
+          set_under_length (read_register allocation 5 value) (variable_location declared allocation x)
+              (control_offset declared control),
+        )
     statement_length depth (repeats x low high body) =
-        omega (arith, length-append {A = Instr}, assign_length, load_length, store_length, put_word_length 6 (variable_location declared allocation x), block_length (depth + 1) body)
+        omega (
+          arith,
+          length-append {A = Instr},
+          assign_length,
+          load_length,
+          store_length,
+          put_word_length 6 (variable_location declared allocation x),
+          block_length (depth + 1) body,
+        )
     statement_length depth s =
-        omega (arith, length-append {A = Instr}, read_length, within_length, load_length, store_length, address_length)
+        omega (
+          arith,
+          length-append {A = Instr},
+          read_length,
+          within_length,
+          load_length,
+          store_length,
+          address_length,
+        )
 
-    pub block_length : (depth : ℕ) (b : StraightBlock) → length (block_code declared allocation controls depths depth b) ≤ 32 * block_nodes b
+    pub block_length : (depth : ℕ) (b : StraightBlock)
+        → length (block_code declared allocation controls depths depth b) ≤ 32 * block_nodes b
     block_length depth nothing = omega arith
     block_length depth (first s rest) =
         omega (arith, length-append {A = Instr}, statement_length depth s, block_length depth rest)
 
 -- so arms and turns of a program that is not too large are no farther than a jump goes
 
-pub arms_near : (declared : List FlatVariable) (allocation : Allocation) (controls depths depth : ℕ) (accepted otherwise : StraightBlock) → block_nodes accepted + block_nodes otherwise ≤ 6000
-    → AreNear (length (block_code declared allocation controls depths depth accepted)) (length (block_code declared allocation controls depths depth otherwise))
+pub arms_near : (declared : List FlatVariable) (allocation : Allocation) (controls depths depth : ℕ)
+    (accepted otherwise : StraightBlock) → block_nodes accepted + block_nodes otherwise ≤ 6000
+    → AreNear (length (block_code declared allocation controls depths depth accepted))
+    (length (block_code declared allocation controls depths depth otherwise))
 arms_near declared allocation controls depths depth accepted otherwise few =
-    omega (arith, few, block_length declared allocation controls depths depth accepted, block_length declared allocation controls depths depth otherwise)
+    omega (
+      arith,
+      few,
+      block_length declared allocation controls depths depth accepted,
+      block_length declared allocation controls depths depth otherwise,
+    )
 
-pub turn_near : (declared : List FlatVariable) (allocation : Allocation) (controls depths depth x : ℕ) (body : StraightBlock) → block_nodes body ≤ 6000
-    → AreNear (length (test_code (next_offset declared controls depth))) (length (count_code (next_offset declared controls depth) (variable_location declared allocation x) ++ block_code declared allocation controls depths (depth + 1) body))
+pub turn_near : (declared : List FlatVariable) (allocation : Allocation) (controls depths depth x : ℕ)
+    (body : StraightBlock) → block_nodes body ≤ 6000
+    → AreNear (length (test_code (next_offset declared controls depth)))
+    (length (count_code (next_offset declared controls depth) (variable_location declared allocation x)
+    ++ block_code declared allocation controls depths (depth + 1) body))
 turn_near declared allocation controls depths depth x body few =
     let rest = block_length declared allocation controls depths (depth + 1) body in
-    omega (arith, length-append {A = Instr}, few, load_length, store_length, put_word_length 6 (variable_location declared allocation x), rest)
+    omega (
+      arith,
+      length-append {A = Instr},
+      few,
+      load_length,
+      store_length,
+      put_word_length 6 (variable_location declared allocation x),
+      rest,
+    )
 
 -- Slots.
 
@@ -133,7 +229,8 @@ mutual
   statement_room (take control within condition) = omega (arith, height condition)
   statement_room (set_under control x value) = omega (arith, height value)
   statement_room (put_under control place x size index value) = omega (arith, height index, height value)
-  statement_room (branch condition accepted otherwise) = omega (arith, height condition, block_room accepted, block_room otherwise)
+  statement_room (branch condition accepted otherwise) =
+      omega (arith, height condition, block_room accepted, block_room otherwise)
   statement_room (repeats x low high body) = omega (arith, height low, height high, block_room body)
 
   pub block_room : (b : StraightBlock) → height_in_all b + 2 * depth_in_all b + 2 * taken_in_all b ≤ block_nodes b
@@ -147,42 +244,73 @@ elements_in_words : (kind : Kind) (size : ℕ) → size ≤ 4 * array_words kind
 elements_in_words Boolean size = omega arith
 elements_in_words kind size = omega arith
 
-known_but : (declared : List FlatVariable) (x y : ℕ) (d : FlatVariable) (b : Bool) → cond b None (slice_get declared y) ≡ Some d → y < length declared
+known_but : (declared : List FlatVariable) (x y : ℕ) (d : FlatVariable) (b : Bool)
+    → cond b None (slice_get declared y) ≡ Some d → y < length declared
 known_but declared x y d true is = absurd (none-some d is)
 known_but declared x y d false is = slice_get_within declared y d is
 
-module _ (profile : Profile) (declared : List FlatVariable) (allocation : Allocation) (controls depths : ℕ) (small : 4 * declared_words declared ≤ 40768) where
+module _ (profile : Profile) (declared : List FlatVariable) (allocation : Allocation) (controls depths : ℕ)
+    (small : 4 * declared_words declared ≤ 40768) where
   abbrev base : ℕ
   base = temporaries_offset declared controls depths
 
-  term_placed : {e : TermTree} {word : WordType} (place : ℕ) → HasType (types_of profile declared) e word → base + 4 * slots_to allocation.count (height_of e + place) ≤ 65536 → IsPlaced (length declared) allocation.count base place e
+  term_placed : {e : TermTree} {word : WordType} (place : ℕ) → HasType (types_of profile declared) e word
+      → base + 4 * slots_to allocation.count (height_of e + place) ≤ 65536
+      → IsPlaced (length declared) allocation.count base place e
   term_placed place has room = (typed_among profile declared has, room)
 
-  values_placed : (x : ℕ) (word : WordType) (es : List TermTree) → AllSuit (types_but profile declared x) word es → base + 4 * slots_to allocation.count (height_of_all es) ≤ 65536 → ArePlacedTerms (length declared) allocation.count base es
+  values_placed : (x : ℕ) (word : WordType) (es : List TermTree) → AllSuit (types_but profile declared x) word es
+      → base + 4 * slots_to allocation.count (height_of_all es) ≤ 65536
+      → ArePlacedTerms (length declared) allocation.count base es
   values_placed x word [] suit room = tt
-  values_placed x word (e ∷ es) suit room =
-      ((typed_within (length declared) (types_but profile declared x) (λ y d is. known_but declared x y d (y == x) is) suit.0.has_type, omega (arith, room)), values_placed x word es suit.1 (omega (arith, room)))
+  values_placed x word (e ∷ es) suit room = (
+    (
+      typed_within (length declared) (types_but profile declared x) (λ y d is. known_but declared x y d (y == x) is)
+          suit.0.has_type,
+      omega (arith, room),
+    ),
+    values_placed x word es suit.1 (omega (arith, room)),
+  )
 
-  fits_in_frame : (x size : ℕ) (word : WordType) (mutable : Bool) → slice_get declared x ≡ Some (array_as word mutable size) → (size ≤ 65536) × (variable_offset declared x + 4 * size ≤ 262144)
+  fits_in_frame : (x size : ℕ) (word : WordType) (mutable : Bool)
+      → slice_get declared x ≡ Some (array_as word mutable size)
+      → (size ≤ 65536) × (variable_offset declared x + 4 * size ≤ 262144)
   fits_in_frame x size word mutable known =
       let e = ends_before_result declared x (array_as word mutable size) known in
       let n = elements_in_words word.kind size in
       (omega (arith, e, n, small), omega (arith, e, n, small))
 
   mutual
-    statement_placed : (depth : ℕ) (s : StraightTree) → IsTyped profile declared controls s → base + 4 * slots_to allocation.count (height_in s) ≤ 65536 → depth + depth_in s ≤ depths → statement_nodes s ≤ 6000 → HasPlace declared allocation controls depths depth s
-    statement_placed depth (set x value) typed room deep nodes = (slice_get_within declared x _ typed.known, term_placed 0 typed.suits.has_type (omega (arith, room)))
+    statement_placed : (depth : ℕ) (s : StraightTree) → IsTyped profile declared controls s
+        → base + 4 * slots_to allocation.count (height_in s) ≤ 65536 → depth + depth_in s ≤ depths
+        → statement_nodes s ≤ 6000 → HasPlace declared allocation controls depths depth s
+    statement_placed depth (set x value) typed room deep nodes =
+        (slice_get_within declared x _ typed.known, term_placed 0 typed.suits.has_type (omega (arith, room)))
     statement_placed depth (clear x size) typed room deep nodes =
         (slice_get_within declared x _ typed.known, (fits_in_frame x size typed.word typed.mutable typed.known).0)
-    statement_placed depth (fill x values) typed room deep nodes =
-        (slice_get_within declared x _ typed.known, values_placed x typed.word values typed.suit room, (fits_in_frame x (length values) typed.word typed.mutable typed.known).1)
-    statement_placed depth (put place x size index value) typed room deep nodes =
-        (slice_get_within declared x _ typed.known, term_placed 0 typed.index_type (omega (arith, room)), term_placed 1 typed.suits.has_type (omega (arith, room)))
-    statement_placed depth (take control within condition) typed room deep nodes = (typed.0, typed.1, term_placed 0 typed.2.1 (omega (arith, room)))
-    statement_placed depth (set_under control x value) typed room deep nodes =
-        (typed.0, slice_get_within declared x _ typed.1.known, term_placed 0 typed.1.suits.has_type (omega (arith, room)))
-    statement_placed depth (put_under control place x size index value) typed room deep nodes =
-        (typed.0, slice_get_within declared x _ typed.1.known, term_placed 0 typed.1.index_type (omega (arith, room)), term_placed 1 typed.1.suits.has_type (omega (arith, room)))
+    statement_placed depth (fill x values) typed room deep nodes = (
+      slice_get_within declared x _ typed.known,
+      values_placed x typed.word values typed.suit room,
+      (fits_in_frame x (length values) typed.word typed.mutable typed.known).1,
+    )
+    statement_placed depth (put place x size index value) typed room deep nodes = (
+      slice_get_within declared x _ typed.known,
+      term_placed 0 typed.index_type (omega (arith, room)),
+      term_placed 1 typed.suits.has_type (omega (arith, room)),
+    )
+    statement_placed depth (take control within condition) typed room deep nodes =
+        (typed.0, typed.1, term_placed 0 typed.2.1 (omega (arith, room)))
+    statement_placed depth (set_under control x value) typed room deep nodes = (
+      typed.0,
+      slice_get_within declared x _ typed.1.known,
+      term_placed 0 typed.1.suits.has_type (omega (arith, room)),
+    )
+    statement_placed depth (put_under control place x size index value) typed room deep nodes = (
+      typed.0,
+      slice_get_within declared x _ typed.1.known,
+      term_placed 0 typed.1.index_type (omega (arith, room)),
+      term_placed 1 typed.1.suits.has_type (omega (arith, room)),
+    )
     statement_placed depth (branch condition accepted otherwise) typed room deep nodes = (
       term_placed 0 typed.0 (omega (arith, room)),
       blocks_placed depth accepted typed.1 (omega (arith, room)) (omega (arith, deep)) (omega (arith, nodes)),
@@ -198,7 +326,11 @@ module _ (profile : Profile) (declared : List FlatVariable) (allocation : Alloca
       turn_near declared allocation controls depths depth x body (omega (arith, nodes)),
     )
 
-    pub blocks_placed : (depth : ℕ) (b : StraightBlock) → AreTyped profile declared controls b → base + 4 * slots_to allocation.count (height_in_all b) ≤ 65536 → depth + depth_in_all b ≤ depths → block_nodes b ≤ 6000 → HavePlaces declared allocation controls depths depth b
+    pub blocks_placed : (depth : ℕ) (b : StraightBlock) → AreTyped profile declared controls b
+        → base + 4 * slots_to allocation.count (height_in_all b) ≤ 65536 → depth + depth_in_all b ≤ depths
+        → block_nodes b ≤ 6000 → HavePlaces declared allocation controls depths depth b
     blocks_placed depth nothing typed room deep nodes = tt
-    blocks_placed depth (first s rest) typed room deep nodes =
-        (statement_placed depth s typed.0 (omega (arith, room)) (omega (arith, deep)) (omega (arith, nodes)), blocks_placed depth rest typed.1 (omega (arith, room)) (omega (arith, deep)) (omega (arith, nodes)))
+    blocks_placed depth (first s rest) typed room deep nodes = (
+      statement_placed depth s typed.0 (omega (arith, room)) (omega (arith, deep)) (omega (arith, nodes)),
+      blocks_placed depth rest typed.1 (omega (arith, room)) (omega (arith, deep)) (omega (arith, nodes)),
+    )

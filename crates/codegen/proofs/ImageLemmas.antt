@@ -1,14 +1,20 @@
 -- Straight code within the limits has room in a frame and in an image, and the fields of its image are allowed.
-use Rattle.std.proofs.Common.{◌≡◌, ℕ, suc, ◌+◌, ◌*◌, ◌%◌, ◌^◌, ◌<◌, ◌≤◌, true, List, [], ◌∷◌, length, map, All, Option, None, Some, IfSome, refl, sym, ap, subst, ◌∙◌, arith, length-append, zero, take}
-use Rattle.codegen.proofs.Logic.{eq-eqb, le-leb, and_from, length-map, recursion_from_All, option_map, parameter_words}
+use Rattle.std.proofs.Common.{◌≡◌, ℕ, suc, ◌+◌, ◌*◌, ◌%◌, ◌^◌, ◌<◌, ◌≤◌, true, List, [], ◌∷◌, length, map, All}
+use Rattle.std.proofs.Common.{Option, None, Some, IfSome, refl, sym, ap, subst, ◌∙◌, arith, length-append, zero, take}
+use Rattle.codegen.proofs.Logic.{eq-eqb, le-leb, and_from, length-map, recursion_from_All, option_map}
+use Rattle.codegen.proofs.Logic.{parameter_words}
 use Rattle.codegen.proofs.Logic.{height, load_length, none-some, typed_among, same_Some}
 use Rattle.std.specs.List.{AllByRecursion}
-use Rattle.codegen.proofs.Machine.{word_of, IsImage, AreSlots, IsResultSlot, is_length, slot_end, result_end, slots_end}
-use Rattle.codegen.proofs.Machine.{Slot, ResultSlot, program_base, program_code, program_slots, result_slot, step_limit}
+use Rattle.codegen.proofs.Machine.{word_of, IsImage, AreSlots, IsResultSlot, is_length, slot_end, result_end}
+use Rattle.codegen.proofs.Machine.{slots_end}
+use Rattle.codegen.proofs.Machine.{Slot, ResultSlot, program_base, program_code, program_slots, result_slot}
+use Rattle.codegen.proofs.Machine.{step_limit}
 use Rattle.codegen.proofs.Machine.{result_code, result_height, program_height, slots_from, result_offset, HasRoom}
-use Rattle.codegen.proofs.Machine.{Allocation, depth_in_all, entry_code, HavePlaces, home_count, IsAmong, IsFitting, Instr, plain, variable_offset}
+use Rattle.codegen.proofs.Machine.{Allocation, depth_in_all, entry_code, HavePlaces, home_count, IsAmong, IsFitting}
+use Rattle.codegen.proofs.Machine.{Instr, plain, variable_offset}
 use Rattle.codegen.proofs.Language.{StraightProgram, most_elements, Form, SingleWord, Kind, Boolean, Param, WordType}
-use Rattle.codegen.proofs.Language.{held_words, array_words, Profile, FlatVariable, declaration_of, TermTree, HasLength}
+use Rattle.codegen.proofs.Language.{held_words, array_words, Profile, FlatVariable, declaration_of, TermTree}
+use Rattle.codegen.proofs.Language.{HasLength}
 use Rattle.codegen.proofs.Language.{declared_words, value_nodes, IsBounded, IsTypedStraight, types_of, IsResult}
 use Rattle.inline.specs.FlatSize.{words_of}
 use Rattle.codegen.proofs.CodeLengths.{assign_length, block_length, block_room, blocks_placed}
@@ -46,7 +52,8 @@ count_in_words (p ∷ ps) lengths =
     omega (arith, held_some p.form p.kind p.length lengths.0, parameter_words p, count_in_words ps lengths.1)
 
 -- a slot ends where the next begins
-ends_at : (low : ℕ) (p : Param) → slot_end (record { param = p; offset = low }) ≡ low + 4 * words_of (declaration_of p)
+ends_at : (low : ℕ) (p : Param) → slot_end (record { param = p; offset = low })
+    ≡ low + 4 * words_of (declaration_of p)
 ends_at low p = ap (λ n. low + 4 * n) (parameter_words p)
 
 multiple : (low n : ℕ) → low % 4 ≡ 0 → (low + 4 * n) % 4 ≡ 0
@@ -57,17 +64,25 @@ pub slots_are : (low : ℕ) (ps : List Param) → AreLengths ps → low % 4 ≡ 
 slots_are low [] lengths aligned room = tt
 slots_are low (p ∷ ps) lengths aligned room =
     let words = words_of (declaration_of p) in (
-      record { length = length_allowed p.form p.length lengths.0; aligned = aligned; above = omega arith; fits = omega (arith, room) },
-      subst (λ n. AreSlots n (slots_from (low + 4 * words) ps)) (sym (ends_at low p)) (slots_are (low + 4 * words) ps lengths.1 (multiple low words aligned) (omega (arith, room))),
+      record {
+        length = length_allowed p.form p.length lengths.0;
+        aligned = aligned;
+        above = omega arith;
+        fits = omega (arith, room);
+      },
+      subst (λ n. AreSlots n (slots_from (low + 4 * words) ps)) (sym (ends_at low p))
+          (slots_are (low + 4 * words) ps lengths.1 (multiple low words aligned) (omega (arith, room))),
     )
 
 pub slots_end-slots_from : (low : ℕ) (ps : List Param) → slots_end low (slots_from low ps) ≡ low + 4 * words_in ps
 slots_end-slots_from low [] = omega arith
 slots_end-slots_from low (p ∷ ps) =
     let words = words_of (declaration_of p) in
-    ap (λ n. slots_end n (slots_from (low + 4 * words) ps)) (ends_at low p) ∙ (slots_end-slots_from (low + 4 * words) ps ∙ omega arith)
+    ap (λ n. slots_end n (slots_from (low + 4 * words) ps)) (ends_at low p)
+    ∙ (slots_end-slots_from (low + 4 * words) ps ∙ omega arith)
 
-pub slots_inside : (low frame : ℕ) (ps : List Param) → low + 4 * words_in ps ≤ frame → AllByRecursion (λ slot. slot_end slot ≤ frame) (slots_from low ps)
+pub slots_inside : (low frame : ℕ) (ps : List Param) → low + 4 * words_in ps ≤ frame
+    → AllByRecursion (λ slot. slot_end slot ≤ frame) (slots_from low ps)
 slots_inside low frame [] room = tt
 slots_inside low frame (p ∷ ps) room =
     let end = ends_at low p in
@@ -75,12 +90,15 @@ slots_inside low frame (p ∷ ps) room =
 
 -- The result's slot, behind the variables.
 
-returned_is : (declared : List FlatVariable) (low : ℕ) (word : Option WordType) → low ≤ result_offset declared → result_offset declared ≤ 40768
+returned_is : (declared : List FlatVariable) (low : ℕ) (word : Option WordType) → low ≤ result_offset declared
+    → result_offset declared ≤ 40768
     → IfSome (option_map (result_slot declared) word) (λ slot. IsResultSlot low slot)
 returned_is declared low None above few = tt
-returned_is declared low (Some word) above few = record { aligned = omega arith; above = omega (arith, above); fits = omega (arith, few) }
+returned_is declared low (Some word) above few =
+    record { aligned = omega arith; above = omega (arith, above); fits = omega (arith, few) }
 
-returned_inside : (declared : List FlatVariable) (frame : ℕ) (word : Option WordType) → result_offset declared + 4 ≤ frame
+returned_inside : (declared : List FlatVariable) (frame : ℕ) (word : Option WordType)
+    → result_offset declared + 4 ≤ frame
     → IfSome (option_map (result_slot declared) word) (λ slot. result_end slot ≤ frame)
 returned_inside declared frame None room = tt
 returned_inside declared frame (Some word) room = omega (arith, room)
@@ -92,23 +110,43 @@ room_frame a p room =
 
 -- How long its code is.
 
-result_length : (declared : List FlatVariable) (allocation : Allocation) (free : ℕ) (value : Option TermTree) → length (result_code declared allocation free value) ≤ 32 * value_nodes value
+result_length : (declared : List FlatVariable) (allocation : Allocation) (free : ℕ) (value : Option TermTree)
+    → length (result_code declared allocation free value) ≤ 32 * value_nodes value
 result_length declared allocation free None = omega arith
-result_length declared allocation free (Some value) = omega (arith, assign_length declared allocation free value (result_offset declared))
+result_length declared allocation free (Some value) =
+    omega (arith, assign_length declared allocation free value (result_offset declared))
 
-entry_length : (declared : List FlatVariable) (x : ℕ) (homes : List (Option ℕ)) → length (entry_code declared x homes) ≤ 3 * home_count homes
+entry_length : (declared : List FlatVariable) (x : ℕ) (homes : List (Option ℕ))
+    → length (entry_code declared x homes) ≤ 3 * home_count homes
 entry_length declared x [] = omega arith
 entry_length declared x (None ∷ homes) = entry_length declared (x + 1) homes
 entry_length declared x (Some home ∷ homes) = simp length-append (omega (arith, load_length home (variable_offset declared x), entry_length declared (x + 1) homes))
 
-pub program_length : (a : Allocation) (p : StraightProgram) → HasRoom p → IsFitting p a → length (program_code a p) ≤ 32 * p.nodes + 64
+pub program_length : (a : Allocation) (p : StraightProgram) → HasRoom p → IsFitting p a
+    → length (program_code a p) ≤ 32 * p.nodes + 64
 program_length a p room fitting =
     let body = block_length p.declared a p.controls (depth_in_all p.body) 0 p.body in
-    omega (arith, length-append {A = Instr}, entry_length p.declared 0 a.homes, body, result_length p.declared a (program_base p) p.value, room.counted, fitting.few)
+    omega (
+      arith,
+      length-append {A = Instr},
+      entry_length p.declared 0 a.homes,
+      body,
+      result_length p.declared a (program_base p) p.value,
+      room.counted,
+      fitting.few,
+    )
 
 -- the fields that are generated for a program with room are allowed, whoever the observer is
-image_allowed : (a : Allocation) (p : StraightProgram) (profile : Profile) → HasRoom p → IsFitting p a → AllByRecursion (λ word. word < 2 ^ 32) (map word_of (program_code a p))
-    → IsImage (record { profile = profile; slots = slots_from 0 p.parameters; returned = option_map (result_slot p.declared) p.returned; frame_bytes = program_base p + 4 * program_slots a p; max_steps = step_limit p.work; words = map word_of (program_code a p) })
+image_allowed : (a : Allocation) (p : StraightProgram) (profile : Profile) → HasRoom p → IsFitting p a
+    → AllByRecursion (λ word. word < 2 ^ 32) (map word_of (program_code a p))
+    → IsImage (record {
+      profile = profile;
+      slots = slots_from 0 p.parameters;
+      returned = option_map (result_slot p.declared) p.returned;
+      frame_bytes = program_base p + 4 * program_slots a p;
+      max_steps = step_limit p.work;
+      words = map word_of (program_code a p);
+    })
 image_allowed a p profile room fitting fit =
     let few = room.parameters in
     let d = room.declared in
@@ -116,7 +154,8 @@ image_allowed a p profile room fitting fit =
     record {
       count = omega (arith, length-slots_from 0 p.parameters, count_in_words p.parameters room.lengths, room.given);
       slots = slots_are 0 p.parameters room.lengths refl (omega (arith, few, d));
-      returned = returned_is p.declared (slots_end 0 (slots_from 0 p.parameters)) p.returned (omega (arith, end, few)) d;
+      returned = returned_is p.declared (slots_end 0 (slots_from 0 p.parameters)) p.returned
+          (omega (arith, end, few)) d;
       frame_aligned = omega arith;
       frame_size = room_frame a p room;
       slots_inside = slots_inside 0 (program_base p + 4 * program_slots a p) p.parameters (omega (arith, few));
@@ -124,18 +163,33 @@ image_allowed a p profile room fitting fit =
       some_step = omega arith;
       steps = omega (arith, room.work);
       some_word = simp (length-map, length-append) (omega arith);
-      word_count = omega (arith, length-map {B = ℕ} (program_code a p) word_of, program_length a p room fitting, room.nodes);
+      word_count = omega (
+        arith,
+        length-map {B = ℕ} (program_code a p) word_of,
+        program_length a p room fitting,
+        room.nodes,
+      );
       words = fit;
     }
 
 -- so are fields that are equal to them, one by one
-pub fields_allowed : (a : Allocation) (p : StraightProgram) → HasRoom p → IsFitting p a → (profile : Profile) (slots : List Slot) (returned : Option ResultSlot) (frame steps : ℕ) (words : List ℕ)
+pub fields_allowed : (a : Allocation) (p : StraightProgram) → HasRoom p → IsFitting p a
+    → (profile : Profile) (slots : List Slot) (returned : Option ResultSlot) (frame steps : ℕ) (words : List ℕ)
     → slots ≡ slots_from 0 p.parameters → returned ≡ option_map (result_slot p.declared) p.returned
     → frame ≡ program_base p + 4 * program_slots a p → steps ≡ step_limit p.work
     → words ≡ map word_of (program_code a p) → All (λ word. word < 2 ^ 32) words
-    → IsImage (record { profile = profile; slots = slots; returned = returned; frame_bytes = frame; max_steps = steps; words = words })
+    → IsImage (record {
+      profile = profile;
+      slots = slots;
+      returned = returned;
+      frame_bytes = frame;
+      max_steps = steps;
+      words = words;
+    })
 fields_allowed a p room fitting profile slots returned frame steps words one two three four five fit =
-    let allowed = image_allowed a p profile room fitting (subst (AllByRecursion (λ word. word < 2 ^ 32)) five (recursion_from_All (λ word. word < 2 ^ 32) words fit)) in
+    let allowed = image_allowed a p profile room fitting
+    (subst (AllByRecursion (λ word. word < 2 ^ 32)) five
+    (recursion_from_All (λ word. word < 2 ^ 32) words fit)) in
     rw (one, two, three, four, five) allowed
 
 -- Room.
@@ -174,23 +228,27 @@ module _ (p : StraightProgram) (typed : IsTypedStraight p) (is : IsBounded p) wh
   }
 
 -- what the result's expression names is declared
-pub result_among : (profile : Profile) (declared : List FlatVariable) (returned : Option WordType) (value : Option TermTree) → IsResult (types_of profile declared) returned value
+pub result_among : (profile : Profile) (declared : List FlatVariable) (returned : Option WordType)
+    (value : Option TermTree) → IsResult (types_of profile declared) returned value
     → (e : TermTree) → value ≡ Some e → IsAmong (length declared) e
 result_among profile declared None None typed e is = absurd (no_result is)
   where
     no_result : None ≡ Some e → ⊥
     no_result h = cc
-result_among profile declared (Some word) (Some value) typed e is = subst (IsAmong (length declared)) (same_Some value e is) (typed_among profile declared typed.has_type)
+result_among profile declared (Some word) (Some value) typed e is =
+    subst (IsAmong (length declared)) (same_Some value e is) (typed_among profile declared typed.has_type)
 result_among profile declared returned value typed e is = absurd typed
 
 -- the statements have their places
-pub body_placed : (a : Allocation) (p : StraightProgram) → HasRoom p → HavePlaces p.declared a p.controls (depth_in_all p.body) 0 p.body
+pub body_placed : (a : Allocation) (p : StraightProgram) → HasRoom p
+    → HavePlaces p.declared a p.controls (depth_in_all p.body) 0 p.body
 body_placed a p room =
     let d = room.declared in
     let n = room.nodes in
     let c = room.counted in
     let f = room.frame in
-    blocks_placed p.profile p.declared a p.controls (depth_in_all p.body) d 0 p.body room.typed.body (omega (arith, d, n, f)) (omega arith) (omega (arith, c, n))
+    blocks_placed p.profile p.declared a p.controls (depth_in_all p.body) d 0 p.body room.typed.body
+    (omega (arith, d, n, f)) (omega arith) (omega (arith, c, n))
 
 -- no homes fit any program
 pub plain_fits : (p : StraightProgram) → IsFitting p plain

@@ -1,13 +1,20 @@
 -- What straight code is made of and what it means, in one place: the words of the crates above the machine.
 pub use Rattle.arguments.specs.Within.{AreWithin, HasShape, IsWithin, greatest_of, words_of}
-pub use Rattle.branch_removal.specs.Bounds.{IsBounded, block_nodes, block_work, statement_nodes, statement_work, taken_in, taken_in_all}
-pub use Rattle.branch_removal.specs.Straight.{StraightBlock, StraightProgram, StraightTree, branch, clear, fill, first, nothing, put, put_under, repeats, set, set_under, straight_block, straight_row, straight_tree, take}
-pub use Rattle.branch_removal.specs.StraightMeaning.{StraightState, after, after_all, counted, holds, outcome_of, path_along, path_at, path_of, value_at, with_controls, with_element, with_variable}
-pub use Rattle.branch_removal.specs.StraightTyping.{AreTyped, IsAmong, IsFilled, IsPut, IsSet, IsTyped, IsTypedStraight, types_but}
+pub use Rattle.branch_removal.specs.Bounds.{IsBounded, block_nodes, block_work, statement_nodes, statement_work}
+pub use Rattle.branch_removal.specs.Bounds.{taken_in, taken_in_all}
+pub use Rattle.branch_removal.specs.Straight.{StraightBlock, StraightProgram, StraightTree, branch, clear, fill}
+pub use Rattle.branch_removal.specs.Straight.{first, nothing, put, put_under, repeats, set, set_under, straight_block}
+pub use Rattle.branch_removal.specs.Straight.{straight_row, straight_tree, take}
+pub use Rattle.branch_removal.specs.StraightMeaning.{StraightState, after, after_all, counted, holds, outcome_of}
+pub use Rattle.branch_removal.specs.StraightMeaning.{path_along, path_at, path_of, value_at, with_controls}
+pub use Rattle.branch_removal.specs.StraightMeaning.{with_element, with_variable}
+pub use Rattle.branch_removal.specs.StraightTyping.{AreTyped, IsAmong, IsFilled, IsPut, IsSet, IsTyped}
+pub use Rattle.branch_removal.specs.StraightTyping.{IsTypedStraight, types_but}
 pub use Rattle.branch_removal.specs.declared.straight.StraightStatement.{StraightStatement}
 pub use Rattle.inline.specs.Fitting.{Fits, IsHeld, IsWithinKind}
 pub use Rattle.inline.specs.Flat.{TermTree, array_as, declaration_of, numbers_in, term_tree, word_as}
-pub use Rattle.inline.specs.FlatMeaning.{Values, array_of, arrays_from, given, path_in, path_in_all, path_of_result, path_of_turns, turns, value_in, with_value}
+pub use Rattle.inline.specs.FlatMeaning.{Values, array_of, arrays_from, given, path_in, path_in_all, path_of_result}
+pub use Rattle.inline.specs.FlatMeaning.{path_of_turns, turns, value_in, with_value}
 pub use Rattle.inline.specs.FlatSize.{HasLength, declared_words, term_nodes, terms_nodes, value_nodes}
 pub use Rattle.inline.specs.FlatTyping.{AllSuit, HasType, IsResult, Suits, Types, counter_type, types_of}
 pub use Rattle.inline.specs.Path.{AreFine, Path, bounded, indexed, seen}

@@ -1,13 +1,36 @@
 -- The laws of the crates below that the proofs here build on, in one place.
 pub use Rattle.branch_removal.proofs.Scopes.{but_among, suits_among}
 pub use Rattle.branch_removal.proofs.Values.{all_values, one_path_all}
-pub use Rattle.expression_code.proofs.Logic.{address_length, address_runs, Addressed, After, after_append, All-one, along, along_fit, apart, apart_from, as_code, base_of, Before, beside, branching_at, by_bounds, by_index, by_mark, bytes_by, bytes_of, cheaper, computing_within, condition_kind, constant_after, constant_length, constant_plain, does, elements_apart, ends_before_result, frame_runs, frame_there, free_from, gives, height, Held, held_regs, HeldAt, home_beside, home_target, homes_beside, homes_by, homes_computed, homes_moved, homes_then, HomesKept, idle, into_length, into_runs, is_free, is_scratch, IsHome, Kept, kept_by, kept_less, kept_number, kept_then, kind_known, Known, load_bytes, load_length, load_plain, loading, looping, lower_fits, mask_fits, mask_of, mask_otherwise, mask_when, masks_join, merge, merged, move_length, move_runs, moves_run, never, none, none_low, number_or_zero, number_same, one_of, only_computes, parameter_words, place_before, place_ends, place_even, place_of, place_target, place_within, Placed, Placed-left, Placed-right, plain_append, put, quiet, quietly, Ready, ready_after, ready_below, registers_after, Runs, scratch_low, seen_by, seq, Setting, setting, Steps, steps_of, Still, store_length, storing, Straight, take, Then, then_moves, typed_among, typed_within, value_word, ValuedIn, unwritten, variables_home, variables_kept, weaken, works_at, Wrote, wrote_kept, wrote_there, written, code_length, known, near_known, NearElement, near_address}
+pub use Rattle.expression_code.proofs.Logic.{address_length, address_runs, Addressed, After, after_append, All-one}
+pub use Rattle.expression_code.proofs.Logic.{along, along_fit, apart, apart_from, as_code, base_of, Before, beside}
+pub use Rattle.expression_code.proofs.Logic.{branching_at, by_bounds, by_index, by_mark, bytes_by, bytes_of, cheaper}
+pub use Rattle.expression_code.proofs.Logic.{computing_within, condition_kind, constant_after, constant_length}
+pub use Rattle.expression_code.proofs.Logic.{constant_plain, does, elements_apart, ends_before_result, frame_runs}
+pub use Rattle.expression_code.proofs.Logic.{frame_there, free_from, gives, height, Held, held_regs, HeldAt}
+pub use Rattle.expression_code.proofs.Logic.{home_beside, home_target, homes_beside, homes_by, homes_computed}
+pub use Rattle.expression_code.proofs.Logic.{homes_moved, homes_then, HomesKept, idle, into_length, into_runs}
+pub use Rattle.expression_code.proofs.Logic.{is_free, is_scratch, IsHome, Kept, kept_by, kept_less, kept_number}
+pub use Rattle.expression_code.proofs.Logic.{kept_then, kind_known, Known, load_bytes, load_length, load_plain}
+pub use Rattle.expression_code.proofs.Logic.{loading, looping, lower_fits, mask_fits, mask_of, mask_otherwise}
+pub use Rattle.expression_code.proofs.Logic.{mask_when, masks_join, merge, merged, move_length, move_runs, moves_run}
+pub use Rattle.expression_code.proofs.Logic.{never, none, none_low, number_or_zero, number_same, one_of}
+pub use Rattle.expression_code.proofs.Logic.{only_computes, parameter_words, place_before, place_ends, place_even}
+pub use Rattle.expression_code.proofs.Logic.{place_of, place_target, place_within, Placed, Placed-left, Placed-right}
+pub use Rattle.expression_code.proofs.Logic.{plain_append, put, quiet, quietly, Ready, ready_after, ready_below}
+pub use Rattle.expression_code.proofs.Logic.{registers_after, Runs, scratch_low, seen_by, seq, Setting, setting}
+pub use Rattle.expression_code.proofs.Logic.{Steps, steps_of, Still, store_length, storing, Straight, take, Then}
+pub use Rattle.expression_code.proofs.Logic.{then_moves, typed_among, typed_within, value_word, ValuedIn, unwritten}
+pub use Rattle.expression_code.proofs.Logic.{variables_home, variables_kept, weaken, works_at, Wrote, wrote_kept}
+pub use Rattle.expression_code.proofs.Logic.{wrote_there, written, code_length, known, near_known, NearElement}
+pub use Rattle.expression_code.proofs.Logic.{near_address}
 pub use Rattle.expression_code.proofs.Moves.{register-at}
 pub use Rattle.expression_code.proofs.Values.{Leaves}
 pub use Rattle.expression_code.proofs.WorkRegisters.{IsTarget}
 pub use Rattle.inline.proofs.Fitting.{value_fits}
 pub use Rattle.inline.proofs.FittingBodies.{fits_assigned, one_held}
-pub use Rattle.rv_machine.proofs.ByteLaws.{number_at-suc, number_at-with_number, number_at-zero, number_at_apart, number_at_same, with_byte_other, with_byte_same, with_number-suc, with_number-zero, with_number_above, with_number_below}
+pub use Rattle.rv_machine.proofs.ByteLaws.{number_at-suc, number_at-with_number, number_at-zero, number_at_apart}
+pub use Rattle.rv_machine.proofs.ByteLaws.{number_at_same, with_byte_other, with_byte_same, with_number-suc}
+pub use Rattle.rv_machine.proofs.ByteLaws.{with_number-zero, with_number_above, with_number_below}
 pub use Rattle.rv_machine.proofs.RunLaws.{Halts-after}
 pub use Rattle.rv_machine.proofs.TurnLaws.{ecall_halts}
 pub use Rattle.std.proofs.lemmas.Bool.{and_from, cases_eq, cases_lt, eq-eqb, eqb-false, eqb-true, le-leb, lt-ltb}

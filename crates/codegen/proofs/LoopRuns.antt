@@ -1,17 +1,28 @@
 -- The code of a loop, and of a branch on what is public.
-use Rattle.std.proofs.Common.{◌≡◌, ℕ, suc, ◌+◌, ◌-◌, ◌*◌, ◌%◌, ◌^◌, ◌<◌, ◌≤◌, Bool, true, false, nat_lt, List, [], ◌∷◌, ◌++◌, length, Option, None, Some, slice_get, slice_index, refl, sym, ap, ap₂, ◌∙◌, subst, arith, inr, ◌≢◌, ◌==◌, cond, eq-eqb, ne_eqb}
+use Rattle.std.proofs.Common.{◌≡◌, ℕ, suc, ◌+◌, ◌-◌, ◌*◌, ◌%◌, ◌^◌, ◌<◌, ◌≤◌, Bool, true, false, nat_lt, List, []}
+use Rattle.std.proofs.Common.{◌∷◌, ◌++◌, length, Option, None, Some, slice_get, slice_index, refl, sym, ap, ap₂, ◌∙◌}
+use Rattle.std.proofs.Common.{subst, arith, inr, ◌≢◌, ◌==◌, cond, eq-eqb, ne_eqb}
 use Rattle.std.proofs.lemmas.Bool.Decides.{nat_tests}
 use Rattle.std.proofs.lemmas.Nat.{mul-le}
 use Rattle.codegen.proofs.Language.{TermTree, word_as, value_in, path_in, turns, path_of_turns, Path, bounded}
 use Rattle.codegen.proofs.Language.{term_nodes, types_of, HasType, counter_type, StraightBlock, repeats, branch}
 use Rattle.codegen.proofs.Language.{StraightState, counted, after, after_all, path_at, path_along, word_of, WordType}
 use Rattle.codegen.proofs.Machine.{bounds_code, test_code, count_code, loop_code, branch_code, variable_offset}
-use Rattle.codegen.proofs.Machine.{at_home, home_of, InSlot, next_offset, slots_to, assign_code, read_code, read_register, store_code, variable_location, height_of, Instr, Addi, Sltu, Sw}
+use Rattle.codegen.proofs.Machine.{at_home, home_of, InSlot, next_offset, slots_to, assign_code, read_code}
+use Rattle.codegen.proofs.Machine.{read_register, store_code, variable_location, height_of, Instr, Addi, Sltu, Sw}
 use Rattle.codegen.proofs.Machine.{ByteMap, number_at, with_number, sum_of}
 use Rattle.rv_code.specs.declared.instructions.Instr.TheVariants as instr
 use Rattle.rv_machine.specs.Machine as machine
-use Rattle.codegen.proofs.Logic.{lt-ltb, value_word, HeldAt, held_regs, take, put, does, moves_run, number_or_zero, Setting, setting, base_of, Known, by_bounds, none, Runs, Still, looping, along_fit, seq, quietly, weaken, gives, cheaper, as_code, beside, Kept, Ready, Wrote, wrote_kept, wrote_there, kept_number, kept_less, kept_then, ready_below, by_mark, branching_at, condition_kind, HomesKept, IsHome, homes_by, homes_moved, homes_then, kept_by, registers_after}
-use Rattle.codegen.proofs.Slots.{Shown, ready_with, ready_behind, word_before, stored, assigned, Hidden, hidden_then, hidden_less, hidden_by, hidden_wrote, hidden_beyond, hidden_number, other_number, ready_homed, ready_set, read_runs, read_source, ready_valued, ready_still, hidden_kept}
+use Rattle.codegen.proofs.Logic.{lt-ltb, value_word, HeldAt, held_regs, take, put, does, moves_run, number_or_zero}
+use Rattle.codegen.proofs.Logic.{Setting, setting, base_of, Known, by_bounds, none, Runs, Still, looping, along_fit}
+use Rattle.codegen.proofs.Logic.{seq, quietly, weaken, gives, cheaper, as_code, beside, Kept, Ready, Wrote}
+use Rattle.codegen.proofs.Logic.{wrote_kept, wrote_there, kept_number, kept_less, kept_then, ready_below, by_mark}
+use Rattle.codegen.proofs.Logic.{branching_at, condition_kind, HomesKept, IsHome, homes_by, homes_moved, homes_then}
+use Rattle.codegen.proofs.Logic.{kept_by, registers_after}
+use Rattle.codegen.proofs.Slots.{Shown, ready_with, ready_behind, word_before, stored, assigned, Hidden, hidden_then}
+use Rattle.codegen.proofs.Slots.{hidden_less, hidden_by, hidden_wrote, hidden_beyond, hidden_number, other_number}
+use Rattle.codegen.proofs.Slots.{ready_homed, ready_set, read_runs, read_source, ready_valued, ready_still}
+use Rattle.codegen.proofs.Slots.{hidden_kept}
 
 -- So many turns are left, the next of them for this number: both of the loop's words tell it.
 pub record Counts (z : Setting) (next left i : ℕ) (s : machine.State) : Type 0 where
@@ -34,7 +45,8 @@ pub record TestedFor (z : Setting) (left i : ℕ) (env : StraightState) (s t : m
   pub homes : HomesKept z s t
 
 -- what is below a bound is as it was
-pub hidden_below : (z : Setting) (depth free : ℕ) (s t : machine.State) → next_offset z.declared z.controls depth ≤ free → Kept z free s t → Hidden z depth s t
+pub hidden_below : (z : Setting) (depth free : ℕ) (s t : machine.State)
+    → next_offset z.declared z.controls depth ≤ free → Kept z free s t → Hidden z depth s t
 hidden_below z depth free s t above kept o low high = kept o (omega (arith, high, above))
 
 is_left : (bound i left : ℕ) → bound - i ≡ left → nat_lt i bound ≡ nat_lt 0 left
@@ -51,7 +63,9 @@ module _ (z : Setting) (depth : ℕ) (within : depth < z.depths) where
   next_inside = let room = z.room in omega (arith, room, within)
 
   -- where both words are as they were
-  counts_kept : (left i : ℕ) (s t : machine.State) → ((o : ℕ) → next ≤ o → o ≤ next + 4 → number_at t.bytes 4 (z.frame + o) ≡ number_at s.bytes 4 (z.frame + o)) → Counts z next left i s → Counts z next left i t
+  counts_kept : (left i : ℕ) (s t : machine.State)
+      → ((o : ℕ) → next ≤ o → o ≤ next + 4 → number_at t.bytes 4 (z.frame + o) ≡ number_at s.bytes 4 (z.frame + o))
+      → Counts z next left i s → Counts z next left i t
   counts_kept left i s t same counts = record {
     next_there = same next (omega arith) (omega arith) ∙ counts.next_there;
     bound = counts.bound;
@@ -60,7 +74,8 @@ module _ (z : Setting) (depth : ℕ) (within : depth < z.depths) where
     bound_there = same (next + 4) (omega arith) (omega arith) ∙ counts.bound_there;
   }
 
-  at_same : (left i : ℕ) (env : StraightState) (s t : machine.State) → AtLoop z next left i env s → HeldAt z t → t.bytes ≡ s.bytes → HomesKept z s t → AtLoop z next left i env t
+  at_same : (left i : ℕ) (env : StraightState) (s t : machine.State) → AtLoop z next left i env s → HeldAt z t
+      → t.bytes ≡ s.bytes → HomesKept z s t → AtLoop z next left i env t
   at_same left i env s t at held same homes = record {
     ready = ready_with z env s t at.ready held same homes;
     counts = counts_kept left i s t (λ o low high. ap (λ (b : ByteMap). number_at b 4 (z.frame + o)) same) at.counts;
@@ -79,11 +94,15 @@ module _ (z : Setting) (depth : ℕ) (within : depth < z.depths) where
         six = ap (λ (regs : ℕ → ℕ). regs 6) moved.regs ∙ ap number_or_zero at.counts.next_there;
         five =
             ap (λ (regs : ℕ → ℕ). regs 5) moved.regs
-            ∙ (ap₂ (λ a b. word_of (nat_lt a b)) (ap number_or_zero at.counts.next_there) (ap number_or_zero at.counts.bound_there) ∙ ap word_of (is_left at.counts.bound i left at.counts.left_is));
+            ∙ (ap₂ (λ a b. word_of (nat_lt a b)) (ap number_or_zero at.counts.next_there)
+            (ap number_or_zero at.counts.bound_there)
+            ∙ ap word_of (is_left at.counts.bound i left at.counts.left_is));
         same = moved.bytes;
-        homes = homes_moved z (take 6 next ∷ take 5 (next + 4) ∷ does (instr.Register Sltu 5 6 5 ∷ []) ∷ []) env s t refl moved;
+        homes = homes_moved z (take 6 next ∷ take 5 (next + 4) ∷ does (instr.Register Sltu 5 6 5 ∷ []) ∷ []) env s t
+            refl moved;
       })
-      (moves_run z (take 6 next) (take 5 (next + 4) ∷ does (instr.Register Sltu 5 6 5 ∷ []) ∷ []) refl ((omega arith, omega (arith, inside)), ((omega arith, omega (arith, inside)), (tt, tt))))
+      (moves_run z (take 6 next) (take 5 (next + 4) ∷ does (instr.Register Sltu 5 6 5 ∷ []) ∷ []) refl
+      ((omega arith, omega (arith, inside)), ((omega arith, omega (arith, inside)), (tt, tt))))
 
   -- The counter.
 
@@ -94,8 +113,10 @@ module _ (z : Setting) (depth : ℕ) (within : depth < z.depths) where
   Counted x left i env u v = AtLoop z next left (i + 1) (counted x i env) v × Hidden z depth u v
 
   -- what the counter's store or move leaves: a turn more is counted, once the next number is stored
-  module _ (x left i : ℕ) (known : slice_get z.declared x ≡ Some (word_as counter_type false)) (env : StraightState) (u m v : machine.State) (given : Turns left i env u)
-      (ready1 : Ready z (counted x i env) m) (same : number_at m.bytes 4 (z.frame + (next + 4)) ≡ number_at u.bytes 4 (z.frame + (next + 4))) (hidden : Hidden z depth u m)
+  module _ (x left i : ℕ) (known : slice_get z.declared x ≡ Some (word_as counter_type false)) (env : StraightState)
+      (u m v : machine.State) (given : Turns left i env u)
+      (ready1 : Ready z (counted x i env) m) (same : number_at m.bytes 4 (z.frame + (next + 4))
+      ≡ number_at u.bytes 4 (z.frame + (next + 4))) (hidden : Hidden z depth u m)
       (wrote : Wrote z 4 next (i + 1) m v) where
     counts_more : Counted x left i env u v
     counts_more =
@@ -109,7 +130,8 @@ module _ (z : Setting) (depth : ℕ) (within : depth < z.depths) where
               bound = counts.bound;
               left_is = omega (arith, more);
               bound_small = counts.bound_small;
-              bound_there = other_number z 4 next (i + 1) 4 (next + 4) m v wrote (inr (omega arith)) ∙ (same ∙ counts.bound_there);
+              bound_there = other_number z 4 next (i + 1) 4 (next + 4) m v wrote (inr (omega arith))
+                  ∙ (same ∙ counts.bound_there);
             };
           },
           hidden_then z depth u m v hidden (hidden_beyond z depth 4 next (i + 1) m v (omega arith) wrote),
@@ -119,8 +141,10 @@ module _ (z : Setting) (depth : ℕ) (within : depth < z.depths) where
   more_code = instr.Immediate Addi 6 6 1 ∷ []
 
   -- into the counter's slot, or into its home
-  count_by : (x left i : ℕ) → slice_get z.declared x ≡ Some (word_as counter_type false) → (h : Option ℕ) → home_of z.allocation.homes x ≡ h
-      → Runs z 7 none (count_code next (at_home h (InSlot (variable_offset z.declared x)))) (Turns left i) (Counted x left i)
+  count_by : (x left i : ℕ) → slice_get z.declared x ≡ Some (word_as counter_type false) → (h : Option ℕ)
+      → home_of z.allocation.homes x ≡ h
+      → Runs z 7 none (count_code next (at_home h (InSlot (variable_offset z.declared x)))) (Turns left i)
+      (Counted x left i)
   count_by x left i known None away =
       let o = variable_offset z.declared x in
       let before = word_before z x counter_type false known in
@@ -136,8 +160,10 @@ module _ (z : Setting) (depth : ℕ) (within : depth < z.depths) where
         written = one.bytes ∙ ap (λ w. with_number u.bytes 4 (z.frame + o) w) given.1;
         homes = homes_moved z (put Sw 6 o ∷ does more_code ∷ []) env u m refl one;
       } in
-      counts_more x left i known env u m v given (ready_set z x i counter_type false known away (omega (arith, small, more)) env u m given.0.ready wrote)
-      (other_number z 4 o i 4 (next + 4) u m wrote (inr (omega (arith, before)))) (hidden_wrote z depth 4 o i u m (omega (arith, before)) wrote) done.second)
+      counts_more x left i known env u m v given
+      (ready_set z x i counter_type false known away (omega (arith, small, more)) env u m given.0.ready wrote)
+      (other_number z 4 o i 4 (next + 4) u m wrote (inr (omega (arith, before))))
+      (hidden_wrote z depth 4 o i u m (omega (arith, before)) wrote) done.second)
       (stored z 6 next (λ env. i + 1) refl (omega arith) (omega (arith, next_inside))
       (weaken {P' = Turns left i}
       (λ env s fine given. given.0.ready.held)
@@ -145,8 +171,11 @@ module _ (z : Setting) (depth : ℕ) (within : depth < z.depths) where
       (moves_run z (put Sw 6 o) (does more_code ∷ []) refl ((omega arith, omega (arith, before, room)), (tt, tt))))
       (λ env s t given moved.
       let small = given.0.counts.bound_small in
-      let more = given.0.counts.left_is in
-      (moved.held, ap (λ (regs : ℕ → ℕ). regs 6) moved.regs ∙ (ap (λ a. sum_of a 1) given.1 ∙ omega (arith, small, more)))))
+      let more = given.0.counts.left_is in (
+        moved.held,
+        ap (λ (regs : ℕ → ℕ). regs 6) moved.regs
+            ∙ (ap (λ a. sum_of a 1) given.1 ∙ omega (arith, small, more)),
+      )))
   count_by x left i known (Some home) at =
       let is = z.allocated.allowed x home at in
       let some = z.allocated.some in
@@ -166,16 +195,21 @@ module _ (z : Setting) (depth : ℕ) (within : depth < z.depths) where
       let one = done.first in
       let small = given.0.counts.bound_small in
       let more = given.0.counts.left_is in
-      let counter : registers_after more_code (registers_after move u.regs) home ≡ sum_of (u.regs 6) 0 = simp (hh, h0, h6) in
-      let there : m.regs home ≡ i = ap (λ (regs : ℕ → ℕ). regs home) one.regs ∙ (counter ∙ (ap (λ a. sum_of a 0) given.1 ∙ omega (arith, small, more))) in
+      let counter : registers_after more_code (registers_after move u.regs) home ≡ sum_of (u.regs 6) 0 =
+      simp (hh, h0, h6) in
+      let there : m.regs home ≡ i = ap (λ (regs : ℕ → ℕ). regs home) one.regs
+      ∙ (counter ∙ (ap (λ a. sum_of a 0) given.1 ∙ omega (arith, small, more))) in
       let others = λ (r : ℕ) (other : IsHome z.allocation.count r) (apart : r ≢ home).
       let r0 : (r == 0) ≡ false = ne_eqb r 0 (λ e. omega (arith, some, other.0, e)) in
       let r6 : (r == 6) ≡ false = ne_eqb r 6 (λ e. omega (arith, some, other.0, e)) in
-      let stays : registers_after more_code (registers_after move u.regs) r ≡ u.regs r = simp (r0, r6, ne_eqb r home apart) in
+      let stays : registers_after more_code (registers_after move u.regs) r ≡ u.regs r =
+      simp (r0, r6, ne_eqb r home apart) in
       ap (λ (regs : ℕ → ℕ). regs r) one.regs ∙ stays in
       counts_more x left i known env u m v given
-      (ready_homed z x home i counter_type false known at (omega (arith, small, more)) env u m given.0.ready one.held (kept_by z (base_of z) u m one.bytes) there others)
-      (ap (λ (b : ByteMap). number_at b 4 (z.frame + (next + 4))) one.bytes) (hidden_by z depth u m one.bytes) done.second)
+      (ready_homed z x home i counter_type false known at (omega (arith, small, more)) env u m given.0.ready one.held
+      (kept_by z (base_of z) u m one.bytes) there others)
+      (ap (λ (b : ByteMap). number_at b 4 (z.frame + (next + 4))) one.bytes) (hidden_by z depth u m one.bytes)
+      done.second)
       (stored z 6 next (λ env. i + 1) refl (omega arith) (omega (arith, next_inside))
       (weaken {P' = Turns left i}
       (λ env s fine given. given.0.ready.held)
@@ -184,10 +218,15 @@ module _ (z : Setting) (depth : ℕ) (within : depth < z.depths) where
       (λ env s t given moved.
       let small = given.0.counts.bound_small in
       let more = given.0.counts.left_is in
-      let next_one : registers_after more_code (registers_after move s.regs) 6 ≡ sum_of (s.regs 6) 1 = simp six in
-      (moved.held, ap (λ (regs : ℕ → ℕ). regs 6) moved.regs ∙ (next_one ∙ (ap (λ a. sum_of a 1) given.1 ∙ omega (arith, small, more))))))))
+      let next_one : registers_after more_code (registers_after move s.regs) 6 ≡ sum_of (s.regs 6) 1 = simp six in (
+        moved.held,
+        ap (λ (regs : ℕ → ℕ). regs 6) moved.regs
+            ∙ (next_one ∙ (ap (λ a. sum_of a 1) given.1 ∙ omega (arith, small, more))),
+      )))))
 
-  count_runs : (x left i : ℕ) → slice_get z.declared x ≡ Some (word_as counter_type false) → Runs z 7 none (count_code next (variable_location z.declared z.allocation x)) (Turns left i) (Counted x left i)
+  count_runs : (x left i : ℕ) → slice_get z.declared x ≡ Some (word_as counter_type false)
+      → Runs z 7 none (count_code next (variable_location z.declared z.allocation x)) (Turns left i)
+      (Counted x left i)
   count_runs x left i known = count_by x left i known (home_of z.allocation.homes x) refl
 
   -- Both bounds.
@@ -199,8 +238,11 @@ module _ (z : Setting) (depth : ℕ) (within : depth < z.depths) where
     kept : Kept z o s t
     homes : HomesKept z s t
 
-  pushed : (e : TermTree) (o : ℕ) → HasType (types_of z.code.profile z.declared) e counter_type → base_of z + 4 * slots_to z.allocation.count (height_of e) ≤ z.size → o ≤ base_of z → o % 4 ≡ 0 → o + 4 ≤ z.size
-      → Runs z (16 * term_nodes e + 3) (λ env. path_in env.variables e) (assign_code z.declared z.allocation (base_of z) e o) (Ready z) (Pushed e o)
+  pushed : (e : TermTree) (o : ℕ) → HasType (types_of z.code.profile z.declared) e counter_type
+      → base_of z + 4 * slots_to z.allocation.count (height_of e) ≤ z.size → o ≤ base_of z → o % 4 ≡ 0
+      → o + 4 ≤ z.size
+      → Runs z (16 * term_nodes e + 3) (λ env. path_in env.variables e)
+      (assign_code z.declared z.allocation (base_of z) e o) (Ready z) (Pushed e o)
   pushed e o has room below aligned inside =
       gives
       (λ env s t fine ready done.
@@ -208,17 +250,25 @@ module _ (z : Setting) (depth : ℕ) (within : depth < z.depths) where
       let v = value_in env.variables e in
       record {
         held = done.second.held;
-        there = wrote_there z o v m t done.second (value_word z.code.profile z.declared e counter_type env.variables ready.fits has);
-        kept = kept_then z o s m t (kept_less z o (base_of z) s m below done.first.kept) (wrote_kept z 4 o v m t done.second);
+        there = wrote_there z o v m t done.second
+            (value_word z.code.profile z.declared e counter_type env.variables ready.fits has);
+        kept = kept_then z o s m t (kept_less z o (base_of z) s m below done.first.kept)
+            (wrote_kept z 4 o v m t done.second);
         homes = homes_then z s m t done.first.homes done.second.homes;
       })
       (assigned z o has room aligned inside)
 
   abbrev Begun : TermTree → TermTree → StraightState → machine.State → machine.State → Type 0
-  Begun low high env s t = AtLoop z next (value_in env.variables high - value_in env.variables low) (value_in env.variables low) env t × Hidden z depth s t
+  Begun low high env s t = AtLoop z next (value_in env.variables high - value_in env.variables low)
+      (value_in env.variables low) env t × Hidden z depth s t
 
-  bounds_runs : (low high : TermTree) → HasType (types_of z.code.profile z.declared) low counter_type → HasType (types_of z.code.profile z.declared) high counter_type → base_of z + 4 * slots_to z.allocation.count (height_of low) ≤ z.size → base_of z + 4 * slots_to z.allocation.count (height_of high) ≤ z.size
-      → Runs z (16 * term_nodes low + 3 + (16 * term_nodes high + 3)) (λ env. path_in env.variables low ++ path_in env.variables high) (bounds_code z.declared z.allocation next (base_of z) low high) (Ready z) (Begun low high)
+  bounds_runs : (low high : TermTree) → HasType (types_of z.code.profile z.declared) low counter_type
+      → HasType (types_of z.code.profile z.declared) high counter_type
+      → base_of z + 4 * slots_to z.allocation.count (height_of low) ≤ z.size
+      → base_of z + 4 * slots_to z.allocation.count (height_of high) ≤ z.size
+      → Runs z (16 * term_nodes low + 3 + (16 * term_nodes high + 3))
+      (λ env. path_in env.variables low ++ path_in env.variables high)
+      (bounds_code z.declared z.allocation next (base_of z) low high) (Ready z) (Begun low high)
   bounds_runs low high has_low has_high room_low room_high =
       let base : next + 8 ≤ base_of z = omega (arith, within) in
       gives
@@ -237,7 +287,8 @@ module _ (z : Setting) (depth : ℕ) (within : depth < z.depths) where
             bound_there = two.there;
           };
         },
-        hidden_then z depth s m t (hidden_below z depth next s m (omega arith) one.kept) (hidden_below z depth (next + 4) m t (omega arith) two.kept),
+        hidden_then z depth s m t (hidden_below z depth next s m (omega arith) one.kept)
+            (hidden_below z depth (next + 4) m t (omega arith) two.kept),
       ))
       (seq
       (pushed low next has_low room_low (omega (arith, base)) (omega arith) (omega (arith, next_inside)))
@@ -246,10 +297,14 @@ module _ (z : Setting) (depth : ℕ) (within : depth < z.depths) where
 
   module _ (x : ℕ) (low high : TermTree) (body : StraightBlock) (n : ℕ) {ys : List Instr}
       (known : slice_get z.declared x ≡ Some (word_as counter_type false))
-      (has_low : HasType (types_of z.code.profile z.declared) low counter_type) (has_high : HasType (types_of z.code.profile z.declared) high counter_type)
-      (room_low : base_of z + 4 * slots_to z.allocation.count (height_of low) ≤ z.size) (room_high : base_of z + 4 * slots_to z.allocation.count (height_of high) ≤ z.size)
-      (near : 2 * (length (test_code next) + length (count_code next (variable_location z.declared z.allocation x) ++ ys)) + 8 < 2 ^ 19)
-      (inner : Runs z n (λ env. path_along env body) ys (Ready z) (Shown z (depth + 1) (λ env. after_all env body))) where
+      (has_low : HasType (types_of z.code.profile z.declared) low counter_type)
+      (has_high : HasType (types_of z.code.profile z.declared) high counter_type)
+      (room_low : base_of z + 4 * slots_to z.allocation.count (height_of low) ≤ z.size)
+      (room_high : base_of z + 4 * slots_to z.allocation.count (height_of high) ≤ z.size)
+      (near : 2 * (length (test_code next) + length (count_code next (variable_location z.declared z.allocation x)
+      ++ ys)) + 8 < 2 ^ 19)
+      (inner : Runs z n (λ env. path_along env body) ys (Ready z)
+      (Shown z (depth + 1) (λ env. after_all env body))) where
     abbrev one_turn : ℕ → StraightState → StraightState
     one_turn i env = after_all (counted x i env) body
 
@@ -257,7 +312,9 @@ module _ (z : Setting) (depth : ℕ) (within : depth < z.depths) where
     Done left i env u v = AtLoop z next left (i + 1) (one_turn i env) v × Hidden z depth u v
 
     -- a turn
-    body_runs : (left i : ℕ) → Runs z (7 + n) (λ env. path_along (counted x i env) body) (count_code next (variable_location z.declared z.allocation x) ++ ys) (Turns left i) (Done left i)
+    body_runs : (left i : ℕ)
+        → Runs z (7 + n) (λ env. path_along (counted x i env) body)
+        (count_code next (variable_location z.declared z.allocation x) ++ ys) (Turns left i) (Done left i)
     body_runs left i =
         gives
         (λ env u v fine given done.
@@ -266,7 +323,10 @@ module _ (z : Setting) (depth : ℕ) (within : depth < z.depths) where
         let shown = done.second in (
           record {
             ready = shown.ready;
-            counts = counts_kept left (i + 1) m v (λ o low high. hidden_number z (depth + 1) m v shown.hidden o (omega (arith, low)) (omega (arith, high))) first.0.counts;
+            counts =
+                counts_kept left (i + 1) m v (λ o low high.
+                hidden_number z (depth + 1) m v shown.hidden o (omega (arith, low)) (omega (arith, high)))
+                first.0.counts;
           },
           hidden_then z depth u m v first.1 (hidden_less z depth (depth + 1) m v (omega arith) shown.hidden),
         ))
@@ -279,10 +339,15 @@ module _ (z : Setting) (depth : ℕ) (within : depth < z.depths) where
     abbrev Over : StraightState → machine.State → machine.State → Type 0
     Over env o u = Ready z env u × Hidden z depth o u
 
-    turned : (left i : ℕ) (env : StraightState) (o s t u v w : machine.State) → Inv (suc left) i env o s → TestedFor z (suc left) i env s t → Still t u → Done left i env u v → Still v w → Inv left (i + 1) (one_turn i env) o w
+    turned : (left i : ℕ) (env : StraightState) (o s t u v w : machine.State) → Inv (suc left) i env o s
+        → TestedFor z (suc left) i env s t → Still t u → Done left i env u v → Still v w
+        → Inv left (i + 1) (one_turn i env) o w
     turned left i env o s t u v w inv tested still done back = (
-      at_same left (i + 1) (one_turn i env) v w done.0 (held_still v w done.0.ready.held back) back.bytes (homes_by z v w back.regs),
-      hidden_then z depth o s w inv.1 (hidden_then z depth s u w (hidden_by z depth s u (still.bytes ∙ tested.same)) (hidden_then z depth u v w done.1 (hidden_by z depth v w back.bytes))),
+      at_same left (i + 1) (one_turn i env) v w done.0 (held_still v w done.0.ready.held back) back.bytes
+          (homes_by z v w back.regs),
+      hidden_then z depth o s w inv.1
+          (hidden_then z depth s u w (hidden_by z depth s u (still.bytes ∙ tested.same))
+          (hidden_then z depth u v w done.1 (hidden_by z depth v w back.bytes))),
     )
 
     abbrev bounds : StraightState → ℕ × ℕ
@@ -295,30 +360,51 @@ module _ (z : Setting) (depth : ℕ) (within : depth < z.depths) where
     path_by env b = path_of_turns (b.1 - b.0) b.0 one_turn (λ i e. path_along (counted x i e) body) env
 
     -- with bounds that are known beforehand
-    loop_at : (b : ℕ × ℕ) → Runs z ((b.1 - b.0 + 1) * (7 + (7 + n) + 2)) (λ env. path_by env (bounds env)) (loop_code (test_code next) (count_code next (variable_location z.declared z.allocation x) ++ ys))
-        (Known (setting z) (ℕ × ℕ) (λ c. c.1 - c.0 ≤ slice_index z.counts x) Beginning bounds b) (λ env s t. Over (turns ((bounds env).1 - (bounds env).0) (bounds env).0 one_turn env) s t)
+    loop_at : (b : ℕ × ℕ)
+        → Runs z ((b.1 - b.0 + 1) * (7 + (7 + n) + 2)) (λ env. path_by env (bounds env))
+        (loop_code (test_code next) (count_code next (variable_location z.declared z.allocation x) ++ ys))
+        (Known (setting z) (ℕ × ℕ) (λ c. c.1 - c.0 ≤ slice_index z.counts x) Beginning bounds b)
+        (λ env s t. Over (turns ((bounds env).1 - (bounds env).0) (bounds env).0 one_turn env) s t)
     loop_at b =
         along_fit (λ env s known. ap (path_by env) known.is)
         (weaken
         (λ env s fine known. subst (λ (c : ℕ × ℕ). Inv (c.1 - c.0) c.0 env s s) known.is known.given)
-        (λ env s t fine known over. subst (λ (c : ℕ × ℕ). Over (turns (c.1 - c.0) c.0 one_turn env) s t) (sym known.is) over)
-        (looping {z = setting z} 5 (omega arith) (λ e. omega arith) {A = λ left i. AtLoop z next left i} {B = λ left i. TestedFor z left i} {C = Turns} {D = Done}
+        (λ env s t fine known over. subst (λ (c : ℕ × ℕ). Over (turns (c.1 - c.0) c.0 one_turn env) s t)
+        (sym known.is) over)
+        (looping {z = setting z} 5 (omega arith) (λ e. omega arith) {A = λ left i. AtLoop z next left i} {B =
+        λ left i. TestedFor z left i} {C = Turns} {D = Done}
         (λ i env. path_along (counted x i env) body) one_turn Inv Over near
         (λ left i env o s inv. inv.0)
         (λ left i env o s t inv tested e. let f = tested.five ∙ some_left left in omega (arith, e, f))
         (λ i env o s t inv tested. tested.five)
-        (λ left i env o s t u inv tested still. (at_same (suc left) i env s u inv.0 (held_still t u tested.held still) (still.bytes ∙ tested.same) (homes_then z s t u tested.homes (homes_by z t u still.regs)), ap (λ (regs : ℕ → ℕ). regs 6) still.regs ∙ tested.six))
+        (λ left i env o s t u inv tested still. (
+          at_same (suc left) i env s u inv.0 (held_still t u tested.held still) (still.bytes
+              ∙ tested.same) (homes_then z s t u tested.homes (homes_by z t u still.regs)),
+          ap (λ (regs : ℕ → ℕ). regs 6) still.regs ∙ tested.six,
+        ))
         turned
-        (λ i env o s t u inv tested still. (ready_with z env s u inv.0.ready (held_still t u tested.held still) (still.bytes ∙ tested.same) (homes_then z s t u tested.homes (homes_by z t u still.regs)), hidden_then z depth o s u inv.1 (hidden_by z depth s u (still.bytes ∙ tested.same))))
+        (λ i env o s t u inv tested still. (
+          ready_with z env s u inv.0.ready (held_still t u tested.held still) (still.bytes
+              ∙ tested.same) (homes_then z s t u tested.homes (homes_by z t u still.regs)),
+          hidden_then z depth o s u inv.1 (hidden_by z depth s u (still.bytes ∙ tested.same)),
+        ))
         test_runs body_runs (b.1 - b.0) b.0))
 
-    loop_runs : Runs z ((slice_index z.counts x + 1) * (7 + (7 + n) + 2)) (λ env. bounded x (bounds env).0 (bounds env).1 ∷ path_by env (bounds env)) (loop_code (test_code next) (count_code next (variable_location z.declared z.allocation x) ++ ys))
+    loop_runs : Runs z ((slice_index z.counts x + 1) * (7 + (7 + n) + 2))
+        (λ env. bounded x (bounds env).0 (bounds env).1 ∷ path_by env (bounds env))
+        (loop_code (test_code next) (count_code next (variable_location z.declared z.allocation x) ++ ys))
         Beginning (λ env s t. Over (turns ((bounds env).1 - (bounds env).0) (bounds env).0 one_turn env) s t)
-    loop_runs = by_bounds z x bounds (λ b few. cheaper (mul-le (b.1 - b.0 + 1) (7 + (7 + n) + 2) (slice_index z.counts x + 1) (7 + (7 + n) + 2) (omega (arith, few)) (omega arith)) (loop_at b))
+    loop_runs =
+        by_bounds z x bounds
+        (λ b few. cheaper (mul-le (b.1 - b.0 + 1) (7 + (7 + n) + 2) (slice_index z.counts x + 1) (7 + (7 + n) + 2)
+        (omega (arith, few)) (omega arith)) (loop_at b))
 
     -- both bounds, and then the turns
-    pub repeats_runs : Runs z (16 * term_nodes low + 3 + (16 * term_nodes high + 3) + (slice_index z.counts x + 1) * (7 + (7 + n) + 2)) (λ env. path_at env (repeats x low high body))
-        (bounds_code z.declared z.allocation next (base_of z) low high ++ loop_code (test_code next) (count_code next (variable_location z.declared z.allocation x) ++ ys)) (Ready z) (Shown z depth (λ env. after env (repeats x low high body)))
+    pub repeats_runs : Runs z (16 * term_nodes low + 3 + (16 * term_nodes high + 3)
+        + (slice_index z.counts x + 1) * (7 + (7 + n) + 2)) (λ env. path_at env (repeats x low high body))
+        (bounds_code z.declared z.allocation next (base_of z) low high
+        ++ loop_code (test_code next) (count_code next (variable_location z.declared z.allocation x) ++ ys))
+        (Ready z) (Shown z depth (λ env. after env (repeats x low high body)))
     repeats_runs =
         gives
         (λ env s t fine ready done. record {
@@ -335,44 +421,65 @@ record Tested (z : Setting) (condition : TermTree) (env : StraightState) (s : ma
   ready : Ready z env s
   there : s.regs (read_register z.allocation 5 condition) ≡ value_in env.variables condition
 
-module _ (z : Setting) (depth : ℕ) (condition : TermTree) (word : WordType) (accepted otherwise : StraightBlock) (m n : ℕ) {xs ys : List Instr}
-    (has : HasType (types_of z.code.profile z.declared) condition word) (room : base_of z + 4 * slots_to z.allocation.count (height_of condition) ≤ z.size) (within : depth ≤ z.depths)
+module _ (z : Setting) (depth : ℕ) (condition : TermTree) (word : WordType) (accepted otherwise : StraightBlock)
+    (m n : ℕ) {xs ys : List Instr}
+    (has : HasType (types_of z.code.profile z.declared) condition word)
+    (room : base_of z + 4 * slots_to z.allocation.count (height_of condition) ≤ z.size)
+    (within : depth ≤ z.depths)
     (near : 2 * (length xs + length ys) + 8 < 2 ^ 19)
     (one : Runs z m (λ env. path_along env accepted) xs (Ready z) (Shown z depth (λ env. after_all env accepted)))
-    (two : Runs z n (λ env. path_along env otherwise) ys (Ready z) (Shown z depth (λ env. after_all env otherwise))) where
+    (two : Runs z n (λ env. path_along env otherwise) ys (Ready z)
+    (Shown z depth (λ env. after_all env otherwise))) where
   abbrev value : StraightState → ℕ
   value env = value_in env.variables condition
 
-  first_arm : (env : StraightState) (s t u v : machine.State) → value env ≢ 0 → Tested z condition env s → Still s t → Shown z depth (λ e. after_all e accepted) env t u → Still u v → Shown z depth (λ e. after e (branch condition accepted otherwise)) env s v
+  first_arm : (env : StraightState) (s t u v : machine.State) → value env ≢ 0 → Tested z condition env s → Still s t
+      → Shown z depth (λ e. after_all e accepted) env t u → Still u v
+      → Shown z depth (λ e. after e (branch condition accepted otherwise)) env s v
   first_arm env s t u v some tested still done back = record {
-    ready = subst (λ c. Ready z (cond c (after_all env otherwise) (after_all env accepted)) v) (sym (ne_eqb (value env) 0 some)) (ready_still z (after_all env accepted) u v done.ready back);
-    hidden = hidden_then z depth s t v (hidden_by z depth s t still.bytes) (hidden_then z depth t u v done.hidden (hidden_by z depth u v back.bytes));
+    ready = subst (λ c. Ready z (cond c (after_all env otherwise) (after_all env accepted)) v)
+        (sym (ne_eqb (value env) 0 some)) (ready_still z (after_all env accepted) u v done.ready back);
+    hidden = hidden_then z depth s t v (hidden_by z depth s t still.bytes)
+        (hidden_then z depth t u v done.hidden (hidden_by z depth u v back.bytes));
   }
 
-  second_arm : (env : StraightState) (s t u : machine.State) → value env ≡ 0 → Tested z condition env s → Still s t → Shown z depth (λ e. after_all e otherwise) env t u → Shown z depth (λ e. after e (branch condition accepted otherwise)) env s u
+  second_arm : (env : StraightState) (s t u : machine.State) → value env ≡ 0 → Tested z condition env s → Still s t
+      → Shown z depth (λ e. after_all e otherwise) env t u
+      → Shown z depth (λ e. after e (branch condition accepted otherwise)) env s u
   second_arm env s t u none tested still done = record {
-    ready = subst (λ c. Ready z (cond c (after_all env otherwise) (after_all env accepted)) u) (sym (ap (λ x. x == 0) none)) done.ready;
+    ready = subst (λ c. Ready z (cond c (after_all env otherwise) (after_all env accepted)) u)
+        (sym (ap (λ x. x == 0) none)) done.ready;
     hidden = hidden_then z depth s t u (hidden_by z depth s t still.bytes) done.hidden;
   }
 
   -- the condition, and then one of both arms
-  pub branch_runs : Runs z (16 * term_nodes condition + (2 + m + n)) (λ env. path_at env (branch condition accepted otherwise)) (read_code z.declared z.allocation (base_of z) 5 0 condition ++ branch_code (read_register z.allocation 5 condition) xs ys) (Ready z) (Shown z depth (λ env. after env (branch condition accepted otherwise)))
+  pub branch_runs : Runs z (16 * term_nodes condition + (2 + m + n))
+      (λ env. path_at env (branch condition accepted otherwise))
+      (read_code z.declared z.allocation (base_of z) 5 0 condition
+      ++ branch_code (read_register z.allocation 5 condition) xs ys) (Ready z)
+      (Shown z depth (λ env. after env (branch condition accepted otherwise)))
   branch_runs =
       let source = read_source z condition 5 (omega arith) (omega arith) in
       gives
       (λ env s t fine ready done. record {
         ready = done.second.ready;
-        hidden = hidden_then z depth s done.middle t (hidden_kept z depth s done.middle within done.first.kept) done.second.hidden;
+        hidden = hidden_then z depth s done.middle t (hidden_kept z depth s done.middle within done.first.kept)
+            done.second.hidden;
       })
       (seq
       (read_runs z has room)
       (by_mark (condition_kind z) {P = Tested z condition} value
       (λ v.
-      branching_at {z = setting z} (read_register z.allocation 5 condition) (omega (arith, source.high)) (λ e. omega (arith, source.low, e)) {P = Known (setting z) ℕ (λ w. Unit {0}) (Tested z condition) value v} {S = Shown z depth (λ env. after env (branch condition accepted otherwise))} value near
+      branching_at {z = setting z} (read_register z.allocation 5 condition) (omega (arith, source.high))
+      (λ e. omega (arith, source.low, e)) {P = Known (setting z) ℕ (λ w. Unit {0}) (Tested z condition) value v}
+      {S = Shown z depth (λ env. after env (branch condition accepted otherwise))} value near
       (λ env s known. known.given.there)
       (λ env s t some known still. ready_still z env s t known.given.ready still)
       (λ env s t u w some known still done back. first_arm env s t u w some known.given still done back)
       (λ env s t none known still. ready_still z env s t known.given.ready still)
       (λ env s t u none known still done. second_arm env s t u none known.given still done)
       one two v (λ env s known. known.is)))
-      (λ env s t ready valued. record { ready = ready_valued z condition env s t ready valued; there = valued.there }))
+      (λ env s t ready valued. record {
+        ready = ready_valued z condition env s t ready valued;
+        there = valued.there;
+      }))

@@ -1,48 +1,71 @@
--- What is shown once a number of a variable, or a control value, is written, and what is shown after a piece of a statement's code.
-use Rattle.std.proofs.Common.{◌≡◌, ℕ, ◌+◌, ◌*◌, ◌%◌, ◌^◌, ◌<◌, ◌≤◌, ◌==◌, ◌≢◌, ◌-◌, Bool, true, false, cond, if◌then◌else◌, nat_lt, List, [], ◌∷◌, length, None, Some, slice_get, slice_index, refl, sym, ap, ◌∙◌, subst, arith, inl, inr, ◌⊎◌, ◌&&◌, not, ne_eqb, Option, ◌++◌}
+-- What is shown once a number of a variable, or a control value, is written, and what is shown after a piece of a
+-- statement's code.
+use Rattle.std.proofs.Common.{◌≡◌, ℕ, ◌+◌, ◌*◌, ◌%◌, ◌^◌, ◌<◌, ◌≤◌, ◌==◌, ◌≢◌, ◌-◌, Bool, true, false, cond}
+use Rattle.std.proofs.Common.{if◌then◌else◌, nat_lt, List, [], ◌∷◌, length, None, Some, slice_get, slice_index, refl}
+use Rattle.std.proofs.Common.{sym, ap, ◌∙◌, subst, arith, inl, inr, ◌⊎◌, ◌&&◌, not, ne_eqb, Option, ◌++◌}
 use Rattle.std.specs.Prelude.{slice_set}
 use Rattle.codegen.proofs.Machine.{variable_offset, control_offset, next_offset, result_offset, ByteMap, number_at}
 use Rattle.codegen.proofs.Machine.{assign_code, home_of_term, home_or, read_code, read_register, unless_home}
 use Rattle.codegen.proofs.Machine.{with_number, slots_to, height_of, home_of, into_code, store_code, Instr, Sw}
-use Rattle.codegen.proofs.Language.{StraightState, with_variable, with_element, with_controls, FlatVariable, numbers_in}
-use Rattle.codegen.proofs.Language.{IsWithinKind, word_as, TermTree, term_nodes, Boolean, WordType, value_in, types_of}
+use Rattle.codegen.proofs.Language.{StraightState, with_variable, with_element, with_controls, FlatVariable}
+use Rattle.codegen.proofs.Language.{numbers_in}
+use Rattle.codegen.proofs.Language.{IsWithinKind, word_as, TermTree, term_nodes, Boolean, WordType, value_in}
+use Rattle.codegen.proofs.Language.{types_of}
 use Rattle.codegen.proofs.Language.{IsHeld, Fits, Kind, Uint32, bits_of, Values, HasType, Suits, Profile}
 use Rattle.codegen.proofs.Logic.{length-set, get_or-set_same, get_or-set_other, set-get_or, All-set}
 use Rattle.codegen.proofs.Logic.{none-some, same_Some, eqb-true, eqb-false, fits_assigned, one_held}
 use Rattle.inline.specs.Flat.{variable}
 use Rattle.inline.specs.FlatSize.{words_of}
 use Rattle.inline.specs.FlatTyping.{of_variable}
-use Rattle.codegen.proofs.Logic.{number_at_apart, number_at-with_number, with_number_above, HeldAt, mask_of, mask_fits, bytes_by, bytes_of, place_of, place_within, ends_before_result, apart, apart_from, elements_apart, Setting, base_of, Kept, Ready, Wrote, wrote_kept, wrote_there, number_same, variables_kept, Before, After, Steps, Then, Still, steps_of, into_runs, held_regs, HomesKept, IsHome, ValuedIn, home_beside, home_target, homes_by, homes_moved, homes_then, kept_number, place_before, place_target, variables_home, is_free, idle, lt-ltb, works_at, IsTarget, Leaves, put, then_moves, setting, Runs, gives, cheaper, kept_less, kept_by, ready_below, ready_after, kept_then, value_fits}
+use Rattle.codegen.proofs.Logic.{number_at_apart, number_at-with_number, with_number_above, HeldAt, mask_of}
+use Rattle.codegen.proofs.Logic.{mask_fits, bytes_by, bytes_of, place_of, place_within, ends_before_result, apart}
+use Rattle.codegen.proofs.Logic.{apart_from, elements_apart, Setting, base_of, Kept, Ready, Wrote, wrote_kept}
+use Rattle.codegen.proofs.Logic.{wrote_there, number_same, variables_kept, Before, After, Steps, Then, Still}
+use Rattle.codegen.proofs.Logic.{steps_of, into_runs, held_regs, HomesKept, IsHome, ValuedIn, home_beside}
+use Rattle.codegen.proofs.Logic.{home_target, homes_by, homes_moved, homes_then, kept_number, place_before}
+use Rattle.codegen.proofs.Logic.{place_target, variables_home, is_free, idle, lt-ltb, works_at, IsTarget, Leaves, put}
+use Rattle.codegen.proofs.Logic.{then_moves, setting, Runs, gives, cheaper, kept_less, kept_by, ready_below}
+use Rattle.codegen.proofs.Logic.{ready_after, kept_then, value_fits}
 use Rattle.rv_machine.specs.Machine as machine
 
 -- the words of the loops that are around are as they were
 abbrev pub Hidden : Setting → ℕ → machine.State → machine.State → Type 0
-Hidden z depth s t = (o : ℕ) → next_offset z.declared z.controls 0 ≤ o → o < next_offset z.declared z.controls depth → t.bytes (z.frame + o) ≡ s.bytes (z.frame + o)
+Hidden z depth s t = (o : ℕ) → next_offset z.declared z.controls 0 ≤ o → o < next_offset z.declared z.controls depth
+    → t.bytes (z.frame + o) ≡ s.bytes (z.frame + o)
 
-pub hidden_then : (z : Setting) (depth : ℕ) (s t u : machine.State) → Hidden z depth s t → Hidden z depth t u → Hidden z depth s u
+pub hidden_then : (z : Setting) (depth : ℕ) (s t u : machine.State) → Hidden z depth s t → Hidden z depth t u
+    → Hidden z depth s u
 hidden_then z depth s t u one other o low high = other o low high ∙ one o low high
 
-pub hidden_less : (z : Setting) (less depth : ℕ) (s t : machine.State) → less ≤ depth → Hidden z depth s t → Hidden z less s t
+pub hidden_less : (z : Setting) (less depth : ℕ) (s t : machine.State) → less ≤ depth → Hidden z depth s t
+    → Hidden z less s t
 hidden_less z less depth s t h hidden o low high = hidden o low (omega (arith, high, h))
 
 pub hidden_by : (z : Setting) (depth : ℕ) (s t : machine.State) → t.bytes ≡ s.bytes → Hidden z depth s t
 hidden_by z depth s t same o low high = ap (λ (b : ByteMap). b (z.frame + o)) same
 
-pub hidden_kept : (z : Setting) (depth : ℕ) (s t : machine.State) → depth ≤ z.depths → Kept z (base_of z) s t → Hidden z depth s t
+pub hidden_kept : (z : Setting) (depth : ℕ) (s t : machine.State) → depth ≤ z.depths → Kept z (base_of z) s t
+    → Hidden z depth s t
 hidden_kept z depth s t within kept o low high = kept o (omega (arith, high, within))
 
 -- a number that is written below the loops' words
-pub hidden_wrote : (z : Setting) (depth n o w : ℕ) (s t : machine.State) → o + n ≤ next_offset z.declared z.controls 0 → Wrote z n o w s t → Hidden z depth s t
+pub hidden_wrote : (z : Setting) (depth n o w : ℕ) (s t : machine.State) → o + n ≤ next_offset z.declared z.controls 0
+    → Wrote z n o w s t → Hidden z depth s t
 hidden_wrote z depth n o w s t before wrote x low high =
-    ap (λ (b : ByteMap). b (z.frame + x)) wrote.written ∙ with_number_above s.bytes n (z.frame + o) w (z.frame + x) (omega (arith, before, low))
+    ap (λ (b : ByteMap). b (z.frame + x)) wrote.written
+    ∙ with_number_above s.bytes n (z.frame + o) w (z.frame + x) (omega (arith, before, low))
 
 -- or behind them
-pub hidden_beyond : (z : Setting) (depth n o w : ℕ) (s t : machine.State) → next_offset z.declared z.controls depth ≤ o → Wrote z n o w s t → Hidden z depth s t
+pub hidden_beyond : (z : Setting) (depth n o w : ℕ) (s t : machine.State)
+    → next_offset z.declared z.controls depth ≤ o → Wrote z n o w s t → Hidden z depth s t
 hidden_beyond z depth n o w s t behind wrote x low high = wrote_kept z n o w s t wrote x (omega (arith, behind, high))
 
 -- a loop's word is the number that it was
-pub hidden_number : (z : Setting) (depth : ℕ) (s t : machine.State) → Hidden z depth s t → (o : ℕ) → next_offset z.declared z.controls 0 ≤ o → o + 4 ≤ next_offset z.declared z.controls depth → number_at t.bytes 4 (z.frame + o) ≡ number_at s.bytes 4 (z.frame + o)
-hidden_number z depth s t hidden o low high = number_same z s t 4 o (λ b above below. hidden b (omega (arith, above, low)) (omega (arith, below, high)))
+pub hidden_number : (z : Setting) (depth : ℕ) (s t : machine.State) → Hidden z depth s t → (o : ℕ)
+    → next_offset z.declared z.controls 0 ≤ o → o + 4 ≤ next_offset z.declared z.controls depth
+    → number_at t.bytes 4 (z.frame + o) ≡ number_at s.bytes 4 (z.frame + o)
+hidden_number z depth s t hidden o low high =
+    number_same z s t 4 o (λ b above below. hidden b (omega (arith, above, low)) (omega (arith, below, high)))
 
 -- what is written as a value of its kind is that value again
 pub cut_kind : (kind : Kind) (v : ℕ) → v < 2 ^ bits_of kind → v < 2 ^ 32
@@ -59,46 +82,67 @@ alone l v one = absurd (omega (arith, one))
 
 module _ (z : Setting) where
   -- a number elsewhere is as it was
-  pub other_number : (n o w m x : ℕ) (s t : machine.State) → Wrote z n o w s t → (x + m ≤ o) ⊎ (o + n ≤ x) → number_at t.bytes m (z.frame + x) ≡ number_at s.bytes m (z.frame + x)
+  pub other_number : (n o w m x : ℕ) (s t : machine.State) → Wrote z n o w s t → (x + m ≤ o) ⊎ (o + n ≤ x)
+      → number_at t.bytes m (z.frame + x) ≡ number_at s.bytes m (z.frame + x)
   other_number n o w m x s t wrote (inl h) =
-      ap (λ (b : ByteMap). number_at b m (z.frame + x)) wrote.written ∙ number_at_apart s.bytes n (z.frame + o) w m (z.frame + x) (inl (omega (arith, h)))
+      ap (λ (b : ByteMap). number_at b m (z.frame + x)) wrote.written
+      ∙ number_at_apart s.bytes n (z.frame + o) w m (z.frame + x) (inl (omega (arith, h)))
   other_number n o w m x s t wrote (inr h) =
-      ap (λ (b : ByteMap). number_at b m (z.frame + x)) wrote.written ∙ number_at_apart s.bytes n (z.frame + o) w m (z.frame + x) (inr (omega (arith, h)))
+      ap (λ (b : ByteMap). number_at b m (z.frame + x)) wrote.written
+      ∙ number_at_apart s.bytes n (z.frame + o) w m (z.frame + x) (inr (omega (arith, h)))
 
   -- a state that is shown by the same values
-  pub ready_same : (one other : StraightState) (s : machine.State) → ((x : ℕ) → one.variables x ≡ other.variables x) → ((c : ℕ) → one.controls c ≡ other.controls c) → Ready z one s → Ready z other s
+  pub ready_same : (one other : StraightState) (s : machine.State) → ((x : ℕ) → one.variables x ≡ other.variables x)
+      → ((c : ℕ) → one.controls c ≡ other.controls c) → Ready z one s → Ready z other s
   ready_same one other s same_variables same_controls ready = record {
     held = ready.held;
     fits = λ x d is. subst (λ (l : List ℕ). IsHeld d l) (same_variables x) (ready.fits x d is);
-    homes_there = λ x home d is at. ready.homes_there x home d is at ∙ ap (λ (l : List ℕ). slice_index l 0) (same_variables x);
-    variables_there = λ x d i is away below. ready.variables_there x d i is away below ∙ ap (λ (l : List ℕ). Some (slice_index l i)) (same_variables x);
+    homes_there = λ x home d is at. ready.homes_there x home d is at
+        ∙ ap (λ (l : List ℕ). slice_index l 0) (same_variables x);
+    variables_there = λ x d i is away below. ready.variables_there x d i is away below
+        ∙ ap (λ (l : List ℕ). Some (slice_index l i)) (same_variables x);
     controls_there = λ c below. ready.controls_there c below ∙ ap (λ b. Some (mask_of b)) (same_controls c);
   }
 
   -- the numbers of a variable without a home are others, and all that lies outside its words is as it was
-  module _ (x : ℕ) (d : FlatVariable) (known : slice_get z.declared x ≡ Some d) (away : home_of z.allocation.homes x ≡ None) (l : List ℕ) (holds : IsHeld d l) (env : StraightState) (s t : machine.State) (ready : Ready z env s) (held : HeldAt z t)
-      (there : (j : ℕ) → j < numbers_in d.elements → number_at t.bytes (bytes_of d) (z.frame + place_of z.declared x d j) ≡ Some (slice_index l j))
-      (apart : (n o : ℕ) → (o + n ≤ variable_offset z.declared x) ⊎ (variable_offset z.declared x + 4 * words_of d ≤ o) → number_at t.bytes n (z.frame + o) ≡ number_at s.bytes n (z.frame + o))
+  module _ (x : ℕ) (d : FlatVariable) (known : slice_get z.declared x ≡ Some d)
+      (away : home_of z.allocation.homes x ≡ None) (l : List ℕ) (holds : IsHeld d l) (env : StraightState)
+      (s t : machine.State) (ready : Ready z env s) (held : HeldAt z t)
+      (there : (j : ℕ) → j < numbers_in d.elements
+      → number_at t.bytes (bytes_of d) (z.frame + place_of z.declared x d j) ≡ Some (slice_index l j))
+      (apart : (n o : ℕ) → (o + n ≤ variable_offset z.declared x)
+      ⊎ (variable_offset z.declared x + 4 * words_of d ≤ o)
+      → number_at t.bytes n (z.frame + o) ≡ number_at s.bytes n (z.frame + o))
       (homes : HomesKept z s t) where
     same_variable : (y : ℕ) (e : FlatVariable) → slice_get z.declared y ≡ Some e → (y == x) ≡ true → d ≡ e
-    same_variable y e is q = same_Some d e (sym known ∙ (ap (λ n. slice_get z.declared n) (sym (eqb-true y x q)) ∙ is))
+    same_variable y e is q =
+        same_Some d e (sym known ∙ (ap (λ n. slice_get z.declared n) (sym (eqb-true y x q)) ∙ is))
 
-    fits_at : (y : ℕ) (e : FlatVariable) → slice_get z.declared y ≡ Some e → (b : Bool) → (y == x) ≡ b → IsHeld e (cond b l (env.variables y))
+    fits_at : (y : ℕ) (e : FlatVariable) → slice_get z.declared y ≡ Some e → (b : Bool) → (y == x) ≡ b
+        → IsHeld e (cond b l (env.variables y))
     fits_at y e is true q = subst (λ (f : FlatVariable). IsHeld f l) (same_variable y e is q) holds
     fits_at y e is false q = ready.fits y e is
 
-    home_at : (y home : ℕ) (e : FlatVariable) → slice_get z.declared y ≡ Some e → home_of z.allocation.homes y ≡ Some home → (b : Bool) → (y == x) ≡ b → t.regs home ≡ slice_index (cond b l (env.variables y)) 0
-    home_at y home e is at true q = absurd (none-some home (sym away ∙ (ap (λ n. home_of z.allocation.homes n) (sym (eqb-true y x q)) ∙ at)))
+    home_at : (y home : ℕ) (e : FlatVariable) → slice_get z.declared y ≡ Some e
+        → home_of z.allocation.homes y ≡ Some home → (b : Bool) → (y == x) ≡ b
+        → t.regs home ≡ slice_index (cond b l (env.variables y)) 0
+    home_at y home e is at true q =
+        absurd (none-some home (sym away ∙ (ap (λ n. home_of z.allocation.homes n) (sym (eqb-true y x q)) ∙ at)))
     home_at y home e is at false q = variables_home z env s t ready homes y home e is at
 
-    there_at : (y : ℕ) (e : FlatVariable) (j : ℕ) → slice_get z.declared y ≡ Some e → home_of z.allocation.homes y ≡ None → j < numbers_in e.elements → (b : Bool) → (y == x) ≡ b
-        → number_at t.bytes (bytes_of e) (z.frame + place_of z.declared y e j) ≡ Some (slice_index (cond b l (env.variables y)) j)
+    there_at : (y : ℕ) (e : FlatVariable) (j : ℕ) → slice_get z.declared y ≡ Some e
+        → home_of z.allocation.homes y ≡ None → j < numbers_in e.elements → (b : Bool) → (y == x) ≡ b
+        → number_at t.bytes (bytes_of e) (z.frame + place_of z.declared y e j)
+        ≡ Some (slice_index (cond b l (env.variables y)) j)
     there_at y e j is out more true q =
         let kind = same_variable y e is q in
         ap (λ n. number_at t.bytes (bytes_of e) (z.frame + place_of z.declared n e j)) (eqb-true y x q)
-        ∙ subst (λ (f : FlatVariable). number_at t.bytes (bytes_of f) (z.frame + place_of z.declared x f j) ≡ Some (slice_index l j)) kind
+        ∙ subst (λ (f : FlatVariable). number_at t.bytes (bytes_of f) (z.frame + place_of z.declared x f j)
+        ≡ Some (slice_index l j)) kind
         (there j (subst (λ (f : FlatVariable). j < numbers_in f.elements) (sym kind) more))
-    there_at y e j is out more false q = apart (bytes_of e) (place_of z.declared y e j) (apart_from z.declared x y d e j known is more q) ∙ ready.variables_there y e j is out more
+    there_at y e j is out more false q =
+        apart (bytes_of e) (place_of z.declared y e j) (apart_from z.declared x y d e j known is more q)
+        ∙ ready.variables_there y e j is out more
 
     pub ready_changed : Ready z (with_variable env x l) t
     ready_changed =
@@ -108,28 +152,41 @@ module _ (z : Setting) where
           fits = λ y e is. fits_at y e is (y == x) refl;
           homes_there = λ y home e is at. home_at y home e is at (y == x) refl;
           variables_there = λ y e j is out more. there_at y e j is out more (y == x) refl;
-          controls_there = λ c among. apart 4 (control_offset z.declared c) (inr (omega (arith, first))) ∙ ready.controls_there c among;
+          controls_there = λ c among. apart 4 (control_offset z.declared c) (inr (omega (arith, first)))
+              ∙ ready.controls_there c among;
         }
 
-  module _ (x i v w : ℕ) (d : FlatVariable) (known : slice_get z.declared x ≡ Some d) (away : home_of z.allocation.homes x ≡ None) (below : i < numbers_in d.elements) (fits : v < 2 ^ bits_of d.word.kind)
-      (env : StraightState) (s t : machine.State) (ready : Ready z env s) (wrote : Wrote z (bytes_of d) (place_of z.declared x d i) w s t) (cut : w % 256 ^ bytes_of d ≡ v) where
+  module _ (x i v w : ℕ) (d : FlatVariable) (known : slice_get z.declared x ≡ Some d)
+      (away : home_of z.allocation.homes x ≡ None) (below : i < numbers_in d.elements)
+      (fits : v < 2 ^ bits_of d.word.kind)
+      (env : StraightState) (s t : machine.State) (ready : Ready z env s)
+      (wrote : Wrote z (bytes_of d) (place_of z.declared x d i) w s t) (cut : w % 256 ^ bytes_of d ≡ v) where
     abbrev old : List ℕ
     old = env.variables x
 
-    same_there : (j : ℕ) → j < numbers_in d.elements → (b : Bool) → (j == i) ≡ b → number_at t.bytes (bytes_of d) (z.frame + place_of z.declared x d j) ≡ Some (slice_index (slice_set old i v) j)
+    same_there : (j : ℕ) → j < numbers_in d.elements → (b : Bool) → (j == i) ≡ b
+        → number_at t.bytes (bytes_of d) (z.frame + place_of z.declared x d j)
+        ≡ Some (slice_index (slice_set old i v) j)
     same_there j more true q =
         let e = eqb-true j i q in
         let long = (ready.fits x d known).count in
         let here : number_at t.bytes (bytes_of d) (z.frame + place_of z.declared x d i) ≡ Some v =
-        ap (λ (b : ByteMap). number_at b (bytes_of d) (z.frame + place_of z.declared x d i)) wrote.written ∙ (number_at-with_number s.bytes (bytes_of d) (z.frame + place_of z.declared x d i) w ∙ ap Some cut) in
+        ap (λ (b : ByteMap). number_at b (bytes_of d) (z.frame + place_of z.declared x d i)) wrote.written
+        ∙ (number_at-with_number s.bytes (bytes_of d) (z.frame + place_of z.declared x d i) w ∙ ap Some cut) in
         ap (λ k. number_at t.bytes (bytes_of d) (z.frame + place_of z.declared x d k)) e
-        ∙ (here ∙ ap Some (sym (ap (λ k. slice_index (slice_set old i v) k) e ∙ get_or-set_same old i v 0 (omega (arith, long, below)))))
+        ∙ (here
+        ∙ ap Some (sym (ap (λ k. slice_index (slice_set old i v) k) e
+        ∙ get_or-set_same old i v 0 (omega (arith, long, below)))))
     same_there j more false q =
-        other_number (bytes_of d) (place_of z.declared x d i) w (bytes_of d) (place_of z.declared x d j) s t wrote (elements_apart z.declared x d i j q)
-        ∙ (ready.variables_there x d j known away more ∙ ap Some (sym (get_or-set_other old i j v 0 (eqb-false j i q))))
+        other_number (bytes_of d) (place_of z.declared x d i) w (bytes_of d) (place_of z.declared x d j) s t wrote
+        (elements_apart z.declared x d i j q)
+        ∙ (ready.variables_there x d j known away more
+        ∙ ap Some (sym (get_or-set_other old i j v 0 (eqb-false j i q))))
 
-    outside : (n o : ℕ) → (o + n ≤ variable_offset z.declared x) ⊎ (variable_offset z.declared x + 4 * words_of d ≤ o) → number_at t.bytes n (z.frame + o) ≡ number_at s.bytes n (z.frame + o)
-    outside n o (inl h) = other_number (bytes_of d) (place_of z.declared x d i) w n o s t wrote (inl (omega (arith, h)))
+    outside : (n o : ℕ) → (o + n ≤ variable_offset z.declared x) ⊎ (variable_offset z.declared x + 4 * words_of d ≤ o)
+        → number_at t.bytes n (z.frame + o) ≡ number_at s.bytes n (z.frame + o)
+    outside n o (inl h) = other_number (bytes_of d) (place_of z.declared x d i) w n o s t wrote
+        (inl (omega (arith, h)))
     outside n o (inr h) =
         let p = place_within z.declared x d i below in
         other_number (bytes_of d) (place_of z.declared x d i) w n o s t wrote (inr (omega (arith, h, p)))
@@ -139,79 +196,113 @@ module _ (z : Setting) where
     ready_put =
         let before = ready.fits x d known in
         ready_changed x d known away (slice_set old i v)
-        (record { count = length-set old i v ∙ before.count; within = All-set (IsWithinKind d.word.kind) old i v fits before.within })
+        (record {
+          count = length-set old i v ∙ before.count;
+          within = All-set (IsWithinKind d.word.kind) old i v fits before.within;
+        })
         env s t ready wrote.held (λ j more. same_there j more (j == i) refl) outside wrote.homes
 
   -- a word has one element
-  pub ready_alone : (env : StraightState) (x v : ℕ) (t : machine.State) → length (env.variables x) ≡ 1 → Ready z (with_element env x 0 v) t → Ready z (with_variable env x (v ∷ [])) t
+  pub ready_alone : (env : StraightState) (x v : ℕ) (t : machine.State) → length (env.variables x) ≡ 1
+      → Ready z (with_element env x 0 v) t → Ready z (with_variable env x (v ∷ [])) t
   ready_alone env x v t one ready =
-      ready_same (with_element env x 0 v) (with_variable env x (v ∷ [])) t (λ y. ap (λ (l : List ℕ). if y == x then l else env.variables y) (alone (env.variables x) v one)) (λ c. refl) ready
+      ready_same (with_element env x 0 v) (with_variable env x (v ∷ [])) t
+      (λ y. ap (λ (l : List ℕ). if y == x then l else env.variables y) (alone (env.variables x) v one))
+      (λ c. refl) ready
 
   -- a word is set
-  module _ (x v : ℕ) (word : WordType) (mutable : Bool) (known : slice_get z.declared x ≡ Some (word_as word mutable)) (away : home_of z.allocation.homes x ≡ None) (fits : v < 2 ^ bits_of word.kind)
-      (env : StraightState) (s t : machine.State) (ready : Ready z env s) (wrote : Wrote z 4 (variable_offset z.declared x) v s t) where
+  module _ (x v : ℕ) (word : WordType) (mutable : Bool) (known : slice_get z.declared x ≡ Some (word_as word mutable))
+      (away : home_of z.allocation.homes x ≡ None) (fits : v < 2 ^ bits_of word.kind)
+      (env : StraightState) (s t : machine.State) (ready : Ready z env s)
+      (wrote : Wrote z 4 (variable_offset z.declared x) v s t) where
     pub ready_set : Ready z (with_variable env x (v ∷ [])) t
     ready_set =
         let small = cut_kind word.kind v fits in
         let first : variable_offset z.declared x ≡ place_of z.declared x (word_as word mutable) 0 = omega arith in
         ready_alone env x v t (ready.fits x (word_as word mutable) known).count
-        (ready_put x 0 v v (word_as word mutable) known away (omega arith) fits env s t ready (subst (λ o. Wrote z 4 o v s t) first wrote) (omega (arith, small)))
+        (ready_put x 0 v v (word_as word mutable) known away (omega arith) fits env s t ready
+        (subst (λ o. Wrote z 4 o v s t) first wrote) (omega (arith, small)))
 
   -- a word is set that has a home
-  module _ (x home v : ℕ) (word : WordType) (mutable : Bool) (known : slice_get z.declared x ≡ Some (word_as word mutable)) (at : home_of z.allocation.homes x ≡ Some home) (fits : v < 2 ^ bits_of word.kind)
-      (env : StraightState) (s t : machine.State) (ready : Ready z env s) (held : HeldAt z t) (kept : Kept z (base_of z) s t) (there : t.regs home ≡ v)
+  module _ (x home v : ℕ) (word : WordType) (mutable : Bool)
+      (known : slice_get z.declared x ≡ Some (word_as word mutable)) (at : home_of z.allocation.homes x ≡ Some home)
+      (fits : v < 2 ^ bits_of word.kind)
+      (env : StraightState) (s t : machine.State) (ready : Ready z env s) (held : HeldAt z t)
+      (kept : Kept z (base_of z) s t) (there : t.regs home ≡ v)
       (others : (r : ℕ) → IsHome z.allocation.count r → r ≢ home → t.regs r ≡ s.regs r) where
-    own_at : (y other : ℕ) (e : FlatVariable) → slice_get z.declared y ≡ Some e → home_of z.allocation.homes y ≡ Some other → (b : Bool) → (y == x) ≡ b → t.regs other ≡ slice_index (cond b (v ∷ []) (env.variables y)) 0
+    own_at : (y other : ℕ) (e : FlatVariable) → slice_get z.declared y ≡ Some e
+        → home_of z.allocation.homes y ≡ Some other → (b : Bool) → (y == x) ≡ b
+        → t.regs other ≡ slice_index (cond b (v ∷ []) (env.variables y)) 0
     own_at y other e is here true q =
-        let same = same_Some home other (sym at ∙ (ap (λ n. home_of z.allocation.homes n) (sym (eqb-true y x q)) ∙ here)) in
+        let same = same_Some home other (sym at
+        ∙ (ap (λ n. home_of z.allocation.homes n) (sym (eqb-true y x q)) ∙ here)) in
         ap t.regs (sym same) ∙ there
     own_at y other e is here false q =
         others other (z.allocated.allowed y other here)
         (λ same. eqb-false y x q (z.allocated.apart y x home (here ∙ ap Some same) at))
         ∙ ready.homes_there y other e is here
 
-    away_at : (y : ℕ) (e : FlatVariable) (j : ℕ) → slice_get z.declared y ≡ Some e → home_of z.allocation.homes y ≡ None → j < numbers_in e.elements → (b : Bool) → (y == x) ≡ b
-        → number_at t.bytes (bytes_of e) (z.frame + place_of z.declared y e j) ≡ Some (slice_index (cond b (v ∷ []) (env.variables y)) j)
-    away_at y e j is out more true q = absurd (none-some home (sym out ∙ (ap (λ n. home_of z.allocation.homes n) (eqb-true y x q) ∙ at)))
-    away_at y e j is out more false q = variables_kept z (base_of z) env s t (omega arith) ready kept y e j is out more
+    away_at : (y : ℕ) (e : FlatVariable) (j : ℕ) → slice_get z.declared y ≡ Some e
+        → home_of z.allocation.homes y ≡ None → j < numbers_in e.elements → (b : Bool) → (y == x) ≡ b
+        → number_at t.bytes (bytes_of e) (z.frame + place_of z.declared y e j)
+        ≡ Some (slice_index (cond b (v ∷ []) (env.variables y)) j)
+    away_at y e j is out more true q =
+        absurd (none-some home (sym out ∙ (ap (λ n. home_of z.allocation.homes n) (eqb-true y x q) ∙ at)))
+    away_at y e j is out more false q =
+        variables_kept z (base_of z) env s t (omega arith) ready kept y e j is out more
 
     pub ready_homed : Ready z (with_variable env x (v ∷ [])) t
     ready_homed = record {
       held = held;
-      fits = fits_assigned (types_of z.code.profile z.declared) env.variables x (v ∷ []) (word_as word mutable) known (one_held word mutable v fits) ready.fits;
+      fits = fits_assigned (types_of z.code.profile z.declared) env.variables x (v ∷ []) (word_as word mutable) known
+          (one_held word mutable v fits) ready.fits;
       homes_there = λ y other e is here. own_at y other e is here (y == x) refl;
       variables_there = λ y e j is out more. away_at y e j is out more (y == x) refl;
-      controls_there = λ c among. kept_number z (base_of z) s t kept 4 (control_offset z.declared c) (omega (arith, among)) ∙ ready.controls_there c among;
+      controls_there = λ c among. kept_number z (base_of z) s t kept 4 (control_offset z.declared c)
+          (omega (arith, among)) ∙ ready.controls_there c among;
     }
 
   -- a variable that is set to what it holds
-  same_again : (x i : ℕ) (env : StraightState) (y : ℕ) (b : Bool) → (y == x) ≡ b → cond b (slice_set (env.variables x) i (slice_index (env.variables x) i)) (env.variables y) ≡ env.variables y
+  same_again : (x i : ℕ) (env : StraightState) (y : ℕ) (b : Bool) → (y == x) ≡ b
+      → cond b (slice_set (env.variables x) i (slice_index (env.variables x) i)) (env.variables y) ≡ env.variables y
   same_again x i env y true e = set-get_or (env.variables x) i 0 ∙ ap env.variables (sym (eqb-true y x e))
   same_again x i env y false e = refl
 
   -- an element is set or kept
-  pub ready_chosen : (b : Bool) (x i v : ℕ) (env : StraightState) (t : machine.State) → Ready z (with_element env x i (if b then v else slice_index (env.variables x) i)) t → Ready z (if b then with_element env x i v else env) t
+  pub ready_chosen : (b : Bool) (x i v : ℕ) (env : StraightState) (t : machine.State)
+      → Ready z (with_element env x i (if b then v else slice_index (env.variables x) i)) t
+      → Ready z (if b then with_element env x i v else env) t
   ready_chosen true x i v env t ready = ready
   ready_chosen false x i v env t ready =
-      ready_same (with_element env x i (slice_index (env.variables x) i)) env t (λ y. same_again x i env y (y == x) refl) (λ c. refl) ready
+      ready_same (with_element env x i (slice_index (env.variables x) i)) env t
+      (λ y. same_again x i env y (y == x) refl) (λ c. refl) ready
 
   -- two control values lie apart
-  controls_apart : (y c : ℕ) → (y == c) ≡ false → (control_offset z.declared y + 4 ≤ control_offset z.declared c) ⊎ (control_offset z.declared c + 4 ≤ control_offset z.declared y)
+  controls_apart : (y c : ℕ) → (y == c) ≡ false → (control_offset z.declared y + 4 ≤ control_offset z.declared c)
+      ⊎ (control_offset z.declared c + 4 ≤ control_offset z.declared y)
   controls_apart y c h = apart c y _ h (λ below. inl (omega (arith, below))) (λ above. inr (omega (arith, above)))
 
   -- both control values of a condition are set
-  module _ (c : ℕ) (f g : Bool) (among : c + 1 < z.controls) (env : StraightState) (s t u : machine.State) (ready : Ready z env s)
-      (one : Wrote z 4 (control_offset z.declared c) (mask_of f) s t) (two : Wrote z 4 (control_offset z.declared (c + 1)) (mask_of g) t u) where
+  module _ (c : ℕ) (f g : Bool) (among : c + 1 < z.controls) (env : StraightState) (s t u : machine.State)
+      (ready : Ready z env s)
+      (one : Wrote z 4 (control_offset z.declared c) (mask_of f) s t)
+      (two : Wrote z 4 (control_offset z.declared (c + 1)) (mask_of g) t u) where
     control_there : (y : ℕ) → y < z.controls → (d e : Bool) → (y == c) ≡ d → (y == c + 1) ≡ e
-        → number_at u.bytes 4 (z.frame + control_offset z.declared y) ≡ Some (mask_of (cond d f (cond e g (env.controls y))))
+        → number_at u.bytes 4 (z.frame + control_offset z.declared y)
+        ≡ Some (mask_of (cond d f (cond e g (env.controls y))))
     control_there y below true e h k =
-        other_number 4 (control_offset z.declared (c + 1)) (mask_of g) 4 (control_offset z.declared y) t u two (inl (omega (arith, eqb-true y c h)))
-        ∙ (ap (λ n. number_at t.bytes 4 (z.frame + control_offset z.declared n)) (eqb-true y c h) ∙ wrote_there z (control_offset z.declared c) (mask_of f) s t one (mask_fits f))
+        other_number 4 (control_offset z.declared (c + 1)) (mask_of g) 4 (control_offset z.declared y) t u two
+        (inl (omega (arith, eqb-true y c h)))
+        ∙ (ap (λ n. number_at t.bytes 4 (z.frame + control_offset z.declared n)) (eqb-true y c h)
+        ∙ wrote_there z (control_offset z.declared c) (mask_of f) s t one (mask_fits f))
     control_there y below false true h k =
-        ap (λ n. number_at u.bytes 4 (z.frame + control_offset z.declared n)) (eqb-true y (c + 1) k) ∙ wrote_there z (control_offset z.declared (c + 1)) (mask_of g) t u two (mask_fits g)
+        ap (λ n. number_at u.bytes 4 (z.frame + control_offset z.declared n)) (eqb-true y (c + 1) k)
+        ∙ wrote_there z (control_offset z.declared (c + 1)) (mask_of g) t u two (mask_fits g)
     control_there y below false false h k =
-        other_number 4 (control_offset z.declared (c + 1)) (mask_of g) 4 (control_offset z.declared y) t u two (controls_apart y (c + 1) k)
-        ∙ (other_number 4 (control_offset z.declared c) (mask_of f) 4 (control_offset z.declared y) s t one (controls_apart y c h) ∙ ready.controls_there y below)
+        other_number 4 (control_offset z.declared (c + 1)) (mask_of g) 4 (control_offset z.declared y) t u two
+        (controls_apart y (c + 1) k)
+        ∙ (other_number 4 (control_offset z.declared c) (mask_of f) 4 (control_offset z.declared y) s t one
+        (controls_apart y c h) ∙ ready.controls_there y below)
 
     pub ready_taken : Ready z (with_controls env c f g) u
     ready_taken = record {
@@ -220,8 +311,10 @@ module _ (z : Setting) where
       homes_there = variables_home z env s u ready (homes_then z s t u one.homes two.homes);
       variables_there =
           variables_kept z (control_offset z.declared c) env s u (omega arith) ready
-          (kept_then z (control_offset z.declared c) s t u (wrote_kept z 4 (control_offset z.declared c) (mask_of f) s t one)
-          (kept_less z (control_offset z.declared c) (control_offset z.declared (c + 1)) t u (omega arith) (wrote_kept z 4 (control_offset z.declared (c + 1)) (mask_of g) t u two)));
+          (kept_then z (control_offset z.declared c) s t u
+          (wrote_kept z 4 (control_offset z.declared c) (mask_of f) s t one)
+          (kept_less z (control_offset z.declared c) (control_offset z.declared (c + 1)) t u (omega arith)
+          (wrote_kept z 4 (control_offset z.declared (c + 1)) (mask_of g) t u two)));
       controls_there = λ y below. control_there y below (y == c) (y == c + 1) refl refl;
     }
 
@@ -231,19 +324,24 @@ pub record Laid (z : Setting) (env : StraightState) (s : machine.State) : Type 0
   pub fits : Fits (types_of z.code.profile z.declared) env.variables
   pub slots_there : (x : ℕ) (d : FlatVariable) (i : ℕ) → slice_get z.declared x ≡ Some d → i < numbers_in d.elements
       → number_at s.bytes (bytes_of d) (z.frame + place_of z.declared x d i) ≡ Some (slice_index (env.variables x) i)
-  pub controls_there : (c : ℕ) → c < z.controls → number_at s.bytes 4 (z.frame + control_offset z.declared c) ≡ Some (mask_of (env.controls c))
+  pub controls_there : (c : ℕ) → c < z.controls
+      → number_at s.bytes 4 (z.frame + control_offset z.declared c) ≡ Some (mask_of (env.controls c))
 
 -- where the bytes before the temporaries are the same, whatever the registers hold
-pub laid_same : (z : Setting) (free : ℕ) → next_offset z.declared z.controls 0 ≤ free → (env : StraightState) (s t : machine.State) → Laid z env s → HeldAt z t → Kept z free s t → Laid z env t
+pub laid_same : (z : Setting) (free : ℕ) → next_offset z.declared z.controls 0 ≤ free
+    → (env : StraightState) (s t : machine.State) → Laid z env s → HeldAt z t → Kept z free s t → Laid z env t
 laid_same z free above env s t laid held kept = record {
   held = held;
   fits = laid.fits;
-  slots_there = λ x d i is below. kept_number z free s t kept (bytes_of d) (place_of z.declared x d i) (omega (arith, place_before z x d i is below, above)) ∙ laid.slots_there x d i is below;
-  controls_there = λ c below. kept_number z free s t kept 4 (control_offset z.declared c) (omega (arith, below, above)) ∙ laid.controls_there c below;
+  slots_there = λ x d i is below. kept_number z free s t kept (bytes_of d) (place_of z.declared x d i)
+      (omega (arith, place_before z x d i is below, above)) ∙ laid.slots_there x d i is below;
+  controls_there = λ c below. kept_number z free s t kept 4 (control_offset z.declared c)
+      (omega (arith, below, above)) ∙ laid.controls_there c below;
 }
 
 -- the state that is made of the one before is shown, and the words of the loops around are as they were
-pub record Shown (z : Setting) (depth : ℕ) (change : StraightState → StraightState) (env : StraightState) (s t : machine.State) : Type 0 where
+pub record Shown (z : Setting) (depth : ℕ) (change : StraightState
+    → StraightState) (env : StraightState) (s t : machine.State) : Type 0 where
   pub ready : Ready z (change env) t
   pub hidden : Hidden z depth s t
 
@@ -267,7 +365,8 @@ home_source z asked home x at =
     let allowed = z.allocated.allowed x home at in
     record { low = omega (arith, allowed.0); high = allowed.1; is = inr allowed }
 
-pub read_source : (z : Setting) (e : TermTree) (asked : ℕ) → 4 < asked → asked < 28 → IsSource z asked (read_register z.allocation asked e)
+pub read_source : (z : Setting) (e : TermTree) (asked : ℕ) → 4 < asked → asked < 28
+    → IsSource z asked (read_register z.allocation asked e)
 read_source z (variable x) asked low high = by_home (home_of z.allocation.homes x) refl
   where
     by_home : (h : Option ℕ) → home_of z.allocation.homes x ≡ h → IsSource z asked (home_or h asked)
@@ -292,8 +391,12 @@ puts z {asked = asked} {r = r} source =
     simp (free, few, beside)
 
 -- a value that suits a type is within the type's kind
-pub suits_fits : (profile : Profile) (declared : List FlatVariable) (word : WordType) (e : TermTree) (m : Values) → Fits (types_of profile declared) m → Suits (types_of profile declared) word e → value_in m e < 2 ^ bits_of word.kind
-suits_fits profile declared word e m fits suits = subst (λ (kind : Kind). value_in m e < 2 ^ bits_of kind) suits.kind (value_fits (types_of profile declared) m fits suits.has_type)
+pub suits_fits : (profile : Profile) (declared : List FlatVariable) (word : WordType) (e : TermTree) (m : Values)
+    → Fits (types_of profile declared) m → Suits (types_of profile declared) word e
+    → value_in m e < 2 ^ bits_of word.kind
+suits_fits profile declared word e m fits suits =
+    subst (λ (kind : Kind). value_in m e < 2 ^ bits_of kind) suits.kind
+    (value_fits (types_of profile declared) m fits suits.has_type)
 
 module _ (z : Setting) where
   -- A register has an expression's value, with the temporaries from a place on, and only these are written.
@@ -304,34 +407,59 @@ module _ (z : Setting) where
     pub lower : Leaves (works_at z.allocation.count place r) s t
 
   abbrev Reads : (e : TermTree) (r place : ℕ) → Option ℕ → Type 0
-  Reads e r place h = Runs z (16 * term_nodes e) (steps_of e) (unless_home h (into_code z.declared z.allocation (base_of z) r place e)) (Ready z) (λ env s t. HeldAt z t × (t.regs (home_or h r) ≡ value_in env.variables e) × Kept z (base_of z) s t × Leaves (works_at z.allocation.count place r) s t)
+  Reads e r place h = Runs z (16 * term_nodes e) (steps_of e)
+      (unless_home h (into_code z.declared z.allocation (base_of z) r place e)) (Ready z) (λ env s t. HeldAt z t
+      × (t.regs (home_or h r) ≡ value_in env.variables e) × Kept z (base_of z) s t
+      × Leaves (works_at z.allocation.count place r) s t)
 
-  reads_into : {e : TermTree} {word : WordType} (r place : ℕ) → IsTarget z.allocation.count place r → HasType (types_of z.code.profile z.declared) e word → base_of z + 4 * slots_to z.allocation.count (height_of e + place) ≤ z.size → Reads e r place None
+  reads_into : {e : TermTree} {word : WordType} (r place : ℕ) → IsTarget z.allocation.count place r
+      → HasType (types_of z.code.profile z.declared) e word
+      → base_of z + 4 * slots_to z.allocation.count (height_of e + place) ≤ z.size → Reads e r place None
   reads_into r place target has room =
       let count = z.allocation.count in
       cheaper (omega arith)
       (gives {P = Ready z}
-      (λ env s t fine ready done. (done.held, done.there, kept_less z (base_of z) (base_of z + 4 * (place - count)) s t (omega arith) done.kept, done.lower))
+      (λ env s t fine ready done. (
+        done.held,
+        done.there,
+        kept_less z (base_of z) (base_of z + 4 * (place - count)) s t (omega arith) done.kept,
+        done.lower,
+      ))
       (into_runs z (base_of z) (omega arith) (omega arith) has place r target room))
 
-  reads_at : {e : TermTree} {word : WordType} (r place : ℕ) → IsTarget z.allocation.count place r → HasType (types_of z.code.profile z.declared) e word → base_of z + 4 * slots_to z.allocation.count (height_of e + place) ≤ z.size → Reads e r place (home_of_term z.allocation e)
-  reads_at r place target (of_variable {x = x} {word = word} {mutable = mutable} known) room = by_home (home_of z.allocation.homes x) refl
+  reads_at : {e : TermTree} {word : WordType} (r place : ℕ) → IsTarget z.allocation.count place r
+      → HasType (types_of z.code.profile z.declared) e word
+      → base_of z + 4 * slots_to z.allocation.count (height_of e + place) ≤ z.size
+      → Reads e r place (home_of_term z.allocation e)
+  reads_at r place target (of_variable {x = x} {word = word} {mutable = mutable} known) room =
+      by_home (home_of z.allocation.homes x) refl
     where
       by_home : (h : Option ℕ) → home_of z.allocation.homes x ≡ h → Reads (variable x) r place h
       by_home None at = reads_into r place target (of_variable {word = word} {mutable = mutable} known) room
       by_home (Some home) at =
           cheaper {m = 0} (omega arith)
-          (idle (λ env s ready. (ready.held, ready.homes_there x home (word_as word mutable) known at, λ o below. refl, λ q h. refl)))
+          (idle (λ env s ready. (
+            ready.held,
+            ready.homes_there x home (word_as word mutable) known at,
+            λ o below. refl,
+            λ q h. refl,
+          )))
   reads_at r place target has room = reads_into r place target has room
 
-  pub reads : {e : TermTree} {word : WordType} (r place : ℕ) → IsTarget z.allocation.count place r → HasType (types_of z.code.profile z.declared) e word → base_of z + 4 * slots_to z.allocation.count (height_of e + place) ≤ z.size
-      → Runs z (16 * term_nodes e) (steps_of e) (read_code z.declared z.allocation (base_of z) r place e) (Ready z) (ReadIn e r place)
+  pub reads : {e : TermTree} {word : WordType} (r place : ℕ) → IsTarget z.allocation.count place r
+      → HasType (types_of z.code.profile z.declared) e word
+      → base_of z + 4 * slots_to z.allocation.count (height_of e + place) ≤ z.size
+      → Runs z (16 * term_nodes e) (steps_of e) (read_code z.declared z.allocation (base_of z) r place e) (Ready z)
+      (ReadIn e r place)
   reads r place target has room =
-      gives (λ env s t fine ready done. record { held = done.0; there = done.1; kept = done.2; lower = done.3 }) (reads_at r place target has room)
+      gives (λ env s t fine ready done. record { held = done.0; there = done.1; kept = done.2; lower = done.3 })
+      (reads_at r place target has room)
 
   -- that of an expression that no temporary lives beside
-  pub read_runs : {e : TermTree} {word : WordType} → HasType (types_of z.code.profile z.declared) e word → base_of z + 4 * slots_to z.allocation.count (height_of e) ≤ z.size
-      → Runs z (16 * term_nodes e) (steps_of e) (read_code z.declared z.allocation (base_of z) 5 0 e) (Ready z) (Evaluated z e (read_register z.allocation 5 e))
+  pub read_runs : {e : TermTree} {word : WordType} → HasType (types_of z.code.profile z.declared) e word
+      → base_of z + 4 * slots_to z.allocation.count (height_of e) ≤ z.size
+      → Runs z (16 * term_nodes e) (steps_of e) (read_code z.declared z.allocation (base_of z) 5 0 e) (Ready z)
+      (Evaluated z e (read_register z.allocation 5 e))
   read_runs has room =
       let some = z.allocated.some in
       let count = z.allocation.count in
@@ -345,39 +473,53 @@ module _ (z : Setting) where
       (reads 5 0 (place_target count 0 z.allocated.few (omega (arith, some))) has (omega (arith, room)))
 
   -- An expression into a home.
-  pub homed_runs : {e : TermTree} {word : WordType} (home : ℕ) → IsHome z.allocation.count home → HasType (types_of z.code.profile z.declared) e word → base_of z + 4 * slots_to z.allocation.count (height_of e) ≤ z.size
-      → Runs z (16 * term_nodes e) (steps_of e) (into_code z.declared z.allocation (base_of z) home 0 e) (Ready z) (ValuedIn z e (base_of z) home 0)
+  pub homed_runs : {e : TermTree} {word : WordType} (home : ℕ) → IsHome z.allocation.count home
+      → HasType (types_of z.code.profile z.declared) e word
+      → base_of z + 4 * slots_to z.allocation.count (height_of e) ≤ z.size
+      → Runs z (16 * term_nodes e) (steps_of e) (into_code z.declared z.allocation (base_of z) home 0 e) (Ready z)
+      (ValuedIn z e (base_of z) home 0)
   homed_runs home is has room =
       cheaper (omega arith)
-      (into_runs z (base_of z) (omega arith) (omega arith) has 0 home (home_target z.allocation.count 0 home z.allocated.few is) (omega (arith, room)))
+      (into_runs z (base_of z) (omega arith) (omega arith) has 0 home
+      (home_target z.allocation.count 0 home z.allocated.few is) (omega (arith, room)))
 
   -- the state is shown after an expression as before it
-  pub ready_valued : (e : TermTree) {r : ℕ} (env : StraightState) (s t : machine.State) → Ready z env s → Evaluated z e r env s t → Ready z env t
+  pub ready_valued : (e : TermTree) {r : ℕ} (env : StraightState) (s t : machine.State) → Ready z env s
+      → Evaluated z e r env s t → Ready z env t
   ready_valued e env s t ready valued = ready_after z env s t ready valued.held valued.kept valued.homes
 
   -- as long as nothing is written
-  pub ready_with : (env : StraightState) (s t : machine.State) → Ready z env s → HeldAt z t → t.bytes ≡ s.bytes → HomesKept z s t → Ready z env t
+  pub ready_with : (env : StraightState) (s t : machine.State) → Ready z env s → HeldAt z t → t.bytes ≡ s.bytes
+      → HomesKept z s t → Ready z env t
   ready_with env s t ready held same homes = ready_after z env s t ready held (kept_by z (base_of z) s t same) homes
 
   pub ready_still : (env : StraightState) (s t : machine.State) → Ready z env s → Still s t → Ready z env t
-  ready_still env s t ready still = ready_with env s t ready (held_regs z s t (ap (λ (regs : ℕ → ℕ). regs 2) still.regs) still.bytes ready.held) still.bytes (homes_by z s t still.regs)
+  ready_still env s t ready still =
+      ready_with env s t ready (held_regs z s t (ap (λ (regs : ℕ → ℕ). regs 2) still.regs) still.bytes ready.held)
+      still.bytes (homes_by z s t still.regs)
 
   -- or only a number that lies behind the control values
-  pub ready_behind : (n o w : ℕ) → next_offset z.declared z.controls 0 ≤ o → (env : StraightState) (s t : machine.State) → Ready z env s → Wrote z n o w s t → Ready z env t
-  ready_behind n o w above env s t ready wrote = ready_below z o above env s t ready wrote.held (wrote_kept z n o w s t wrote) wrote.homes
+  pub ready_behind : (n o w : ℕ) → next_offset z.declared z.controls 0 ≤ o
+      → (env : StraightState) (s t : machine.State) → Ready z env s → Wrote z n o w s t → Ready z env t
+  ready_behind n o w above env s t ready wrote =
+      ready_below z o above env s t ready wrote.held (wrote_kept z n o w s t wrote) wrote.homes
 
   -- or only the result's slot
-  pub ready_result : (env : StraightState) (s t : machine.State) (w : ℕ) → Ready z env s → Wrote z 4 (result_offset z.declared) w s t → Ready z env t
+  pub ready_result : (env : StraightState) (s t : machine.State) (w : ℕ) → Ready z env s
+      → Wrote z 4 (result_offset z.declared) w s t → Ready z env t
   ready_result env s t w ready wrote = record {
     held = wrote.held;
     fits = ready.fits;
     homes_there = variables_home z env s t ready wrote.homes;
-    variables_there = variables_kept z (result_offset z.declared) env s t (omega arith) ready (wrote_kept z 4 (result_offset z.declared) w s t wrote);
-    controls_there = λ c below. other_number z 4 (result_offset z.declared) w 4 (control_offset z.declared c) s t wrote (inr (omega arith)) ∙ ready.controls_there c below;
+    variables_there = variables_kept z (result_offset z.declared) env s t (omega arith) ready
+        (wrote_kept z 4 (result_offset z.declared) w s t wrote);
+    controls_there = λ c below. other_number z 4 (result_offset z.declared) w 4 (control_offset z.declared c) s t
+        wrote (inr (omega arith)) ∙ ready.controls_there c below;
   }
 
   -- a word that is declared lies before the result
-  pub word_before : (x : ℕ) (word : WordType) (mutable : Bool) → slice_get z.declared x ≡ Some (word_as word mutable) → variable_offset z.declared x + 4 ≤ result_offset z.declared
+  pub word_before : (x : ℕ) (word : WordType) (mutable : Bool) → slice_get z.declared x ≡ Some (word_as word mutable)
+      → variable_offset z.declared x + 4 ≤ result_offset z.declared
   word_before x word mutable known =
       omega (arith, ends_before_result z.declared x (word_as word mutable) known)
 
@@ -385,8 +527,10 @@ module _ (z : Setting) where
   wrote_as n o v w s t is wrote = subst (λ u. Wrote z n o u s t) is wrote
 
   -- What is in a register, put into a word of the frame.
-  pub stored : {n : ℕ} {steps : Steps} {xs : List Instr} {P : Before} {Q : After} (r o : ℕ) (v : StraightState → ℕ) → (is_free r && (nat_lt r 32 && not (r == 28))) ≡ true → o % 4 ≡ 0 → o + 4 ≤ z.size
-      → Runs z n steps xs P Q → ((env : StraightState) (s t : machine.State) → P env s → Q env s t → HeldAt z t × (t.regs r ≡ v env))
+  pub stored : {n : ℕ} {steps : Steps} {xs : List Instr} {P : Before} {Q : After} (r o : ℕ) (v : StraightState → ℕ)
+      → (is_free r && (nat_lt r 32 && not (r == 28))) ≡ true → o % 4 ≡ 0 → o + 4 ≤ z.size
+      → Runs z n steps xs P Q → ((env : StraightState) (s t : machine.State) → P env s → Q env s t
+      → HeldAt z t × (t.regs r ≡ v env))
       → Runs z (n + 3) steps (xs ++ store_code r o) P (Then (setting z) Q (λ env s t. Wrote z 4 o (v env) s t))
   stored r o v ok even inside runs has =
       cheaper (omega arith)
@@ -396,20 +540,30 @@ module _ (z : Setting) where
         first = done.first;
         second = record {
           held = done.second.held;
-          written = done.second.bytes ∙ ap (λ w. with_number done.middle.bytes 4 (z.frame + o) w) (has env s done.middle given done.first).1;
+          written = done.second.bytes
+              ∙ ap (λ w. with_number done.middle.bytes 4 (z.frame + o) w) (has env s done.middle given done.first).1;
           homes = homes_moved z (put Sw r o ∷ []) env done.middle t refl done.second;
         };
       })
-      (then_moves z (put Sw r o ∷ []) (simp ok) ((even, inside), tt) runs (λ env s t given done. (has env s t given done).0)))
+      (then_moves z (put Sw r o ∷ []) (simp ok) ((even, inside), tt) runs
+      (λ env s t given done. (has env s t given done).0)))
 
   -- an expression's value
-  pub assigned : {e : TermTree} {word : WordType} (o : ℕ) → HasType (types_of z.code.profile z.declared) e word → base_of z + 4 * slots_to z.allocation.count (height_of e) ≤ z.size → o % 4 ≡ 0 → o + 4 ≤ z.size
-      → Runs z (16 * term_nodes e + 3) (steps_of e) (assign_code z.declared z.allocation (base_of z) e o) (Ready z) (Then (setting z) (Evaluated z e (read_register z.allocation 5 e)) (λ env s t. Wrote z 4 o (value_in env.variables e) s t))
+  pub assigned : {e : TermTree} {word : WordType} (o : ℕ) → HasType (types_of z.code.profile z.declared) e word
+      → base_of z + 4 * slots_to z.allocation.count (height_of e) ≤ z.size → o % 4 ≡ 0 → o + 4 ≤ z.size
+      → Runs z (16 * term_nodes e + 3) (steps_of e) (assign_code z.declared z.allocation (base_of z) e o) (Ready z)
+      (Then (setting z) (Evaluated z e (read_register z.allocation 5 e))
+      (λ env s t. Wrote z 4 o (value_in env.variables e) s t))
   assigned {e = e} o has room even inside =
-      stored (read_register z.allocation 5 e) o (λ env. value_in env.variables e) (puts z (read_source z e 5 (omega arith) (omega arith))) even inside (read_runs has room) (λ env s t ready valued. (valued.held, valued.there))
+      stored (read_register z.allocation 5 e) o (λ env. value_in env.variables e)
+      (puts z (read_source z e 5 (omega arith) (omega arith))) even inside (read_runs has room)
+      (λ env s t ready valued. (valued.held, valued.there))
 
   -- the loops' words are as they were once a value is written before them
-  pub hidden_valued : (depth : ℕ) → depth ≤ z.depths → (e : TermTree) {r : ℕ} (env : StraightState) (n o w : ℕ) (s m t : machine.State) → o + n ≤ next_offset z.declared z.controls 0
+  pub hidden_valued : (depth : ℕ) → depth ≤ z.depths
+      → (e : TermTree) {r : ℕ} (env : StraightState) (n o w : ℕ) (s m t : machine.State)
+      → o + n ≤ next_offset z.declared z.controls 0
       → Evaluated z e r env s m → Wrote z n o w m t → Hidden z depth s t
   hidden_valued depth within e env n o w s m t before valued wrote =
-      hidden_then z depth s m t (hidden_kept z depth s m within valued.kept) (hidden_wrote z depth n o w m t before wrote)
+      hidden_then z depth s m t (hidden_kept z depth s m within valued.kept)
+      (hidden_wrote z depth n o w m t before wrote)

@@ -1,5 +1,7 @@
 -- The words of an image, from its base on, and words that stand among others: they run as they do alone.
-use Rattle.std.proofs.Common.{◌≡◌, ℕ, zero, suc, ◌+◌, ◌-◌, ◌*◌, ◌/◌, ◌%◌, ◌^◌, ◌<◌, ◌==◌, ◌&&◌, Bool, true, false, cond, nat_le, List, [], ◌∷◌, ◌++◌, length, map, None, Some, slice_get, refl, sym, ap, ◌∙◌, subst, arith, ◌≤◌, length-append, append_assoc}
+use Rattle.std.proofs.Common.{◌≡◌, ℕ, zero, suc, ◌+◌, ◌-◌, ◌*◌, ◌/◌, ◌%◌, ◌^◌, ◌<◌, ◌==◌, ◌&&◌, Bool, true, false}
+use Rattle.std.proofs.Common.{cond, nat_le, List, [], ◌∷◌, ◌++◌, length, map, None, Some, slice_get, refl, sym, ap}
+use Rattle.std.proofs.Common.{◌∙◌, subst, arith, ◌≤◌, length-append, append_assoc}
 use Rattle.codegen.proofs.Language.{Profile}
 use Rattle.codegen.proofs.Machine.{body_words, Stand, Instr, word_of, Observation, Leads, stays, turns, State, Code}
 use Rattle.codegen.proofs.Machine.{goes_on, word_at, Turn, executes}
@@ -18,24 +20,30 @@ on_word base p n e =
     grind (arith, nat_tests)
 
 module _ (profile : Profile) (base : ℕ) (words : List ℕ) where
-  word_there : (before rest : List ℕ) (w p : ℕ) → words ≡ before ++ w ∷ rest → p ≡ base + 4 * length before → word_at (record { profile = profile; base = base; words = words }) p ≡ Some w
+  word_there : (before rest : List ℕ) (w p : ℕ) → words ≡ before ++ w ∷ rest → p ≡ base + 4 * length before
+      → word_at (record { profile = profile; base = base; words = words }) p ≡ Some w
   word_there before rest w p is at =
       let k : (p - base) / 4 ≡ length before = omega arith in
-      let there : slice_get words ((p - base) / 4) ≡ Some w = ap (λ i. slice_get words i) k ∙ (ap (λ (ws : List ℕ). slice_get ws (length before)) is ∙ slice_at before w rest) in
+      let there : slice_get words ((p - base) / 4) ≡ Some w = ap (λ i. slice_get words i) k
+      ∙ (ap (λ (ws : List ℕ). slice_get ws (length before)) is ∙ slice_at before w rest) in
       rw (on_word base p (length before) at) there
 
   -- instructions whose words these are, after some others
-  pub placed : (before : List ℕ) (is : List Instr) (p : ℕ) → base % 4 ≡ 0 → base + 4 * length words < 2 ^ 32 → words ≡ before ++ map word_of is → p ≡ base + 4 * length before → Placed (record { profile = profile; base = base; words = words }) p is
+  pub placed : (before : List ℕ) (is : List Instr) (p : ℕ) → base % 4 ≡ 0 → base + 4 * length words < 2 ^ 32
+      → words ≡ before ++ map word_of is → p ≡ base + 4 * length before
+      → Placed (record { profile = profile; base = base; words = words }) p is
   placed before [] p even ends all at = tt
   placed before (i ∷ is) p even ends all at =
       let w = word_of i in
       let rest = map word_of is in
-      let n : length words ≡ length before + suc (length rest) = ap (λ (ws : List ℕ). length ws) all ∙ length-append before (w ∷ rest) in
+      let n : length words ≡ length before + suc (length rest) = ap (λ (ws : List ℕ). length ws) all
+      ∙ length-append before (w ∷ rest) in
       let m : length (before ++ w ∷ []) ≡ length before + 1 = length-append before (w ∷ []) in (
         omega arith,
         omega (arith, n),
         word_there before rest w p all at,
-        placed (before ++ w ∷ []) is (p + 4) even ends (all ∙ sym (append_assoc before (w ∷ []) rest)) (omega (arith, m, at)),
+        placed (before ++ w ∷ []) is (p + 4) even ends (all ∙ sym (append_assoc before (w ∷ []) rest))
+            (omega (arith, m, at)),
       )
 
 -- Words among others.
@@ -60,7 +68,8 @@ stand_ends code p w [] there = let next = there.1 in omega (arith, next)
 stand_ends code p w (v ∷ ws) there = let rest = stand_ends code (p + 4) v ws there.3 in omega (arith, rest)
 
 -- so the instructions have their places in the words alone
-pub placed_alone : (profile : Profile) (code : Code) (start : ℕ) (is : List Instr) → Stand code start (map word_of is) → Placed (words_alone profile start (map word_of is)) start is
+pub placed_alone : (profile : Profile) (code : Code) (start : ℕ) (is : List Instr) → Stand code start (map word_of is)
+    → Placed (words_alone profile start (map word_of is)) start is
 placed_alone profile code start [] there = tt
 placed_alone profile code start (i ∷ is) there =
     let ends = stand_ends code start (word_of i) (map word_of is) there in
@@ -68,7 +77,8 @@ placed_alone profile code start (i ∷ is) there =
 
 -- One word.
 
-stand_at : (code : Code) (p : ℕ) (ws : List ℕ) (k w : ℕ) → Stand code p ws → slice_get ws k ≡ Some w → word_at code (p + 4 * k) ≡ Some w
+stand_at : (code : Code) (p : ℕ) (ws : List ℕ) (k w : ℕ) → Stand code p ws → slice_get ws k ≡ Some w
+    → word_at code (p + 4 * k) ≡ Some w
 stand_at code p [] k w there is = absurd (none-some w is)
 stand_at code p (v ∷ ws) zero w there is =
     let e : p ≡ p + 4 * 0 = omega arith in
@@ -83,11 +93,13 @@ pub record IsWordAt (start : ℕ) (words : List ℕ) (q w : ℕ) : Type 0 where
   pub there : q ≡ start + 4 * number
   pub is : slice_get words number ≡ Some w
 
-word_by : (start : ℕ) (words : List ℕ) (q w : ℕ) (b : Bool) → (nat_le start q && ((q - start) % 4 == 0)) ≡ b → cond b (slice_get words ((q - start) / 4)) None ≡ Some w → IsWordAt start words q w
+word_by : (start : ℕ) (words : List ℕ) (q w : ℕ) (b : Bool) → (nat_le start q && ((q - start) % 4 == 0)) ≡ b
+    → cond b (slice_get words ((q - start) / 4)) None ≡ Some w → IsWordAt start words q w
 word_by start words q w true on is = record { number = (q - start) / 4; there = grind (arith, nat_tests); is = is }
 word_by start words q w false on is = absurd (none-some w is)
 
-pub word_alone : (profile : Profile) (start : ℕ) (words : List ℕ) (q w : ℕ) → word_at (words_alone profile start words) q ≡ Some w → IsWordAt start words q w
+pub word_alone : (profile : Profile) (start : ℕ) (words : List ℕ) (q w : ℕ)
+    → word_at (words_alone profile start words) q ≡ Some w → IsWordAt start words q w
 word_alone profile start words q w is = word_by start words q w (nat_le start q && ((q - start) % 4 == 0)) refl is
 
 -- Turns.
@@ -98,10 +110,12 @@ module _ (code : Code) (start : ℕ) (words : List ℕ) (there : Stand code star
       let found = word_alone code.profile start words q w is in
       subst (λ a. word_at code a ≡ Some w) (sym found.there) (stand_at code start words found.number w there found.is)
 
-  turn_among : {s t : State} {o : Observation} → Turn (words_alone code.profile start words) s (goes_on o t) → Turn code s (goes_on o t)
+  turn_among : {s t : State} {o : Observation} → Turn (words_alone code.profile start words) s (goes_on o t)
+      → Turn code s (goes_on o t)
   turn_among {s} (executes i even is ok ends) = executes i even (word_among s.pc (word_of i) is) ok ends
 
   -- what words alone lead to, they lead to among others
-  pub leads_among : {n : ℕ} {s t : State} {seen : List Observation} → Leads (words_alone code.profile start words) n s seen t → Leads code n s seen t
+  pub leads_among : {n : ℕ} {s t : State} {seen : List Observation}
+      → Leads (words_alone code.profile start words) n s seen t → Leads code n s seen t
   leads_among stays = stays
   leads_among (turns turn rest) = turns (turn_among turn) (leads_among rest)

@@ -1,20 +1,25 @@
 -- The code of a statement that holds others, by the lists of its arms or its body.
-use Rattle.std.proofs.Common.{◌≡◌, ℕ, zero, suc, ◌+◌, ◌*◌, ◌^◌, ◌≤◌, ◌<◌, ◌++◌, List, [], ◌∷◌, length, max, drop, get_or, Vec, Global, refl, sym, ap, ap₂, ◌∙◌, subst, arith, append_assoc}
+use Rattle.std.proofs.Common.{◌≡◌, ℕ, zero, suc, ◌+◌, ◌*◌, ◌^◌, ◌≤◌, ◌<◌, ◌++◌, List, [], ◌∷◌, length, max, drop}
+use Rattle.std.proofs.Common.{get_or, Vec, Global, refl, sym, ap, ap₂, ◌∙◌, subst, arith, append_assoc}
 use Rattle.std.proofs.lemmas.List.{drop_more}
 use mathlib.Core.Former.{Count}
-use Rattle.codegen.proofs.Language.{statement_nodes, block_nodes, StraightStatement, StraightTree, StraightBlock, first}
+use Rattle.codegen.proofs.Language.{statement_nodes, block_nodes, StraightStatement, StraightTree, StraightBlock}
+use Rattle.codegen.proofs.Language.{first}
 use Rattle.codegen.proofs.Language.{branch, repeats, straight_tree, straight_row, straight_block, FlatVariable, Term}
 use Rattle.codegen.proofs.Language.{term_tree}
 use Rattle.branch_removal.specs.declared.straight.StraightStatement as code
 use Rattle.codegen.proofs.Machine.{bounds_code, test_code, count_code, statement_code, block_code, branch_code}
-use Rattle.codegen.proofs.Machine.{loop_code, variable_location, next_offset, temporaries_offset, HasPlace, HavePlaces}
+use Rattle.codegen.proofs.Machine.{loop_code, variable_location, next_offset, temporaries_offset, HasPlace}
+use Rattle.codegen.proofs.Machine.{HavePlaces}
 use Rattle.codegen.proofs.Machine.{Allocation, read_code, read_register, Instr}
 
-rows : (n : _) (row : code.Row_of-StraightStatement n) → straight_row row ≡ straight_block (code.items-the_row-StraightStatement n row)
+rows : (n : _) (row : code.Row_of-StraightStatement n)
+    → straight_row row ≡ straight_block (code.items-the_row-StraightStatement n row)
 rows n code.end_of-StraightStatement = refl
 rows n (code.more_of-StraightStatement s rest) = ap (first (straight_tree s)) (rows _ rest)
 
-abbrev arms : StraightStatement → ((n : Count) × code.Row_of-StraightStatement n) × ((n : Count) × code.Row_of-StraightStatement n)
+abbrev arms : StraightStatement → ((n : Count) × code.Row_of-StraightStatement n)
+    × ((n : Count) × code.Row_of-StraightStatement n)
 arms (code.Branch' condition shape accepted shape' otherwise) = ((_, accepted), (_, otherwise))
 arms _ = ((_, code.end_of-StraightStatement), (_, code.end_of-StraightStatement))
 
@@ -23,7 +28,8 @@ body_of (code.Repeat' x low high shape body) = (_, body)
 body_of _ = (_, code.end_of-StraightStatement)
 
 branch_tree : (condition : Term) (accepted otherwise : Vec StraightStatement Global) →
-    straight_tree (code.Branch condition accepted otherwise) ≡ branch (term_tree condition) (straight_block accepted.items) (straight_block otherwise.items)
+    straight_tree (code.Branch condition accepted otherwise)
+    ≡ branch (term_tree condition) (straight_block accepted.items) (straight_block otherwise.items)
 branch_tree condition accepted otherwise =
     let both = arms (code.Branch condition accepted otherwise) in
     ap₂ (branch (term_tree condition))
@@ -31,15 +37,21 @@ branch_tree condition accepted otherwise =
     (rows both.1.0 both.1.1 ∙ ap straight_block (code.items_hidden-the_row-StraightStatement-0 otherwise))
 
 loop_tree : (x : ℕ) (low high : Term) (body : Vec StraightStatement Global) →
-    straight_tree (code.Repeat x low high body) ≡ repeats x (term_tree low) (term_tree high) (straight_block body.items)
+    straight_tree (code.Repeat x low high body)
+    ≡ repeats x (term_tree low) (term_tree high) (straight_block body.items)
 loop_tree x low high body =
     let inner = body_of (code.Repeat x low high body) in
-    ap (repeats x (term_tree low) (term_tree high)) (rows inner.0 inner.1 ∙ ap straight_block (code.items_hidden-the_row-StraightStatement-0 body))
+    ap (repeats x (term_tree low) (term_tree high)) (rows inner.0 inner.1
+    ∙ ap straight_block (code.items_hidden-the_row-StraightStatement-0 body))
 
-module _ {statement : StraightStatement} {condition : Term} (accepted otherwise : Vec StraightStatement Global) (is : statement ≡ code.Branch condition accepted otherwise)
+module _ {statement : StraightStatement} {condition : Term} (accepted otherwise : Vec StraightStatement Global)
+    (is : statement ≡ code.Branch condition accepted otherwise)
     {ones others : List StraightStatement} (one : ones ≡ accepted.items) (other : others ≡ otherwise.items) where
-  pub tree_of_branch : straight_tree statement ≡ branch (term_tree condition) (straight_block ones) (straight_block others)
-  tree_of_branch = ap straight_tree is ∙ (branch_tree condition accepted otherwise ∙ ap₂ (λ xs ys. branch (term_tree condition) (straight_block xs) (straight_block ys)) (sym one) (sym other))
+  pub tree_of_branch : straight_tree statement
+      ≡ branch (term_tree condition) (straight_block ones) (straight_block others)
+  tree_of_branch = ap straight_tree is
+      ∙ (branch_tree condition accepted otherwise
+      ∙ ap₂ (λ xs ys. branch (term_tree condition) (straight_block xs) (straight_block ys)) (sym one) (sym other))
 
   pub accepted_smaller : 2 * block_nodes (straight_block ones) + 1 < 2 * statement_nodes (straight_tree statement)
   accepted_smaller = omega (arith, ap statement_nodes tree_of_branch)
@@ -48,71 +60,103 @@ module _ {statement : StraightStatement} {condition : Term} (accepted otherwise 
   otherwise_smaller = omega (arith, ap statement_nodes tree_of_branch)
 
   module _ (declared : List FlatVariable) (allocation : Allocation) (controls depths depth : ℕ) {xs ys : List Instr}
-      (x : xs ≡ block_code declared allocation controls depths depth (straight_block ones)) (y : ys ≡ block_code declared allocation controls depths depth (straight_block others)) where
-    pub branch_near : HasPlace declared allocation controls depths depth (straight_tree statement) → 2 * (length xs + length ys) + 8 < 2 ^ 19
+      (x : xs ≡ block_code declared allocation controls depths depth (straight_block ones))
+      (y : ys ≡ block_code declared allocation controls depths depth (straight_block others)) where
+    pub branch_near : HasPlace declared allocation controls depths depth (straight_tree statement)
+        → 2 * (length xs + length ys) + 8 < 2 ^ 19
     branch_near placed =
         let near = (subst (HasPlace declared allocation controls depths depth) tree_of_branch placed).3 in
         omega (arith, near, ap (λ (l : List Instr). length l) x, ap (λ (l : List Instr). length l) y)
 
-    pub branch_made : (register : ℕ) → register ≡ read_register allocation 5 (term_tree condition) → (old middle new : List Instr)
-        → middle ≡ old ++ read_code declared allocation (temporaries_offset declared controls depths) 5 0 (term_tree condition)
+    pub branch_made : (register : ℕ) → register ≡ read_register allocation 5 (term_tree condition)
+        → (old middle new : List Instr)
+        → middle ≡ old ++ read_code declared allocation (temporaries_offset declared controls depths) 5 0
+        (term_tree condition)
         → new ≡ middle ++ branch_code register xs ys
         → new ≡ old ++ statement_code declared allocation controls depths depth (straight_tree statement)
     branch_made register is old middle new first' last' =
-        last' ∙ (ap₂ (λ (front back : List Instr). front ++ back) first' (ap (λ r. branch_code r xs ys) is ∙ ap₂ (branch_code (read_register allocation 5 (term_tree condition))) x y)
-        ∙ (append_assoc old (read_code declared allocation (temporaries_offset declared controls depths) 5 0 (term_tree condition)) (branch_code (read_register allocation 5 (term_tree condition)) (block_code declared allocation controls depths depth (straight_block ones)) (block_code declared allocation controls depths depth (straight_block others)))
-        ∙ ap (λ (s : StraightTree). old ++ statement_code declared allocation controls depths depth s) (sym tree_of_branch)))
+        last'
+        ∙ (ap₂ (λ (front back : List Instr). front ++ back) first' (ap (λ r. branch_code r xs ys) is
+        ∙ ap₂ (branch_code (read_register allocation 5 (term_tree condition))) x y)
+        ∙ (append_assoc old (read_code declared allocation (temporaries_offset declared controls depths) 5 0
+        (term_tree condition)) (branch_code (read_register allocation 5 (term_tree condition))
+        (block_code declared allocation controls depths depth (straight_block ones))
+        (block_code declared allocation controls depths depth (straight_block others)))
+        ∙ ap (λ (s : StraightTree). old ++ statement_code declared allocation controls depths depth s)
+        (sym tree_of_branch)))
 
-module _ {statement : StraightStatement} {x : ℕ} {low high : Term} (body : Vec StraightStatement Global) (is : statement ≡ code.Repeat x low high body)
+module _ {statement : StraightStatement} {x : ℕ} {low high : Term} (body : Vec StraightStatement Global)
+    (is : statement ≡ code.Repeat x low high body)
     {inner : List StraightStatement} (items : inner ≡ body.items) where
   pub tree_of_loop : straight_tree statement ≡ repeats x (term_tree low) (term_tree high) (straight_block inner)
-  tree_of_loop = ap straight_tree is ∙ (loop_tree x low high body ∙ ap (λ xs. repeats x (term_tree low) (term_tree high) (straight_block xs)) (sym items))
+  tree_of_loop = ap straight_tree is
+      ∙ (loop_tree x low high body
+      ∙ ap (λ xs. repeats x (term_tree low) (term_tree high) (straight_block xs)) (sym items))
 
   pub body_smaller : 2 * block_nodes (straight_block inner) + 1 < 2 * statement_nodes (straight_tree statement)
   body_smaller = omega (arith, ap statement_nodes tree_of_loop)
 
   module _ (declared : List FlatVariable) (allocation : Allocation) (controls depths depth : ℕ) {xs ys : List Instr}
       (test : xs ≡ test_code (next_offset declared controls depth))
-      (turn : ys ≡ count_code (next_offset declared controls depth) (variable_location declared allocation x) ++ block_code declared allocation controls depths (depth + 1) (straight_block inner)) where
-    pub loop_near : HasPlace declared allocation controls depths depth (straight_tree statement) → 2 * (length xs + length ys) + 8 < 2 ^ 19
+      (turn : ys ≡ count_code (next_offset declared controls depth) (variable_location declared allocation x)
+      ++ block_code declared allocation controls depths (depth + 1) (straight_block inner)) where
+    pub loop_near : HasPlace declared allocation controls depths depth (straight_tree statement)
+        → 2 * (length xs + length ys) + 8 < 2 ^ 19
     loop_near placed =
         let near = (subst (HasPlace declared allocation controls depths depth) tree_of_loop placed).5 in
         omega (arith, near, ap (λ (l : List Instr). length l) test, ap (λ (l : List Instr). length l) turn)
 
     pub loop_made : (old middle new : List Instr)
-        → middle ≡ old ++ bounds_code declared allocation (next_offset declared controls depth) (temporaries_offset declared controls depths) (term_tree low) (term_tree high) → new ≡ middle ++ loop_code xs ys
+        → middle ≡ old ++ bounds_code declared allocation (next_offset declared controls depth)
+        (temporaries_offset declared controls depths) (term_tree low) (term_tree high)
+        → new ≡ middle ++ loop_code xs ys
         → new ≡ old ++ statement_code declared allocation controls depths depth (straight_tree statement)
     loop_made old middle new first' last' =
         let next = next_offset declared controls depth in
-        let turn_code = count_code next (variable_location declared allocation x) ++ block_code declared allocation controls depths (depth + 1) (straight_block inner) in
+        let turn_code = count_code next (variable_location declared allocation x)
+        ++ block_code declared allocation controls depths (depth + 1) (straight_block inner) in
         last' ∙ (ap₂ (λ (front back : List Instr). front ++ back) first' (ap₂ loop_code test turn)
-        ∙ (append_assoc old (bounds_code declared allocation next (temporaries_offset declared controls depths) (term_tree low) (term_tree high)) (loop_code (test_code next) turn_code)
-        ∙ ap (λ (s : StraightTree). old ++ statement_code declared allocation controls depths depth s) (sym tree_of_loop)))
+        ∙ (append_assoc old (bounds_code declared allocation next (temporaries_offset declared controls depths)
+        (term_tree low) (term_tree high)) (loop_code (test_code next) turn_code)
+        ∙ ap (λ (s : StraightTree). old ++ statement_code declared allocation controls depths depth s)
+        (sym tree_of_loop)))
 
 -- Lists of statements.
 
-nodes_behind : (statements : List StraightStatement) (i : ℕ) → block_nodes (straight_block (drop i statements)) ≤ block_nodes (straight_block statements)
+nodes_behind : (statements : List StraightStatement) (i : ℕ)
+    → block_nodes (straight_block (drop i statements)) ≤ block_nodes (straight_block statements)
 nodes_behind [] zero = omega arith
 nodes_behind [] (suc i) = omega arith
 nodes_behind (s ∷ rest) zero = omega arith
 nodes_behind (s ∷ rest) (suc i) = omega (arith, nodes_behind rest i)
 
 -- the next item
-pub item_here : (statements : List StraightStatement) (i : ℕ) (item : StraightStatement) → i < length statements → item ≡ get_or statements i item → drop i statements ≡ item ∷ drop (i + 1) statements
-item_here statements i item below is = drop_more statements i item below ∙ ap (λ x. x ∷ drop (i + 1) statements) (sym is)
+pub item_here : (statements : List StraightStatement) (i : ℕ) (item : StraightStatement) → i < length statements
+    → item ≡ get_or statements i item → drop i statements ≡ item ∷ drop (i + 1) statements
+item_here statements i item below is = drop_more statements i item below
+    ∙ ap (λ x. x ∷ drop (i + 1) statements) (sym is)
 
-pub smaller_here : (statements : List StraightStatement) (i : ℕ) (item : StraightStatement) → drop i statements ≡ item ∷ drop (i + 1) statements
+pub smaller_here : (statements : List StraightStatement) (i : ℕ) (item : StraightStatement)
+    → drop i statements ≡ item ∷ drop (i + 1) statements
     → 2 * statement_nodes (straight_tree item) < 2 * block_nodes (straight_block statements) + 1
-smaller_here statements i item here = omega (arith, ap (λ xs. block_nodes (straight_block xs)) here, nodes_behind statements i)
+smaller_here statements i item here =
+    omega (arith, ap (λ xs. block_nodes (straight_block xs)) here, nodes_behind statements i)
 
-pub placed_here : (declared : List FlatVariable) (allocation : Allocation) (controls depths depth : ℕ) (statements : List StraightStatement) (i : ℕ) (item : StraightStatement) → drop i statements ≡ item ∷ drop (i + 1) statements
-    → HavePlaces declared allocation controls depths depth (straight_block (drop i statements)) → HasPlace declared allocation controls depths depth (straight_tree item)
+pub placed_here : (declared : List FlatVariable) (allocation : Allocation) (controls depths depth : ℕ)
+    (statements : List StraightStatement) (i : ℕ) (item : StraightStatement)
+    → drop i statements ≡ item ∷ drop (i + 1) statements
+    → HavePlaces declared allocation controls depths depth (straight_block (drop i statements))
+    → HasPlace declared allocation controls depths depth (straight_tree item)
 placed_here declared allocation controls depths depth statements i item here placed =
     (subst (λ xs. HavePlaces declared allocation controls depths depth (straight_block xs)) here placed).0
 
-pub greatest_here : (measure : StraightTree → ℕ) (measure_all : StraightBlock → ℕ) → ((s : StraightTree) (rest : StraightBlock) → measure_all (first s rest) ≡ max (measure s) (measure_all rest))
-    → (statements : List StraightStatement) (i : ℕ) (item : StraightStatement) → drop i statements ≡ item ∷ drop (i + 1) statements
-    → (so_far whole : ℕ) → max so_far (measure_all (straight_block (drop i statements))) ≡ whole → whole ≤ 6000 → measure (straight_tree item) ≤ 6000
+pub greatest_here : (measure : StraightTree → ℕ) (measure_all : StraightBlock → ℕ)
+    → ((s : StraightTree) (rest : StraightBlock) → measure_all (first s rest) ≡ max (measure s) (measure_all rest))
+    → (statements : List StraightStatement) (i : ℕ) (item : StraightStatement)
+    → drop i statements ≡ item ∷ drop (i + 1) statements
+    → (so_far whole : ℕ) → max so_far (measure_all (straight_block (drop i statements))) ≡ whole → whole ≤ 6000
+    → measure (straight_tree item) ≤ 6000
 greatest_here measure measure_all step statements i item here so_far whole all small =
-    let both = ap (λ xs. measure_all (straight_block xs)) here ∙ step (straight_tree item) (straight_block (drop (i + 1) statements)) in
+    let both = ap (λ xs. measure_all (straight_block xs)) here
+    ∙ step (straight_tree item) (straight_block (drop (i + 1) statements)) in
     omega (arith, both, all, small)

@@ -1,10 +1,13 @@
 -- The code of a statement makes of the state what the statement makes of it.
 use Rattle.std.proofs.Common.{ℕ, ◌+◌, ◌*◌, ◌≤◌, refl, arith}
-use Rattle.codegen.proofs.Language.{statement_nodes, block_nodes, statement_work, block_work, StraightTree, set, clear}
+use Rattle.codegen.proofs.Language.{statement_nodes, block_nodes, statement_work, block_work, StraightTree, set}
+use Rattle.codegen.proofs.Language.{clear}
 use Rattle.codegen.proofs.Language.{fill, put, take, set_under, put_under, branch, repeats, StraightBlock, nothing}
-use Rattle.codegen.proofs.Language.{first, after, after_all, path_at, path_along, IsTyped, AreTyped, labelled, Boolean}
+use Rattle.codegen.proofs.Language.{first, after, after_all, path_at, path_along, IsTyped, AreTyped, labelled}
+use Rattle.codegen.proofs.Language.{Boolean}
 use Rattle.codegen.proofs.Language.{Public}
-use Rattle.codegen.proofs.Machine.{statement_code, block_code, height_in, height_in_all, depth_in, depth_in_all, slots_to}
+use Rattle.codegen.proofs.Machine.{statement_code, block_code, height_in, height_in_all, depth_in, depth_in_all}
+use Rattle.codegen.proofs.Machine.{slots_to}
 use Rattle.codegen.proofs.ElementRuns.{put_runs, put_under_runs, fill_runs}
 use Rattle.codegen.proofs.LoopRuns.{branch_runs, repeats_runs}
 use Rattle.codegen.proofs.ClearRuns.{clear_runs}
@@ -16,30 +19,48 @@ use Rattle.codegen.proofs.Logic.{Setting, base_of, Runs, seq, gives, cheaper, be
 module _ (z : Setting) where
   mutual
     -- a well-typed statement for which there is room, in so many loops
-    pub statement_runs : (depth : ℕ) (s : StraightTree) → IsTyped z.code.profile z.declared z.controls s → base_of z + 4 * slots_to z.allocation.count (height_in s) ≤ z.size → depth + depth_in s ≤ z.depths → statement_nodes s ≤ 6000
-        → Runs z (32 * statement_work z.counts s) (λ env. path_at env s) (statement_code z.declared z.allocation z.controls z.depths depth s) (Ready z) (Shown z depth (λ env. after env s))
-    statement_runs depth (set x value) typed room within few = set_runs z depth x value typed room (omega (arith, within))
-    statement_runs depth (clear x size) typed room within few = clear_runs z depth x size typed (omega (arith, within))
-    statement_runs depth (fill x values) typed room within few = fill_runs z depth x values typed room (omega (arith, within))
-    statement_runs depth (put place x size index value) typed room within few = put_runs z depth place x size index value typed room (omega (arith, within))
-    statement_runs depth (take c enclosing condition) typed room within few = take_runs z depth c enclosing condition typed.2.0 typed.0 typed.2.1 room (omega (arith, within)) typed.1
-    statement_runs depth (set_under c x value) typed room within few = set_under_runs z depth c x value typed.0 typed.1 room (omega (arith, within))
-    statement_runs depth (put_under c place x size index value) typed room within few = put_under_runs z depth place x size index value typed.1 room (omega (arith, within)) c typed.0
+    pub statement_runs : (depth : ℕ) (s : StraightTree) → IsTyped z.code.profile z.declared z.controls s
+        → base_of z + 4 * slots_to z.allocation.count (height_in s) ≤ z.size → depth + depth_in s ≤ z.depths
+        → statement_nodes s ≤ 6000
+        → Runs z (32 * statement_work z.counts s) (λ env. path_at env s)
+        (statement_code z.declared z.allocation z.controls z.depths depth s) (Ready z)
+        (Shown z depth (λ env. after env s))
+    statement_runs depth (set x value) typed room within few =
+        set_runs z depth x value typed room (omega (arith, within))
+    statement_runs depth (clear x size) typed room within few =
+        clear_runs z depth x size typed (omega (arith, within))
+    statement_runs depth (fill x values) typed room within few =
+        fill_runs z depth x values typed room (omega (arith, within))
+    statement_runs depth (put place x size index value) typed room within few =
+        put_runs z depth place x size index value typed room (omega (arith, within))
+    statement_runs depth (take c enclosing condition) typed room within few =
+        take_runs z depth c enclosing condition typed.2.0 typed.0 typed.2.1 room (omega (arith, within)) typed.1
+    statement_runs depth (set_under c x value) typed room within few =
+        set_under_runs z depth c x value typed.0 typed.1 room (omega (arith, within))
+    statement_runs depth (put_under c place x size index value) typed room within few =
+        put_under_runs z depth place x size index value typed.1 room (omega (arith, within)) c typed.0
     statement_runs depth (branch condition accepted otherwise) typed room within few =
         cheaper (omega arith)
-        (branch_runs z depth condition (labelled Boolean Public) accepted otherwise (32 * block_work z.counts accepted) (32 * block_work z.counts otherwise)
-        typed.0 (omega (arith, room)) (omega (arith, within)) (arms_near z.declared z.allocation z.controls z.depths depth accepted otherwise (omega (arith, few)))
+        (branch_runs z depth condition (labelled Boolean Public) accepted otherwise
+        (32 * block_work z.counts accepted) (32 * block_work z.counts otherwise)
+        typed.0 (omega (arith, room)) (omega (arith, within))
+        (arms_near z.declared z.allocation z.controls z.depths depth accepted otherwise (omega (arith, few)))
         (block_runs depth accepted typed.1 (omega (arith, room)) (omega (arith, within)) (omega (arith, few)))
         (block_runs depth otherwise typed.2 (omega (arith, room)) (omega (arith, within)) (omega (arith, few))))
     statement_runs depth (repeats x low high body) typed room within few =
         cheaper (omega (arith, height low))
         (repeats_runs z depth (omega (arith, within)) x low high body (32 * block_work z.counts body)
-        typed.2 typed.0 typed.1 (omega (arith, room)) (omega (arith, room)) (turn_near z.declared z.allocation z.controls z.depths depth x body (omega (arith, few)))
+        typed.2 typed.0 typed.1 (omega (arith, room)) (omega (arith, room))
+        (turn_near z.declared z.allocation z.controls z.depths depth x body (omega (arith, few)))
         (block_runs (depth + 1) body typed.3 (omega (arith, room)) (omega (arith, within)) (omega (arith, few))))
 
     -- statements, one after the other
-    pub block_runs : (depth : ℕ) (b : StraightBlock) → AreTyped z.code.profile z.declared z.controls b → base_of z + 4 * slots_to z.allocation.count (height_in_all b) ≤ z.size → depth + depth_in_all b ≤ z.depths → block_nodes b ≤ 6000
-        → Runs z (32 * block_work z.counts b) (λ env. path_along env b) (block_code z.declared z.allocation z.controls z.depths depth b) (Ready z) (Shown z depth (λ env. after_all env b))
+    pub block_runs : (depth : ℕ) (b : StraightBlock) → AreTyped z.code.profile z.declared z.controls b
+        → base_of z + 4 * slots_to z.allocation.count (height_in_all b) ≤ z.size → depth + depth_in_all b ≤ z.depths
+        → block_nodes b ≤ 6000
+        → Runs z (32 * block_work z.counts b) (λ env. path_along env b)
+        (block_code z.declared z.allocation z.controls z.depths depth b) (Ready z)
+        (Shown z depth (λ env. after_all env b))
     block_runs depth nothing typed room within few =
         idle (λ env s ready. record { ready = ready; hidden = λ o low high. refl })
     block_runs depth (first s rest) typed room within few =
@@ -51,5 +72,6 @@ module _ (z : Setting) where
         })
         (seq
         (statement_runs depth s typed.0 (omega (arith, room)) (omega (arith, within)) (omega (arith, few)))
-        (beside (λ env. after env s) (block_runs depth rest typed.1 (omega (arith, room)) (omega (arith, within)) (omega (arith, few))))
+        (beside (λ env. after env s)
+        (block_runs depth rest typed.1 (omega (arith, room)) (omega (arith, within)) (omega (arith, few))))
         (λ env t u ready done. done.ready)))

@@ -1,5 +1,6 @@
 -- The homes of optimised code fit its program, whichever variables are chosen.
-use Rattle.std.proofs.Common.{◌≡◌, ℕ, zero, suc, ◌+◌, ◌<◌, ◌≤◌, ◌&&◌, Bool, true, false, cond, nat_lt, List, [], ◌∷◌, length, Option, None, Some, slice_get, refl, ap, ◌∙◌, arith}
+use Rattle.std.proofs.Common.{◌≡◌, ℕ, zero, suc, ◌+◌, ◌<◌, ◌≤◌, ◌&&◌, Bool, true, false, cond, nat_lt, List, [], ◌∷◌}
+use Rattle.std.proofs.Common.{length, Option, None, Some, slice_get, refl, ap, ◌∙◌, arith}
 use Rattle.codegen.proofs.Language.{FlatVariable, StraightProgram}
 use Rattle.codegen.proofs.Logic.{nat_tests, none-some, same_Some}
 use Rattle.codegen.proofs.Machine.{home_count, home_of, IsFitting}
@@ -16,7 +17,8 @@ some_at : (chosen : Bool) (n : ℕ) (d : FlatVariable) (home : ℕ) → home_at 
     → (n ≡ home) × (home_after chosen n d ≡ n + 1) × (n < 28)
 some_at chosen n d home is = by_test (gets_home chosen n d) refl is
   where
-    by_test : (b : Bool) → gets_home chosen n d ≡ b → cond b (Some n) None ≡ Some home → (n ≡ home) × (cond b (n + 1) n ≡ n + 1) × (n < 28)
+    by_test : (b : Bool) → gets_home chosen n d ≡ b → cond b (Some n) None ≡ Some home
+        → (n ≡ home) × (cond b (n + 1) n ≡ n + 1) × (n < 28)
     by_test true e same = (same_Some n home same, refl, left_by chosen n d.elements e)
     by_test false e same = absurd (none-some home same)
 
@@ -33,7 +35,8 @@ none_at false n d size array = refl
 
 -- of the variable i and those behind it, the first of them the register n
 module _ (chosen : ℕ → Bool) where
-  allowed : (ds : List FlatVariable) (i n x home : ℕ) → home_of (homes_from chosen i n ds) x ≡ Some home → (n ≤ home) × (home < 28)
+  allowed : (ds : List FlatVariable) (i n x home : ℕ) → home_of (homes_from chosen i n ds) x ≡ Some home
+      → (n ≤ home) × (home < 28)
   allowed [] i n x home is = absurd (none-some home is)
   allowed (d ∷ ds) i n zero home is =
       let here = some_at (chosen i) n d home is in
@@ -54,9 +57,11 @@ module _ (chosen : ℕ → Bool) where
       let here = some_at (chosen i) n d home other in
       let rest = allowed ds (i + 1) (home_after (chosen i) n d) x home is in
       absurd (omega (arith, here.0, here.1, rest.0))
-  apart (d ∷ ds) i n (suc x) (suc y) home is other = ap suc (apart ds (i + 1) (home_after (chosen i) n d) x y home is other)
+  apart (d ∷ ds) i n (suc x) (suc y) home is other =
+      ap suc (apart ds (i + 1) (home_after (chosen i) n d) x y home is other)
 
-  words : (ds : List FlatVariable) (i n x : ℕ) (d : FlatVariable) (size : ℕ) → slice_get ds x ≡ Some d → d.elements ≡ Some size
+  words : (ds : List FlatVariable) (i n x : ℕ) (d : FlatVariable) (size : ℕ) → slice_get ds x ≡ Some d
+      → d.elements ≡ Some size
       → home_of (homes_from chosen i n ds) x ≡ None
   words [] i n x d size known array = refl
   words (e ∷ ds) i n zero d size known array =
@@ -72,7 +77,8 @@ module _ (chosen : ℕ → Bool) where
   counts (d ∷ ds) i n few = by_test (gets_home (chosen i) n d) refl (counts ds (i + 1) (home_after (chosen i) n d))
     where
       by_test : (b : Bool) → gets_home (chosen i) n d ≡ b
-          → (cond b (n + 1) n ≤ 28 → home_count (homes_from chosen (i + 1) (cond b (n + 1) n) ds) + cond b (n + 1) n ≤ 28)
+          → (cond b (n + 1) n ≤ 28 → home_count (homes_from chosen (i + 1) (cond b (n + 1) n) ds)
+          + cond b (n + 1) n ≤ 28)
           → home_count (cond b (Some n) None ∷ homes_from chosen (i + 1) (cond b (n + 1) n) ds) + n ≤ 28
       by_test true e rest = let less = left_by (chosen i) n d.elements e in omega (arith, rest (omega (arith, less)))
       by_test false e rest = rest few

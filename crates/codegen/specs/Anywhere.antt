@@ -1,7 +1,8 @@
--- What is promised of an image's code wherever its words stand, but for the last, ECALL: among whatever other code, over
--- whatever other data, and whatever the other registers hold. It runs to behind its words, writes its frame alone, and
--- leaves the outcome in its slots. So it can be the body of a function.
-use Rattle.std.specs.Prelude.{◌≡◌, ◌⊎◌, ℕ, ◌+◌, ◌*◌, ◌%◌, ◌^◌, ◌<◌, ◌≤◌, true, List, [], ◌∷◌, length, All, Some, is_some}
+-- What is promised of an image's code wherever its words stand, but for the last, ECALL: among whatever other code,
+-- over whatever other data, and whatever the other registers hold. It runs to behind its words, writes its frame
+-- alone, and leaves the outcome in its slots. So it can be the body of a function.
+use Rattle.std.specs.Prelude.{◌≡◌, ◌⊎◌, ℕ, ◌+◌, ◌*◌, ◌%◌, ◌^◌, ◌<◌, ◌≤◌, true, List, [], ◌∷◌, length, All, Some}
+use Rattle.std.specs.Prelude.{is_some}
 use Rattle.arguments.specs.Within.{AreWithin}
 use Rattle.branch_removal.specs.Straight.{StraightProgram}
 use Rattle.branch_removal.specs.StraightMeaning.{outcome_of, path_of}
@@ -32,10 +33,12 @@ pub record IsPlaced (image : Fields) (code : Code) (start frame : ℕ) : Type 0 
   pub frame_aligned : frame % 4 ≡ 0
   pub frame_ends : frame + image.frame_bytes < 2 ^ 32
 
--- the frame's base in x2, and in the frame what a loaded image has there: the arguments in their slots, zeros elsewhere
+-- the frame's base in x2, and in the frame what a loaded image has there: the arguments in their slots, zeros
+-- elsewhere
 pub record IsLoaded (image : Fields) (frame : ℕ) (args : List Arg) (s : State) : Type 0 where
   pub base : s.regs 2 ≡ frame
-  pub frame_there : (o : ℕ) → o < image.frame_bytes → s.bytes (frame + o) ≡ (loaded_at 0 frame image args).bytes (frame + o)
+  pub frame_there : (o : ℕ) → o < image.frame_bytes
+      → s.bytes (frame + o) ≡ (loaded_at 0 frame image args).bytes (frame + o)
 
 -- ra, gp and tp, which no code of a body touches
 abbrev pub IsUntouched : ℕ → Type 0
@@ -46,7 +49,8 @@ abbrev pub IsBeside : Fields → ℕ → ℕ → Type 0
 IsBeside image frame a = (a < frame) ⊎ (frame + image.frame_bytes ≤ a)
 
 -- a run of the body from this state to behind its words, which shows this list
-pub record BodyRun (image : Fields) (code : Code) (start frame : ℕ) (s : State) (list : List Observation) : Type 0 where
+pub record BodyRun (image : Fields) (code : Code) (start frame : ℕ) (s : State) (list : List Observation) :
+    Type 0 where
   pub turns : ℕ
   pub end : State
   pub leads : Leads code turns s list end
@@ -60,12 +64,14 @@ pub record BodyRun (image : Fields) (code : Code) (start frame : ℕ) (s : State
   pub frame_there : (o : ℕ) → o < image.frame_bytes → is_some (end.bytes (frame + o)) ≡ true
 
 -- the same on some arguments, whose outcome it leaves
-pub record RunsBehind (p : StraightProgram) (image : Fields) (code : Code) (start frame : ℕ) (args : List Arg) (s : State) (list : List Observation) : Type 0 where
+pub record RunsBehind (p : StraightProgram) (image : Fields) (code : Code) (start frame : ℕ) (args : List Arg)
+    (s : State) (list : List Observation) : Type 0 where
   pub run : BodyRun image code start frame s list
   pub outcome : results_in frame image run.end.bytes ≡ outcome_of p args
 
 -- one list for what is seen of each path, whatever the arguments and the rest of the state
 pub record IsFollowedIn (p : StraightProgram) (image : Fields) (code : Code) (start frame : ℕ) : Type 0 where
   pub shown : Path → List Observation
-  pub runs : (args : List Arg) (s : State) → s.pc ≡ start → IsLoaded image frame args s → AreWithin p.parameters args → AreFine p.turns (path_of p args)
+  pub runs : (args : List Arg) (s : State) → s.pc ≡ start → IsLoaded image frame args s → AreWithin p.parameters args
+      → AreFine p.turns (path_of p args)
       → RunsBehind p image code start frame args s (shown (seen p.profile (path_of p args)))

@@ -18,7 +18,8 @@ use Rattle.rv_machine.specs.declared.stops.Stop.TheVariants.{Ecall}
 use Rattle.language.specs.declared.values.Arg.{Arg}
 
 -- a run on some arguments, which shows this list
-pub record RunsAs (p : StraightProgram) (image : Fields) (code frame : ℕ) (args : List Arg) (list : List Observation) : Type 0 where
+pub record RunsAs (p : StraightProgram) (image : Fields) (code frame : ℕ) (args : List Arg)
+    (list : List Observation) : Type 0 where
   pub turns : ℕ
   pub end : State
   pub halts : Halts (code_at code image) turns (loaded_at code frame image args) list Ecall end
@@ -26,10 +27,12 @@ pub record RunsAs (p : StraightProgram) (image : Fields) (code frame : ℕ) (arg
   pub within_frame : All (λ (o : Observation). IsInside frame image.frame_bytes o.event) list
   pub outcome : results_in frame image end.bytes ≡ outcome_of p args
 
--- one list for what is seen of each path, whatever the arguments; no fault is met on the path, and no more turns are made than are counted
+-- one list for what is seen of each path, whatever the arguments; no fault is met on the path, and no more turns are
+-- made than are counted
 pub record IsFollowed (p : StraightProgram) (image : Fields) (code frame : ℕ) : Type 0 where
   pub shown : Path → List Observation
-  pub runs : (args : List Arg) → AreWithin p.parameters args → AreFine p.turns (path_of p args) → RunsAs p image code frame args (shown (seen p.profile (path_of p args)))
+  pub runs : (args : List Arg) → AreWithin p.parameters args → AreFine p.turns (path_of p args)
+      → RunsAs p image code frame args (shown (seen p.profile (path_of p args)))
 
 -- the image is the code's
 pub record IsGenerated (p : StraightProgram) (image : Fields) : Type 0 where
@@ -41,4 +44,5 @@ pub record IsGenerated (p : StraightProgram) (image : Fields) : Type 0 where
   pub word_count : length image.words ≤ 32 * p.nodes + 64
   pub follows : (code frame : ℕ) → AreBases image code frame → IsFollowed p image code frame
   -- and the body, wherever it stands
-  pub anywhere : (code : Code) (start frame : ℕ) → IsPlaced image code start frame → IsFollowedIn p image code start frame
+  pub anywhere : (code : Code) (start frame : ℕ) → IsPlaced image code start frame
+      → IsFollowedIn p image code start frame

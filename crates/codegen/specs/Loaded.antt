@@ -26,13 +26,15 @@ with_numbers bytes size at (v ∷ vs) = with_numbers (with_number bytes size at 
 -- the bytes with an argument at its slot: a word, or the elements of an array
 abbrev pub with_argument : ℕ → ByteMap → Slot → Arg → ByteMap
 with_argument frame bytes slot (Word word) = with_number bytes 4 (frame + slot.offset) word
-with_argument frame bytes slot (Array words) = with_numbers bytes (element_bytes slot.param.kind) (frame + slot.offset) words
+with_argument frame bytes slot (Array words) =
+    with_numbers bytes (element_bytes slot.param.kind) (frame + slot.offset) words
 
 -- the bytes with each argument at its parameter's slot
 abbrev pub with_arguments : ℕ → ByteMap → List Slot → List Arg → ByteMap
 with_arguments frame bytes [] args = bytes
 with_arguments frame bytes (slot ∷ slots) [] = bytes
-with_arguments frame bytes (slot ∷ slots) (arg ∷ args) = with_arguments frame (with_argument frame bytes slot arg) slots args
+with_arguments frame bytes (slot ∷ slots) (arg ∷ args) =
+    with_arguments frame (with_argument frame bytes slot arg) slots args
 
 -- the image's words and no others, from the base on, seen by its observer
 abbrev pub code_at : ℕ → Fields → Code
@@ -60,7 +62,8 @@ numbers_at bytes size at (suc n) = unwrap_or (number_at bytes size at) 0 ∷ num
 abbrev pub array_in : ℕ → ByteMap → Form → Slot → List (List ℕ)
 array_in frame bytes SingleWord slot = []
 array_in frame bytes FixedArray slot = []
-array_in frame bytes MutableArray slot = numbers_at bytes (element_bytes slot.param.kind) (frame + slot.offset) slot.param.length ∷ []
+array_in frame bytes MutableArray slot =
+    numbers_at bytes (element_bytes slot.param.kind) (frame + slot.offset) slot.param.length ∷ []
 
 abbrev pub arrays_in : ℕ → ByteMap → List Slot → List (List ℕ)
 arrays_in frame bytes [] = []

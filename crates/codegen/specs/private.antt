@@ -1,5 +1,5 @@
--- Words that the contracts of private functions cite, and no public one: the instructions that are emitted, one list for each
--- statement, and where they have room.
+-- Words that the contracts of private functions cite, and no public one: the instructions that are emitted, one list
+-- for each statement, and where they have room.
 pub mod Jumps
 pub mod Emitted
 pub mod Placed

@@ -5,7 +5,8 @@ use Rattle.rv_code.specs.Words.{word_of}
 use Rattle.rv_machine.specs.Machine.{Code, word_at}
 use Rattle.rv_machine.specs.declared.observation.Observation.{Observation}
 use Rattle.certified_runs.specs.declared.shifts.Shifts.{Shifts}
-use Rattle.certified_runs.specs.Certified.{KnownEnding, depends, KnownTurn, decided, stopped, undecided, RunEnding, same, may_differ, CertifiedRun, spent, halts, cut, turns}
+use Rattle.certified_runs.specs.Certified.{KnownEnding, depends, KnownTurn, decided, stopped, undecided, RunEnding}
+use Rattle.certified_runs.specs.Certified.{same, may_differ, CertifiedRun, spent, halts, cut, turns}
 use Rattle.certified_runs.specs.Known.{Known}
 use Rattle.certified_runs.specs.declared.certifying.CertifiedEnd.{CertifiedEnd}
 use Rattle.certified_runs.specs.declared.certifying.CertifiedEnd.TheVariants.{Same, MayDiffer}
@@ -17,27 +18,35 @@ use Rattle.hepurita.specs.declared.fault.RunFault.{RunFault}
 use Rattle.image_fields.specs.Fields.{Fields}
 use Rattle.language.specs.declared.values.Arg.{Arg}
 
-depends_at : (code : Code) (k : Known) (ending : KnownEnding) → KnownTurn code k ending → ending ≡ depends → word_at code k.state.pc ≢ None
+depends_at : (code : Code) (k : Known) (ending : KnownEnding) → KnownTurn code k ending → ending ≡ depends
+    → word_at code k.state.pc ≢ None
 depends_at code k ending (decided i at sure turn) is = cc
 depends_at code k ending (stopped known turn) is = cc
 depends_at code k ending (undecided i at unknown) is = λ none. none-some (word_of i) (sym none ∙ at.word)
 
-cut_at : (code : Code) (n : ℕ) (k : Known) (seen : List Observation) (ending : RunEnding) (pc : ℕ) → CertifiedRun code n k seen ending → ending ≡ may_differ pc → word_at code pc ≢ None
+cut_at : (code : Code) (n : ℕ) (k : Known) (seen : List Observation) (ending : RunEnding) (pc : ℕ)
+    → CertifiedRun code n k seen ending → ending ≡ may_differ pc → word_at code pc ≢ None
 cut_at code n k seen ending pc spent is = cc
 cut_at code n k seen ending pc (halts turn) is = cc
 cut_at code n k seen ending pc (cut turn) is =
     let here : k.state.pc ≡ pc = cc in
     subst (λ (p : ℕ). word_at code p ≢ None) here (depends_at code k depends turn refl)
-cut_at code n k seen ending pc (turns {n = less} {next = next} {seen = rest} turn run) is = cut_at code less next rest ending pc run is
+cut_at code n k seen ending pc (turns {n = less} {next = next} {seen = rest} turn run) is =
+    cut_at code less next rest ending pc run is
 
-stands_at : (image : Fields) (given : List (Option Arg)) (shifts : Shifts) (answer : Result CertifiedEnd RunFault) (entry pc : ℕ) → Certified image given shifts answer → answer ≡ Ok (MayDiffer entry pc) → word_at (code_at code_base image) pc ≢ None
+stands_at : (image : Fields) (given : List (Option Arg)) (shifts : Shifts) (answer : Result CertifiedEnd RunFault)
+    (entry pc : ℕ) → Certified image given shifts answer → answer ≡ Ok (MayDiffer entry pc)
+    → word_at (code_at code_base image) pc ≢ None
 stands_at image given shifts answer entry pc (refused first) is = cc
 stands_at image given shifts answer entry pc (out_of_memory none) is = cc
 stands_at image given shifts answer entry pc (certified {ending = same stop} none run) is = cc
 stands_at image given shifts answer entry pc (certified {seen = seen} {ending = may_differ at} none run) is =
     let there : at ≡ pc = cc in
-    subst (λ (p : ℕ). word_at (code_at code_base image) p ≢ None) there (cut_at (code_at code_base image) _ _ seen (may_differ at) at run refl)
+    subst (λ (p : ℕ). word_at (code_at code_base image) p ≢ None) there
+    (cut_at (code_at code_base image) _ _ seen (may_differ at) at run refl)
 
-pub stands_in_code : (image : Fields) (given : List (Option Arg)) (shifts : Shifts) (certificate : CertifiedEnd) → Certified image given shifts (Ok certificate) → StandsInCode image certificate
+pub stands_in_code : (image : Fields) (given : List (Option Arg)) (shifts : Shifts) (certificate : CertifiedEnd)
+    → Certified image given shifts (Ok certificate) → StandsInCode image certificate
 stands_in_code image given shifts (Same stop entries) h = tt
-stands_in_code image given shifts (MayDiffer entry pc) h = stands_at image given shifts (Ok (MayDiffer entry pc)) entry pc h refl
+stands_in_code image given shifts (MayDiffer entry pc) h =
+    stands_at image given shifts (Ok (MayDiffer entry pc)) entry pc h refl

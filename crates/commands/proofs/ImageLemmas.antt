@@ -14,10 +14,13 @@ use Rattle.image.specs.declared.fault.ImageFault.TheVariants.{Field, Memory}
 use Rattle.image_fields.specs.Fields.{Fields, IsImage}
 
 -- what is read of the beginning of a file is what all of it spells
-pub all_read : (files : Contents) (path bytes : List ℕ) (begun : Begins files path (longest_image + 1) bytes) (answer : Result Fields ImageFault) → reading bytes ≡ answer → reading begun.whole ≡ answer
+pub all_read : (files : Contents) (path bytes : List ℕ) (begun : Begins files path (longest_image + 1) bytes)
+    (answer : Result Fields ImageFault) → reading bytes ≡ answer → reading begun.whole ≡ answer
 all_read files path bytes begun answer is = sym (one_byte_more begun.whole) ∙ ap reading (sym begun.begun) ∙ is
 
-pub image_held : (files : Contents) (path bytes : List ℕ) (image : Fields) → Begins files path (longest_image + 1) bytes → reading bytes ≡ Ok image → IsImage image → HoldsImage files path image
+pub image_held : (files : Contents) (path bytes : List ℕ) (image : Fields)
+    → Begins files path (longest_image + 1) bytes → reading bytes ≡ Ok image → IsImage image
+    → HoldsImage files path image
 image_held files path bytes image begun is allowed = record {
   bytes = begun.whole;
   held = begun.held;
@@ -25,15 +28,20 @@ image_held files path bytes image begun is allowed = record {
   allowed = allowed;
 }
 
-pub image_refused : (files : Contents) (path bytes : List ℕ) (fault : ImageFault) → Begins files path (longest_image + 1) bytes → IsUnlessMemory {A = Fields} (Err fault) (reading bytes) → NoImage files path (Image fault)
-image_refused files path bytes (Field rule offset) begun is = not_spelled begun.held (all_read files path bytes begun (Err (Field rule offset)) is)
+pub image_refused : (files : Contents) (path bytes : List ℕ) (fault : ImageFault)
+    → Begins files path (longest_image + 1) bytes → IsUnlessMemory {A = Fields} (Err fault) (reading bytes)
+    → NoImage files path (Image fault)
+image_refused files path bytes (Field rule offset) begun is =
+    not_spelled begun.held (all_read files path bytes begun (Err (Field rule offset)) is)
 image_refused files path bytes Memory begun is = not_read (out_of_memory refl)
 
 -- a fault that is handed on
-pub handed_on : {A : Type 0} (P : Fault → Type 0) (answer : Result A Fault) (e fault : Fault) → answer ≡ Err e → e ≡ fault → P fault → IfErr answer P
+pub handed_on : {A : Type 0} (P : Fault → Type 0) (answer : Result A Fault) (e fault : Fault) → answer ≡ Err e
+    → e ≡ fault → P fault → IfErr answer P
 handed_on {A} P answer e fault is same h =
     subst (λ (r : Result A Fault). IfErr r P) (sym is) (subst P (sym same) h)
 
 -- and out of memory
-pub memory_on : {A : Type 0} (P : Fault → Type 0) (answer : Result A Fault) (e : Fault) → answer ≡ Err e → P e → IfErr answer P
+pub memory_on : {A : Type 0} (P : Fault → Type 0) (answer : Result A Fault) (e : Fault) → answer ≡ Err e → P e
+    → IfErr answer P
 memory_on {A} P answer e is h = subst (λ (r : Result A Fault). IfErr r P) (sym is) h

@@ -10,7 +10,8 @@ use Rattle.commands.specs.Unread as unread_specs
 use Rattle.commands.specs.Unread.{IsOutOfMemory, IsUnread, IsUnwritten, NotRead, unread}
 use Rattle.commands.specs.Words.{AreSpelled}
 use Rattle.commands.specs.declared.fault.Fault.{Fault}
-use Rattle.commands.specs.declared.fault.Fault.TheVariants.{Text, Explained, Image, Run, Eval, Plan, Harts, Vectors, Code, Name, File}
+use Rattle.commands.specs.declared.fault.Fault.TheVariants.{Text, Explained, Image, Run, Eval, Plan, Harts, Vectors}
+use Rattle.commands.specs.declared.fault.Fault.TheVariants.{Code, Name, File}
 use Rattle.commands.specs.declared.fault.FileFault.{FileFault}
 use Rattle.commands.specs.declared.fault.FileFault.TheVariants.{CannotRead, CannotWrite, NotUtf8}
 use Rattle.image_fields.specs.Fields.{Fields}
@@ -36,7 +37,8 @@ not_memory (Code rule) memory output = memory
 not_memory (Name place) memory output = memory
 not_memory (File file) memory output = memory
 
-not_both : (path : List ℕ) (one other : FileFault) → IsUnread path one → IsUnwritten standard_output other → File one ≡ File other → ⊥
+not_both : (path : List ℕ) (one other : FileFault) → IsUnread path one → IsUnwritten standard_output other
+    → File one ≡ File other → ⊥
 not_both path (CannotRead named) (CannotRead other) read written is = written
 not_both path (CannotRead named) (CannotWrite other) read written is = cc
 not_both path (CannotRead named) (NotUtf8 other) read written is = written
@@ -47,16 +49,19 @@ not_reading : (path : List ℕ) (fault : Fault) → NotRead path fault → IsOut
 not_reading path fault (unread {fault = file} is) output = not_both path file output.0 is output.1 output.2
 not_reading path fault (unread_specs.out_of_memory memory) output = not_memory fault memory output
 
-pub not_imageless : (files : Contents) (path : List ℕ) (fault : Fault) → NoImage files path fault → IsOutputFault fault → ⊥
+pub not_imageless : (files : Contents) (path : List ℕ) (fault : Fault) → NoImage files path fault
+    → IsOutputFault fault → ⊥
 not_imageless files path fault (not_read why) output = not_reading path fault why output
 not_imageless files path fault (not_spelled held first) output = let is = output.2 in cc
 
-by_leak : (why : LeakFault) (fault : Fault) → IsFaultOfLeak why fault → IsOutputFault fault ⊎ (IsOutputFault fault → ⊥)
+by_leak : (why : LeakFault) (fault : Fault) → IsFaultOfLeak why fault
+    → IsOutputFault fault ⊎ (IsOutputFault fault → ⊥)
 by_leak (Argument rule index) fault is = inr (λ output. let both = sym is ∙ output.2 in cc)
 by_leak Memory fault is = inr (λ output. let both = sym is ∙ output.2 in cc)
 by_leak Write fault is = inl is
 
-pub at_output_or_not : (files : Contents) (path : List ℕ) (words : List (List ℕ)) (fault : Fault) → RefusesLeak files path words fault → IsOutputFault fault ⊎ (IsOutputFault fault → ⊥)
+pub at_output_or_not : (files : Contents) (path : List ℕ) (words : List (List ℕ)) (fault : Fault)
+    → RefusesLeak files path words fault → IsOutputFault fault ⊎ (IsOutputFault fault → ⊥)
 at_output_or_not files path words fault (no_image why) = inr (not_imageless files path fault why)
 at_output_or_not files path words fault (no_arguments held why) = inr (λ output. let is = output.2 in cc)
 at_output_or_not files path words fault (no_answer held why) = by_leak why.1 fault why.4
@@ -69,7 +74,8 @@ is_write Memory fault is output = let both = sym is ∙ output.2 in cc
 is_write Write fault is output = refl
 
 -- a run that was made has a listing
-listed_by : (image : Fields) (args : List Arg) (answer : Result Stop LeakFault) (stop : Stop) → Leaks image args answer → answer ≡ Ok stop → (text : List ℕ) × IsLeak image args stop text
+listed_by : (image : Fields) (args : List Arg) (answer : Result Stop LeakFault) (stop : Stop)
+    → Leaks image args answer → answer ≡ Ok stop → (text : List ℕ) × IsLeak image args stop text
 listed_by image args answer stop (leaked_specs.refused first) is = cc
 listed_by image args answer stop (leaked_specs.out_of_memory none) is = cc
 listed_by image args answer stop (leaked_specs.cut_off none) is = cc
@@ -77,22 +83,37 @@ listed_by image args answer stop (ran {seen = seen} {stop = ended} none ends) is
     let same : ended ≡ stop = cc in
     subst (λ (s : Stop). (text : List ℕ) × IsLeak image args s text) same (listing seen ended, (seen, ends, refl))
 
-module _ {files : Contents} {path : List ℕ} {words : List (List ℕ)} {image : Fields} {args : List Arg} (held : HoldsImage files path image) (spelled : AreSpelled (params_of image) words args) where
-  pub says_leak : (stop : Stop) (status : ℕ) (text : List ℕ) → status ≡ status_of stop → IsLeak image args stop text → SaysLeak files path words status text
-  says_leak stop status text ended listed = record { image = image; args = args; stop = stop; held = held; spelled = spelled; listed = listed; ended = ended }
+module _ {files : Contents} {path : List ℕ} {words : List (List ℕ)} {image : Fields} {args : List Arg}
+    (held : HoldsImage files path image) (spelled : AreSpelled (params_of image) words args) where
+  pub says_leak : (stop : Stop) (status : ℕ) (text : List ℕ) → status ≡ status_of stop → IsLeak image args stop text
+      → SaysLeak files path words status text
+  says_leak stop status text ended listed =
+      record {
+        image = image;
+        args = args;
+        stop = stop;
+        held = held;
+        spelled = spelled;
+        listed = listed;
+        ended = ended;
+      }
 
   -- where the run was made
-  pub said_leak : (stop : Stop) (status : ℕ) → status ≡ status_of stop → Leaks image args (Ok stop) → (text : List ℕ) × SaysLeak files path words status text
+  pub said_leak : (stop : Stop) (status : ℕ) → status ≡ status_of stop → Leaks image args (Ok stop)
+      → (text : List ℕ) × SaysLeak files path words status text
   said_leak stop status ended leaks =
       let l = listed_by image args (Ok stop) stop leaks refl in
       (l.0, says_leak stop status l.0 ended l.1)
 
-  pub wrote_leak : (stop : Stop) (status : ℕ) (before after : List ℕ) → status ≡ status_of stop → Writes (IsLeak image args stop) before after
+  pub wrote_leak : (stop : Stop) (status : ℕ) (before after : List ℕ) → status ≡ status_of stop
+      → Writes (IsLeak image args stop) before after
       → Writes (SaysLeak files path words status) before after
-  wrote_leak stop status before after ended w = record { bytes = w.bytes; such = says_leak stop status w.bytes ended w.such; added = w.added }
+  wrote_leak stop status before after ended w =
+      record { bytes = w.bytes; such = says_leak stop status w.bytes ended w.such; added = w.added }
 
   -- where the sink failed
-  pub cut_leak : (before after : List ℕ) → WritesPart (λ bytes. (stop : Stop) × IsLeak image args stop bytes) before after
+  pub cut_leak : (before after : List ℕ)
+      → WritesPart (λ bytes. (stop : Stop) × IsLeak image args stop bytes) before after
       → WritesPart (λ text. (status : ℕ) × SaysLeak files path words status text) before after
   cut_leak before after w = record {
     bytes = w.bytes;
@@ -100,7 +121,8 @@ module _ {files : Contents} {path : List ℕ} {words : List (List ℕ)} {image :
     part = w.part;
   }
 
-  pub cut_at_output : (why : LeakFault) (fault : Fault) (before after : List ℕ) → IsFaultOfLeak why fault → IsOutputFault fault
+  pub cut_at_output : (why : LeakFault) (fault : Fault) (before after : List ℕ) → IsFaultOfLeak why fault
+      → IsOutputFault fault
       → (why ≡ Write → WritesPart (λ bytes. (stop : Stop) × IsLeak image args stop bytes) before after)
       → WritesPart (λ text. (status : ℕ) × SaysLeak files path words status text) before after
   cut_at_output why fault before after is output part = cut_leak before after (part (is_write why fault is output))

@@ -10,8 +10,10 @@ use Rattle.source_eval.specs.declared.fault.EvalFault.{EvalFault}
 use Rattle.source_eval.specs.declared.fault.EvalFault.TheVariants.{Argument, NoMeaning, Budget, Memory}
 use Rattle.word.specs.declared.profile.Profile.TheVariants.{P1}
 
-pub program_held : (files : Contents) (path text judged : List ℕ) (program : ProgramTree) (before : List ProcedureTree) (export : ProcedureTree)
-    → HoldsText files path text → judged ≡ text → Judges P1 judged (accepts program before export) → HoldsProgram files path program export
+pub program_held : (files : Contents) (path text judged : List ℕ) (program : ProgramTree)
+    (before : List ProcedureTree) (export : ProcedureTree)
+    → HoldsText files path text → judged ≡ text → Judges P1 judged (accepts program before export)
+    → HoldsProgram files path program export
 program_held files path text judged program before export held same accepted = record {
   bytes = text;
   before = before;
@@ -31,16 +33,19 @@ abbrev giving : Results → Answered
 giving outcome = Ok outcome
 
 -- where the meaning is known, a fault is out of memory
-pub only_memory : (fault : EvalFault) (answer : Answered) (results : Results) → answer ≡ giving results → (failing fault ≢ failing Memory → failing fault ≡ answer) → fault ≡ Memory
+pub only_memory : (fault : EvalFault) (answer : Answered) (results : Results) → answer ≡ giving results
+    → (failing fault ≢ failing Memory → failing fault ≡ answer) → fault ≡ Memory
 only_memory (Argument why) answer results is exact = let both = exact (λ e. cc) ∙ is in cc
 only_memory (NoMeaning place) answer results is exact = let both = exact (λ e. cc) ∙ is in cc
 only_memory Budget answer results is exact = let both = exact (λ e. cc) ∙ is in cc
 only_memory Memory answer results is exact = refl
 
 -- and an outcome is the one that is meant
-pub same_outcome : (outcome results : Results) (answer : Answered) → answer ≡ giving results → (giving outcome ≢ failing Memory → giving outcome ≡ answer) → results ≡ outcome
+pub same_outcome : (outcome results : Results) (answer : Answered) → answer ≡ giving results
+    → (giving outcome ≢ failing Memory → giving outcome ≡ answer) → results ≡ outcome
 same_outcome outcome results answer is exact = let both = exact (λ e. cc) ∙ is in cc
 
 -- the answer is that outcome
-pub answered : (outcome results : Results) (answer : Answered) → answer ≡ giving results → results ≡ outcome → answer ≡ giving outcome
+pub answered : (outcome results : Results) (answer : Answered) → answer ≡ giving results → results ≡ outcome
+    → answer ≡ giving outcome
 answered outcome results answer is same = is ∙ ap giving same

@@ -15,33 +15,39 @@ use Rattle.syntax.specs.Limits.{text_limit}
 use Rattle.word.specs.declared.profile.Profile.{Profile}
 
 -- the first bytes of a file, cut to what a text may have and one more, are the first so many of the file
-pub cut_shorter : (whole bytes fewer : List ℕ) → bytes ≡ take (longest_image + 1) whole → fewer ≡ take (text_limit + 1) bytes
+pub cut_shorter : (whole bytes fewer : List ℕ) → bytes ≡ take (longest_image + 1) whole
+    → fewer ≡ take (text_limit + 1) bytes
     → fewer ≡ take (text_limit + 1) whole
 cut_shorter whole bytes fewer begun cut =
     cut ∙ ap (λ (b : List ℕ). take (text_limit + 1) b) begun
     ∙ take-take (text_limit + 1) (longest_image + 1) whole (omega arith)
 
-pub image_costs : (profile : Profile) (files : Contents) (path bytes text : List ℕ) → Begins files path (longest_image + 1) bytes
+pub image_costs : (profile : Profile) (files : Contents) (path bytes text : List ℕ)
+    → Begins files path (longest_image + 1) bytes
     → SaysFields bytes text → SaysCosts profile files path text
 image_costs profile files path bytes text begun said =
     of_image said.image (image_held files path bytes said.image begun said.spelled said.allowed) said.printed
 
-pub other_held : (files : Contents) (path bytes : List ℕ) → Begins files path (longest_image + 1) bytes → BeginsOtherwise bytes
+pub other_held : (files : Contents) (path bytes : List ℕ) → Begins files path (longest_image + 1) bytes
+    → BeginsOtherwise bytes
     → HoldsOther files path
 other_held files path bytes begun other =
     (begun.whole, begun.held, (other.0, all_read files path bytes begun (Err (Field other.0 0)) other.1))
 
 pub image_faulty : (profile : Profile) (files : Contents) (path bytes : List ℕ) (fault : ImageFault)
-    → Begins files path (longest_image + 1) bytes → IsFaultOf bytes fault → RefusesCosts profile files path (Image fault)
+    → Begins files path (longest_image + 1) bytes → IsFaultOf bytes fault
+    → RefusesCosts profile files path (Image fault)
 image_faulty profile files path bytes (Field rule offset) begun why =
     not_spelled begun.held (all_read files path bytes begun (Err (Field rule offset)) why.1) why.0
 image_faulty profile files path bytes Memory begun why = not_read (out_of_memory refl)
 
 -- what holds of an answer for another reason
-pub if_ok_so : {A E : Type 0} {P Q : A → Type 0} (answer : Result A E) → ((a : A) → P a → Q a) → IfOk answer P → IfOk answer Q
+pub if_ok_so : {A E : Type 0} {P Q : A → Type 0} (answer : Result A E) → ((a : A) → P a → Q a) → IfOk answer P
+    → IfOk answer Q
 if_ok_so (Ok a) so is = so a is
 if_ok_so (Err e) so is = tt
 
-pub if_err_so : {A E : Type 0} {P Q : E → Type 0} (answer : Result A E) → ((e : E) → P e → Q e) → IfErr answer P → IfErr answer Q
+pub if_err_so : {A E : Type 0} {P Q : E → Type 0} (answer : Result A E) → ((e : E) → P e → Q e) → IfErr answer P
+    → IfErr answer Q
 if_err_so (Ok a) so is = tt
 if_err_so (Err e) so is = so e is

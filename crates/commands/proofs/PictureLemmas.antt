@@ -12,12 +12,15 @@ use Rattle.hepurita.specs.declared.fault.RunFault.{RunFault}
 use Rattle.image_fields.specs.Fields.{Fields}
 
 -- a fault that is handed on as it is
-pub handed : {A : Type 0} (P : RunFault → Type 0) (answer : Result A RunFault) (got why : RunFault) → answer ≡ Err got → got ≡ why → P why → IfErr answer P
+pub handed : {A : Type 0} (P : RunFault → Type 0) (answer : Result A RunFault) (got why : RunFault) → answer ≡ Err got
+    → got ≡ why → P why → IfErr answer P
 handed {A} P answer got why is same h = subst (λ (r : Result A RunFault). IfErr r P) (sym is) (subst P (sym same) h)
 
-module _ (files : Contents) (path : List ℕ) (words : List (List ℕ)) (image : Fields) (why : RunFault) (held : HoldsImage files path image) where
+module _ (files : Contents) (path : List ℕ) (words : List (List ℕ)) (image : Fields) (why : RunFault)
+    (held : HoldsImage files path image) where
   abbrev is_first : Bool → Type 0
-  is_first one = IsFaultOfWords (if one then fault_of_given_texts (params_of image) words else fault_of_both (params_of image) words) why
+  is_first one = IsFaultOfWords (if one then fault_of_given_texts (params_of image) words
+      else fault_of_both (params_of image) words) why
 
   pub picture_refused : RefusesLists image words why → RefusesPicture files path words (Run why)
   picture_refused (one_refused as_many (inl fault)) = no_arguments held (subst is_first (sym as_many) fault)

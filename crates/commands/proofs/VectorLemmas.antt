@@ -12,13 +12,23 @@ use Rattle.vectors.specs.declared.fault.VectorsFault.TheVariants.{Line, Memory}
 use Rattle.word.specs.declared.profile.Profile.{Profile}
 
 -- why a text says no vectors
-pub unsaid : (profile : Profile) (files : Contents) (path list source lines : List ℕ) (fault : VectorsFault) → HoldsText files path source → files list ≡ Some lines
-    → ((line : ℕ) → fault ≡ Line line → vectors_in lines ≡ Err line) → RefusesVectors profile files path list (Vectors fault)
-unsaid profile files path list source lines (Line line) held lines_held why = no_vectors held lines_held (why line refl)
+pub unsaid : (profile : Profile) (files : Contents) (path list source lines : List ℕ) (fault : VectorsFault)
+    → HoldsText files path source → files list ≡ Some lines
+    → ((line : ℕ) → fault ≡ Line line → vectors_in lines ≡ Err line)
+    → RefusesVectors profile files path list (Vectors fault)
+unsaid profile files path list source lines (Line line) held lines_held why =
+    no_vectors held lines_held (why line refl)
 unsaid profile files path list source lines Memory held lines_held why = no_memory refl
 
 -- what two files hold
-pub both_held : (files : Contents) (path list source lines text : List ℕ) (vectors : List NamedVector) → HoldsText files path source → files list ≡ Some lines → IsUtf8 lines → text ≡ lines
+pub both_held : (files : Contents) (path list source lines text : List ℕ) (vectors : List NamedVector)
+    → HoldsText files path source → files list ≡ Some lines → IsUtf8 lines → text ≡ lines
     → vectors_in text ≡ Ok vectors → HoldVectors files path list source vectors
 both_held files path list source lines text vectors held lines_held is_text same said =
-    record { lines = lines; held = held; lines_held = lines_held; is_text = is_text; said = subst (λ (t : List ℕ). vectors_in t ≡ Ok vectors) same said }
+    record {
+      lines = lines;
+      held = held;
+      lines_held = lines_held;
+      is_text = is_text;
+      said = subst (λ (t : List ℕ). vectors_in t ≡ Ok vectors) same said;
+    }

@@ -27,7 +27,8 @@ use Rattle.rv_machine.specs.Machine.{word_at}
 abbrev pub PrintsCertificate : Fields → CertifiedEnd → List ℕ → Type 0
 PrintsCertificate image (Same stop entries) text = text ≡ codes "same\n" ++ stop_line stop
 PrintsCertificate image (MayDiffer entry pc) text =
-    (line : List ℕ) × IsLineAt (code_at code_base image) pc (Some line) × (text ≡ codes "may differ at " ++ decimal entry ++ codes "\n" ++ line)
+    (line : List ℕ) × IsLineAt (code_at code_base image) pc (Some line)
+    × (text ≡ codes "may differ at " ++ decimal entry ++ codes "\n" ++ line)
 
 -- a word begins where the turn is made that may differ
 abbrev pub StandsInCode : Fields → CertifiedEnd → Type 0
@@ -45,7 +46,8 @@ shifts_seen false = Hidden
 shifts_seen true = Seen
 
 -- whether this observer sees the same of the file's image for all arguments that have the values which the words give
-pub record SaysCertificate (shifts : Shifts) (files : Contents) (path : List ℕ) (words : List (List ℕ)) (text : List ℕ) (status : ℕ) : Type 0 where
+pub record SaysCertificate (shifts : Shifts) (files : Contents) (path : List ℕ) (words : List (List ℕ))
+    (text : List ℕ) (status : ℕ) : Type 0 where
   pub image : Fields
   pub given : List (Option Arg)
   pub certificate : CertifiedEnd
@@ -58,8 +60,10 @@ pub record SaysCertificate (shifts : Shifts) (files : Contents) (path : List ℕ
 -- the certified run on what is given has this fault
 abbrev pub FaultsByCertificate : Shifts → List (List ℕ) → Fields → Fault → Type 0
 FaultsByCertificate shifts words image fault =
-    (given : List (Option Arg)) × (why : RunFault) × AreGiven (params_of image) words given × Certified image given shifts (Err why) × (fault ≡ Run why)
+    (given : List (Option Arg)) × (why : RunFault) × AreGiven (params_of image) words given
+    × Certified image given shifts (Err why) × (fault ≡ Run why)
 
 -- why that is not answered
 abbrev pub RefusesCertificate : Shifts → Contents → List ℕ → List (List ℕ) → Fault → Type 0
-RefusesCertificate shifts files path words = RefusesImage files path (λ image. fault_of_given_texts (params_of image) words) (FaultsByCertificate shifts words)
+RefusesCertificate shifts files path words =
+    RefusesImage files path (λ image. fault_of_given_texts (params_of image) words) (FaultsByCertificate shifts words)

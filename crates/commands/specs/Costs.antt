@@ -29,6 +29,7 @@ pub data SaysCosts (profile : Profile) (files : Contents) (path : List ℕ) (tex
 pub data RefusesCosts (profile : Profile) (files : Contents) (path : List ℕ) : Fault → Type 0 where
   not_read : {fault : Fault} → NotRead path fault → RefusesCosts profile files path fault
   not_spelled : {bytes : List ℕ} {rule : ImageRule} {offset : ℕ} → files path ≡ Some bytes
-      → reading bytes ≡ Err (Field rule offset) → 1 ≤ offset → RefusesCosts profile files path (Image (Field rule offset))
+      → reading bytes ≡ Err (Field rule offset) → 1 ≤ offset
+      → RefusesCosts profile files path (Image (Field rule offset))
   no_source : {fault : Fault} → HoldsOther files path → IsRefused profile files path fault
       → RefusesCosts profile files path fault

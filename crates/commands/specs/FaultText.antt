@@ -4,7 +4,8 @@ use Rattle.std.specs.Fmt.{decimal}
 use Rattle.std.specs.String.{string_bytes}
 use Rattle.arguments.specs.Text as arguments
 use Rattle.commands.specs.declared.fault.Fault.{Fault}
-use Rattle.commands.specs.declared.fault.Fault.TheVariants.{Text, Explained, Image, Run, Eval, Plan, Harts, Vectors, Code, Name, File}
+use Rattle.commands.specs.declared.fault.Fault.TheVariants.{Text, Explained, Image, Run, Eval, Plan, Harts, Vectors}
+use Rattle.commands.specs.declared.fault.Fault.TheVariants.{Code, Name, File}
 use Rattle.commands.specs.declared.fault.FileFault.{FileFault}
 use Rattle.commands.specs.declared.fault.FileFault.TheVariants.{CannotRead, CannotWrite, NotUtf8}
 use Rattle.function_text.specs.FaultText as functions
@@ -41,7 +42,8 @@ file_fault_text (NotUtf8 path) = codes "not UTF-8 " ++ path.now
 
 -- why harts are not run, without the hart's number
 abbrev pub harts_fault_text : HartsFault → List ℕ
-harts_fault_text (harts.Schedule rule at) = rules.code_of rule ++ codes " at turn " ++ decimal at ++ codes ": " ++ rules.name_of rule
+harts_fault_text (harts.Schedule rule at) = rules.code_of rule ++ codes " at turn " ++ decimal at ++ codes ": "
+    ++ rules.name_of rule
 harts_fault_text (harts.Argument hart rule index) = arguments.fault_text (record { rule = rule; index = index })
 harts_fault_text harts.Memory = codes "M1: memory"
 
@@ -54,7 +56,8 @@ run_line (runs.Stopped stop) = codes "stopped: " ++ stop_name stop
 -- a fault's line, and those that explain it, without the last one's end
 abbrev pub fault_line : Fault → List ℕ
 fault_line (Text refusal) = codes "refused: " ++ refusal_text refusal.rule refusal.place
-fault_line (Explained refusal lines) = codes "refused: " ++ (refusal_text refusal.rule refusal.place ++ (codes "\n" ++ string_bytes lines))
+fault_line (Explained refusal lines) = codes "refused: "
+    ++ (refusal_text refusal.rule refusal.place ++ (codes "\n" ++ string_bytes lines))
 fault_line (Image fault) = codes "refused: " ++ images.fault_text fault
 fault_line (Run fault) = run_line fault
 fault_line (Eval fault) = codes "refused: " ++ eval_fault_text fault

@@ -25,10 +25,13 @@ IsNotUtf8 path (NotUtf8 named) = named.now ≡ path
 -- why no text is had of the file at a path, where a text may have any length
 pub data NoWholeText (files : Contents) (path : List ℕ) : Fault → Type 0 where
   unread_whole : {fault : Fault} → NotRead path fault → NoWholeText files path fault
-  not_utf8_whole : {bytes : List ℕ} {fault : FileFault} → files path ≡ Some bytes → ¬ IsUtf8 bytes → IsNotUtf8 path fault → NoWholeText files path (File fault)
+  not_utf8_whole : {bytes : List ℕ} {fault : FileFault} → files path ≡ Some bytes → ¬ IsUtf8 bytes
+      → IsNotUtf8 path fault → NoWholeText files path (File fault)
 
 -- why no text is had of the file at a path: its length is asked before all else
 pub data NoText (files : Contents) (path : List ℕ) : Fault → Type 0 where
   not_read : {fault : Fault} → NotRead path fault → NoText files path fault
-  too_long : {bytes : List ℕ} {refusal : Refusal} → files path ≡ Some bytes → IsTooLong bytes refusal → NoText files path (Text refusal)
-  not_utf8 : {bytes : List ℕ} {fault : FileFault} → files path ≡ Some bytes → length bytes ≤ text_limit → ¬ IsUtf8 bytes → IsNotUtf8 path fault → NoText files path (File fault)
+  too_long : {bytes : List ℕ} {refusal : Refusal} → files path ≡ Some bytes → IsTooLong bytes refusal
+      → NoText files path (Text refusal)
+  not_utf8 : {bytes : List ℕ} {fault : FileFault} → files path ≡ Some bytes → length bytes ≤ text_limit
+      → ¬ IsUtf8 bytes → IsNotUtf8 path fault → NoText files path (File fault)

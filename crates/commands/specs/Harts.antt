@@ -19,7 +19,8 @@ pub record IsJobOf (files : Contents) (hart : PlannedHart) (job : Job) : Type 0 
   pub held : HoldsImage files hart.path job.image
   pub spelled : AreSpelled (params_of job.image) hart.arguments job.args
 
--- the harts of a plan with this text are run in the order of its turns: what the turns show, how each hart ended, and the exit status
+-- the harts of a plan with this text are run in the order of its turns: what the turns show, how each hart ended, and
+-- the exit status
 pub record SaysPlan (files : Contents) (plan text : List ℕ) (status : ℕ) : Type 0 where
   pub harts : List PlannedHart
   pub schedule : List ℕ

@@ -1,5 +1,6 @@
 -- What is printed of harts side by side.
-use Rattle.std.specs.Prelude.{ℕ, ◌+◌, ◌==◌, Bool, true, false, List, [], ◌∷◌, ◌++◌, codes, Option, Some, None, if◌then◌else◌}
+use Rattle.std.specs.Prelude.{ℕ, ◌+◌, ◌==◌, Bool, true, false, List, [], ◌∷◌, ◌++◌, codes, Option, Some, None}
+use Rattle.std.specs.Prelude.{if◌then◌else◌}
 use Rattle.std.specs.Fmt.{decimal}
 use Rattle.std.specs.List.{flat_map, list_all}
 use Rattle.codegen.specs.Loaded.{params_of}
@@ -11,12 +12,14 @@ use Rattle.language.specs.Results.{Results}
 use Rattle.listing.specs.Lines.{lines_of, stop_line}
 use Rattle.rv_machine.specs.declared.hart_recording.HartObservation.{HartObservation}
 use Rattle.rv_machine.specs.declared.stops.Stop.{Stop}
-use Rattle.rv_machine.specs.declared.stops.Stop.TheVariants.{Ecall, Break, Illegal, AccessFault, Misaligned, Budget, RecorderRefused}
+use Rattle.rv_machine.specs.declared.stops.Stop.TheVariants.{Ecall, Break, Illegal, AccessFault, Misaligned, Budget}
+use Rattle.rv_machine.specs.declared.stops.Stop.TheVariants.{RecorderRefused}
 
 -- bytes with a front before each line, whose ends are the bytes 10; whether the first of them begins a line
 abbrev pub with_fronts : List ℕ → Bool → List ℕ → List ℕ
 with_fronts front begins [] = []
-with_fronts front begins (byte ∷ bytes) = (if begins then front else []) ++ byte ∷ with_fronts front (byte == 10) bytes
+with_fronts front begins (byte ∷ bytes) = (if begins then front else []) ++ byte
+    ∷ with_fronts front (byte == 10) bytes
 
 -- lines of a hart, each behind its number and a blank
 abbrev pub behind : ℕ → List ℕ → List ℕ
@@ -40,7 +43,8 @@ ended_text image None = []
 abbrev pub ends_text : ℕ → List Job → List HartEnd → List ℕ
 ends_text hart jobs [] = []
 ends_text hart [] (end ∷ ends) = []
-ends_text hart (job ∷ jobs) (end ∷ ends) = behind hart (ended_line end.stop) ++ behind hart (ended_text job.image end.outcome) ++ ends_text (hart + 1) jobs ends
+ends_text hart (job ∷ jobs) (end ∷ ends) = behind hart (ended_line end.stop)
+    ++ behind hart (ended_text job.image end.outcome) ++ ends_text (hart + 1) jobs ends
 
 -- what turns showed, and then how each hart ended
 abbrev pub harts_text : List Job → List HartObservation → List HartEnd → List ℕ

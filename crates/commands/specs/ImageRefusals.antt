@@ -10,9 +10,13 @@ use Rattle.commands.specs.declared.fault.Fault.TheVariants.{Run}
 use Rattle.hepurita.specs.declared.fault.RunFault.{RunFault}
 use Rattle.image_fields.specs.Fields.{Fields}
 
--- there is no image; or the words have a first fault, by the image; or the answer for the image is this fault; or memory was refused
-pub data RefusesImage (files : Contents) (path : List ℕ) (first : Fields → Option ArgumentFault) (Answers : Fields → Fault → Type 0) : Fault → Type 0 where
+-- there is no image; or the words have a first fault, by the image; or the answer for the image is this fault; or
+-- memory was refused
+pub data RefusesImage (files : Contents) (path : List ℕ) (first : Fields → Option ArgumentFault) (Answers : Fields
+    → Fault → Type 0) : Fault → Type 0 where
   no_image : {fault : Fault} → NoImage files path fault → RefusesImage files path first Answers fault
-  no_arguments : {image : Fields} {fault : RunFault} → HoldsImage files path image → IsFaultOfWords (first image) fault → RefusesImage files path first Answers (Run fault)
-  no_answer : {image : Fields} {fault : Fault} → HoldsImage files path image → Answers image fault → RefusesImage files path first Answers fault
+  no_arguments : {image : Fields} {fault : RunFault} → HoldsImage files path image
+      → IsFaultOfWords (first image) fault → RefusesImage files path first Answers (Run fault)
+  no_answer : {image : Fields} {fault : Fault} → HoldsImage files path image → Answers image fault
+      → RefusesImage files path first Answers fault
   out_of_memory : {fault : Fault} → IsOutOfMemory fault → RefusesImage files path first Answers fault

@@ -19,4 +19,5 @@ pub record HoldsImage (files : Contents) (path : List ℕ) (image : Fields) : Ty
 -- why no image is had of the file at a path: the first fault of its bytes, all of them, or they were not read
 pub data NoImage (files : Contents) (path : List ℕ) : Fault → Type 0 where
   not_read : {fault : Fault} → NotRead path fault → NoImage files path fault
-  not_spelled : {bytes : List ℕ} {rule : ImageRule} {offset : ℕ} → files path ≡ Some bytes → reading bytes ≡ Err (Field rule offset) → NoImage files path (Image (Field rule offset))
+  not_spelled : {bytes : List ℕ} {rule : ImageRule} {offset : ℕ} → files path ≡ Some bytes
+      → reading bytes ≡ Err (Field rule offset) → NoImage files path (Image (Field rule offset))

@@ -28,7 +28,8 @@ abbrev pub IsExplained : List ℕ → Refusal → Fault → Type 0
 IsExplained source refusal (Explained told lines) = (told ≡ refusal) × Explains source refusal (string_bytes lines)
 IsExplained source refusal other = ⊥
 
--- how a refusal of a source is told: as it is; or where it is to be explained, with lines that explain it, or there was no memory for these
+-- how a refusal of a source is told: as it is; or where it is to be explained, with lines that explain it, or there
+-- was no memory for these
 abbrev pub Tells : Bool → List ℕ → Refusal → Fault → Type 0
 Tells false source refusal fault = fault ≡ Text refusal
 Tells true source refusal fault = IsOutOfMemory fault ⊎ IsExplained source refusal fault
@@ -36,7 +37,8 @@ Tells true source refusal fault = IsOutOfMemory fault ⊎ IsExplained source ref
 -- why it is not accepted: there is no text, or its first refusal, explained or not
 pub data IsRefusedSo (explain : Bool) (profile : Profile) (files : Contents) (path : List ℕ) : Fault → Type 0 where
   no_text : {fault : Fault} → NoText files path fault → IsRefusedSo explain profile files path fault
-  not_accepted : {text : List ℕ} (refusal : Refusal) {fault : Fault} → HoldsText files path text → IsRefusal (Judges profile text) refusal
+  not_accepted : {text : List ℕ} (refusal : Refusal) {fault : Fault} → HoldsText files path text
+      → IsRefusal (Judges profile text) refusal
       → Tells explain text refusal fault → IsRefusedSo explain profile files path fault
 
 -- the same, not explained
@@ -44,7 +46,8 @@ abbrev pub IsRefused : Profile → Contents → List ℕ → Fault → Type 0
 IsRefused = IsRefusedSo false
 
 -- the bytes are the image of the file's text, plain or optimised
-pub record IsImageOf (optimisation : Optimisation) (profile : Profile) (files : Contents) (path : List ℕ) (bytes : List ℕ) : Type 0 where
+pub record IsImageOf (optimisation : Optimisation) (profile : Profile) (files : Contents) (path : List ℕ)
+    (bytes : List ℕ) : Type 0 where
   pub text : List ℕ
   pub held : HoldsText files path text
   pub built : IsBuilt optimisation profile text bytes

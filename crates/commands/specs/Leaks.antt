@@ -23,8 +23,10 @@ use Rattle.rv_machine.specs.declared.stops.Stop.{Stop}
 abbrev pub standard_output : List ℕ
 standard_output = codes "-"
 
--- the listing of the run of the file's image on the arguments that the words spell, and the exit status of how it stops
-pub record SaysLeak (files : Contents) (path : List ℕ) (words : List (List ℕ)) (status : ℕ) (text : List ℕ) : Type 0 where
+-- the listing of the run of the file's image on the arguments that the words spell, and the exit status of how it
+-- stops
+pub record SaysLeak (files : Contents) (path : List ℕ) (words : List (List ℕ)) (status : ℕ) (text : List ℕ) :
+    Type 0 where
   pub image : Fields
   pub args : List Arg
   pub stop : Stop
@@ -46,8 +48,10 @@ IsFaultOfLeak Write fault = IsOutputFault fault
 -- the listing of the run on these arguments has this fault
 abbrev pub FaultsByLeak : List (List ℕ) → Fields → Fault → Type 0
 FaultsByLeak words image fault =
-    (args : List Arg) × (why : LeakFault) × AreSpelled (params_of image) words args × Leaks image args (Err why) × IsFaultOfLeak why fault
+    (args : List Arg) × (why : LeakFault) × AreSpelled (params_of image) words args × Leaks image args (Err why)
+    × IsFaultOfLeak why fault
 
 -- why the listing is not written to its end
 abbrev pub RefusesLeak : Contents → List ℕ → List (List ℕ) → Fault → Type 0
-RefusesLeak files path words = RefusesImage files path (λ image. fault_of_texts (params_of image) words) (FaultsByLeak words)
+RefusesLeak files path words =
+    RefusesImage files path (λ image. fault_of_texts (params_of image) words) (FaultsByLeak words)

@@ -32,6 +32,7 @@ abbrev pub returned_line : Option ℕ → List ℕ
 returned_line None = []
 returned_line (Some word) = codes "return " ++ decimal word ++ codes "\n"
 
--- `return N` where there is a result, and then `array K v1,v2,..` for each `mut` array, with its parameter's number from 0
+-- `return N` where there is a result, and then `array K v1,v2,..` for each `mut` array, with its parameter's number
+-- from 0
 abbrev pub outcome_text : List Param → Results → List ℕ
 outcome_text params outcome = returned_line outcome.returned ++ array_lines 0 params outcome.arrays

@@ -30,9 +30,10 @@ PrintsPairing false image one other (Differ place) text = text ≡ pairing_text 
 PrintsPairing true image one other (Differ place) text =
     (lines : List ℕ) × Explains image one other place lines × (text ≡ pairing_text (Differ place) ++ lines)
 
--- whether an observer sees the same of the file's image on the two lists of arguments that the words spell, and why not, where that is to be
--- explained
-pub record SaysPair (explain : Bool) (files : Contents) (path : List ℕ) (words : List (List ℕ)) (text : List ℕ) : Type 0 where
+-- whether an observer sees the same of the file's image on the two lists of arguments that the words spell, and why
+-- not, where that is to be explained
+pub record SaysPair (explain : Bool) (files : Contents) (path : List ℕ) (words : List (List ℕ)) (text : List ℕ) :
+    Type 0 where
   pub image : Fields
   pub one : List Arg
   pub other : List Arg
@@ -45,11 +46,13 @@ pub record SaysPair (explain : Bool) (files : Contents) (path : List ℕ) (words
 -- the comparison on these arguments has this fault
 abbrev pub FaultsByPair : List (List ℕ) → Fields → Fault → Type 0
 FaultsByPair words image fault =
-    (one : List Arg) × (other : List Arg) × (why : RunFault) × AreBothSpelled (params_of image) words one other × Paired image one other (Err why) × (fault ≡ Run why)
+    (one : List Arg) × (other : List Arg) × (why : RunFault) × AreBothSpelled (params_of image) words one other
+    × Paired image one other (Err why) × (fault ≡ Run why)
 
 -- why that is not answered
 abbrev pub RefusesPair : Contents → List ℕ → List (List ℕ) → Fault → Type 0
-RefusesPair files path words = RefusesImage files path (λ image. fault_of_both (params_of image) words) (FaultsByPair words)
+RefusesPair files path words =
+    RefusesImage files path (λ image. fault_of_both (params_of image) words) (FaultsByPair words)
 
 -- a line for each word of the file's image
 pub record SaysList (files : Contents) (path : List ℕ) (text : List ℕ) : Type 0 where

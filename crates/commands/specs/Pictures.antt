@@ -50,8 +50,10 @@ pub record PicturesTwo (image : Fields) (words : List (List ℕ)) (page : List �
 
 -- as many words as parameters are one list, and others two
 pub data PicturesImage (image : Fields) (words : List (List ℕ)) (page : List ℕ) : Type 0 where
-  of_one : (length words == length (params_of image)) ≡ true → PicturesOne image words page → PicturesImage image words page
-  of_two : (length words == length (params_of image)) ≡ false → PicturesTwo image words page → PicturesImage image words page
+  of_one : (length words == length (params_of image)) ≡ true → PicturesOne image words page
+      → PicturesImage image words page
+  of_two : (length words == length (params_of image)) ≡ false → PicturesTwo image words page
+      → PicturesImage image words page
 
 -- the page of the file's image on the arguments that the words spell
 pub record SaysPicture (files : Contents) (path : List ℕ) (words : List (List ℕ)) (page : List ℕ) : Type 0 where
@@ -70,16 +72,21 @@ FaultsByPicture words image fault = FaultsByCertificate Hidden words image fault
 
 -- why no page is answered for one list, and for two
 abbrev pub RefusesOne : Fields → List (List ℕ) → RunFault → Type 0
-RefusesOne image words why = IsFaultOfWords (fault_of_given_texts (params_of image) words) why ⊎ FaultsByCertificate Hidden words image (Run why)
+RefusesOne image words why = IsFaultOfWords (fault_of_given_texts (params_of image) words) why
+    ⊎ FaultsByCertificate Hidden words image (Run why)
 
 abbrev pub RefusesTwo : Fields → List (List ℕ) → RunFault → Type 0
-RefusesTwo image words why = IsFaultOfWords (fault_of_both (params_of image) words) why ⊎ FaultsByPair words image (Run why)
+RefusesTwo image words why = IsFaultOfWords (fault_of_both (params_of image) words) why
+    ⊎ FaultsByPair words image (Run why)
 
 -- and for either, by how many words there are
 pub data RefusesLists (image : Fields) (words : List (List ℕ)) (why : RunFault) : Type 0 where
-  one_refused : (length words == length (params_of image)) ≡ true → RefusesOne image words why → RefusesLists image words why
-  two_refused : (length words == length (params_of image)) ≡ false → RefusesTwo image words why → RefusesLists image words why
+  one_refused : (length words == length (params_of image)) ≡ true → RefusesOne image words why
+      → RefusesLists image words why
+  two_refused : (length words == length (params_of image)) ≡ false → RefusesTwo image words why
+      → RefusesLists image words why
 
 -- why no page is answered
 abbrev pub RefusesPicture : Contents → List ℕ → List (List ℕ) → Fault → Type 0
-RefusesPicture files path words = RefusesImage files path (λ image. fault_of_lists (params_of image) words) (FaultsByPicture words)
+RefusesPicture files path words =
+    RefusesImage files path (λ image. fault_of_lists (params_of image) words) (FaultsByPicture words)

@@ -28,8 +28,10 @@ pub record SaysRun (files : Contents) (path : List ℕ) (words : List (List ℕ)
 -- the run on these arguments has this fault: it stops otherwise than by ECALL
 abbrev pub FaultsByRun : List (List ℕ) → Fields → Fault → Type 0
 FaultsByRun words image fault =
-    (args : List Arg) × (why : RunFault) × AreSpelled (params_of image) words args × Executed image args false [] (Err why) [] × (fault ≡ Run why)
+    (args : List Arg) × (why : RunFault) × AreSpelled (params_of image) words args
+    × Executed image args false [] (Err why) [] × (fault ≡ Run why)
 
 -- why no outcome is printed
 abbrev pub RefusesRun : Contents → List ℕ → List (List ℕ) → Fault → Type 0
-RefusesRun files path words = RefusesImage files path (λ image. fault_of_texts (params_of image) words) (FaultsByRun words)
+RefusesRun files path words =
+    RefusesImage files path (λ image. fault_of_texts (params_of image) words) (FaultsByRun words)

@@ -1,7 +1,8 @@
 -- The exit status of a run.
 use Rattle.std.specs.Prelude.{ℕ}
 use Rattle.rv_machine.specs.declared.stops.Stop.{Stop}
-use Rattle.rv_machine.specs.declared.stops.Stop.TheVariants.{Ecall, Break, Illegal, AccessFault, Misaligned, Budget, RecorderRefused}
+use Rattle.rv_machine.specs.declared.stops.Stop.TheVariants.{Ecall, Break, Illegal, AccessFault, Misaligned, Budget}
+use Rattle.rv_machine.specs.declared.stops.Stop.TheVariants.{RecorderRefused}
 
 -- 0 where it stops by ECALL, else 5
 abbrev pub status_of : Stop → ℕ

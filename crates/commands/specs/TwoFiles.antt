@@ -12,8 +12,10 @@ pub record AreWritten (one other bytes more : List ℕ) (before after : Contents
 
 -- the writing of the first failed, or the first was written and the writing of the second failed
 pub data AreCutOff (one other bytes more : List ℕ) (before after : Contents) : Fault → Type 0 where
-  in_first : {fault : Fault} → IsCutOff one bytes before after → IsWriteFault one fault → AreCutOff one other bytes more before after fault
-  in_second : {between : Contents} {fault : Fault} → IsWritten one bytes before between → IsCutOff other more between after → IsWriteFault other fault
+  in_first : {fault : Fault} → IsCutOff one bytes before after → IsWriteFault one fault
+      → AreCutOff one other bytes more before after fault
+  in_second : {between : Contents} {fault : Fault} → IsWritten one bytes before between
+      → IsCutOff other more between after → IsWriteFault other fault
       → AreCutOff one other bytes more before after fault
 
 -- two files were written with such bytes
@@ -24,7 +26,10 @@ pub record WritesTwo (one other : List ℕ) (Such : List ℕ → List ℕ → Ty
   pub written : AreWritten one other bytes more before after
 
 -- why they were not: it was refused before any file was opened, or the writing of such bytes failed
-pub data FailsToWriteTwo (one other : List ℕ) (Such : List ℕ → List ℕ → Type 0) (Refuses : Fault → Type 0) (before after : Contents) : Fault → Type 0 where
-  refused : {fault : Fault} → Refuses fault → after ≡ before → FailsToWriteTwo one other Such Refuses before after fault
-  cut_off : {bytes more : List ℕ} {fault : Fault} → Such bytes more → AreCutOff one other bytes more before after fault
+pub data FailsToWriteTwo (one other : List ℕ) (Such : List ℕ → List ℕ → Type 0) (Refuses : Fault
+    → Type 0) (before after : Contents) : Fault → Type 0 where
+  refused : {fault : Fault} → Refuses fault → after ≡ before
+      → FailsToWriteTwo one other Such Refuses before after fault
+  cut_off : {bytes more : List ℕ} {fault : Fault} → Such bytes more
+      → AreCutOff one other bytes more before after fault
       → FailsToWriteTwo one other Such Refuses before after fault

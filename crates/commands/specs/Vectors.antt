@@ -37,9 +37,12 @@ pub record SaysVectors (profile : Profile) (files : Contents) (path list text : 
 -- why nothing is: the source is asked for first, then the vectors, and then whether the source is accepted
 pub data RefusesVectors (profile : Profile) (files : Contents) (path list : List ℕ) : Fault → Type 0 where
   no_source : {fault : Fault} → NoText files path fault → RefusesVectors profile files path list fault
-  no_lines : {source : List ℕ} {fault : Fault} → HoldsText files path source → NoWholeText files list fault → RefusesVectors profile files path list fault
-  no_vectors : {source lines : List ℕ} {line : ℕ} → HoldsText files path source → files list ≡ Some lines → vectors_in lines ≡ Err line
+  no_lines : {source : List ℕ} {fault : Fault} → HoldsText files path source → NoWholeText files list fault
+      → RefusesVectors profile files path list fault
+  no_vectors : {source lines : List ℕ} {line : ℕ} → HoldsText files path source → files list ≡ Some lines
+      → vectors_in lines ≡ Err line
       → RefusesVectors profile files path list (Vectors (Line line))
-  not_accepted : {source : List ℕ} {vectors : List NamedVector} {refusal : Refusal} → HoldVectors files path list source vectors
+  not_accepted : {source : List ℕ} {vectors : List NamedVector} {refusal : Refusal}
+      → HoldVectors files path list source vectors
       → IsRefusal (Judges profile source) refusal → RefusesVectors profile files path list (Text refusal)
   no_memory : {fault : Fault} → IsOutOfMemory fault → RefusesVectors profile files path list fault

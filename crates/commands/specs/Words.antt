@@ -23,12 +23,13 @@ pub record AreBothSpelled (params : List Param) (words : List (List ℕ)) (one o
   pub first : AreSpelled params (take (length params) words) one
   pub second : AreSpelled params (drop (length params) words) other
 
--- the first fault of words that are to spell two lists: their count before all else, then the first list's, then the second's, whose arguments
--- are numbered after those of the first
+-- the first fault of words that are to spell two lists: their count before all else, then the first list's, then the
+-- second's, whose arguments are numbered after those of the first
 abbrev pub fault_of_both : List Param → List (List ℕ) → Option ArgumentFault
 fault_of_both params words =
     if length words == 2 * length params
-    then first_of (fault_of_texts params (take (length params) words)) (option_map (shifted (length params)) (fault_of_texts params (drop (length params) words)))
+    then first_of (fault_of_texts params (take (length params) words))
+    (option_map (shifted (length params)) (fault_of_texts params (drop (length params) words)))
     else Some count_fault
 
 -- what is given of arguments, as the words say: `?` stands for every value of a secret parameter

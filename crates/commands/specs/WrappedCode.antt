@@ -22,4 +22,5 @@ pub record IsImageOfCode (asked : Asked) (files : Contents) (path code : List �
 pub data RefusesCode (asked : Asked) (files : Contents) (path code : List ℕ) : Fault → Type 0 where
   not_accepted : {fault : Fault} → IsRefused asked.profile files path fault → RefusesCode asked files path code fault
   not_read : {fault : Fault} → NotRead code fault → RefusesCode asked files path code fault
-  broken : {text words : List ℕ} {rule : CodeRule} → HoldsText files path text → files code ≡ Some words → Breaks text words asked rule → RefusesCode asked files path code (Code rule)
+  broken : {text words : List ℕ} {rule : CodeRule} → HoldsText files path text → files code ≡ Some words
+      → Breaks text words asked rule → RefusesCode asked files path code (Code rule)

@@ -16,7 +16,10 @@ pub record WritesFile (path : List ℕ) (Such : List ℕ → Type 0) (before aft
   pub such : Such bytes
   pub written : IsWritten path bytes before after
 
--- why the file at a path was not written: it was refused before any file was opened, or the writing of such bytes failed
-pub data FailsToWrite (path : List ℕ) (Such : List ℕ → Type 0) (Refuses : Fault → Type 0) (before after : Contents) : Fault → Type 0 where
+-- why the file at a path was not written: it was refused before any file was opened, or the writing of such bytes
+-- failed
+pub data FailsToWrite (path : List ℕ) (Such : List ℕ → Type 0) (Refuses : Fault
+    → Type 0) (before after : Contents) : Fault → Type 0 where
   refused : {fault : Fault} → Refuses fault → after ≡ before → FailsToWrite path Such Refuses before after fault
-  cut_off : {bytes : List ℕ} {fault : Fault} → Such bytes → IsCutOff path bytes before after → IsWriteFault path fault → FailsToWrite path Such Refuses before after fault
+  cut_off : {bytes : List ℕ} {fault : Fault} → Such bytes → IsCutOff path bytes before after → IsWriteFault path fault
+      → FailsToWrite path Such Refuses before after fault

@@ -1,18 +1,21 @@
 -- What is known of variables once something is noted or forgotten.
-use Rattle.std.proofs.Common.{◌≡◌, ℕ, zero, suc, List, [], ◌∷◌, Option, None, Some, replicate, slice_set, slice_index, refl, ap, arith}
+use Rattle.std.proofs.Common.{◌≡◌, ℕ, zero, suc, List, [], ◌∷◌, Option, None, Some, replicate, slice_set, slice_index}
+use Rattle.std.proofs.Common.{refl, ap, arith}
 use Rattle.std.proofs.lemmas.Option.{none-some}
 use Rattle.inline.specs.FlatMeaning.{Values}
 use Rattle.constants.specs.declared.known.Constant.{Constant}
 use Rattle.constants.specs.private.Known.{Words, known, without}
 
-pub known_beside : (words : Words) (x y : ℕ) (word : Option Constant) → (y ≡ x → ⊥) → known (slice_set words x word) y ≡ known words y
+pub known_beside : (words : Words) (x y : ℕ) (word : Option Constant) → (y ≡ x → ⊥)
+    → known (slice_set words x word) y ≡ known words y
 known_beside [] x y word apart = refl
 known_beside (w ∷ words) zero zero word apart = absurd (apart refl)
 known_beside (w ∷ words) zero (suc y) word apart = refl
 known_beside (w ∷ words) (suc x) zero word apart = refl
 known_beside (w ∷ words) (suc x) (suc y) word apart = known_beside words x y word (λ e. apart (ap suc e))
 
-pub known_here : (words : Words) (x : ℕ) (word : Option Constant) (c : Constant) → known (slice_set words x word) x ≡ Some c → word ≡ Some c
+pub known_here : (words : Words) (x : ℕ) (word : Option Constant) (c : Constant)
+    → known (slice_set words x word) x ≡ Some c → word ≡ Some c
 known_here [] x word c is = absurd (none-some c is)
 known_here (w ∷ words) zero word c is = is
 known_here (w ∷ words) (suc x) word c is = known_here words x word c is
@@ -25,7 +28,8 @@ without_apart (w ∷ words) zero (suc y) c is same = omega (arith, same)
 without_apart (w ∷ words) (suc x) zero c is same = omega (arith, same)
 without_apart (w ∷ words) (suc x) (suc y) c is same = without_apart words x y c is (omega (arith, same))
 
-pub without_same : (words : Words) (x y : ℕ) (c : Constant) → known (without words x) y ≡ Some c → known words y ≡ Some c
+pub without_same : (words : Words) (x y : ℕ) (c : Constant) → known (without words x) y ≡ Some c
+    → known words y ≡ Some c
 without_same [] x y c is = is
 without_same (w ∷ words) zero zero c is = absurd (none-some c is)
 without_same (w ∷ words) zero (suc y) c is = is

@@ -1,5 +1,7 @@
 -- A simpler expression has the value and the path that the expression has, and no more nodes.
-use Rattle.std.proofs.Common.{◌≡◌, ℕ, ◌+◌, ◌≤◌, ◌==◌, ◌&&◌, ◌||◌, Bool, true, false, not, cond, if◌then◌else◌, List, [], ◌∷◌, ◌++◌, map, length, slice_index, Option, None, Some, option_map, refl, sym, ap, ap₂, ◌∙◌, subst, append-nil, arith}
+use Rattle.std.proofs.Common.{◌≡◌, ℕ, ◌+◌, ◌≤◌, ◌==◌, ◌&&◌, ◌||◌, Bool, true, false, not, cond, if◌then◌else◌, List}
+use Rattle.std.proofs.Common.{[], ◌∷◌, ◌++◌, map, length, slice_index, Option, None, Some, option_map, refl, sym, ap}
+use Rattle.std.proofs.Common.{ap₂, ◌∙◌, subst, append-nil, arith}
 use Rattle.std.proofs.lemmas.Bool.{cond-false, cond-true, or_parts, and_parts, not-true}
 use Rattle.std.proofs.lemmas.Option.{none-some, same_Some}
 use Rattle.inline.specs.Flat.{TermTree, number, truth, variable, prefix, binary, rotate, convert, select, element}
@@ -16,7 +18,8 @@ use Rattle.word.specs.declared.place.Place.{Place}
 use Rattle.word.specs.declared.width.Width.{Width}
 use Rattle.constants.specs.declared.known.Constant.{Constant}
 use Rattle.constants.specs.private.Known.{Words, known}
-use Rattle.constants.specs.private.Folding.{constant, constant_of, number_of, known_or, decision, is_marked, is_quiet, folded, between, chosen, simple}
+use Rattle.constants.specs.private.Folding.{constant, constant_of, number_of, known_or, decision, is_marked, is_quiet}
+use Rattle.constants.specs.private.Folding.{folded, between, chosen, simple}
 use Rattle.constants.proofs.KnownLemmas.{Agrees}
 
 -- Nodes.
@@ -36,17 +39,21 @@ known_nodes : (o : Option Constant) (e : TermTree) → term_nodes (known_or o e)
 known_nodes None e = omega arith
 known_nodes (Some c) e = some_node e
 
-either_nodes : (b : Bool) (one other : TermTree) (n : ℕ) → term_nodes one ≤ n → term_nodes other ≤ n → term_nodes (if b then one else other) ≤ n
+either_nodes : (b : Bool) (one other : TermTree) (n : ℕ) → term_nodes one ≤ n → term_nodes other ≤ n
+    → term_nodes (if b then one else other) ≤ n
 either_nodes true one other n a b = a
 either_nodes false one other n a b = b
 
 chosen_nodes : (d : Option Bool) (condition accepted otherwise : TermTree)
-    → term_nodes (chosen d condition accepted otherwise) ≤ 1 + term_nodes condition + term_nodes accepted + term_nodes otherwise
+    → term_nodes (chosen d condition accepted otherwise) ≤ 1 + term_nodes condition + term_nodes accepted
+    + term_nodes otherwise
 chosen_nodes None condition accepted otherwise = omega arith
 chosen_nodes (Some true) condition accepted otherwise =
-    either_nodes (is_quiet otherwise) accepted (select condition accepted otherwise) (1 + term_nodes condition + term_nodes accepted + term_nodes otherwise) (omega arith) (omega arith)
+    either_nodes (is_quiet otherwise) accepted (select condition accepted otherwise)
+    (1 + term_nodes condition + term_nodes accepted + term_nodes otherwise) (omega arith) (omega arith)
 chosen_nodes (Some false) condition accepted otherwise =
-    either_nodes (is_quiet accepted) otherwise (select condition accepted otherwise) (1 + term_nodes condition + term_nodes accepted + term_nodes otherwise) (omega arith) (omega arith)
+    either_nodes (is_quiet accepted) otherwise (select condition accepted otherwise)
+    (1 + term_nodes condition + term_nodes accepted + term_nodes otherwise) (omega arith) (omega arith)
 
 module _ (words : Words) where
   pub fewer_nodes : (e : TermTree) → term_nodes (simple words e) ≤ term_nodes e
@@ -54,19 +61,28 @@ module _ (words : Words) where
   fewer_nodes (truth value) = omega arith
   fewer_nodes (variable x) = known_nodes (known words x) (variable x)
   fewer_nodes (prefix operator width operand) =
-      let whole = known_nodes (option_map (λ c. constant (prefix_value operator width c.value) c.kind) (constant_of (simple words operand))) (prefix operator width (simple words operand)) in
+      let whole =
+      known_nodes (option_map (λ c. constant (prefix_value operator width c.value) c.kind)
+      (constant_of (simple words operand))) (prefix operator width (simple words operand)) in
       omega (arith, whole, fewer_nodes operand)
   fewer_nodes (binary place operator width left right) =
-      let whole = known_nodes (between operator width (constant_of (simple words left)) (constant_of (simple words right))) (binary place operator width (simple words left) (simple words right)) in
+      let whole =
+      known_nodes (between operator width (constant_of (simple words left)) (constant_of (simple words right)))
+      (binary place operator width (simple words left) (simple words right)) in
       omega (arith, whole, fewer_nodes left, fewer_nodes right)
   fewer_nodes (rotate width operand amount) =
-      let whole = known_nodes (option_map (λ c. constant (rotated_left width c.value amount) c.kind) (constant_of (simple words operand))) (rotate width (simple words operand) amount) in
+      let whole =
+      known_nodes (option_map (λ c. constant (rotated_left width c.value amount) c.kind)
+      (constant_of (simple words operand))) (rotate width (simple words operand) amount) in
       omega (arith, whole, fewer_nodes operand)
   fewer_nodes (convert kind operand) =
-      let whole = known_nodes (option_map (λ c. constant (converted (width_of kind) c.value) kind) (constant_of (simple words operand))) (convert kind (simple words operand)) in
+      let whole =
+      known_nodes (option_map (λ c. constant (converted (width_of kind) c.value) kind)
+      (constant_of (simple words operand))) (convert kind (simple words operand)) in
       omega (arith, whole, fewer_nodes operand)
   fewer_nodes (select condition accepted otherwise) =
-      let whole = chosen_nodes (decision (simple words condition)) (simple words condition) (simple words accepted) (simple words otherwise) in
+      let whole = chosen_nodes (decision (simple words condition)) (simple words condition) (simple words accepted)
+      (simple words otherwise) in
       omega (arith, whole, fewer_nodes condition, fewer_nodes accepted, fewer_nodes otherwise)
   fewer_nodes (element place x size index) = omega (arith, fewer_nodes index)
 
@@ -100,17 +116,20 @@ module _ (m : Values) where
   constant_path (element place x size index) c is = absurd (none-some c is)
 
   -- an operator on one operand
-  one_value : (f : ℕ → ℕ) (k : Constant → Kind) (e whole : TermTree) (o : Option Constant) → constant_of e ≡ o → value_in m whole ≡ f (value_in m e)
+  one_value : (f : ℕ → ℕ) (k : Constant → Kind) (e whole : TermTree) (o : Option Constant) → constant_of e ≡ o
+      → value_in m whole ≡ f (value_in m e)
       → value_in m (known_or (option_map (λ c. constant (f c.value) (k c)) o) whole) ≡ f (value_in m e)
   one_value f k e whole None is same = same
   one_value f k e whole (Some c) is same = ap f (sym (constant_value e c is))
 
-  one_path : (g : Constant → Constant) (e whole : TermTree) (o : Option Constant) → constant_of e ≡ o → path_in m whole ≡ path_in m e
+  one_path : (g : Constant → Constant) (e whole : TermTree) (o : Option Constant) → constant_of e ≡ o
+      → path_in m whole ≡ path_in m e
       → path_in m (known_or (option_map g o) whole) ≡ path_in m e
   one_path g e whole None is same = same
   one_path g e whole (Some c) is same = sym (constant_path e c is)
 
-  no_marks : (place : Place) (operator : BinaryOperator) (a b : ℕ) → is_marked operator ≡ false → marks_of place operator a b ≡ []
+  no_marks : (place : Place) (operator : BinaryOperator) (a b : ℕ) → is_marked operator ≡ false
+      → marks_of place operator a b ≡ []
   no_marks place operator a b unmarked =
       let parts = or_parts (divides operator) (multiplies operator) unmarked in
       cond-false (divides operator) _ _ parts.0 ∙ cond-false (multiplies operator) _ _ parts.1
@@ -121,17 +140,21 @@ module _ (m : Values) where
     whole = binary place operator width left right
 
     abbrev number_by : Constant → Constant → Bool → Option Constant
-    number_by a b marked = option_map (λ v. constant v (operation_kind (operation_of operator) a.kind)) (if marked then None else Some (operated operator width a.value b.value))
+    number_by a b marked = option_map (λ v. constant v (operation_kind (operation_of operator) a.kind)) (if marked
+        then None else Some (operated operator width a.value b.value))
 
     both_value : (one other : Option Constant) → constant_of left ≡ one → constant_of right ≡ other
-        → value_in m (known_or (between operator width one other) whole) ≡ operated operator width (value_in m left) (value_in m right)
+        → value_in m (known_or (between operator width one other) whole)
+        ≡ operated operator width (value_in m left) (value_in m right)
     both_value None other is also = refl
     both_value (Some a) None is also = refl
     both_value (Some a) (Some b) is also = by_marks (is_marked operator)
       where
-        by_marks : (marked : Bool) → value_in m (known_or (number_by a b marked) whole) ≡ operated operator width (value_in m left) (value_in m right)
+        by_marks : (marked : Bool) → value_in m (known_or (number_by a b marked) whole)
+            ≡ operated operator width (value_in m left) (value_in m right)
         by_marks true = refl
-        by_marks false = ap₂ (operated operator width) (sym (constant_value left a is)) (sym (constant_value right b also))
+        by_marks false = ap₂ (operated operator width) (sym (constant_value left a is))
+            (sym (constant_value right b also))
 
     both_path : (one other : Option Constant) → constant_of left ≡ one → constant_of right ≡ other
         → path_in m (known_or (between operator width one other) whole) ≡ path_in m whole
@@ -139,10 +162,12 @@ module _ (m : Values) where
     both_path (Some a) None is also = refl
     both_path (Some a) (Some b) is also = by_marks (is_marked operator) refl
       where
-        by_marks : (marked : Bool) → is_marked operator ≡ marked → path_in m (known_or (number_by a b marked) whole) ≡ path_in m whole
+        by_marks : (marked : Bool) → is_marked operator ≡ marked
+            → path_in m (known_or (number_by a b marked) whole) ≡ path_in m whole
         by_marks true h = refl
         by_marks false h =
-            sym (ap₂ (λ (p q : Path). p ++ q) (ap₂ (λ (p q : Path). p ++ q) (constant_path left a is) (constant_path right b also))
+            sym (ap₂ (λ (p q : Path). p ++ q)
+            (ap₂ (λ (p q : Path). p ++ q) (constant_path left a is) (constant_path right b also))
             (no_marks place operator (value_in m left) (value_in m right) h))
 
   -- an expression without marks
@@ -161,7 +186,9 @@ module _ (m : Values) where
   quiet_path (select condition accepted otherwise) quiet =
       let outer = and_parts (is_quiet condition && is_quiet accepted) (is_quiet otherwise) quiet in
       let inner = and_parts (is_quiet condition) (is_quiet accepted) outer.0 in
-      ap₂ (λ (p q : Path). p ++ q) (ap₂ (λ (p q : Path). p ++ q) (quiet_path condition inner.0) (quiet_path accepted inner.1)) (quiet_path otherwise outer.1)
+      ap₂ (λ (p q : Path). p ++ q)
+      (ap₂ (λ (p q : Path). p ++ q) (quiet_path condition inner.0) (quiet_path accepted inner.1))
+      (quiet_path otherwise outer.1)
   quiet_path (element place x size index) quiet = absurd (none_true quiet)
     where
       none_true : false ≡ true → ⊥
@@ -175,47 +202,66 @@ module _ (m : Values) where
       twice true h = ap not h
       twice false h = ap not h
 
-      by_constant : (o : Option Constant) → constant_of e ≡ o → option_map (λ (c : Constant). truth_of c.value) o ≡ Some b → (value_in m e == 0) ≡ not b
+      by_constant : (o : Option Constant) → constant_of e ≡ o
+          → option_map (λ (c : Constant). truth_of c.value) o ≡ Some b → (value_in m e == 0) ≡ not b
       by_constant None same h = absurd (none-some b h)
-      by_constant (Some c) same h = ap (λ v. v == 0) (constant_value e c same) ∙ twice (c.value == 0) (same_Some _ b h)
+      by_constant (Some c) same h = ap (λ v. v == 0) (constant_value e c same)
+          ∙ twice (c.value == 0) (same_Some _ b h)
 
   decided_path : (e : TermTree) (b : Bool) → decision e ≡ Some b → path_in m e ≡ []
   decided_path e b is = by_constant (constant_of e) refl is
     where
-      by_constant : (o : Option Constant) → constant_of e ≡ o → option_map (λ (c : Constant). truth_of c.value) o ≡ Some b → path_in m e ≡ []
+      by_constant : (o : Option Constant) → constant_of e ≡ o
+          → option_map (λ (c : Constant). truth_of c.value) o ≡ Some b → path_in m e ≡ []
       by_constant None same h = absurd (none-some b h)
       by_constant (Some c) same h = constant_path e c same
 
   module _ (condition accepted otherwise : TermTree) where
-    chosen_value : (d : Option Bool) → decision condition ≡ d → value_in m (chosen d condition accepted otherwise) ≡ value_in m (select condition accepted otherwise)
+    chosen_value : (d : Option Bool) → decision condition ≡ d
+        → value_in m (chosen d condition accepted otherwise) ≡ value_in m (select condition accepted otherwise)
     chosen_value None is = refl
     chosen_value (Some true) is = by_quiet (is_quiet otherwise)
       where
-        by_quiet : (quiet : Bool) → value_in m (if quiet then accepted else select condition accepted otherwise) ≡ value_in m (select condition accepted otherwise)
-        by_quiet true = sym (cond-false (value_in m condition == 0) (value_in m otherwise) (value_in m accepted) (decided_value condition true is))
+        by_quiet : (quiet : Bool) → value_in m (if quiet then accepted else select condition accepted otherwise)
+            ≡ value_in m (select condition accepted otherwise)
+        by_quiet true =
+            sym (cond-false (value_in m condition == 0) (value_in m otherwise) (value_in m accepted)
+            (decided_value condition true is))
         by_quiet false = refl
     chosen_value (Some false) is = by_quiet (is_quiet accepted)
       where
-        by_quiet : (quiet : Bool) → value_in m (if quiet then otherwise else select condition accepted otherwise) ≡ value_in m (select condition accepted otherwise)
-        by_quiet true = sym (cond-true (value_in m condition == 0) (value_in m otherwise) (value_in m accepted) (decided_value condition false is))
+        by_quiet : (quiet : Bool) → value_in m (if quiet then otherwise else select condition accepted otherwise)
+            ≡ value_in m (select condition accepted otherwise)
+        by_quiet true =
+            sym (cond-true (value_in m condition == 0) (value_in m otherwise) (value_in m accepted)
+            (decided_value condition false is))
         by_quiet false = refl
 
-    chosen_path : (d : Option Bool) → decision condition ≡ d → path_in m (chosen d condition accepted otherwise) ≡ path_in m (select condition accepted otherwise)
+    chosen_path : (d : Option Bool) → decision condition ≡ d
+        → path_in m (chosen d condition accepted otherwise) ≡ path_in m (select condition accepted otherwise)
     chosen_path None is = refl
     chosen_path (Some true) is = by_quiet (is_quiet otherwise) refl
       where
-        by_quiet : (quiet : Bool) → is_quiet otherwise ≡ quiet → path_in m (if quiet then accepted else select condition accepted otherwise) ≡ path_in m (select condition accepted otherwise)
+        by_quiet : (quiet : Bool) → is_quiet otherwise ≡ quiet
+            → path_in m (if quiet then accepted else select condition accepted otherwise)
+            ≡ path_in m (select condition accepted otherwise)
         by_quiet true h =
-            sym (ap₂ (λ (p q : Path). p ++ path_in m accepted ++ q) (decided_path condition true is) (quiet_path otherwise h) ∙ append-nil (path_in m accepted))
+            sym (ap₂ (λ (p q : Path). p ++ path_in m accepted ++ q) (decided_path condition true is)
+            (quiet_path otherwise h) ∙ append-nil (path_in m accepted))
         by_quiet false h = refl
     chosen_path (Some false) is = by_quiet (is_quiet accepted) refl
       where
-        by_quiet : (quiet : Bool) → is_quiet accepted ≡ quiet → path_in m (if quiet then otherwise else select condition accepted otherwise) ≡ path_in m (select condition accepted otherwise)
-        by_quiet true h = sym (ap₂ (λ (p q : Path). p ++ q ++ path_in m otherwise) (decided_path condition false is) (quiet_path accepted h))
+        by_quiet : (quiet : Bool) → is_quiet accepted ≡ quiet
+            → path_in m (if quiet then otherwise else select condition accepted otherwise)
+            ≡ path_in m (select condition accepted otherwise)
+        by_quiet true h =
+            sym (ap₂ (λ (p q : Path). p ++ q ++ path_in m otherwise) (decided_path condition false is)
+            (quiet_path accepted h))
         by_quiet false h = refl
 
 module _ (words : Words) (m : Values) (agrees : Agrees words m) where
-  variable_value : (x : ℕ) (o : Option Constant) → known words x ≡ o → value_in m (known_or o (variable x)) ≡ slice_index (m x) 0
+  variable_value : (x : ℕ) (o : Option Constant) → known words x ≡ o
+      → value_in m (known_or o (variable x)) ≡ slice_index (m x) 0
   variable_value x None is = refl
   variable_value x (Some c) is = sym (agrees x c is)
 
@@ -259,7 +305,8 @@ module _ (words : Words) (m : Values) (agrees : Agrees words m) where
   same_path (variable x) = variable_path x (known words x)
   same_path (prefix operator width operand) =
       let e = simple words operand in
-      one_path m (λ c. constant (prefix_value operator width c.value) c.kind) e (prefix operator width e) (constant_of e) refl refl ∙ same_path operand
+      one_path m (λ c. constant (prefix_value operator width c.value) c.kind) e (prefix operator width e)
+      (constant_of e) refl refl ∙ same_path operand
   same_path (binary place operator width left right) =
       let a = simple words left in
       let b = simple words right in
@@ -268,17 +315,21 @@ module _ (words : Words) (m : Values) (agrees : Agrees words m) where
       (ap₂ (marks_of place operator) (same_value left) (same_value right))
   same_path (rotate width operand amount) =
       let e = simple words operand in
-      one_path m (λ c. constant (rotated_left width c.value amount) c.kind) e (rotate width e amount) (constant_of e) refl refl ∙ same_path operand
+      one_path m (λ c. constant (rotated_left width c.value amount) c.kind) e (rotate width e amount) (constant_of e)
+      refl refl ∙ same_path operand
   same_path (convert kind operand) =
       let e = simple words operand in
-      one_path m (λ c. constant (converted (width_of kind) c.value) kind) e (convert kind e) (constant_of e) refl refl ∙ same_path operand
+      one_path m (λ c. constant (converted (width_of kind) c.value) kind) e (convert kind e) (constant_of e) refl refl
+      ∙ same_path operand
   same_path (select condition accepted otherwise) =
       let c = simple words condition in
       let a = simple words accepted in
       let b = simple words otherwise in
       chosen_path m c a b (decision c) refl
-      ∙ ap₂ (λ (p q : Path). p ++ q) (ap₂ (λ (p q : Path). p ++ q) (same_path condition) (same_path accepted)) (same_path otherwise)
-  same_path (element place x size index) = ap₂ (λ (p : Path) (i : ℕ). p ++ indexed place size i ∷ []) (same_path index) (same_value index)
+      ∙ ap₂ (λ (p q : Path). p ++ q) (ap₂ (λ (p q : Path). p ++ q) (same_path condition) (same_path accepted))
+      (same_path otherwise)
+  same_path (element place x size index) =
+      ap₂ (λ (p : Path) (i : ℕ). p ++ indexed place size i ∷ []) (same_path index) (same_value index)
 
   pub same_values : (es : List TermTree) → map (value_in m) (map (simple words) es) ≡ map (value_in m) es
   same_values [] = refl

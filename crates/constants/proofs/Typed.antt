@@ -1,5 +1,6 @@
 -- Simpler statements are well typed where the statements are, and set under a control value what those set.
-use Rattle.std.proofs.Common.{◌≡◌, ℕ, ◌==◌, Bool, true, false, cond, List, [], ◌∷◌, map, length, Option, None, Some, slice_get, slice_set, refl, sym, ap, ◌∙◌, subst}
+use Rattle.std.proofs.Common.{◌≡◌, ℕ, ◌==◌, Bool, true, false, cond, List, [], ◌∷◌, map, length, Option, None, Some}
+use Rattle.std.proofs.Common.{slice_get, slice_set, refl, sym, ap, ◌∙◌, subst}
 use Rattle.std.proofs.lemmas.Bool.{eqb-true, eqb-false}
 use Rattle.std.proofs.lemmas.List.{length-map}
 use Rattle.std.proofs.lemmas.Option.{none-some, same_Some}
@@ -9,23 +10,28 @@ use Rattle.inline.specs.Flat.{TermTree, word_as, array_as}
 use Rattle.inline.specs.FlatTyping.{Types, types_of}
 use Rattle.language.specs.declared.typing.WordType.{WordType}
 use Rattle.word.specs.declared.profile.Profile.{Profile}
-use Rattle.branch_removal.specs.Straight.{StraightTree, set, clear, fill, put, take, set_under, put_under, branch, repeats, StraightBlock, nothing, first, chain}
-use Rattle.branch_removal.specs.StraightTyping.{IsSet, IsFilled, IsPut, types_but, IsTyped, AreTyped, IsHidden, AreHidden}
+use Rattle.branch_removal.specs.Straight.{StraightTree, set, clear, fill, put, take, set_under, put_under, branch}
+use Rattle.branch_removal.specs.Straight.{repeats, StraightBlock, nothing, first, chain}
+use Rattle.branch_removal.specs.StraightTyping.{IsSet, IsFilled, IsPut, types_but, IsTyped, AreTyped, IsHidden}
+use Rattle.branch_removal.specs.StraightTyping.{AreHidden}
 use Rattle.constants.specs.declared.known.Constant.{Constant}
 use Rattle.constants.specs.private.Folding.{simple, constant_of, decision, makes_no_turn}
 use Rattle.constants.specs.private.Known.{Words, known, without, forgotten_all}
 use Rattle.constants.specs.private.Simplification.{decided, knowing, knowing_all, single, simplified, simplified_all}
 use Rattle.constants.proofs.KnownLemmas.{known_beside, known_here, without_same, IsBelow}
-use Rattle.constants.proofs.TermTypes.{AreOfKind, suited_number, still_suits, still_public, still_typed, all_still_suit}
+use Rattle.constants.proofs.TermTypes.{AreOfKind, suited_number, still_suits, still_public, still_typed}
+use Rattle.constants.proofs.TermTypes.{all_still_suit}
 use Rattle.constants.proofs.Unset.{behind_part, within_loop, decided_any, either_any}
 
 module _ (declared : List FlatVariable) where
-  hidden-chain : (these those : StraightBlock) → AreHidden declared these → AreHidden declared those → AreHidden declared (chain these those)
+  hidden-chain : (these those : StraightBlock) → AreHidden declared these → AreHidden declared those
+      → AreHidden declared (chain these those)
   hidden-chain nothing those one other = other
   hidden-chain (first statement these) those one other = (one.0, hidden-chain these those one.1 other)
 
   mutual
-    pub still_hidden : (words : Words) (statement : StraightTree) → IsHidden declared statement → AreHidden declared (simplified words statement)
+    pub still_hidden : (words : Words) (statement : StraightTree) → IsHidden declared statement
+        → AreHidden declared (simplified words statement)
     still_hidden words (set x value) hidden = (tt, tt)
     still_hidden words (clear x size) hidden = (tt, tt)
     still_hidden words (fill x values) hidden = (tt, tt)
@@ -36,16 +42,19 @@ module _ (declared : List FlatVariable) where
     still_hidden words (branch condition accepted otherwise) hidden =
         let arm = forgotten_all (knowing_all words accepted) accepted in
         let one = still_hidden_all words accepted hidden.0 in
-        decided_any (AreHidden declared) (decision (simple words condition)) (simplified_all words accepted) (simplified_all words otherwise)
+        decided_any (AreHidden declared) (decision (simple words condition)) (simplified_all words accepted)
+        (simplified_all words otherwise)
         (single (branch (simple words condition) (simplified_all words accepted) (simplified_all arm otherwise)))
         one (still_hidden_all words otherwise hidden.1) ((one, still_hidden_all arm otherwise hidden.1), tt)
     still_hidden words (repeats x low high body) hidden =
         let inside = forgotten_all (without words x) body in
-        either_any (AreHidden declared) (makes_no_turn (constant_of (simple words low)) (constant_of (simple words high))) nothing
+        either_any (AreHidden declared)
+        (makes_no_turn (constant_of (simple words low)) (constant_of (simple words high))) nothing
         (single (repeats x (simple words low) (simple words high) (simplified_all inside body)))
         tt (still_hidden_all inside body hidden, tt)
 
-    pub still_hidden_all : (words : Words) (body : StraightBlock) → AreHidden declared body → AreHidden declared (simplified_all words body)
+    pub still_hidden_all : (words : Words) (body : StraightBlock) → AreHidden declared body
+        → AreHidden declared (simplified_all words body)
     still_hidden_all words nothing hidden = tt
     still_hidden_all words (first statement rest) hidden =
         hidden-chain (simplified words statement) (simplified_all (knowing words statement) rest)
@@ -63,34 +72,49 @@ module _ (profile : Profile) (declared : List FlatVariable) (controls : ℕ) whe
   but_kinds : (words : Words) (x : ℕ) → AreKinds words → AreOfKind (types_but profile declared x) words
   but_kinds words x kinds y c word mutable is there = kinds y c word mutable is (by_number (y == x) there)
     where
-      by_number : (b : Bool) → cond b None (slice_get declared y) ≡ Some (word_as word mutable) → slice_get declared y ≡ Some (word_as word mutable)
+      by_number : (b : Bool) → cond b None (slice_get declared y) ≡ Some (word_as word mutable)
+          → slice_get declared y ≡ Some (word_as word mutable)
       by_number true h = absurd (none-some (word_as word mutable) h)
       by_number false h = h
 
   without_kinds : (words : Words) (x : ℕ) → AreKinds words → AreKinds (without words x)
   without_kinds words x kinds = fewer_kinds (without words x) words (λ y c is. without_same words x y c is) kinds
 
-  part_kinds : (words : Words) (body : StraightBlock) → AreKinds words → AreKinds (forgotten_all (knowing_all words body) body)
-  part_kinds words body kinds = fewer_kinds (forgotten_all (knowing_all words body) body) words (λ y c is. (behind_part words body y c is).0) kinds
+  part_kinds : (words : Words) (body : StraightBlock) → AreKinds words
+      → AreKinds (forgotten_all (knowing_all words body) body)
+  part_kinds words body kinds =
+      fewer_kinds (forgotten_all (knowing_all words body) body) words
+      (λ y c is. (behind_part words body y c is).0) kinds
 
-  inside_kinds : (words : Words) (x : ℕ) (body : StraightBlock) → AreKinds words → AreKinds (forgotten_all (without words x) body)
-  inside_kinds words x body kinds = fewer_kinds (forgotten_all (without words x) body) words (λ y c is. (within_loop words x body y c is).0) kinds
+  inside_kinds : (words : Words) (x : ℕ) (body : StraightBlock) → AreKinds words
+      → AreKinds (forgotten_all (without words x) body)
+  inside_kinds words x body kinds =
+      fewer_kinds (forgotten_all (without words x) body) words (λ y c is. (within_loop words x body y c is).0) kinds
 
   -- what is set is of its variable's kind
-  set_kinds : (words : Words) (x : ℕ) (value : TermTree) → AreKinds words → IsSet profile declared x value → AreKinds (slice_set words x (constant_of (simple words value)))
+  set_kinds : (words : Words) (x : ℕ) (value : TermTree) → AreKinds words → IsSet profile declared x value
+      → AreKinds (slice_set words x (constant_of (simple words value)))
   set_kinds words x value kinds is y c word mutable found there = by_number (y == x) refl
     where
       by_number : (b : Bool) → (y == x) ≡ b → (c.kind ≡ word.kind) × IsWithinKind c.kind c.value
       by_number true same =
           let here : y ≡ x = eqb-true y x same in
-          let is_known = subst (λ z. known (slice_set words x (constant_of (simple words value))) z ≡ Some c) here found in
-          let one : word_as is.word is.mutable ≡ word_as word mutable = same_Some _ _ (sym is.known ∙ subst (λ z. slice_get declared z ≡ Some (word_as word mutable)) here there) in
-          let number = suited_number (types_of profile declared) (still_suits (types_of profile declared) words kinds is.suits) c (known_here words x (constant_of (simple words value)) c is_known) in
+          let is_known = subst (λ z. known (slice_set words x (constant_of (simple words value))) z ≡ Some c)
+          here found in
+          let one : word_as is.word is.mutable ≡ word_as word mutable =
+          same_Some _ _ (sym is.known
+          ∙ subst (λ z. slice_get declared z ≡ Some (word_as word mutable)) here there) in
+          let number = suited_number (types_of profile declared)
+          (still_suits (types_of profile declared) words kinds is.suits) c
+          (known_here words x (constant_of (simple words value)) c is_known) in
           (number.0 ∙ ap (λ (d : FlatVariable). d.word.kind) one, number.1)
-      by_number false apart = kinds y c word mutable (sym (known_beside words x y (constant_of (simple words value)) (eqb-false y x apart)) ∙ found) there
+      by_number false apart =
+          kinds y c word mutable
+          (sym (known_beside words x y (constant_of (simple words value)) (eqb-false y x apart)) ∙ found) there
 
   mutual
-    pub kinds_after : (words : Words) (statement : StraightTree) → AreKinds words → IsTyped profile declared controls statement → AreKinds (knowing words statement)
+    pub kinds_after : (words : Words) (statement : StraightTree) → AreKinds words
+        → IsTyped profile declared controls statement → AreKinds (knowing words statement)
     kinds_after words (set x value) kinds is = set_kinds words x value kinds is
     kinds_after words (clear x size) kinds is = without_kinds words x kinds
     kinds_after words (fill x values) kinds is = without_kinds words x kinds
@@ -100,22 +124,35 @@ module _ (profile : Profile) (declared : List FlatVariable) (controls : ℕ) whe
     kinds_after words (put_under control place x size index value) kinds is = without_kinds words x kinds
     kinds_after words (branch condition accepted otherwise) kinds is =
         let arm = forgotten_all (knowing_all words accepted) accepted in
-        decided_any AreKinds (decision (simple words condition)) (knowing_all words accepted) (knowing_all words otherwise) (forgotten_all (knowing_all arm otherwise) otherwise)
-        (kinds_after_all words accepted kinds is.1) (kinds_after_all words otherwise kinds is.2) (part_kinds arm otherwise (part_kinds words accepted kinds))
+        decided_any AreKinds (decision (simple words condition)) (knowing_all words accepted)
+        (knowing_all words otherwise) (forgotten_all (knowing_all arm otherwise) otherwise)
+        (kinds_after_all words accepted kinds is.1) (kinds_after_all words otherwise kinds is.2)
+        (part_kinds arm otherwise (part_kinds words accepted kinds))
     kinds_after words (repeats x low high body) kinds is =
         let inside = forgotten_all (without words x) body in
-        either_any AreKinds (makes_no_turn (constant_of (simple words low)) (constant_of (simple words high))) words (forgotten_all (knowing_all inside body) body)
+        either_any AreKinds (makes_no_turn (constant_of (simple words low)) (constant_of (simple words high))) words
+        (forgotten_all (knowing_all inside body) body)
         kinds (part_kinds inside body (inside_kinds words x body kinds))
 
-    pub kinds_after_all : (words : Words) (body : StraightBlock) → AreKinds words → AreTyped profile declared controls body → AreKinds (knowing_all words body)
+    pub kinds_after_all : (words : Words) (body : StraightBlock) → AreKinds words
+        → AreTyped profile declared controls body → AreKinds (knowing_all words body)
     kinds_after_all words nothing kinds is = kinds
-    kinds_after_all words (first statement rest) kinds is = kinds_after_all (knowing words statement) rest (kinds_after words statement kinds is.0) is.1
+    kinds_after_all words (first statement rest) kinds is =
+        kinds_after_all (knowing words statement) rest (kinds_after words statement kinds is.0) is.1
 
-  still_set : (words : Words) (x : ℕ) (value : TermTree) → AreKinds words → IsSet profile declared x value → IsSet profile declared x (simple words value)
+  still_set : (words : Words) (x : ℕ) (value : TermTree) → AreKinds words → IsSet profile declared x value
+      → IsSet profile declared x (simple words value)
   still_set words x value kinds is =
-      record { word = is.word; mutable = is.mutable; known = is.known; suits = still_suits (types_of profile declared) words kinds is.suits }
+      record {
+        word = is.word;
+        mutable = is.mutable;
+        known = is.known;
+        suits = still_suits (types_of profile declared) words kinds is.suits;
+      }
 
-  still_put : (words : Words) (x size : ℕ) (index value : TermTree) → AreKinds words → IsPut profile declared x size index value → IsPut profile declared x size (simple words index) (simple words value)
+  still_put : (words : Words) (x size : ℕ) (index value : TermTree) → AreKinds words
+      → IsPut profile declared x size index value
+      → IsPut profile declared x size (simple words index) (simple words value)
   still_put words x size index value kinds is = record {
     word = is.word;
     mutable = is.mutable;
@@ -124,44 +161,68 @@ module _ (profile : Profile) (declared : List FlatVariable) (controls : ℕ) whe
     suits = still_suits (types_of profile declared) words kinds is.suits;
   }
 
-  still_filled : (words : Words) (x : ℕ) (values : List TermTree) → AreKinds words → IsFilled profile declared x (length values) values
+  still_filled : (words : Words) (x : ℕ) (values : List TermTree) → AreKinds words
+      → IsFilled profile declared x (length values) values
       → IsFilled profile declared x (length (map (simple words) values)) (map (simple words) values)
   still_filled words x values kinds is = record {
     word = is.word;
     mutable = is.mutable;
-    known = subst (λ n. slice_get declared x ≡ Some (array_as is.word is.mutable n)) (sym (length-map values (simple words))) is.known;
+    known = subst (λ n. slice_get declared x ≡ Some (array_as is.word is.mutable n))
+        (sym (length-map values (simple words))) is.known;
     suit = all_still_suit (types_but profile declared x) words (but_kinds words x kinds) is.word values is.suit;
   }
 
-  typed-chain : (these those : StraightBlock) → AreTyped profile declared controls these → AreTyped profile declared controls those → AreTyped profile declared controls (chain these those)
+  typed-chain : (these those : StraightBlock) → AreTyped profile declared controls these
+      → AreTyped profile declared controls those → AreTyped profile declared controls (chain these those)
   typed-chain nothing those one other = other
   typed-chain (first statement these) those one other = (one.0, typed-chain these those one.1 other)
 
   mutual
-    pub still_well_typed : (words : Words) (statement : StraightTree) → AreKinds words → IsTyped profile declared controls statement → AreTyped profile declared controls (simplified words statement)
+    pub still_well_typed : (words : Words) (statement : StraightTree) → AreKinds words
+        → IsTyped profile declared controls statement
+        → AreTyped profile declared controls (simplified words statement)
     still_well_typed words (set x value) kinds is = (still_set words x value kinds is, tt)
     still_well_typed words (clear x size) kinds is = (is, tt)
     still_well_typed words (fill x values) kinds is = (still_filled words x values kinds is, tt)
     still_well_typed words (put place x size index value) kinds is = (still_put words x size index value kinds is, tt)
-    still_well_typed words (take control within condition) kinds is = ((is.0, is.1, still_typed (types_of profile declared) words kinds is.2.1), tt)
+    still_well_typed words (take control within condition) kinds is =
+        ((is.0, is.1, still_typed (types_of profile declared) words kinds is.2.1), tt)
     still_well_typed words (set_under control x value) kinds is = ((is.0, still_set words x value kinds is.1), tt)
-    still_well_typed words (put_under control place x size index value) kinds is = ((is.0, still_put words x size index value kinds is.1), tt)
+    still_well_typed words (put_under control place x size index value) kinds is =
+        ((is.0, still_put words x size index value kinds is.1), tt)
     still_well_typed words (branch condition accepted otherwise) kinds is =
         let arm = forgotten_all (knowing_all words accepted) accepted in
         let one = still_all_typed words accepted kinds is.1 in
-        decided_any (AreTyped profile declared controls) (decision (simple words condition)) (simplified_all words accepted) (simplified_all words otherwise)
+        decided_any (AreTyped profile declared controls) (decision (simple words condition))
+        (simplified_all words accepted) (simplified_all words otherwise)
         (single (branch (simple words condition) (simplified_all words accepted) (simplified_all arm otherwise)))
-        one (still_all_typed words otherwise kinds is.2)
-        ((still_public (types_of profile declared) words kinds is.0, one, still_all_typed arm otherwise (part_kinds words accepted kinds) is.2), tt)
+        one (still_all_typed words otherwise kinds is.2) (
+          (
+            still_public (types_of profile declared) words kinds is.0,
+            one,
+            still_all_typed arm otherwise (part_kinds words accepted kinds) is.2,
+          ),
+          tt,
+        )
     still_well_typed words (repeats x low high body) kinds is =
         let inside = forgotten_all (without words x) body in
-        either_any (AreTyped profile declared controls) (makes_no_turn (constant_of (simple words low)) (constant_of (simple words high))) nothing
+        either_any (AreTyped profile declared controls)
+        (makes_no_turn (constant_of (simple words low)) (constant_of (simple words high))) nothing
         (single (repeats x (simple words low) (simple words high) (simplified_all inside body)))
-        tt
-        ((still_public (types_of profile declared) words kinds is.0, still_public (types_of profile declared) words kinds is.1, is.2, still_all_typed inside body (inside_kinds words x body kinds) is.3), tt)
+        tt (
+          (
+            still_public (types_of profile declared) words kinds is.0,
+            still_public (types_of profile declared) words kinds is.1,
+            is.2,
+            still_all_typed inside body (inside_kinds words x body kinds) is.3,
+          ),
+          tt,
+        )
 
-    pub still_all_typed : (words : Words) (body : StraightBlock) → AreKinds words → AreTyped profile declared controls body → AreTyped profile declared controls (simplified_all words body)
+    pub still_all_typed : (words : Words) (body : StraightBlock) → AreKinds words
+        → AreTyped profile declared controls body → AreTyped profile declared controls (simplified_all words body)
     still_all_typed words nothing kinds is = tt
     still_all_typed words (first statement rest) kinds is =
         typed-chain (simplified words statement) (simplified_all (knowing words statement) rest)
-        (still_well_typed words statement kinds is.0) (still_all_typed (knowing words statement) rest (kinds_after words statement kinds is.0) is.1)
+        (still_well_typed words statement kinds is.0)
+        (still_all_typed (knowing words statement) rest (kinds_after words statement kinds is.0) is.1)

@@ -1,4 +1,5 @@
--- The one simpler program that straight code is made into: two answers of `simplify` are one. How it is made is private.
+-- The one simpler program that straight code is made into: two answers of `simplify` are one. How it is made is
+-- private.
 use Rattle.branch_removal.specs.Straight.{StraightProgram}
 use Rattle.constants.specs.private.Simplification.{simplified_program}
 

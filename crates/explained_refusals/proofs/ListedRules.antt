@@ -3,7 +3,16 @@ use Rattle.std.proofs.Common.{Contains, refl, arith}
 use Rattle.explanations.specs.Listed.{reading, names_and_types, labels, limits, files, runs, listed}
 use Rattle.language.specs.Rules.{code_of}
 use Rattle.language.specs.declared.rule.Rule.{Rule}
-use Rattle.language.specs.declared.rule.Rule.TheVariants.{UnknownCharacter, BadNumber, UnexpectedToken, Nesting, TextTooLong, UndeclaredName, NameDeclaredTwice, ProcedureNotDeclaredEarlier, NotExactlyOneExport, WidthsDiffer, WrongKind, LiteralOutOfRange, ArgumentCount, ArrayShapeOrLabel, NotMutable, ReturnMismatch, ArrayPassedTwice, InitialiserCount, SecretToPublic, PublicAssignedUnderSecretControl, SecretIndex, SecretBound, SecretDivisionOperand, CallAssignsPublicUnderSecretControl, SecretMultiplicationOperand, InlinedSize, DeclaredBytes, IndexOutOfRange, DivisorMayBeZero, TooMuchWork, OutOfMemory}
+use Rattle.language.specs.declared.rule.Rule.TheVariants.{UnknownCharacter, BadNumber, UnexpectedToken, Nesting}
+use Rattle.language.specs.declared.rule.Rule.TheVariants.{TextTooLong, UndeclaredName, NameDeclaredTwice}
+use Rattle.language.specs.declared.rule.Rule.TheVariants.{ProcedureNotDeclaredEarlier, NotExactlyOneExport}
+use Rattle.language.specs.declared.rule.Rule.TheVariants.{WidthsDiffer, WrongKind, LiteralOutOfRange, ArgumentCount}
+use Rattle.language.specs.declared.rule.Rule.TheVariants.{ArrayShapeOrLabel, NotMutable, ReturnMismatch}
+use Rattle.language.specs.declared.rule.Rule.TheVariants.{ArrayPassedTwice, InitialiserCount, SecretToPublic}
+use Rattle.language.specs.declared.rule.Rule.TheVariants.{PublicAssignedUnderSecretControl, SecretIndex, SecretBound}
+use Rattle.language.specs.declared.rule.Rule.TheVariants.{SecretDivisionOperand, CallAssignsPublicUnderSecretControl}
+use Rattle.language.specs.declared.rule.Rule.TheVariants.{SecretMultiplicationOperand, InlinedSize, DeclaredBytes}
+use Rattle.language.specs.declared.rule.Rule.TheVariants.{IndexOutOfRange, DivisorMayBeZero, TooMuchWork, OutOfMemory}
 
 pub is_listed : (rule : Rule) → Contains listed (code_of rule)
 unfolding listed reading names_and_types labels limits files runs

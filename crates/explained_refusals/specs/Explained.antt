@@ -12,8 +12,8 @@ abbrev pub place_lines : List ℕ → Option Place → List ℕ
 place_lines source None = []
 place_lines source (Some place) = excerpt_text source place
 
--- the place in the source, what is said of what there is, and the text of the rule that has the refusal's code, without its
--- last line's end
+-- the place in the source, what is said of what there is, and the text of the rule that has the refusal's code,
+-- without its last line's end
 pub record Explains (source : List ℕ) (refusal : Refusal) (lines : List ℕ) : Type 0 where
   pub row : Explanation
   pub details : List ℕ

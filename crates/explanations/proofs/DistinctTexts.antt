@@ -18,7 +18,8 @@ unfoldable pub all_differ : List (List ℕ) → Bool
 all_differ [] = true
 all_differ (text ∷ texts) = differs text texts && all_differ texts
 
-none_equal : (text : List ℕ) (texts : List (List ℕ)) → differs text texts ≡ true → AllByRecursion (λ other. bytes_eq text other ≡ false) texts
+none_equal : (text : List ℕ) (texts : List (List ℕ)) → differs text texts ≡ true
+    → AllByRecursion (λ other. bytes_eq text other ≡ false) texts
 unfolding differs
 none_equal text [] h = tt
 none_equal text (other ∷ texts) h =

@@ -1,5 +1,6 @@
 -- A row is found by its code exactly where a row has that code.
-use Rattle.std.proofs.Common.{◌≡◌, ℕ, zero, Bool, true, false, cond, List, [], ◌∷◌, map, Option, Some, IsSome, Contains, ◌↔◌, refl, sym, ◌∙◌, subst, arith, true≢false}
+use Rattle.std.proofs.Common.{◌≡◌, ℕ, zero, Bool, true, false, cond, List, [], ◌∷◌, map, Option, Some, IsSome}
+use Rattle.std.proofs.Common.{Contains, ◌↔◌, refl, sym, ◌∙◌, subst, arith, true≢false}
 use Rattle.std.specs.List.{find}
 use Rattle.std.specs.Str.{bytes_eq}
 use Rattle.std.proofs.lemmas.List.Elements.{Contains-append_right}
@@ -14,7 +15,9 @@ module _ {Row : Type 0} (code_of : Row → List ℕ) (code : List ℕ) where
   found_is_there [] found = absurd (cc)
   found_is_there (row ∷ rows) found = by (has_code row) refl found (found_is_there rows)
     where
-      by : (v : Bool) → has_code row ≡ v → IsSome (cond v (Some row) (find has_code rows)) → (IsSome (find has_code rows) → Contains (map code_of rows) code) → Contains (code_of row ∷ map code_of rows) code
+      by : (v : Bool) → has_code row ≡ v → IsSome (cond v (Some row) (find has_code rows))
+          → (IsSome (find has_code rows) → Contains (map code_of rows) code)
+          → Contains (code_of row ∷ map code_of rows) code
       by true v found later = (zero, omega arith, (bytes_eq-Decides (code_of row) code).0 v)
       by false v found later = Contains-append_right (code_of row ∷ []) (map code_of rows) code (later found)
 
@@ -22,9 +25,14 @@ module _ {Row : Type 0} (code_of : Row → List ℕ) (code : List ℕ) where
   there_is_found [] there = absurd (omega arith)
   there_is_found (row ∷ rows) there = by (has_code row) refl (there_is_found rows)
     where
-      by : (v : Bool) → has_code row ≡ v → (Contains (map code_of rows) code → IsSome (find has_code rows)) → IsSome (cond v (Some row) (find has_code rows))
+      by : (v : Bool) → has_code row ≡ v → (Contains (map code_of rows) code → IsSome (find has_code rows))
+          → IsSome (cond v (Some row) (find has_code rows))
       by true v later = refl
-      by false v later = later (Contains-tail (code_of row) (map code_of rows) code (λ same. absurd (true≢false (sym ((bytes_eq-Decides (code_of row) code).1 same) ∙ v))) there)
+      by false v later =
+          later (Contains-tail (code_of row) (map code_of rows) code
+          (λ same. absurd (true≢false (sym ((bytes_eq-Decides (code_of row) code).1 same) ∙ v))) there)
 
-  pub found_by_code : (rows : List Row) (found : Option Row) → found ≡ find has_code rows → IsSome found ↔ Contains (map code_of rows) code
-  found_by_code rows found is = subst (λ o. IsSome o ↔ Contains (map code_of rows) code) (sym is) (found_is_there rows, there_is_found rows)
+  pub found_by_code : (rows : List Row) (found : Option Row) → found ≡ find has_code rows
+      → IsSome found ↔ Contains (map code_of rows) code
+  found_by_code rows found is =
+      subst (λ o. IsSome o ↔ Contains (map code_of rows) code) (sym is) (found_is_there rows, there_is_found rows)

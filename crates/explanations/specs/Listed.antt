@@ -9,7 +9,8 @@ reading = codes "X1" ∷ codes "X2" ∷ codes "X3" ∷ codes "X4" ∷ codes "X5"
 unfoldable pub names_and_types : List (List ℕ)
 names_and_types =
     codes "N1" ∷ codes "N2" ∷ codes "N3" ∷ codes "N4" ∷
-    codes "T1" ∷ codes "T2" ∷ codes "T3" ∷ codes "T4" ∷ codes "T5" ∷ codes "T6" ∷ codes "T7" ∷ codes "T8" ∷ codes "T9" ∷ []
+    codes "T1" ∷ codes "T2" ∷ codes "T3" ∷ codes "T4" ∷ codes "T5" ∷ codes "T6" ∷ codes "T7" ∷ codes "T8"
+    ∷ codes "T9" ∷ []
 
 -- rules on labels
 unfoldable pub labels : List (List ℕ)

@@ -11,4 +11,5 @@ sources_text violates mended =
 -- the code with the rule's name, the rule, and the sources
 abbrev pub explanation_text : Explanation → List ℕ
 explanation_text it =
-    it.code.now ++ codes ": " ++ it.name.now ++ codes "\n\n" ++ it.rule.now ++ sources_text it.violates.now it.mended.now
+    it.code.now ++ codes ": " ++ it.name.now ++ codes "\n\n" ++ it.rule.now
+    ++ sources_text it.violates.now it.mended.now

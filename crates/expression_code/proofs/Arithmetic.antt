@@ -1,6 +1,8 @@
 -- Arithmetic of addresses, of numbers in two parts, and of masks.
-use Rattle.std.proofs.Common.{◌≡◌, ℕ, ◌+◌, ◌*◌, ◌%◌, ◌^◌, ◌<◌, ◌==◌, Bool, true, false, not, ◌&&◌, if◌then◌else◌, bit_and, bit_xor, ap, ◌∙◌, arith}
-use Rattle.expression_code.proofs.Below.{lower_part, nat_tests, upper_part, and_mask, xor_of_32, sum_of, difference_of}
+use Rattle.std.proofs.Common.{◌≡◌, ℕ, ◌+◌, ◌*◌, ◌%◌, ◌^◌, ◌<◌, ◌==◌, Bool, true, false, not, ◌&&◌, if◌then◌else◌}
+use Rattle.std.proofs.Common.{bit_and, bit_xor, ap, ◌∙◌, arith}
+use Rattle.expression_code.proofs.Below.{lower_part, nat_tests, upper_part, and_mask, xor_of_32, sum_of}
+use Rattle.expression_code.proofs.Below.{difference_of}
 use Rattle.expression_code.proofs.Below.{sign_extended}
 use Rattle.std.specs.Int.{bit_at}
 use Rattle.std.specs.Int.Bits.{and_zero_r, xor_zero_r}
@@ -11,7 +13,8 @@ pub parts : (n : ℕ) → n < 2 ^ 32 → sum_of (upper_part n * 2 ^ 12) (sign_ex
 parts n below = grind (arith, nat_tests)
 
 -- and with a base added between them an address
-pub far_address : (frame n : ℕ) → frame + n < 2 ^ 32 → sum_of (sum_of (upper_part n * 2 ^ 12) frame) (sign_extended 12 (lower_part n)) ≡ frame + n
+pub far_address : (frame n : ℕ) → frame + n < 2 ^ 32
+    → sum_of (sum_of (upper_part n * 2 ^ 12) frame) (sign_extended 12 (lower_part n)) ≡ frame + n
 far_address frame n below = omega (arith, parts n (omega (arith, below)), below)
 
 pub near_address : (frame n : ℕ) → n < 2048 → frame + n < 2 ^ 32 → sum_of frame (sign_extended 12 n) ≡ frame + n
@@ -56,8 +59,10 @@ bit_back a b i =
 all_ones : (x : ℕ) → x < 2 ^ 32 → bit_and x 4294967295 ≡ x
 all_ones x below = omega (arith, and_mask x 32)
 
-pub merge : (b : Bool) (old new : ℕ) → old < 2 ^ 32 → new < 2 ^ 32 → merged (mask_of b) old new ≡ (if b then new else old)
-merge true old new p q = ap (bit_xor old) (all_ones (bit_xor new old) (xor_of_32 new old q p)) ∙ same_from_bits _ new (bit_back new old)
+pub merge : (b : Bool) (old new : ℕ) → old < 2 ^ 32 → new < 2 ^ 32
+    → merged (mask_of b) old new ≡ (if b then new else old)
+merge true old new p q = ap (bit_xor old) (all_ones (bit_xor new old) (xor_of_32 new old q p))
+    ∙ same_from_bits _ new (bit_back new old)
 merge false old new p q = ap (bit_xor old) (and_zero_r (bit_xor new old)) ∙ xor_zero_r old
 
 -- the choice of a where c is 1, of b where c is 0
@@ -65,4 +70,5 @@ abbrev pub chosen : ℕ → ℕ → ℕ → ℕ
 chosen c a b = merged (difference_of 0 c) b a
 
 pub choice : (c a b : ℕ) → c < 2 → a < 2 ^ 32 → b < 2 ^ 32 → chosen c a b ≡ (if c == 0 then b else a)
-choice c a b h p q = ap (λ m. merged m b a) (mask_when c h) ∙ (merge (not (c == 0)) b a q p ∙ grind (arith, nat_tests))
+choice c a b h p q = ap (λ m. merged m b a) (mask_when c h)
+    ∙ (merge (not (c == 0)) b a q p ∙ grind (arith, nat_tests))

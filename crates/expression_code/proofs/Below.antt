@@ -1,26 +1,38 @@
--- What these proofs take from the layers below and from the specs, in one place: tests, terms and their meaning, the code that
--- is emitted, the machine, and pieces of code.
+-- What these proofs take from the layers below and from the specs, in one place: tests, terms and their meaning, the
+-- code that is emitted, the machine, and pieces of code.
 pub use Rattle.branch_removal.proofs.SeenLemmas.{seen-append}
 pub use Rattle.branch_removal.specs.StraightMeaning.{StraightState}
-pub use Rattle.expression_code.specs.Allocation.{Allocation, at_home, home_of, IsAllocation, register_of, slot_of, slots_to, temporary, working_register}
+pub use Rattle.expression_code.specs.Allocation.{Allocation, at_home, home_of, IsAllocation, register_of, slot_of}
+pub use Rattle.expression_code.specs.Allocation.{slots_to, temporary, working_register}
 pub use Rattle.expression_code.specs.Computed.{IsComputed, IsSiteOf, Site, word_in}
 pub use Rattle.expression_code.specs.Inside.{IsInside}
-pub use Rattle.expression_code.specs.Layout.{control_offset, next_offset, result_offset, temporaries_offset, variable_location, variable_offset}
+pub use Rattle.expression_code.specs.Layout.{control_offset, next_offset, result_offset, temporaries_offset}
+pub use Rattle.expression_code.specs.Layout.{variable_location, variable_offset}
 pub use Rattle.expression_code.specs.Layout.{offsets_from, slots_from}
-pub use Rattle.expression_code.specs.NumberRows.{held, is_short, known_row, left_row, number_of, number_row, right_row, turned_operator}
+pub use Rattle.expression_code.specs.NumberRows.{held, is_short, known_row, left_row, number_of, number_row}
+pub use Rattle.expression_code.specs.NumberRows.{right_row, turned_operator}
 pub use Rattle.expression_code.specs.declared.numbers.Finish.{Finish}
 pub use Rattle.expression_code.specs.declared.numbers.NumberRow.{NumberRow}
 pub use Rattle.expression_code.specs.declared.numbers.NumberStep.{NumberStep}
-pub use Rattle.expression_code.specs.TermCode.{address_code, around_code, between, choice_code, code_by, constant_code, convert_code, copy_code, cut_code, element_code, expr_code, fetch_code, finish_code, height_of, into_code, IsAmong, is_at_home, keep_code, load_by, load_code, lower_part, move_code, narrow_code, narrowed_in, near_code, near_element, near_offset, number_code, of_truths, operand, operator_code, placed_code, prefix_code, raise_code, rotate_code, row_of, scale_code, Step, step_code, store_code, turned, upper_part}
+pub use Rattle.expression_code.specs.TermCode.{address_code, around_code, between, choice_code, code_by}
+pub use Rattle.expression_code.specs.TermCode.{constant_code, convert_code, copy_code, cut_code, element_code}
+pub use Rattle.expression_code.specs.TermCode.{expr_code, fetch_code, finish_code, height_of, into_code, IsAmong}
+pub use Rattle.expression_code.specs.TermCode.{is_at_home, keep_code, load_by, load_code, lower_part, move_code}
+pub use Rattle.expression_code.specs.TermCode.{narrow_code, narrowed_in, near_code, near_element, near_offset}
+pub use Rattle.expression_code.specs.TermCode.{number_code, of_truths, operand, operator_code, placed_code}
+pub use Rattle.expression_code.specs.TermCode.{prefix_code, raise_code, rotate_code, row_of, scale_code, Step}
+pub use Rattle.expression_code.specs.TermCode.{step_code, store_code, turned, upper_part}
 pub use Rattle.expression_code.specs.TermCode.{kind_at}
 pub use Rattle.expression_code.specs.declared.locations.Location.{Location}
 pub use Rattle.expression_code.specs.declared.locations.Location.TheVariants.{InRegister, InSlot}
 pub use Rattle.inline.proofs.Fitting.{value_fits}
 pub use Rattle.inline.specs.Fitting.{Fits, IsWithinKind}
-pub use Rattle.inline.specs.Flat.{array_as, binary, convert, declaration_of, element, elements_by, numbers_in, prefix, rotate, select, TermTree, variable, word_as}
+pub use Rattle.inline.specs.Flat.{array_as, binary, convert, declaration_of, element, elements_by, numbers_in, prefix}
+pub use Rattle.inline.specs.Flat.{rotate, select, TermTree, variable, word_as}
 pub use Rattle.inline.specs.FlatMeaning.{marks_of, path_in, value_in, Values}
 pub use Rattle.inline.specs.FlatSize.{declared_words, term_nodes, words_by, words_of}
-pub use Rattle.inline.specs.FlatTyping.{HasType, of_binary, of_conversion, of_element, of_number, of_prefix, of_rotation, of_selection, of_truth, of_variable, Types, types_of}
+pub use Rattle.inline.specs.FlatTyping.{HasType, of_binary, of_conversion, of_element, of_number, of_prefix}
+pub use Rattle.inline.specs.FlatTyping.{of_rotation, of_selection, of_truth, of_variable, Types, types_of}
 pub use Rattle.inline.specs.Path.{AreFine, bounded, decided, divided, indexed, Mark, multiplied, Path}
 pub use Rattle.inline.specs.declared.flat.FlatVariable.{FlatVariable}
 pub use Rattle.language.specs.Operators.{operated, prefix_value, width_of}
@@ -33,18 +45,28 @@ pub use Rattle.language.specs.declared.signature.Param.{Param}
 pub use Rattle.language.specs.declared.tree.BinaryOperator.{BinaryOperator}
 pub use Rattle.language.specs.declared.tree.PrefixOperator.{PrefixOperator}
 pub use Rattle.language.specs.declared.typing.WordType.{WordType}
-pub use Rattle.program_logic.proofs.Computing.{after_append, all_straight, no_access_fit, no_access_met, only_computes, plain_append, register_left, registers_after, registers_of}
-pub use Rattle.program_logic.proofs.Face.{All-one, along, along_fit, always, as_code, beside, both_left, both_right, branching_at, by_mark, cheaper, Contents, contents_of, ends_on, gives, idle, Known, looping, never, none, number_or_zero, Placed, Placed-left, Placed-right, quiet, quietly, seq, stands, Still, Straight, Then, turn_ends, weaken, with_result}
+pub use Rattle.program_logic.proofs.Computing.{after_append, all_straight, no_access_fit, no_access_met}
+pub use Rattle.program_logic.proofs.Computing.{only_computes, plain_append, register_left, registers_after}
+pub use Rattle.program_logic.proofs.Computing.{registers_of}
+pub use Rattle.program_logic.proofs.Face.{All-one, along, along_fit, always, as_code, beside, both_left, both_right}
+pub use Rattle.program_logic.proofs.Face.{branching_at, by_mark, cheaper, Contents, contents_of, ends_on, gives, idle}
+pub use Rattle.program_logic.proofs.Face.{Known, looping, never, none, number_or_zero, Placed, Placed-left}
+pub use Rattle.program_logic.proofs.Face.{Placed-right, quiet, quietly, seq, stands, Still, Straight, Then, turn_ends}
+pub use Rattle.program_logic.proofs.Face.{weaken, with_result}
 pub use Rattle.rv_code.specs.Words.{IsInstr}
 pub use Rattle.rv_code.specs.declared.instructions.Instr.{Instr}
 pub use Rattle.rv_code.specs.declared.operations.DivideOperation.{DivideOperation}
 pub use Rattle.rv_code.specs.declared.operations.LoadOperation.{LoadOperation}
 pub use Rattle.rv_code.specs.declared.operations.MultiplyOperation.{MultiplyOperation}
 pub use Rattle.rv_code.specs.declared.operations.StoreOperation.{StoreOperation}
-pub use Rattle.rv_machine.proofs.ByteLaws.{number_at-suc, number_at-with_number, number_at-zero, number_at_same, with_number_above, with_number_below}
-pub use Rattle.rv_machine.proofs.TurnLaws.{divide_leads, multiply_leads, with_value-bytes, with_value-pc, with_value-regs}
+pub use Rattle.rv_machine.proofs.ByteLaws.{number_at-suc, number_at-with_number, number_at-zero, number_at_same}
+pub use Rattle.rv_machine.proofs.ByteLaws.{with_number_above, with_number_below}
+pub use Rattle.rv_machine.proofs.TurnLaws.{divide_leads, multiply_leads, with_value-bytes, with_value-pc}
+pub use Rattle.rv_machine.proofs.TurnLaws.{with_value-regs}
 pub use Rattle.rv_machine.specs.Bytes.{ByteMap, joined, number_at, with_number}
-pub use Rattle.rv_machine.specs.Effects.{address_of, divide_value, immediate_value, load_size, loaded_value, multiply_value, register_value, shift_value, sign_extended, store_size, sum_of}
+pub use Rattle.rv_machine.specs.Effects.{address_of, divide_value, immediate_value, load_size, loaded_value}
+pub use Rattle.rv_machine.specs.Effects.{multiply_value, register_value, shift_value, sign_extended, store_size}
+pub use Rattle.rv_machine.specs.Effects.{sum_of}
 pub use Rattle.rv_machine.specs.Effects.{difference_of}
 pub use Rattle.rv_machine.specs.Leakage.{Leads}
 pub use Rattle.rv_machine.specs.Machine.{Code, IsAt, product_shown, State, with_value}

@@ -1,9 +1,19 @@
--- The pieces of emitted code that take words from slots, that put registers into the frame, and that compute in between.
+-- The pieces of emitted code that take words from slots, that put registers into the frame, and that compute in
+-- between.
 -- A list of such moves is run on registers and bytes by a function, and the machine on its code does that.
-use Rattle.std.proofs.Common.{◌≡◌, ◌≢◌, ℕ, ◌+◌, ◌*◌, ◌%◌, ◌^◌, ◌<◌, ◌≤◌, ◌==◌, Bool, true, false, not, ◌&&◌, cond, nat_lt, List, [], ◌∷◌, ◌++◌, length, refl, ap, ap₂, ◌∙◌, arith, eq-eqb, ne_eqb}
-use Rattle.expression_code.proofs.Below.{address_of, all_straight, as_code, both_left, both_right, byte_count, ByteMap, cheaper, Contents, contents_of, fun_ext, gives, idle, Instr, load_code, load_size, loaded_value, LoadOperation, lower_part, lt-ltb, ltb-true, nat_tests, no_access_fit, no_access_met, none, number_at, number_or_zero, only_computes, quiet, register, registers_after, registers_of, sign_extended, Size, State, store_size, StoreOperation, StraightState, sum_of, Then, upper_part, with_number, with_register, with_result}
+use Rattle.std.proofs.Common.{◌≡◌, ◌≢◌, ℕ, ◌+◌, ◌*◌, ◌%◌, ◌^◌, ◌<◌, ◌≤◌, ◌==◌, Bool, true, false, not, ◌&&◌, cond}
+use Rattle.std.proofs.Common.{nat_lt, List, [], ◌∷◌, ◌++◌, length, refl, ap, ap₂, ◌∙◌, arith, eq-eqb, ne_eqb}
+use Rattle.expression_code.proofs.Below.{address_of, all_straight, as_code, both_left, both_right, byte_count}
+use Rattle.expression_code.proofs.Below.{ByteMap, cheaper, Contents, contents_of, fun_ext, gives, idle, Instr}
+use Rattle.expression_code.proofs.Below.{load_code, load_size, loaded_value, LoadOperation, lower_part, lt-ltb}
+use Rattle.expression_code.proofs.Below.{ltb-true, nat_tests, no_access_fit, no_access_met, none, number_at}
+use Rattle.expression_code.proofs.Below.{number_or_zero, only_computes, quiet, register, registers_after}
+use Rattle.expression_code.proofs.Below.{registers_of, sign_extended, Size, State, store_size, StoreOperation}
+use Rattle.expression_code.proofs.Below.{StraightState, sum_of, Then, upper_part, with_number, with_register}
+use Rattle.expression_code.proofs.Below.{with_result}
 use Rattle.expression_code.proofs.Arithmetic.{far_address, near_address, upper_fits}
-use Rattle.expression_code.proofs.Frame.{Setting, Before, After, Steps, Runs, setting, HeldAt, Held, frame_there, frame_runs}
+use Rattle.expression_code.proofs.Frame.{Setting, Before, After, Steps, Runs, setting, HeldAt, Held, frame_there}
+use Rattle.expression_code.proofs.Frame.{frame_runs}
 use Rattle.rv_code.specs.declared.instructions.Instr.TheVariants as instr
 use Rattle.rv_code.specs.declared.operations.LoadOperation.TheVariants.{Lw}
 use Rattle.rv_code.specs.declared.operations.RegisterOperation.TheVariants.{Add}
@@ -34,7 +44,9 @@ pub data Move : Type 0 where
 
 abbrev pub put_code : StoreOperation → ℕ → ℕ → List Instr
 put_code operation r o =
-    cond (nat_lt o 2048) (instr.Store operation r 2 o ∷ []) (instr.Upper Lui 28 (upper_part o) ∷ instr.Register Add 28 28 2 ∷ instr.Store operation r 28 (lower_part o) ∷ [])
+    cond (nat_lt o 2048) (instr.Store operation r 2 o ∷ [])
+    (instr.Upper Lui 28 (upper_part o) ∷ instr.Register Add 28 28 2
+    ∷ instr.Store operation r 28 (lower_part o) ∷ [])
 
 abbrev pub move_code : Move → List Instr
 move_code (take r o) = load_code r o
@@ -88,7 +100,8 @@ all_moved z (m ∷ ms) c = all_moved z ms (moved z m c)
 -- where they take and put lies in the frame, and is aligned
 abbrev pub IsSlot : Setting → Move → Type 0
 IsSlot z (take r o) = (o % 4 ≡ 0) × (o + 4 ≤ z.size)
-IsSlot z (put operation r o) = (o % byte_count (store_size operation) ≡ 0) × (o + byte_count (store_size operation) ≤ z.size)
+IsSlot z (put operation r o) = (o % byte_count (store_size operation) ≡ 0)
+    × (o + byte_count (store_size operation) ≤ z.size)
 IsSlot z (does is) = Unit {0}
 
 abbrev pub AreSlots : Setting → List Move → Type 0
@@ -107,13 +120,19 @@ pub record Computed (z : Setting) (is : List Instr) (env : StraightState) (s t :
   pub registers : t.regs ≡ registers_after is s.regs
   pub same : t.bytes ≡ s.bytes
 
-pub computing_within : (z : Setting) (works : ℕ → Bool) (is : List Instr) → only_computes works is ≡ true → ((r : ℕ) → r < 5 → works r ≡ false) → Runs z (length is) none is (Held z) (Computed z is)
+pub computing_within : (z : Setting) (works : ℕ → Bool) (is : List Instr) → only_computes works is ≡ true
+    → ((r : ℕ) → r < 5 → works r ≡ false) → Runs z (length is) none is (Held z) (Computed z is)
 computing_within z works is plain low =
     gives
     (λ env s t fine held done.
     let c = registers_of works is (contents_of s) plain in
-    record { held = done.0; registers = done.1.regs ∙ ap (λ (d : Contents). d.regs) c; same = done.1.bytes ∙ ap (λ (d : Contents). d.bytes) c })
-    (frame_runs z {P = Held z} works is [] (all_straight works is plain) low (no_access_fit works _ is plain) (λ env s held. (held, no_access_met works is (contents_of s) plain)))
+    record {
+      held = done.0;
+      registers = done.1.regs ∙ ap (λ (d : Contents). d.regs) c;
+      same = done.1.bytes ∙ ap (λ (d : Contents). d.bytes) c;
+    })
+    (frame_runs z {P = Held z} works is [] (all_straight works is plain) low (no_access_fit works _ is plain)
+    (λ env s held. (held, no_access_met works is (contents_of s) plain)))
 
 even_at : (size : Size) (frame o : ℕ) → frame % 4 ≡ 0 → o % byte_count size ≡ 0 → (frame + o) % byte_count size ≡ 0
 even_at Byte frame o even aligned = omega (arith, even, aligned)
@@ -127,25 +146,67 @@ Addresses z rs offset a env s = HeldAt z s × (address_of s.regs rs offset ≡ z
 -- An access of so many bytes at an address that a register has.
 
 module _ (z : Setting) (rs offset a : ℕ) (rs_small : rs < 32) (offset_small : offset < 4096) where
-  pub loading : (operation : LoadOperation) (rd : ℕ) → 4 < rd → rd < 32 → a % byte_count (load_size operation) ≡ 0 → a + byte_count (load_size operation) ≤ z.size
+  pub loading : (operation : LoadOperation) (rd : ℕ) → 4 < rd → rd < 32 → a % byte_count (load_size operation) ≡ 0
+      → a + byte_count (load_size operation) ≤ z.size
       → Runs z 1 none (instr.Load operation rd rs offset ∷ []) (Addresses z rs offset a)
-      (λ env s t. HeldAt z t × (t.regs ≡ with_register s.regs rd (loaded_value operation (number_or_zero (number_at s.bytes (byte_count (load_size operation)) (z.frame + a))))) × (t.bytes ≡ s.bytes))
+      (λ env s t. HeldAt z t
+      × (t.regs ≡ with_register s.regs rd
+      (loaded_value operation
+      (number_or_zero (number_at s.bytes (byte_count (load_size operation)) (z.frame + a)))))
+      × (t.bytes ≡ s.bytes))
   loading operation rd low small even inside =
       gives
       (λ env s t fine given done. (done.0, done.1.regs, done.1.bytes))
-      (frame_runs z {P = Addresses z rs offset a} is_free (instr.Load operation rd rs offset ∷ []) ((z.frame + a) ∷ []) (simp (lt-ltb 4 rd low, lt-ltb rd 32 small, lt-ltb rs 32 rs_small, lt-ltb offset 4096 offset_small)) none_low
-      (record { even = even_at (load_size operation) z.frame a z.even even; allowed = (omega arith, omega (arith, inside)) }, tt)
-      (λ env s given. (given.0, (record { address = given.1; data_there = frame_there z s given.0 (byte_count (load_size operation)) a inside }, tt))))
+      (frame_runs z {P = Addresses z rs offset a} is_free (instr.Load operation rd rs offset ∷ [])
+      ((z.frame + a) ∷ [])
+      (simp (lt-ltb 4 rd low, lt-ltb rd 32 small, lt-ltb rs 32 rs_small, lt-ltb offset 4096 offset_small))
+      none_low (
+        record {
+          even = even_at (load_size operation) z.frame a z.even even;
+          allowed = (omega arith, omega (arith, inside));
+        },
+        tt,
+      )
+      (λ env s given. (
+        given.0,
+        (
+          record {
+            address = given.1;
+            data_there =
+                frame_there z s given.0 (byte_count (load_size operation)) a inside;
+          },
+          tt,
+        ),
+      )))
 
-  pub storing : (operation : StoreOperation) (rs2 : ℕ) → rs2 < 32 → a % byte_count (store_size operation) ≡ 0 → a + byte_count (store_size operation) ≤ z.size
+  pub storing : (operation : StoreOperation) (rs2 : ℕ) → rs2 < 32 → a % byte_count (store_size operation) ≡ 0
+      → a + byte_count (store_size operation) ≤ z.size
       → Runs z 1 none (instr.Store operation rs2 rs offset ∷ []) (Addresses z rs offset a)
-      (λ env s t. HeldAt z t × (t.regs ≡ s.regs) × (t.bytes ≡ with_number s.bytes (byte_count (store_size operation)) (z.frame + a) (register s.regs rs2)))
+      (λ env s t. HeldAt z t × (t.regs ≡ s.regs)
+      × (t.bytes ≡ with_number s.bytes (byte_count (store_size operation)) (z.frame + a) (register s.regs rs2)))
   storing operation rs2 small even inside =
       gives
       (λ env s t fine given done. (done.0, done.1.regs, done.1.bytes))
-      (frame_runs z {P = Addresses z rs offset a} is_free (instr.Store operation rs2 rs offset ∷ []) ((z.frame + a) ∷ []) (simp (lt-ltb rs2 32 small, lt-ltb rs 32 rs_small, lt-ltb offset 4096 offset_small)) none_low
-      (record { even = even_at (store_size operation) z.frame a z.even even; allowed = (omega arith, omega (arith, inside)) }, tt)
-      (λ env s given. (given.0, (record { address = given.1; data_there = frame_there z s given.0 (byte_count (store_size operation)) a inside }, tt))))
+      (frame_runs z {P = Addresses z rs offset a} is_free (instr.Store operation rs2 rs offset ∷ [])
+      ((z.frame + a) ∷ [])
+      (simp (lt-ltb rs2 32 small, lt-ltb rs 32 rs_small, lt-ltb offset 4096 offset_small)) none_low (
+        record {
+          even = even_at (store_size operation) z.frame a z.even even;
+          allowed = (omega arith, omega (arith, inside));
+        },
+        tt,
+      )
+      (λ env s given. (
+        given.0,
+        (
+          record {
+            address = given.1;
+            data_there =
+                frame_there z s given.0 (byte_count (store_size operation)) a inside;
+          },
+          tt,
+        ),
+      )))
 
 -- An access of a slot: the address of a far one is first made in a register.
 
@@ -153,42 +214,65 @@ abbrev far_code : ℕ → ℕ → List Instr
 far_code r o = instr.Upper Lui r (upper_part o) ∷ instr.Register Add r r 2 ∷ []
 
 slot_code : (access : ℕ → ℕ → Instr) (r o : ℕ) (near : Bool)
-    → cond near (access 2 o ∷ []) (far_code r o ++ access r (lower_part o) ∷ []) ≡ cond near [] (far_code r o) ++ access (cond near 2 r) (cond near o (lower_part o)) ∷ []
+    → cond near (access 2 o ∷ []) (far_code r o ++ access r (lower_part o) ∷ []) ≡ cond near [] (far_code r o)
+    ++ access (cond near 2 r) (cond near o (lower_part o)) ∷ []
 slot_code access r o true = refl
 slot_code access r o false = refl
 
-far_registers : (regs : ℕ → ℕ) (r o frame : ℕ) → 4 < r → regs 2 ≡ frame → registers_after (far_code r o) regs ≡ with_register regs r (sum_of (upper_part o * 2 ^ 12) frame)
+far_registers : (regs : ℕ → ℕ) (r o frame : ℕ) → 4 < r → regs 2 ≡ frame
+    → registers_after (far_code r o) regs ≡ with_register regs r (sum_of (upper_part o * 2 ^ 12) frame)
 far_registers regs r o frame low base = fun_ext (λ q. grind (arith, nat_tests))
 
-near_or_far : (regs : ℕ → ℕ) (r v : ℕ) (near : Bool) → cond near regs (with_register regs r v) ≡ with_register regs r (cond near (regs r) v)
+near_or_far : (regs : ℕ → ℕ) (r v : ℕ) (near : Bool)
+    → cond near regs (with_register regs r v) ≡ with_register regs r (cond near (regs r) v)
 near_or_far regs r v near = fun_ext (λ q. grind (arith, nat_tests))
 
-anew : (regs : ℕ → ℕ) (r u v : ℕ) (near : Bool) → with_register (cond near regs (with_register regs r u)) r v ≡ with_register regs r v
+anew : (regs : ℕ → ℕ) (r u v : ℕ) (near : Bool)
+    → with_register (cond near regs (with_register regs r u)) r v ≡ with_register regs r v
 anew regs r u v near = fun_ext (λ q. grind (arith, nat_tests))
 
-source : (regs : ℕ → ℕ) (r v : ℕ) (near : Bool) → 4 < r → r ≢ 28 → register (cond near regs (with_register regs 28 v)) r ≡ regs r
+source : (regs : ℕ → ℕ) (r v : ℕ) (near : Bool) → 4 < r → r ≢ 28
+    → register (cond near regs (with_register regs 28 v)) r ≡ regs r
 source regs r v near low other = grind (arith, nat_tests)
 
 module _ (z : Setting) where
   reached : (r o : ℕ) → 4 < r → r < 32 → o < z.size → (near : Bool) → nat_lt o 2048 ≡ near
       → Runs z 2 none (cond near [] (far_code r o)) (Held z)
-      (λ env s t. Addresses z (cond near 2 r) (cond near o (lower_part o)) o env t × (t.regs ≡ cond near s.regs (with_register s.regs r (sum_of (upper_part o * 2 ^ 12) z.frame))) × (t.bytes ≡ s.bytes))
+      (λ env s t. Addresses z (cond near 2 r) (cond near o (lower_part o)) o env t
+      × (t.regs ≡ cond near s.regs (with_register s.regs r (sum_of (upper_part o * 2 ^ 12) z.frame)))
+      × (t.bytes ≡ s.bytes))
   reached r o low small inside true h =
       let ends = z.ends in
-      idle (λ env s held. ((held, ap (λ x. sum_of x (sign_extended 12 o)) held.base ∙ near_address z.frame o (ltb-true o 2048 h) (omega (arith, ends, inside))), refl, refl))
+      idle (λ env s held. (
+        (
+          held,
+          ap (λ x. sum_of x (sign_extended 12 o)) held.base
+              ∙ near_address z.frame o (ltb-true o 2048 h) (omega (arith, ends, inside)),
+        ),
+        refl,
+        refl,
+      ))
   reached r o low small inside false h =
       let ends = z.ends in
       gives
       (λ env s t fine held done.
-      let regs : t.regs ≡ with_register s.regs r (sum_of (upper_part o * 2 ^ 12) z.frame) = done.registers ∙ far_registers s.regs r o z.frame low held.base in (
-        (done.held, ap (λ (after : ℕ → ℕ). address_of after r (lower_part o)) regs ∙ rw (ne_eqb r 0 (λ e. omega (arith, low, e)), eq-eqb r r refl) (far_address z.frame o (omega (arith, ends, inside)))),
+      let regs : t.regs ≡ with_register s.regs r (sum_of (upper_part o * 2 ^ 12) z.frame) = done.registers
+      ∙ far_registers s.regs r o z.frame low held.base in (
+        (
+          done.held,
+          ap (λ (after : ℕ → ℕ). address_of after r (lower_part o)) regs
+              ∙ rw (ne_eqb r 0 (λ e. omega (arith, low, e)), eq-eqb r r refl)
+              (far_address z.frame o (omega (arith, ends, inside))),
+        ),
         regs,
         done.same,
       ))
-      (computing_within z is_free (far_code r o) (simp (lt-ltb 4 r low, lt-ltb r 32 small, lt-ltb (upper_part o) 1048576 (upper_fits o))) none_low)
+      (computing_within z is_free (far_code r o)
+      (simp (lt-ltb 4 r low, lt-ltb r 32 small, lt-ltb (upper_part o) 1048576 (upper_fits o))) none_low)
 
   -- one move
-  pub move_runs : (m : Move) → is_move m ≡ true → IsSlot z m → Runs z (move_cost m) none (move_code m) (Held z) (Moved z (m ∷ []))
+  pub move_runs : (m : Move) → is_move m ≡ true → IsSlot z m
+      → Runs z (move_cost m) none (move_code m) (Held z) (Moved z (m ∷ []))
   move_runs (take r o) ok slot =
       let low : 4 < r = grind (arith, nat_tests, ok) in
       let small : r < 32 = grind (arith, nat_tests, ok) in
@@ -199,12 +283,15 @@ module _ (z : Setting) where
       let value = λ (b : ByteMap). number_or_zero (number_at b 4 (z.frame + o)) in
       record {
         held = done.second.0;
-        regs = done.second.1 ∙ (ap₂ (λ (regs : ℕ → ℕ) (b : ByteMap). with_register regs r (value b)) done.first.1 done.first.2 ∙ anew s.regs r _ _ near);
+        regs = done.second.1
+            ∙ (ap₂ (λ (regs : ℕ → ℕ) (b : ByteMap). with_register regs r (value b)) done.first.1 done.first.2
+            ∙ anew s.regs r _ _ near);
         bytes = done.second.2 ∙ done.first.2;
       })
       (quiet
       (reached r o low small (omega (arith, slot.1)) near refl)
-      (loading z (cond near 2 r) (cond near o (lower_part o)) o (grind (arith, nat_tests)) (grind (arith, nat_tests)) Lw r low small slot.0 slot.1)
+      (loading z (cond near 2 r) (cond near o (lower_part o)) o (grind (arith, nat_tests)) (grind (arith, nat_tests))
+      Lw r low small slot.0 slot.1)
       (λ env s t held done. done.0)))
   move_runs (put operation r o) ok slot =
       let low : 4 < r = grind (arith, nat_tests, ok) in
@@ -219,17 +306,25 @@ module _ (z : Setting) where
         regs = done.second.1 ∙ (done.first.1 ∙ near_or_far s.regs 28 v near);
         bytes =
             done.second.2
-            ∙ ap₂ (λ (b : ByteMap) (w : ℕ). with_number b (byte_count (store_size operation)) (z.frame + o) w) done.first.2 (ap (λ (regs : ℕ → ℕ). register regs r) done.first.1 ∙ source s.regs r v near low other);
+            ∙ ap₂ (λ (b : ByteMap) (w : ℕ). with_number b (byte_count (store_size operation)) (z.frame + o) w)
+            done.first.2 (ap (λ (regs : ℕ → ℕ). register regs r) done.first.1
+            ∙ source s.regs r v near low other);
       })
       (quiet
       (reached 28 o (omega arith) (omega arith) (omega (arith, slot.1)) near refl)
-      (storing z (cond near 2 28) (cond near o (lower_part o)) o (grind (arith, nat_tests)) (grind (arith, nat_tests)) operation r small slot.0 slot.1)
+      (storing z (cond near 2 28) (cond near o (lower_part o)) o (grind (arith, nat_tests)) (grind (arith, nat_tests))
+      operation r small slot.0 slot.1)
       (λ env s t held done. done.0)))
-  move_runs (does is) ok slot = gives (λ env s t fine held done. record { held = done.held; regs = done.registers; bytes = done.same }) (computing_within z is_free is ok none_low)
+  move_runs (does is) ok slot =
+      gives (λ env s t fine held done. record { held = done.held; regs = done.registers; bytes = done.same })
+      (computing_within z is_free is ok none_low)
 
-  one_more : (m : Move) (ms : List Move) (env : StraightState) (s u t : State) → Moved z (m ∷ []) env s u → Moved z ms env u t → Moved z (m ∷ ms) env s t
+  one_more : (m : Move) (ms : List Move) (env : StraightState) (s u t : State) → Moved z (m ∷ []) env s u
+      → Moved z ms env u t → Moved z (m ∷ ms) env s t
   one_more m ms env s u t one more =
-      let same : contents_of u ≡ moved z m (contents_of s) = ap₂ (λ (r : ℕ → ℕ) (b : ByteMap). let c : Contents = record { regs = r; bytes = b } in c) one.regs one.bytes in
+      let same : contents_of u ≡ moved z m (contents_of s) =
+      ap₂ (λ (r : ℕ → ℕ) (b : ByteMap). let c : Contents = record { regs = r; bytes = b } in
+      c) one.regs one.bytes in
       record {
         held = more.held;
         regs = more.regs ∙ ap (λ (c : Contents). (all_moved z ms c).regs) same;
@@ -237,12 +332,17 @@ module _ (z : Setting) where
       }
 
   -- code, and then moves
-  pub then_moves : (ms : List Move) → are_moves ms ≡ true → AreSlots z ms → {n : ℕ} {steps : Steps} {xs : List Instr} {P : Before} {Q : After}
+  pub then_moves : (ms : List Move) → are_moves ms ≡ true → AreSlots z ms
+      → {n : ℕ} {steps : Steps} {xs : List Instr} {P : Before} {Q : After}
       → Runs z n steps xs P Q → ((env : StraightState) (s t : State) → P env s → Q env s t → HeldAt z t)
       → Runs z (n + moves_cost ms) steps (behind xs ms) P (Then (setting z) Q (Moved z ms))
   then_moves [] ok slots runs held =
       cheaper (omega arith)
-      (gives (λ env s t fine given done. record { middle = t; first = done; second = record { held = held env s t given done; regs = refl; bytes = refl } }) runs)
+      (gives (λ env s t fine given done. record {
+        middle = t;
+        first = done;
+        second = record { held = held env s t given done; regs = refl; bytes = refl };
+      }) runs)
   then_moves (m ∷ ms) ok slots runs held =
       cheaper (omega arith)
       (gives
@@ -256,7 +356,8 @@ module _ (z : Setting) where
       (λ env s t given done. done.second.held)))
 
   -- moves alone
-  pub moves_run : (m : Move) (ms : List Move) → are_moves (m ∷ ms) ≡ true → AreSlots z (m ∷ ms) → Runs z (moves_cost (m ∷ ms)) none (behind (move_code m) ms) (Held z) (Moved z (m ∷ ms))
+  pub moves_run : (m : Move) (ms : List Move) → are_moves (m ∷ ms) ≡ true → AreSlots z (m ∷ ms)
+      → Runs z (moves_cost (m ∷ ms)) none (behind (move_code m) ms) (Held z) (Moved z (m ∷ ms))
   moves_run m ms ok slots =
       gives
       (λ env s t fine held done. one_more m ms env s done.middle t done.first done.second)

@@ -1,18 +1,30 @@
--- Of the code of an operator with a number in its instruction: that it only computes, and what it makes in its target, which
--- is what the operator means.
-use Rattle.std.proofs.Common.{◌≡◌, ℕ, ◌+◌, ◌-◌, ◌*◌, ◌/◌, ◌%◌, ◌^◌, ◌<◌, ◌==◌, Bool, true, false, cond, not, nat_lt, nat_le, List, [], Option, None, Some, bit_and, bit_or, bit_xor, refl, sym, ap, ◌∙◌, arith, subst}
+-- Of the code of an operator with a number in its instruction: that it only computes, and what it makes in its
+-- target, which is what the operator means.
+use Rattle.std.proofs.Common.{◌≡◌, ℕ, ◌+◌, ◌-◌, ◌*◌, ◌/◌, ◌%◌, ◌^◌, ◌<◌, ◌==◌, Bool, true, false, cond, not, nat_lt}
+use Rattle.std.proofs.Common.{nat_le, List, [], Option, None, Some, bit_and, bit_or, bit_xor, refl, sym, ap, ◌∙◌}
+use Rattle.std.proofs.Common.{arith, subst}
 use Rattle.std.proofs.lemmas.Nat.{and_comm, or_comm, xor_comm, mod_below}
 use Rattle.std.proofs.lemmas.Option.{cond_some, none-some, same_Some}
 use Rattle.expression_code.proofs.Arithmetic.{lower_fits}
-use Rattle.expression_code.proofs.Below.{Allocation, BinaryOperator, bits, element_bytes, eqb-true, Finish, finish_code, FlatVariable, held, HasType, is_short, kind_at, known_row, left_row, lt-ltb, ltb-true, marks_of, nat_tests, near_element, near_offset, number_code, number_of, number_row, NumberRow, of_number, of_truth, only_computes, operated, path_in, Place, registers_after, right_row, sign_extended, sum_of, TermTree, turned_operator, Types, value_in, Values, variable_offset, Width, word_of}
-use Rattle.expression_code.proofs.OperatorCode.{cut_composed, cut_plain, cut_value, cut_whole, d0, d32, dd, q0, q32, truth_fits}
+use Rattle.expression_code.proofs.Below.{Allocation, BinaryOperator, bits, element_bytes, eqb-true, Finish}
+use Rattle.expression_code.proofs.Below.{finish_code, FlatVariable, held, HasType, is_short, kind_at, known_row}
+use Rattle.expression_code.proofs.Below.{left_row, lt-ltb, ltb-true, marks_of, nat_tests, near_element, near_offset}
+use Rattle.expression_code.proofs.Below.{number_code, number_of, number_row, NumberRow, of_number, of_truth}
+use Rattle.expression_code.proofs.Below.{only_computes, operated, path_in, Place, registers_after, right_row}
+use Rattle.expression_code.proofs.Below.{sign_extended, sum_of, TermTree, turned_operator, Types, value_in, Values}
+use Rattle.expression_code.proofs.Below.{variable_offset, Width, word_of}
+use Rattle.expression_code.proofs.OperatorCode.{cut_composed, cut_plain, cut_value, cut_whole, d0, d32, dd, q0, q32}
+use Rattle.expression_code.proofs.OperatorCode.{truth_fits}
 use Rattle.expression_code.proofs.Values.{kind_fits}
 use Rattle.expression_code.proofs.WorkRegisters.{ArePair, IsFree}
 use Rattle.expression_code.specs.declared.numbers.Finish.TheVariants.{Alone, GivesZero, GivesMore, Narrowed}
 use Rattle.expression_code.specs.declared.numbers.NumberStep.TheVariants.{WithImmediate}
 use Rattle.expression_code.specs.NumberRows.{above_zero, shifted}
 use Rattle.inline.specs.Flat.{number, truth}
-use Rattle.language.specs.declared.tree.BinaryOperator.TheVariants.{Equal, Unequal, Less, LessOrEqual, Greater, GreaterOrEqual, BitOr, BitXor, BitAnd, ShiftLeft, ShiftRight, Add, Subtract, Multiply, Divide, Remainder}
+use Rattle.language.specs.declared.tree.BinaryOperator.TheVariants.{Equal, Unequal, Less, LessOrEqual, Greater}
+use Rattle.language.specs.declared.tree.BinaryOperator.TheVariants.{GreaterOrEqual, BitOr, BitXor, BitAnd, ShiftLeft}
+use Rattle.language.specs.declared.tree.BinaryOperator.TheVariants.{ShiftRight, Add, Subtract, Multiply, Divide}
+use Rattle.language.specs.declared.tree.BinaryOperator.TheVariants.{Remainder}
 use Rattle.rv_code.specs.declared.operations.ImmediateOperation.{ImmediateOperation}
 use Rattle.rv_code.specs.declared.operations.ImmediateOperation.TheVariants.{Addi, Sltiu, Xori, Ori, Andi}
 use Rattle.rv_code.specs.declared.operations.ShiftOperation.TheVariants.{Slli, Srli}
@@ -26,15 +38,18 @@ short_held : (n : ℕ) → is_short n ≡ true → sign_extended 12 (n % 4096) �
 short_held n short = grind (arith, nat_tests, short)
 
 -- what is so of the row of an instruction that holds a number is so of the row that there is
-of_held : (P : NumberRow → Type 0) (operation : ImmediateOperation) (finish : Finish) (n : ℕ) (row : NumberRow) → held operation finish n ≡ Some row
+of_held : (P : NumberRow → Type 0) (operation : ImmediateOperation) (finish : Finish) (n : ℕ) (row : NumberRow)
+    → held operation finish n ≡ Some row
     → (is_short n ≡ true → P (record { finish = finish; step = WithImmediate operation (n % 4096) })) → P row
-of_held P operation finish n row is there = let both = cond_some (is_short n) _ row is in subst P both.1 (there both.0)
+of_held P operation finish n row is there = let both = cond_some (is_short n) _ row is in
+    subst P both.1 (there both.0)
 
 of_row : (P : NumberRow → Type 0) (one row : NumberRow) → Some one ≡ Some row → P one → P row
 of_row P one row is there = subst P (same_Some one row is) there
 
 -- by whether the number is 0
-of_zero : (P : NumberRow → Type 0) (n : ℕ) (one other : Option NumberRow) (row : NumberRow) → cond (n == 0) one other ≡ Some row
+of_zero : (P : NumberRow → Type 0) (n : ℕ) (one other : Option NumberRow) (row : NumberRow)
+    → cond (n == 0) one other ≡ Some row
     → ((n == 0) ≡ true → one ≡ Some row → P row) → (other ≡ Some row → P row) → P row
 of_zero P n one other row is zero more = by_test (n == 0) refl is
   where
@@ -45,7 +60,8 @@ of_zero P n one other row is zero more = by_test (n == 0) refl is
 is_equal : (a n : ℕ) → a < 2 ^ 32 → n < 2 ^ 32 → word_of (nat_lt (sum_of a (negated W32 n)) 1) ≡ word_of (a == n)
 is_equal a n p q = grind (arith, nat_tests)
 
-is_unequal : (a n : ℕ) → a < 2 ^ 32 → n < 2 ^ 32 → word_of (nat_lt 0 (sum_of a (negated W32 n))) ≡ word_of (not (a == n))
+is_unequal : (a n : ℕ) → a < 2 ^ 32 → n < 2 ^ 32
+    → word_of (nat_lt 0 (sum_of a (negated W32 n))) ≡ word_of (not (a == n))
 is_unequal a n p q = grind (arith, nat_tests)
 
 at_most : (a n : ℕ) → word_of (nat_lt a (n + 1)) ≡ word_of (nat_le a n)
@@ -61,7 +77,8 @@ not_less a n = grind (arith, nat_tests)
 low_again : (n : ℕ) → n % 32 % 32 ≡ n % 32
 low_again n = omega arith
 
-less_by : (w : Width) (a n : ℕ) → n < 2 ^ 32 → (a + negated W32 n) % 2 ^ bits w ≡ (a + (2 ^ bits w - n % 2 ^ bits w)) % 2 ^ bits w
+less_by : (w : Width) (a n : ℕ) → n < 2 ^ 32
+    → (a + negated W32 n) % 2 ^ bits w ≡ (a + (2 ^ bits w - n % 2 ^ bits w)) % 2 ^ bits w
 less_by W8 a n fits = omega (arith, fits)
 less_by width a n fits = omega (arith, fits)
 
@@ -72,9 +89,12 @@ known (number value kind) n is m = (same_Some value n is, refl)
 known (truth value) n is m = (same_Some (word_of value) n is, refl)
 known e n is m = absurd (none-some n is)
 
-pub known_word : {types : Types} {e : TermTree} {word : _} → HasType types e word → (n : ℕ) → number_of e ≡ Some n → n < 2 ^ 32
-known_word (of_number {value = value} {kind = kind} below) n is = let fits = kind_fits kind value below in omega (arith, fits, same_Some value n is)
-known_word (of_truth {value = value}) n is = let fits = truth_fits value in omega (arith, fits, same_Some (word_of value) n is)
+pub known_word : {types : Types} {e : TermTree} {word : _} → HasType types e word → (n : ℕ) → number_of e ≡ Some n
+    → n < 2 ^ 32
+known_word (of_number {value = value} {kind = kind} below) n is = let fits = kind_fits kind value below in
+    omega (arith, fits, same_Some value n is)
+known_word (of_truth {value = value}) n is = let fits = truth_fits value in
+    omega (arith, fits, same_Some (word_of value) n is)
 known_word has n is = absurd (none-some n is)
 
 -- the number that an expression is, and the row of an operator and it
@@ -89,22 +109,27 @@ pub record Turned (operator : BinaryOperator) (e : TermTree) (row : NumberRow) :
   pub is : turned_operator operator ≡ Some other
   pub numbered : Numbered other e row
 
-numbered_by : (operator : BinaryOperator) (e : TermTree) (row : NumberRow) (m : Option ℕ) → number_of e ≡ m → known_row (Some operator) m ≡ Some row → Numbered operator e row
+numbered_by : (operator : BinaryOperator) (e : TermTree) (row : NumberRow) (m : Option ℕ) → number_of e ≡ m
+    → known_row (Some operator) m ≡ Some row → Numbered operator e row
 numbered_by operator e row None f is = absurd (none-some row is)
 numbered_by operator e row (Some n) f is = record { n = n; is = f; row_is = is }
 
-pub right_known : (a : Allocation) (operator : BinaryOperator) (e : TermTree) (row : NumberRow) → right_row a operator e ≡ Some row → Numbered operator e row
+pub right_known : (a : Allocation) (operator : BinaryOperator) (e : TermTree) (row : NumberRow)
+    → right_row a operator e ≡ Some row → Numbered operator e row
 right_known a operator e row is = by_test a.immediates is
   where
     by_test : (b : Bool) → cond b (known_row (Some operator) (number_of e)) None ≡ Some row → Numbered operator e row
     by_test true same = numbered_by operator e row (number_of e) refl same
     by_test false same = absurd (none-some row same)
 
-pub left_known : (a : Allocation) (operator : BinaryOperator) (e : TermTree) (row : NumberRow) → left_row a operator e ≡ Some row → Turned operator e row
+pub left_known : (a : Allocation) (operator : BinaryOperator) (e : TermTree) (row : NumberRow)
+    → left_row a operator e ≡ Some row → Turned operator e row
 left_known a operator e row is = by_test a.immediates (turned_operator operator) refl is
   where
-    by_test : (b : Bool) (p : Option BinaryOperator) → turned_operator operator ≡ p → cond b (known_row p (number_of e)) None ≡ Some row → Turned operator e row
-    by_test true (Some other) f same = record { other = other; is = f; numbered = numbered_by other e row (number_of e) refl same }
+    by_test : (b : Bool) (p : Option BinaryOperator) → turned_operator operator ≡ p
+        → cond b (known_row p (number_of e)) None ≡ Some row → Turned operator e row
+    by_test true (Some other) f same =
+        record { other = other; is = f; numbered = numbered_by other e row (number_of e) refl same }
     by_test true None f same = absurd (none-some row same)
     by_test false p f same = absurd (none-some row same)
 
@@ -115,10 +140,13 @@ pub record NearElement (declared : List FlatVariable) (x : ℕ) (index : TermTre
   pub at : variable_offset declared x + element_bytes (kind_at declared x) * i ≡ o
   pub near : o < 2048
 
-pub near_known : (declared : List FlatVariable) (a : Allocation) (x : ℕ) (index : TermTree) (o : ℕ) → near_element declared a x index ≡ Some o → NearElement declared x index o
+pub near_known : (declared : List FlatVariable) (a : Allocation) (x : ℕ) (index : TermTree) (o : ℕ)
+    → near_element declared a x index ≡ Some o → NearElement declared x index o
 near_known declared a x index o is = by_test a.immediates (number_of index) refl is
   where
-    by_test : (b : Bool) (m : Option ℕ) → number_of index ≡ m → cond b (near_offset (variable_offset declared x) (kind_at declared x) m) None ≡ Some o → NearElement declared x index o
+    by_test : (b : Bool) (m : Option ℕ) → number_of index ≡ m
+        → cond b (near_offset (variable_offset declared x) (kind_at declared x) m) None ≡ Some o
+        → NearElement declared x index o
     by_test true (Some i) f same =
         let both = cond_some _ _ o same in
         record { i = i; is = f; at = both.1; near = subst (λ n. n < 2048) both.1 (ltb-true _ 2048 both.0) }
@@ -137,10 +165,12 @@ sum_turned : (w : Width) (a b : ℕ) → (b + a) % 2 ^ bits w ≡ (a + b) % 2 ^ 
 sum_turned w a b = let e : b + a ≡ a + b = omega arith in ap (λ n. n % 2 ^ bits w) e
 
 module _ (w : Width) (a b : ℕ) where
-  turned_by : (one other p : BinaryOperator) → Some other ≡ Some p → operated other w b a ≡ operated one w a b → operated p w b a ≡ operated one w a b
+  turned_by : (one other p : BinaryOperator) → Some other ≡ Some p → operated other w b a ≡ operated one w a b
+      → operated p w b a ≡ operated one w a b
   turned_by one other p is same = subst (λ q. operated q w b a ≡ operated one w a b) (same_Some other p is) same
 
-  pub turned_same : (operator p : BinaryOperator) → turned_operator operator ≡ Some p → operated p w b a ≡ operated operator w a b
+  pub turned_same : (operator p : BinaryOperator) → turned_operator operator ≡ Some p
+      → operated p w b a ≡ operated operator w a b
   turned_same Equal p is = turned_by Equal Equal p is (equal_turned a b)
   turned_same Unequal p is = turned_by Unequal Unequal p is (unequal_turned a b)
   turned_same Less p is = turned_by Less Greater p is refl
@@ -155,13 +185,15 @@ module _ (w : Width) (a b : ℕ) where
 
 -- operators that have rows with numbers put nothing on the path
 module _ (place : Place) (a b : ℕ) where
-  pub row_quiet : (operator : BinaryOperator) (n : ℕ) (row : NumberRow) → number_row operator n ≡ Some row → marks_of place operator a b ≡ []
+  pub row_quiet : (operator : BinaryOperator) (n : ℕ) (row : NumberRow) → number_row operator n ≡ Some row
+      → marks_of place operator a b ≡ []
   row_quiet Multiply n row is = absurd (none-some row is)
   row_quiet Divide n row is = absurd (none-some row is)
   row_quiet Remainder n row is = absurd (none-some row is)
   row_quiet operator n row is = refl
 
-  pub turned_quiet : (operator p : BinaryOperator) → turned_operator operator ≡ Some p → marks_of place operator a b ≡ []
+  pub turned_quiet : (operator p : BinaryOperator) → turned_operator operator ≡ Some p
+      → marks_of place operator a b ≡ []
   turned_quiet Multiply p is = absurd (none-some p is)
   turned_quiet Divide p is = absurd (none-some p is)
   turned_quiet Remainder p is = absurd (none-some p is)
@@ -169,7 +201,8 @@ module _ (place : Place) (a b : ℕ) where
 
 -- Code, of the register r, into d.
 
-module _ {d t : ℕ} (pair : ArePair d t) (works : ℕ → Bool) (wd : works d ≡ true) (wt : works t ≡ true) {r : ℕ} (source : IsFree r) where
+module _ {d t : ℕ} (pair : ArePair d t) (works : ℕ → Bool) (wd : works d ≡ true) (wt : works t ≡ true) {r : ℕ}
+    (source : IsFree r) where
   finish_plain : (w : Width) (finish : Finish) → only_computes works (finish_code d w finish) ≡ true
   finish_plain w Narrowed = cut_plain pair works wd wt w
   finish_plain w Alone = refl
@@ -178,19 +211,31 @@ module _ {d t : ℕ} (pair : ArePair d t) (works : ℕ → Bool) (wd : works d �
   -- it only computes, and makes what the operator means
   pub record Means (operator : BinaryOperator) (n : ℕ) (row : NumberRow) : Type 0 where
     pub plain : (w : Width) → only_computes works (number_code d r w row) ≡ true
-    pub value : (w : Width) (regs : ℕ → ℕ) → regs r < 2 ^ 32 → registers_after (number_code d r w row) regs d ≡ operated operator w (regs r) n
+    pub value : (w : Width) (regs : ℕ → ℕ) → regs r < 2 ^ 32
+        → registers_after (number_code d r w row) regs d ≡ operated operator w (regs r) n
 
-  immediate : (operator : BinaryOperator) (n : ℕ) (operation : ImmediateOperation) (finish : Finish) (m : ℕ) (row : NumberRow) → held operation finish m ≡ Some row
-      → ((w : Width) (regs : ℕ → ℕ) → sign_extended 12 (m % 4096) ≡ m → regs r < 2 ^ 32 → registers_after (number_code d r w (record { finish = finish; step = WithImmediate operation (m % 4096) })) regs d ≡ operated operator w (regs r) n)
+  immediate : (operator : BinaryOperator) (n : ℕ) (operation : ImmediateOperation) (finish : Finish) (m : ℕ)
+      (row : NumberRow) → held operation finish m ≡ Some row
+      → ((w : Width) (regs : ℕ → ℕ) → sign_extended 12 (m % 4096) ≡ m → regs r < 2 ^ 32
+      → registers_after
+      (number_code d r w (record { finish = finish; step = WithImmediate operation (m % 4096) })) regs d
+      ≡ operated operator w (regs r) n)
       → Means operator n row
   immediate operator n operation finish m row is made =
       of_held (Means operator n) operation finish m row is
       (λ short. record {
-        plain = λ w. simp (wd, d32 pair, q32 pair source, lt-ltb (m % 4096) 4096 (lower_fits m), finish_plain w finish);
+        plain = λ w. simp (
+          wd,
+          d32 pair,
+          q32 pair source,
+          lt-ltb (m % 4096) 4096 (lower_fits m),
+          finish_plain w finish,
+        );
         value = λ w regs below. made w regs (short_held m short) below;
       })
 
-  above : (operator : BinaryOperator) (n : ℕ) (row : NumberRow) → Some above_zero ≡ Some row → ((v : ℕ) (w : Width) → word_of (nat_lt 0 v) ≡ operated operator w v n) → Means operator n row
+  above : (operator : BinaryOperator) (n : ℕ) (row : NumberRow) → Some above_zero ≡ Some row
+      → ((v : ℕ) (w : Width) → word_of (nat_lt 0 v) ≡ operated operator w v n) → Means operator n row
   above operator n row is same =
       of_row (Means operator n) above_zero row is
       (record {
@@ -198,19 +243,25 @@ module _ {d t : ℕ} (pair : ArePair d t) (works : ℕ → Bool) (wd : works d �
         value = λ w regs below. simp (dd pair, d0 pair, q0 pair source) (same (regs r) w);
       })
 
-  pub number_means : (operator : BinaryOperator) (n : ℕ) → n < 2 ^ 32 → (row : NumberRow) → number_row operator n ≡ Some row → Means operator n row
+  pub number_means : (operator : BinaryOperator) (n : ℕ) → n < 2 ^ 32 → (row : NumberRow)
+      → number_row operator n ≡ Some row → Means operator n row
   number_means Equal n fits row is =
       of_zero (Means Equal n) n _ _ row is
-      (λ zero same. immediate Equal n Sltiu Alone 1 row same (λ w regs short below. simp (dd pair, d0 pair, q0 pair source) (grind (arith, nat_tests, eqb-true n 0 zero))))
+      (λ zero same. immediate Equal n Sltiu Alone 1 row same
+      (λ w regs short below. simp (dd pair, d0 pair, q0 pair source)
+      (grind (arith, nat_tests, eqb-true n 0 zero))))
       (λ same. immediate Equal n Addi GivesZero (negated W32 n) row same (λ w regs short below.
-      simp (dd pair, d0 pair, q0 pair source) (ap (λ x. word_of (nat_lt (sum_of (regs r) x) 1)) short ∙ is_equal (regs r) n below fits)))
+      simp (dd pair, d0 pair, q0 pair source) (ap (λ x. word_of (nat_lt (sum_of (regs r) x) 1)) short
+      ∙ is_equal (regs r) n below fits)))
   number_means Unequal n fits row is =
       of_zero (Means Unequal n) n _ _ row is
       (λ zero same. above Unequal n row same (λ v w. grind (arith, nat_tests, eqb-true n 0 zero)))
       (λ same. immediate Unequal n Addi GivesMore (negated W32 n) row same (λ w regs short below.
-      simp (dd pair, d0 pair, q0 pair source) (ap (λ x. word_of (nat_lt 0 (sum_of (regs r) x))) short ∙ is_unequal (regs r) n below fits)))
+      simp (dd pair, d0 pair, q0 pair source) (ap (λ x. word_of (nat_lt 0 (sum_of (regs r) x))) short
+      ∙ is_unequal (regs r) n below fits)))
   number_means Less n fits row is =
-      immediate Less n Sltiu Alone n row is (λ w regs short below. simp (dd pair, d0 pair, q0 pair source) (ap (λ x. word_of (nat_lt (regs r) x)) short))
+      immediate Less n Sltiu Alone n row is (λ w regs short below.
+      simp (dd pair, d0 pair, q0 pair source) (ap (λ x. word_of (nat_lt (regs r) x)) short))
   number_means LessOrEqual n fits row is =
       immediate LessOrEqual n Sltiu Alone (n + 1) row is (λ w regs short below.
       simp (dd pair, d0 pair, q0 pair source) (ap (λ x. word_of (nat_lt (regs r) x)) short ∙ at_most (regs r) n))
@@ -218,35 +269,56 @@ module _ {d t : ℕ} (pair : ArePair d t) (works : ℕ → Bool) (wd : works d �
       of_zero (Means Greater n) n _ _ row is
       (λ zero same. above Greater n row same (λ v w. ap (λ x. word_of (nat_lt x v)) (sym (eqb-true n 0 zero))))
       (λ same. immediate Greater n Sltiu GivesZero (n + 1) row same (λ w regs short below.
-      simp (dd pair, d0 pair, q0 pair source) (ap (λ x. word_of (nat_lt (word_of (nat_lt (regs r) x)) 1)) short ∙ not_at_most (regs r) n)))
+      simp (dd pair, d0 pair, q0 pair source) (ap (λ x. word_of (nat_lt (word_of (nat_lt (regs r) x)) 1)) short
+      ∙ not_at_most (regs r) n)))
   number_means GreaterOrEqual n fits row is =
       immediate GreaterOrEqual n Sltiu GivesZero n row is (λ w regs short below.
-      simp (dd pair, d0 pair, q0 pair source) (ap (λ x. word_of (nat_lt (word_of (nat_lt (regs r) x)) 1)) short ∙ not_less (regs r) n))
+      simp (dd pair, d0 pair, q0 pair source) (ap (λ x. word_of (nat_lt (word_of (nat_lt (regs r) x)) 1)) short
+      ∙ not_less (regs r) n))
   number_means BitOr n fits row is =
-      immediate BitOr n Ori Alone n row is (λ w regs short below. simp (dd pair, d0 pair, q0 pair source) (ap (bit_or (regs r)) short))
+      immediate BitOr n Ori Alone n row is (λ w regs short below.
+      simp (dd pair, d0 pair, q0 pair source) (ap (bit_or (regs r)) short))
   number_means BitXor n fits row is =
-      immediate BitXor n Xori Alone n row is (λ w regs short below. simp (dd pair, d0 pair, q0 pair source) (ap (bit_xor (regs r)) short))
+      immediate BitXor n Xori Alone n row is
+      (λ w regs short below. simp (dd pair, d0 pair, q0 pair source) (ap (bit_xor (regs r)) short))
   number_means BitAnd n fits row is =
-      immediate BitAnd n Andi Alone n row is (λ w regs short below. simp (dd pair, d0 pair, q0 pair source) (ap (bit_and (regs r)) short))
+      immediate BitAnd n Andi Alone n row is
+      (λ w regs short below. simp (dd pair, d0 pair, q0 pair source) (ap (bit_and (regs r)) short))
   number_means Add n fits row is =
       immediate Add n Addi Narrowed n row is (λ w regs short below.
-      cut_composed pair w _ ∙ simp (dd pair, d0 pair, q0 pair source) (ap (λ x. cut_value w (sum_of (regs r) x)) short ∙ cut_whole w (regs r + n)))
+      cut_composed pair w _ ∙ simp (dd pair, d0 pair, q0 pair source) (ap (λ x. cut_value w (sum_of (regs r) x)) short
+      ∙ cut_whole w (regs r + n)))
   number_means Subtract n fits row is =
       immediate Subtract n Addi Narrowed (negated W32 n) row is (λ w regs short below.
       cut_composed pair w _
-      ∙ simp (dd pair, d0 pair, q0 pair source) (ap (λ x. cut_value w (sum_of (regs r) x)) short ∙ (cut_whole w (regs r + negated W32 n) ∙ less_by w (regs r) n fits)))
+      ∙ simp (dd pair, d0 pair, q0 pair source) (ap (λ x. cut_value w (sum_of (regs r) x)) short
+      ∙ (cut_whole w (regs r + negated W32 n) ∙ less_by w (regs r) n fits)))
   number_means ShiftLeft n fits row is =
       of_row (Means ShiftLeft n) (shifted Slli n) row is
       (record {
-        plain = λ w. simp (wd, d32 pair, q32 pair source, lt-ltb (n % 32) 32 (mod_below n 32 (omega arith)), cut_plain pair works wd wt w);
+        plain = λ w. simp (
+          wd,
+          d32 pair,
+          q32 pair source,
+          lt-ltb (n % 32) 32 (mod_below n 32 (omega arith)),
+          cut_plain pair works wd wt w,
+        );
         value = λ w regs below.
-            cut_composed pair w _ ∙ simp (dd pair, d0 pair, q0 pair source) (cut_whole w (regs r * 2 ^ (n % 32 % 32)) ∙ ap (λ k. regs r * 2 ^ k % 2 ^ bits w) (low_again n));
+            cut_composed pair w _ ∙ simp (dd pair, d0 pair, q0 pair source) (cut_whole w (regs r * 2 ^ (n % 32 % 32))
+            ∙ ap (λ k. regs r * 2 ^ k % 2 ^ bits w) (low_again n));
       })
   number_means ShiftRight n fits row is =
       of_row (Means ShiftRight n) (shifted Srli n) row is
       (record {
-        plain = λ w. simp (wd, d32 pair, q32 pair source, lt-ltb (n % 32) 32 (mod_below n 32 (omega arith)), cut_plain pair works wd wt w);
+        plain = λ w. simp (
+          wd,
+          d32 pair,
+          q32 pair source,
+          lt-ltb (n % 32) 32 (mod_below n 32 (omega arith)),
+          cut_plain pair works wd wt w,
+        );
         value = λ w regs below.
-            cut_composed pair w _ ∙ simp (dd pair, d0 pair, q0 pair source) (cut_whole w (regs r / 2 ^ (n % 32 % 32)) ∙ ap (λ k. regs r / 2 ^ k % 2 ^ bits w) (low_again n));
+            cut_composed pair w _ ∙ simp (dd pair, d0 pair, q0 pair source) (cut_whole w (regs r / 2 ^ (n % 32 % 32))
+            ∙ ap (λ k. regs r / 2 ^ k % 2 ^ bits w) (low_again n));
       })
   number_means operator n fits row is = absurd (none-some row is)

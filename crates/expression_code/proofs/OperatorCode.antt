@@ -1,14 +1,23 @@
--- Of each piece of emitted code that only computes: that it does (`plain`), into registers that work, and what it makes in
--- its target, which is what its node means (`made`).
-use Rattle.std.proofs.Common.{◌≡◌, ◌≢◌, ℕ, ◌+◌, ◌-◌, ◌*◌, ◌/◌, ◌%◌, ◌^◌, ◌<◌, ◌≤◌, ◌==◌, ◌||◌, nat_lt, Bool, true, false, cond, List, [], ◌∷◌, ◌++◌, refl, sym, ap, ap₂, ◌∙◌, arith, subst, eq-eqb, ne_eqb}
+-- Of each piece of emitted code that only computes: that it does (`plain`), into registers that work, and what it
+-- makes in its target, which is what its node means (`made`).
+use Rattle.std.proofs.Common.{◌≡◌, ◌≢◌, ℕ, ◌+◌, ◌-◌, ◌*◌, ◌/◌, ◌%◌, ◌^◌, ◌<◌, ◌≤◌, ◌==◌, ◌||◌, nat_lt, Bool, true}
+use Rattle.std.proofs.Common.{false, cond, List, [], ◌∷◌, ◌++◌, refl, sym, ap, ap₂, ◌∙◌, arith, subst, eq-eqb, ne_eqb}
 use Rattle.std.proofs.lemmas.Nat.{and_mask, mod_below, pow_pos}
-use Rattle.expression_code.proofs.Below.{after_append, between, BinaryOperator, bits, choice_code, constant_code, convert_code, converted, cut_code, eqb-true, false≢true, fun_ext, immediate_value, Instr, lt-ltb, move_code, multiply_value, narrow_code, narrowed_in, nat_tests, of_truths, only_computes, operated, operator_code, plain_append, prefix_code, prefix_value, PrefixOperator, register_left, register_value, registers_after, rotated_left, row_of, shift_value, sign_extended, Step, turned, Width, with_register, word_of}
+use Rattle.expression_code.proofs.Below.{after_append, between, BinaryOperator, bits, choice_code, constant_code}
+use Rattle.expression_code.proofs.Below.{convert_code, converted, cut_code, eqb-true, false≢true, fun_ext}
+use Rattle.expression_code.proofs.Below.{immediate_value, Instr, lt-ltb, move_code, multiply_value, narrow_code}
+use Rattle.expression_code.proofs.Below.{narrowed_in, nat_tests, of_truths, only_computes, operated, operator_code}
+use Rattle.expression_code.proofs.Below.{plain_append, prefix_code, prefix_value, PrefixOperator, register_left}
+use Rattle.expression_code.proofs.Below.{register_value, registers_after, rotated_left, row_of, shift_value}
+use Rattle.expression_code.proofs.Below.{sign_extended, Step, turned, Width, with_register, word_of}
 use Rattle.rv_code.specs.declared.instructions.Instr.TheVariants as instr
 use Rattle.rv_code.specs.declared.operations.ImmediateOperation.TheVariants.{Addi, Andi}
 use Rattle.rv_code.specs.declared.operations.ShiftOperation.TheVariants.{Slli, Srli}
 use Rattle.rv_code.specs.declared.operations.RegisterOperation.TheVariants as register
 use Rattle.rv_code.specs.declared.operations.MultiplyOperation.TheVariants.{Mul}
-use Rattle.language.specs.declared.tree.BinaryOperator.TheVariants.{Either, Both, Equal, Unequal, LessOrEqual, GreaterOrEqual, ShiftLeft, ShiftRight, Add, Subtract, Multiply, Divide, Remainder}
+use Rattle.language.specs.declared.tree.BinaryOperator.TheVariants.{Either, Both, Equal, Unequal, LessOrEqual}
+use Rattle.language.specs.declared.tree.BinaryOperator.TheVariants.{GreaterOrEqual, ShiftLeft, ShiftRight, Add}
+use Rattle.language.specs.declared.tree.BinaryOperator.TheVariants.{Subtract, Multiply, Divide, Remainder}
 use Rattle.language.specs.declared.tree.PrefixOperator.TheVariants.{Not, Complement, Negate}
 use Rattle.word.specs.declared.width.Width.TheVariants.{W8, W16, W32}
 use Rattle.expression_code.proofs.Arithmetic.{parts, chosen}
@@ -16,10 +25,12 @@ use Rattle.expression_code.proofs.WorkRegisters.{IsFree, ArePair}
 
 -- Numbers, into any register that works.
 
-pub constant_plain : (works : ℕ → Bool) (r n : ℕ) → works r ≡ true → r < 32 → only_computes works (constant_code r n) ≡ true
+pub constant_plain : (works : ℕ → Bool) (r n : ℕ) → works r ≡ true → r < 32
+    → only_computes works (constant_code r n) ≡ true
 constant_plain works r n ok small = grind (arith, nat_tests, ok)
 
-pub constant_after : (r n : ℕ) → r ≢ 0 → n < 2 ^ 32 → (regs : ℕ → ℕ) → registers_after (constant_code r n) regs ≡ with_register regs r n
+pub constant_after : (r n : ℕ) → r ≢ 0 → n < 2 ^ 32 → (regs : ℕ → ℕ)
+    → registers_after (constant_code r n) regs ≡ with_register regs r n
 constant_after r n nonzero fits regs = fun_ext (λ q. grind (arith, nat_tests, parts n fits))
 
 -- Arithmetic of widths.
@@ -38,7 +49,8 @@ pub cut_whole : (w : Width) (n : ℕ) → cut_value w (n % 2 ^ 32) ≡ n % 2 ^ b
 cut_whole W8 n = and_mask (n % 2 ^ 32) 8 ∙ omega arith
 cut_whole width n = omega arith
 
-pub cut_difference : (w : Width) (a b : ℕ) → b < 2 ^ 32 → (a + (2 ^ 32 - b % 2 ^ 32)) % 2 ^ bits w ≡ (a + (2 ^ bits w - b % 2 ^ bits w)) % 2 ^ bits w
+pub cut_difference : (w : Width) (a b : ℕ) → b < 2 ^ 32
+    → (a + (2 ^ 32 - b % 2 ^ 32)) % 2 ^ bits w ≡ (a + (2 ^ bits w - b % 2 ^ bits w)) % 2 ^ bits w
 cut_difference W8 a b fits = omega arith
 cut_difference width a b fits = omega arith
 
@@ -46,7 +58,8 @@ cut_complement : (w : Width) (b : ℕ) → b < 2 ^ 32 → (2 ^ 32 - 1 - b) % 2 ^
 cut_complement W8 b fits = omega arith
 cut_complement width b fits = omega arith
 
-one_less : (b : ℕ) → b < 2 ^ 32 → immediate_value Addi (register_value register.Sub 0 b) (sign_extended 12 4095) ≡ (2 ^ 32 - 1 - b) % 2 ^ 32
+one_less : (b : ℕ) → b < 2 ^ 32 → immediate_value Addi (register_value register.Sub 0 b) (sign_extended 12 4095)
+    ≡ (2 ^ 32 - 1 - b) % 2 ^ 32
 one_less b fits = omega arith
 
 narrow : (w : Width) → (0 < bits w) × (bits w ≤ 32)
@@ -58,12 +71,15 @@ unmoved W8 n fits = omega arith
 unmoved width n fits = omega arith
 
 around : (w : Width) (n j : ℕ) → 0 < j → j < bits w
-    → cut_value w (register_value register.Add (shift_value Slli n j) (shift_value Srli n (bits w - j))) ≡ (n * 2 ^ j + n / 2 ^ (bits w - j)) % 2 ^ bits w
+    → cut_value w (register_value register.Add (shift_value Slli n j) (shift_value Srli n (bits w - j)))
+    ≡ (n * 2 ^ j + n / 2 ^ (bits w - j)) % 2 ^ bits w
 around w n j some within =
     let up : j % 32 ≡ j = omega (arith, (narrow w).1) in
     let down : (bits w - j) % 32 ≡ bits w - j = omega (arith, (narrow w).1) in
-    let joined : (n * 2 ^ j % 2 ^ 32 + n / 2 ^ (bits w - j) % 2 ^ 32) % 2 ^ 32 ≡ (n * 2 ^ j + n / 2 ^ (bits w - j)) % 2 ^ 32 = omega arith in
-    ap (cut_value w) (ap₂ (λ x y. (n * 2 ^ x % 2 ^ 32 + n / 2 ^ y % 2 ^ 32) % 2 ^ 32) up down ∙ joined) ∙ cut_whole w (n * 2 ^ j + n / 2 ^ (bits w - j))
+    let joined : (n * 2 ^ j % 2 ^ 32 + n / 2 ^ (bits w - j) % 2 ^ 32) % 2 ^ 32
+    ≡ (n * 2 ^ j + n / 2 ^ (bits w - j)) % 2 ^ 32 = omega arith in
+    ap (cut_value w) (ap₂ (λ x y. (n * 2 ^ x % 2 ^ 32 + n / 2 ^ y % 2 ^ 32) % 2 ^ 32) up down ∙ joined)
+    ∙ cut_whole w (n * 2 ^ j + n / 2 ^ (bits w - j))
 
 word_fits : (w : Width) (n : ℕ) → n < 2 ^ bits w → n < 2 ^ 32
 word_fits W32 n fits = fits
@@ -112,10 +128,16 @@ module _ {d t : ℕ} (pair : ArePair d t) where
 
   -- where these two alone work, any other register is as it was
   pub low_beside : (q : ℕ) → q < 5 → either_of d t q ≡ false
-  low_beside q below = simp (ne_eqb q d (λ e. omega (arith, pair.one.low, below, e)), ne_eqb q t (λ e. omega (arith, pair.other.low, below, e)))
+  low_beside q below =
+      simp (
+        ne_eqb q d (λ e. omega (arith, pair.one.low, below, e)),
+        ne_eqb q t (λ e. omega (arith, pair.other.low, below, e)),
+      )
 
-  pub kept_beside : (is : List Instr) → only_computes (either_of d t) is ≡ true → (regs : ℕ → ℕ) (q : ℕ) → q ≢ d → q ≢ t → registers_after is regs q ≡ regs q
-  kept_beside is plain regs q first second = register_left (either_of d t) is regs q plain (simp (ne_eqb q d first, ne_eqb q t second))
+  pub kept_beside : (is : List Instr) → only_computes (either_of d t) is ≡ true → (regs : ℕ → ℕ) (q : ℕ) → q ≢ d
+      → q ≢ t → registers_after is regs q ≡ regs q
+  kept_beside is plain regs q first second =
+      register_left (either_of d t) is regs q plain (simp (ne_eqb q d first, ne_eqb q t second))
 
   -- A cut in its place.
 
@@ -124,7 +146,8 @@ module _ {d t : ℕ} (pair : ArePair d t) where
   cut_composed width regs = simp (dd, d0)
 
   -- a product of 32 bits that is cut
-  pub product_made : (w : Width) (regs : ℕ → ℕ) (a b : ℕ) → regs d ≡ multiply_value Mul a b → registers_after (cut_code d w) regs d ≡ operated Multiply w a b
+  pub product_made : (w : Width) (regs : ℕ → ℕ) (a b : ℕ) → regs d ≡ multiply_value Mul a b
+      → registers_after (cut_code d w) regs d ≡ operated Multiply w a b
   product_made w regs a b is = cut_composed w regs ∙ (ap (cut_value w) is ∙ cut_whole w (a * b))
 
   -- From a register q.
@@ -140,7 +163,8 @@ module _ {d t : ℕ} (pair : ArePair d t) where
     abbrev move_by : Bool → List Instr
     move_by same = cond same [] (instr.Immediate Addi d q 0 ∷ [])
 
-    move_when : (same : Bool) (regs : ℕ → ℕ) → (d == q) ≡ same → regs q < 2 ^ 32 → registers_after (move_by same) regs d ≡ regs q
+    move_when : (same : Bool) (regs : ℕ → ℕ) → (d == q) ≡ same → regs q < 2 ^ 32
+        → registers_after (move_by same) regs d ≡ regs q
     move_when true regs e fits = ap regs (eqb-true d q e)
     move_when false regs e fits = simp (dd, d0, q0) (omega (arith, fits))
 
@@ -149,39 +173,49 @@ module _ {d t : ℕ} (pair : ArePair d t) where
 
     -- Cuts.
 
-    narrow_composed : (w : Width) (regs : ℕ → ℕ) → registers_after (narrow_code d q w) regs (narrowed_in d q w) ≡ cut_value w (regs q)
+    narrow_composed : (w : Width) (regs : ℕ → ℕ)
+        → registers_after (narrow_code d q w) regs (narrowed_in d q w) ≡ cut_value w (regs q)
     narrow_composed W32 regs = refl
     narrow_composed width regs = simp (dd, d0, q0)
 
-    narrow_made : (w : Width) (regs : ℕ → ℕ) → regs q < 2 ^ 32 → registers_after (narrow_code d q w) regs (narrowed_in d q w) ≡ converted w (regs q)
+    narrow_made : (w : Width) (regs : ℕ → ℕ) → regs q < 2 ^ 32
+        → registers_after (narrow_code d q w) regs (narrowed_in d q w) ≡ converted w (regs q)
     narrow_made w regs fits = narrow_composed w regs ∙ cut_computes w (regs q) fits
 
     pub narrowed_free : (w : Width) → IsFree (narrowed_in d q w)
     narrowed_free W32 = source
     narrowed_free width = pair.one
 
-    pub prefix_made : (operator : PrefixOperator) (w : Width) (regs : ℕ → ℕ) → regs q < 2 ^ 32 → registers_after (prefix_code d q operator w) regs d ≡ prefix_value operator w (regs q)
+    pub prefix_made : (operator : PrefixOperator) (w : Width) (regs : ℕ → ℕ) → regs q < 2 ^ 32
+        → registers_after (prefix_code d q operator w) regs d ≡ prefix_value operator w (regs q)
     prefix_made Not w regs fits = simp (dd, d0, q0) (grind (arith, nat_tests))
     prefix_made Complement w regs fits =
-        cut_composed w _ ∙ simp (dd, d0, q0) (ap (cut_value w) (one_less (regs q) fits) ∙ cut_whole w (2 ^ 32 - 1 - regs q) ∙ cut_complement w (regs q) fits)
+        cut_composed w _ ∙ simp (dd, d0, q0) (ap (cut_value w) (one_less (regs q) fits)
+        ∙ cut_whole w (2 ^ 32 - 1 - regs q) ∙ cut_complement w (regs q) fits)
     prefix_made Negate w regs fits =
         let v = regs q in
         let less : 0 + (2 ^ bits w - v % 2 ^ bits w) ≡ 2 ^ bits w - v % 2 ^ bits w = omega arith in
-        cut_composed w _ ∙ simp (dd, d0, q0) (cut_whole w (0 + (2 ^ 32 - v % 2 ^ 32)) ∙ (cut_difference w 0 v fits ∙ ap (λ x. x % 2 ^ bits w) less))
+        cut_composed w _ ∙ simp (dd, d0, q0) (cut_whole w (0 + (2 ^ 32 - v % 2 ^ 32))
+        ∙ (cut_difference w 0 v fits ∙ ap (λ x. x % 2 ^ bits w) less))
 
     -- Rotations, with what is moved up in t.
 
     abbrev around_by : Width → ℕ → Bool → List Instr
     around_by w amount none =
-        cond none (move_code d q) (instr.Shift Slli t q amount ∷ instr.Shift Srli d q (bits w - amount) ∷ instr.Register register.Add d t d ∷ cut_code d w)
+        cond none (move_code d q) (instr.Shift Slli t q amount ∷ instr.Shift Srli d q (bits w - amount)
+        ∷ instr.Register register.Add d t d ∷ cut_code d w)
 
-    around_made : q ≢ t → (w : Width) (amount : ℕ) (regs : ℕ → ℕ) → amount < bits w → regs q < 2 ^ bits w → (none : Bool) → (amount == 0) ≡ none
-        → registers_after (around_by w amount none) regs d ≡ (regs q * 2 ^ amount + regs q / 2 ^ (bits w - amount)) % 2 ^ bits w
+    around_made : q ≢ t → (w : Width) (amount : ℕ) (regs : ℕ → ℕ) → amount < bits w → regs q < 2 ^ bits w
+        → (none : Bool) → (amount == 0) ≡ none
+        → registers_after (around_by w amount none) regs d
+        ≡ (regs q * 2 ^ amount + regs q / 2 ^ (bits w - amount)) % 2 ^ bits w
     around_made apart w amount regs within fits true h =
         move_made regs (word_fits w (regs q) fits)
-        ∙ (unmoved w (regs q) fits ∙ ap (λ n. (regs q * 2 ^ n + regs q / 2 ^ (bits w - n)) % 2 ^ bits w) (sym (eqb-true amount 0 h)))
+        ∙ (unmoved w (regs q) fits
+        ∙ ap (λ n. (regs q * 2 ^ n + regs q / 2 ^ (bits w - n)) % 2 ^ bits w) (sym (eqb-true amount 0 h)))
     around_made apart w amount regs within fits false h =
-        cut_composed w _ ∙ simp (dd, tt', td, d0, t0, q0, ne_eqb q t apart) (around w (regs q) amount (grind (arith, nat_tests)) within)
+        cut_composed w _ ∙ simp (dd, tt', td, d0, t0, q0, ne_eqb q t apart)
+        (around w (regs q) amount (grind (arith, nat_tests)) within)
 
   -- Of code that writes registers that work.
   module _ (works : ℕ → Bool) (wd : works d ≡ true) (wt : works t ≡ true) where
@@ -201,43 +235,64 @@ module _ {d t : ℕ} (pair : ArePair d t) where
       narrow_plain W32 = refl
       narrow_plain width = simp (d32, q32 source, wd)
 
-      pub prefix_plain : (operator : PrefixOperator) (w : Width) → only_computes works (prefix_code d q operator w) ≡ true
+      pub prefix_plain : (operator : PrefixOperator) (w : Width)
+          → only_computes works (prefix_code d q operator w) ≡ true
       prefix_plain Not w = simp (d32, q32 source, wd)
       prefix_plain operator w = simp (d32, q32 source, wd, cut_plain w)
 
-      around_plain : (w : Width) (amount : ℕ) → amount < bits w → (none : Bool) → (amount == 0) ≡ none → only_computes works (around_by source w amount none) ≡ true
+      around_plain : (w : Width) (amount : ℕ) → amount < bits w → (none : Bool) → (amount == 0) ≡ none
+          → only_computes works (around_by source w amount none) ≡ true
       around_plain w amount within true h = move_plain
       around_plain w amount within false h =
           let some : 0 < amount = grind (arith, nat_tests) in
-          simp (wd, wt, d32, t32, q32 source, lt-ltb amount 32 (omega (arith, (narrow w).1)), lt-ltb (bits w - amount) 32 (omega (arith, (narrow w).1)), cut_plain w)
+          simp (
+            wd,
+            wt,
+            d32,
+            t32,
+            q32 source,
+            lt-ltb amount 32 (omega (arith, (narrow w).1)),
+            lt-ltb (bits w - amount) 32 (omega (arith, (narrow w).1)),
+            cut_plain w,
+          )
 
     module _ {r : ℕ} (source : IsFree r) where
       pub convert_plain : (w : Width) → only_computes works (convert_code d r w) ≡ true
-      convert_plain w = plain_append works (narrow_code d r w) (move_code d (narrowed_in d r w)) (narrow_plain source w) (move_plain (narrowed_free source w))
+      convert_plain w = plain_append works (narrow_code d r w) (move_code d (narrowed_in d r w))
+          (narrow_plain source w) (move_plain (narrowed_free source w))
 
-      pub rotate_plain : (w : Width) (amount : ℕ) → only_computes works (narrow_code d r w ++ around_by (narrowed_free source w) w (amount % bits w) (amount % bits w == 0)) ≡ true
+      pub rotate_plain : (w : Width) (amount : ℕ)
+          → only_computes works (narrow_code d r w
+          ++ around_by (narrowed_free source w) w (amount % bits w) (amount % bits w == 0)) ≡ true
       rotate_plain w amount =
           let n = amount % bits w in
-          plain_append works (narrow_code d r w) (around_by (narrowed_free source w) w n (n == 0)) (narrow_plain source w)
+          plain_append works (narrow_code d r w) (around_by (narrowed_free source w) w n (n == 0))
+          (narrow_plain source w)
           (around_plain (narrowed_free source w) w n (mod_below amount (bits w) (narrow w).0) (n == 0) refl)
 
       -- Operators.
-      pub operator_plain : {l : ℕ} → IsFree l → (operator : BinaryOperator) (w : Width) → is_plain (row_of operator).step ≡ true → only_computes works (operator_code d t l r operator w) ≡ true
+      pub operator_plain : {l : ℕ} → IsFree l → (operator : BinaryOperator) (w : Width)
+          → is_plain (row_of operator).step ≡ true → only_computes works (operator_code d t l r operator w) ≡ true
       operator_plain first Multiply w plain = absurd (false≢true plain)
       operator_plain first Divide w plain = absurd (false≢true plain)
       operator_plain first Remainder w plain = absurd (false≢true plain)
       operator_plain first operator w plain = simp (wd, wt, d32, t32, q32 first, q32 source, cut_plain w)
 
       -- of which the mask comes into m
-      pub choice_plain : {m c l : ℕ} → IsFree m → works m ≡ true → IsFree c → IsFree l → only_computes works (choice_code d m t c l r) ≡ true
-      choice_plain mask wm condition first = simp (wd, wt, wm, d32, t32, q32 mask, q32 condition, q32 first, q32 source)
+      pub choice_plain : {m c l : ℕ} → IsFree m → works m ≡ true → IsFree c → IsFree l
+          → only_computes works (choice_code d m t c l r) ≡ true
+      choice_plain mask wm condition first =
+          simp (wd, wt, wm, d32, t32, q32 mask, q32 condition, q32 first, q32 source)
 
   module _ {r : ℕ} (source : IsFree r) where
-    pub convert_made : (w : Width) (regs : ℕ → ℕ) → regs r < 2 ^ 32 → registers_after (convert_code d r w) regs d ≡ converted w (regs r)
+    pub convert_made : (w : Width) (regs : ℕ → ℕ) → regs r < 2 ^ 32
+        → registers_after (convert_code d r w) regs d ≡ converted w (regs r)
     convert_made w regs fits =
         let cut = narrow_made source w regs fits in
         ap (λ (after : ℕ → ℕ). after d) (after_append (narrow_code d r w) (move_code d (narrowed_in d r w)) regs)
-        ∙ (move_made (narrowed_free source w) (registers_after (narrow_code d r w) regs) (subst (λ v. v < 2 ^ 32) (sym cut) (word_fits w (converted w (regs r)) (mod_below (regs r) (2 ^ bits w) (pow_pos (bits w)))))
+        ∙ (move_made (narrowed_free source w) (registers_after (narrow_code d r w) regs)
+        (subst (λ v. v < 2 ^ 32) (sym cut)
+        (word_fits w (converted w (regs r)) (mod_below (regs r) (2 ^ bits w) (pow_pos (bits w)))))
         ∙ cut)
 
     narrowed_apart : r ≢ t → (w : Width) → narrowed_in d r w ≢ t
@@ -245,35 +300,65 @@ module _ {d t : ℕ} (pair : ArePair d t) where
     narrowed_apart apart width = pair.apart
 
     pub rotate_made : r ≢ t → (w : Width) (amount : ℕ) (regs : ℕ → ℕ) → regs r < 2 ^ 32
-        → registers_after (narrow_code d r w ++ around_by (narrowed_free source w) w (amount % bits w) (amount % bits w == 0)) regs d ≡ rotated_left w (regs r) amount
+        → registers_after (narrow_code d r w
+        ++ around_by (narrowed_free source w) w (amount % bits w) (amount % bits w == 0)) regs d
+        ≡ rotated_left w (regs r) amount
     rotate_made apart w amount regs fits =
         let n = amount % bits w in
         let cut = narrow_made source w regs fits in
-        ap (λ (after : ℕ → ℕ). after d) (after_append (narrow_code d r w) (around_by (narrowed_free source w) w n (n == 0)) regs)
-        ∙ (around_made (narrowed_free source w) (narrowed_apart apart w) w n (registers_after (narrow_code d r w) regs) (mod_below amount (bits w) (narrow w).0)
+        ap (λ (after : ℕ → ℕ). after d)
+        (after_append (narrow_code d r w) (around_by (narrowed_free source w) w n (n == 0)) regs)
+        ∙ (around_made (narrowed_free source w) (narrowed_apart apart w) w n
+        (registers_after (narrow_code d r w) regs) (mod_below amount (bits w) (narrow w).0)
         (subst (λ v. v < 2 ^ bits w) (sym cut) (mod_below (regs r) (2 ^ bits w) (pow_pos (bits w)))) (n == 0) refl
         ∙ ap (λ v. (v * 2 ^ n + v / 2 ^ (bits w - n)) % 2 ^ bits w) cut)
 
     module _ {l : ℕ} (first : IsFree l) where
-      pub operator_made : l ≢ t → (operator : BinaryOperator) (w : Width) → is_plain (row_of operator).step ≡ true → (regs : ℕ → ℕ) → regs l < 2 ^ 32 → regs r < 2 ^ 32
+      pub operator_made : l ≢ t → (operator : BinaryOperator) (w : Width) → is_plain (row_of operator).step ≡ true
+          → (regs : ℕ → ℕ) → regs l < 2 ^ 32 → regs r < 2 ^ 32
           → registers_after (operator_code d t l r operator w) regs d ≡ operated operator w (regs l) (regs r)
-      operator_made apart Either w plain regs left right = simp (dd, tt', td, d0, t0, q0 first, q0 source, ne_eqb l t apart) (grind (arith, nat_tests))
-      operator_made apart Both w plain regs left right = simp (dd, tt', td, d0, t0, q0 first, q0 source, ne_eqb l t apart) (grind (arith, nat_tests))
-      operator_made apart Equal w plain regs left right = simp (dd, d0, q0 first, q0 source) (grind (arith, nat_tests))
-      operator_made apart Unequal w plain regs left right = simp (dd, d0, q0 first, q0 source) (grind (arith, nat_tests))
-      operator_made apart LessOrEqual w plain regs left right = simp (dd, d0, q0 first, q0 source) (grind (arith, nat_tests))
-      operator_made apart GreaterOrEqual w plain regs left right = simp (dd, d0, q0 first, q0 source) (grind (arith, nat_tests))
-      operator_made apart ShiftLeft w plain regs left right = cut_composed w _ ∙ simp (dd, d0, q0 first, q0 source) (cut_whole w (regs l * 2 ^ (regs r % 32)))
-      operator_made apart ShiftRight w plain regs left right = cut_composed w _ ∙ simp (dd, d0, q0 first, q0 source) (cut_whole w (regs l / 2 ^ (regs r % 32)))
-      operator_made apart Add w plain regs left right = cut_composed w _ ∙ simp (dd, d0, q0 first, q0 source) (cut_whole w (regs l + regs r))
+      operator_made apart Either w plain regs left right =
+          simp (dd, tt', td, d0, t0, q0 first, q0 source, ne_eqb l t apart) (grind (arith, nat_tests))
+      operator_made apart Both w plain regs left right =
+          simp (dd, tt', td, d0, t0, q0 first, q0 source, ne_eqb l t apart) (grind (arith, nat_tests))
+      operator_made apart Equal w plain regs left right =
+          simp (dd, d0, q0 first, q0 source) (grind (arith, nat_tests))
+      operator_made apart Unequal w plain regs left right =
+          simp (dd, d0, q0 first, q0 source) (grind (arith, nat_tests))
+      operator_made apart LessOrEqual w plain regs left right =
+          simp (dd, d0, q0 first, q0 source) (grind (arith, nat_tests))
+      operator_made apart GreaterOrEqual w plain regs left right =
+          simp (dd, d0, q0 first, q0 source) (grind (arith, nat_tests))
+      operator_made apart ShiftLeft w plain regs left right = cut_composed w _
+          ∙ simp (dd, d0, q0 first, q0 source) (cut_whole w (regs l * 2 ^ (regs r % 32)))
+      operator_made apart ShiftRight w plain regs left right = cut_composed w _
+          ∙ simp (dd, d0, q0 first, q0 source) (cut_whole w (regs l / 2 ^ (regs r % 32)))
+      operator_made apart Add w plain regs left right = cut_composed w _
+          ∙ simp (dd, d0, q0 first, q0 source) (cut_whole w (regs l + regs r))
       operator_made apart Subtract w plain regs left right =
-          cut_composed w _ ∙ simp (dd, d0, q0 first, q0 source) (cut_whole w (regs l + (2 ^ 32 - regs r % 2 ^ 32)) ∙ cut_difference w (regs l) (regs r) right)
+          cut_composed w _ ∙ simp (dd, d0, q0 first, q0 source) (cut_whole w (regs l + (2 ^ 32 - regs r % 2 ^ 32))
+          ∙ cut_difference w (regs l) (regs r) right)
       operator_made apart Multiply w plain regs left right = absurd (false≢true plain)
       operator_made apart Divide w plain regs left right = absurd (false≢true plain)
       operator_made apart Remainder w plain regs left right = absurd (false≢true plain)
       operator_made apart operator w plain regs left right = simp (dd, d0, q0 first, q0 source)
 
       -- Choices, with the mask in m.
-      pub choice_made : {m c : ℕ} → IsFree m → IsFree c → m ≢ t → l ≢ m → r ≢ m → r ≢ t → (regs : ℕ → ℕ) → registers_after (choice_code d m t c l r) regs d ≡ chosen (regs c) (regs l) (regs r)
+      pub choice_made : {m c : ℕ} → IsFree m → IsFree c → m ≢ t → l ≢ m → r ≢ m → r ≢ t → (regs : ℕ → ℕ)
+          → registers_after (choice_code d m t c l r) regs d ≡ chosen (regs c) (regs l) (regs r)
       choice_made {m = m} {c = c} mask condition mt lm rm rt regs =
-          simp (dd, tt', eq-eqb m m refl, ne_eqb m t mt, ne_eqb l m lm, ne_eqb r m rm, ne_eqb r t rt, d0, t0, q0 mask, q0 condition, q0 first, q0 source)
+          simp (
+            dd,
+            tt',
+            eq-eqb m m refl,
+            ne_eqb m t mt,
+            ne_eqb l m lm,
+            ne_eqb r m rm,
+            ne_eqb r t rt,
+            d0,
+            t0,
+            q0 mask,
+            q0 condition,
+            q0 first,
+            q0 source,
+          )

@@ -1,7 +1,20 @@
--- What is known of a term: how many temporaries it has at once, how many instructions it is, and which variables it names.
+-- What is known of a term: how many temporaries it has at once, how many instructions it is, and which variables it
+-- names.
 use Rattle.std.proofs.Common.{◌≡◌, ℕ, ◌+◌, ◌*◌, ◌%◌, ◌<◌, ◌≤◌, ◌==◌, Bool, true, false, cond, nat_lt, List, ◌++◌, length, Option, None, Some, ◌-◌, arith, length-append}
 use Rattle.std.proofs.lemmas.Option.{slice_get_within}
-use Rattle.expression_code.proofs.Below.{address_code, Allocation, around_code, binary, BinaryOperator, bits, code_by, constant_code, convert, convert_code, copy_code, cut_code, element, element_code, expr_code, fetch_code, Finish, finish_code, FlatVariable, HasType, height_of, InRegister, InSlot, Instr, into_code, IsAmong, is_at_home, keep_code, Kind, kind_at, left_row, load_code, Location, move_code, narrow_code, narrowed_in, near_code, near_element, number_code, NumberRow, of_binary, of_conversion, of_element, of_number, of_prefix, of_rotation, of_selection, of_truth, of_truths, of_variable, operand, operator_code, placed_code, prefix, prefix_code, PrefixOperator, Profile, raise_code, register_of, right_row, rotate, rotate_code, row_of, scale_code, select, Step, step_code, store_code, temporary, term_nodes, TermTree, Types, types_of, variable, variable_location, variable_offset, Width, WordType, working_register}
+use Rattle.expression_code.proofs.Below.{address_code, Allocation, around_code, binary, BinaryOperator, bits, code_by}
+use Rattle.expression_code.proofs.Below.{constant_code, convert, convert_code, copy_code, cut_code, element}
+use Rattle.expression_code.proofs.Below.{element_code, expr_code, fetch_code, Finish, finish_code, FlatVariable}
+use Rattle.expression_code.proofs.Below.{HasType, height_of, InRegister, InSlot, Instr, into_code, IsAmong}
+use Rattle.expression_code.proofs.Below.{is_at_home, keep_code, Kind, kind_at, left_row, load_code, Location}
+use Rattle.expression_code.proofs.Below.{move_code, narrow_code, narrowed_in, near_code, near_element, number_code}
+use Rattle.expression_code.proofs.Below.{NumberRow, of_binary, of_conversion, of_element, of_number, of_prefix}
+use Rattle.expression_code.proofs.Below.{of_rotation, of_selection, of_truth, of_truths, of_variable, operand}
+use Rattle.expression_code.proofs.Below.{operator_code, placed_code, prefix, prefix_code, PrefixOperator, Profile}
+use Rattle.expression_code.proofs.Below.{raise_code, register_of, right_row, rotate, rotate_code, row_of, scale_code}
+use Rattle.expression_code.proofs.Below.{select, Step, step_code, store_code, temporary, term_nodes, TermTree, Types}
+use Rattle.expression_code.proofs.Below.{types_of, variable, variable_location, variable_offset, Width, WordType}
+use Rattle.expression_code.proofs.Below.{working_register}
 use Rattle.language.specs.declared.signature.Kind.TheVariants.{Boolean}
 use Rattle.expression_code.specs.declared.numbers.Finish.TheVariants.{Narrowed}
 use Rattle.language.specs.declared.tree.BinaryOperator.TheVariants.{Either, Both, Multiply}
@@ -11,19 +24,24 @@ use Rattle.word.specs.declared.width.Width.TheVariants.{W8}
 -- Variables.
 
 -- all that a well-typed expression names are known, where the variables that are known are
-pub typed_within : (count : ℕ) (types : Types) → ((x : ℕ) (d : FlatVariable) → types.at x ≡ Some d → x < count) → {e : TermTree} {word : WordType} → HasType types e word → IsAmong count e
+pub typed_within : (count : ℕ) (types : Types) → ((x : ℕ) (d : FlatVariable) → types.at x ≡ Some d → x < count)
+    → {e : TermTree} {word : WordType} → HasType types e word → IsAmong count e
 typed_within count types known (of_number below) = tt
 typed_within count types known of_truth = tt
 typed_within count types known (of_variable {x = x} is) = known x _ is
 typed_within count types known (of_prefix has takes same) = typed_within count types known has
-typed_within count types known (of_binary has more makes same) = (typed_within count types known has, typed_within count types known more)
+typed_within count types known (of_binary has more makes same) =
+    (typed_within count types known has, typed_within count types known more)
 typed_within count types known (of_rotation has numeric low high same) = typed_within count types known has
 typed_within count types known (of_conversion has numeric) = typed_within count types known has
-typed_within count types known (of_selection has chooses more) = (typed_within count types known has, typed_within count types known chooses, typed_within count types known more)
+typed_within count types known (of_selection has chooses more) =
+    (typed_within count types known has, typed_within count types known chooses, typed_within count types known more)
 typed_within count types known (of_element {x = x} is has) = (known x _ is, typed_within count types known has)
 
-pub typed_among : (profile : Profile) (declared : List FlatVariable) {e : TermTree} {word : WordType} → HasType (types_of profile declared) e word → IsAmong (length declared) e
-typed_among profile declared has = typed_within (length declared) (types_of profile declared) (λ x d is. slice_get_within declared x d is) has
+pub typed_among : (profile : Profile) (declared : List FlatVariable) {e : TermTree} {word : WordType}
+    → HasType (types_of profile declared) e word → IsAmong (length declared) e
+typed_among profile declared has =
+    typed_within (length declared) (types_of profile declared) (λ x d is. slice_get_within declared x d is) has
 
 -- Temporaries.
 
@@ -43,7 +61,8 @@ one_of true xs ys n h k = h
 one_of false xs ys n h k = k
 
 -- of what there may be of a code, each is short, and so is the other one
-pub code_length : {T : Type 0} (o : Option T) (code : T → List Instr) (other : List Instr) (n : ℕ) → ((x : T) → length (code x) ≤ n) → length other ≤ n → length (code_by o code other) ≤ n
+pub code_length : {T : Type 0} (o : Option T) (code : T → List Instr) (other : List Instr) (n : ℕ)
+    → ((x : T) → length (code x) ≤ n) → length other ≤ n → length (code_by o code other) ≤ n
 code_length None code other n some more = more
 code_length (Some x) code other n some more = some x
 
@@ -90,7 +109,8 @@ finish_length d w Narrowed = omega (arith, cut_length d w)
 finish_length d w finish = omega arith
 
 -- of the rows there are, the longest
-row_length : (d t l r : ℕ) (w : Width) (o : BinaryOperator) → length (step_code d t l r (row_of o).step) + length (finish_code d w (row_of o).finish) ≤ 4
+row_length : (d t l r : ℕ) (w : Width) (o : BinaryOperator)
+    → length (step_code d t l r (row_of o).step) + length (finish_code d w (row_of o).finish) ≤ 4
 row_length d t l r w Either = omega arith
 row_length d t l r w Both = omega arith
 row_length d t l r w Multiply = omega (arith, cut_length d w)
@@ -109,7 +129,8 @@ prefix_length d r operator w = omega (arith, cut_length d w)
 pub rotate_length : (d r : ℕ) (w : Width) (amount : ℕ) → length (rotate_code d r w amount) ≤ 7
 rotate_length d r w amount =
     let around : length (around_code d (narrowed_in d r w) w (amount % bits w)) ≤ 5 =
-    one_of (amount % bits w == 0) _ _ 5 (omega (arith, move_length d (narrowed_in d r w))) (omega (arith, cut_length d w)) in
+    one_of (amount % bits w == 0) _ _ 5 (omega (arith, move_length d (narrowed_in d r w)))
+    (omega (arith, cut_length d w)) in
     simp length-append (omega (arith, narrow_length d r w, around))
 
 scale_length : (d r : ℕ) (kind : Kind) → length (scale_code d r kind) ≤ 2
@@ -126,15 +147,18 @@ module _ (declared : List FlatVariable) (a : Allocation) (free : ℕ) where
   abbrev own : ℕ → ℕ
   own place = working_register a.count place 29
 
-  placed_length : (place : ℕ) (e : TermTree) (is : List Instr) (n : ℕ) → length is + 3 ≤ n → length (placed_code declared a free place e is) ≤ n
+  placed_length : (place : ℕ) (e : TermTree) (is : List Instr) (n : ℕ) → length is + 3 ≤ n
+      → length (placed_code declared a free place e is) ≤ n
   placed_length place e is n few =
-      one_of (is_at_home a e) _ _ n (omega arith) (simp length-append (omega (arith, few, keep_length (temporary a.count free place))))
+      one_of (is_at_home a e) _ _ n (omega arith)
+      (simp length-append (omega (arith, few, keep_length (temporary a.count free place))))
 
   -- an operator's code of one operand and of two, and that of an element at an index in a register
 
   abbrev pub one_code : ℕ → ℕ → TermTree → Width → NumberRow → List Instr
   one_code d place e width row =
-      placed_code declared a free place e (into_code declared a free (own place) place e) ++ fetch_code (operand a free place e) 29
+      placed_code declared a free place e (into_code declared a free (own place) place e)
+      ++ fetch_code (operand a free place e) 29
       ++ number_code d (register_of (operand a free place e) 29) width row
 
   abbrev pub both_code : ℕ → ℕ → TermTree → TermTree → BinaryOperator → Width → List Instr
@@ -142,40 +166,86 @@ module _ (declared : List FlatVariable) (a : Allocation) (free : ℕ) where
       placed_code declared a free place one (into_code declared a free (own place) place one)
       ++ placed_code declared a free (place + 1) other (into_code declared a free (own (place + 1)) (place + 1) other)
       ++ fetch_code (operand a free place one) 29 ++ fetch_code (operand a free (place + 1) other) 30
-      ++ operator_code d (working_register a.count (place + 1) 30) (register_of (operand a free place one) 29) (register_of (operand a free (place + 1) other) 30) operator width
+      ++ operator_code d (working_register a.count (place + 1) 30) (register_of (operand a free place one) 29)
+      (register_of (operand a free (place + 1) other) 30) operator width
 
   abbrev pub picked_code : ℕ → ℕ → ℕ → TermTree → List Instr
   picked_code d place x index =
-      placed_code declared a free place index (into_code declared a free (own place) place index) ++ fetch_code (operand a free place index) 29
-      ++ element_code d (register_of (operand a free place index) 29) (kind_at declared x) (variable_offset declared x)
+      placed_code declared a free place index (into_code declared a free (own place) place index)
+      ++ fetch_code (operand a free place index) 29
+      ++ element_code d (register_of (operand a free place index) 29) (kind_at declared x)
+      (variable_offset declared x)
 
-  pub into_length : (d place : ℕ) (e : TermTree) → length (into_code declared a free d place e) + 3 ≤ 16 * term_nodes e
+  pub into_length : (d place : ℕ) (e : TermTree)
+      → length (into_code declared a free d place e) + 3 ≤ 16 * term_nodes e
   into_length d place (variable x) = omega (arith, copy_length d (variable_location declared a x))
   into_length d place (prefix operator width e) =
-      omega (arith, length-append {A = Instr}, placed_length place e _ _ (into_length (own place) place e), fetch_length, prefix_length)
+      omega (
+        arith,
+        length-append {A = Instr},
+        placed_length place e _ _ (into_length (own place) place e),
+        fetch_length,
+        prefix_length,
+      )
   into_length d place (binary source operator width one other) =
       let n = 16 * (1 + term_nodes one + term_nodes other) - 3 in
       let left = placed_length place one _ _ (into_length (own place) place one) in
       let right = placed_length place other _ _ (into_length (own place) place other) in
       let next = placed_length (place + 1) other _ _ (into_length (own (place + 1)) (place + 1) other) in
-      let few : length (code_by (right_row a operator other) (one_code d place one width) (code_by (left_row a operator one) (one_code d place other width) (both_code d place one other operator width))) ≤ n =
+      let few : length (code_by (right_row a operator other) (one_code d place one width)
+      (code_by (left_row a operator one) (one_code d place other width)
+      (both_code d place one other operator width))) ≤ n =
       code_length (right_row a operator other) (one_code d place one width) _ n
-      (λ row. omega (arith, length-append {A = Instr}, left, fetch_length, number_length d (register_of (operand a free place one) 29) width row))
-      (code_length (left_row a operator one) (one_code d place other width) (both_code d place one other operator width) n
-      (λ row. omega (arith, length-append {A = Instr}, right, fetch_length, number_length d (register_of (operand a free place other) 29) width row))
+      (λ row. omega (
+        arith,
+        length-append {A = Instr},
+        left,
+        fetch_length,
+        number_length d (register_of (operand a free place one) 29) width row,
+      ))
+      (code_length (left_row a operator one) (one_code d place other width)
+      (both_code d place one other operator width) n
+      (λ row. omega (
+        arith,
+        length-append {A = Instr},
+        right,
+        fetch_length,
+        number_length d (register_of (operand a free place other) 29) width row,
+      ))
       (omega (arith, length-append {A = Instr}, left, next, fetch_length, operator_length))) in
       omega (arith, few)
   into_length d place (rotate width e amount) =
-      omega (arith, length-append {A = Instr}, placed_length place e _ _ (into_length (own place) place e), fetch_length, rotate_length)
+      omega (
+        arith,
+        length-append {A = Instr},
+        placed_length place e _ _ (into_length (own place) place e),
+        fetch_length,
+        rotate_length,
+      )
   into_length d place (convert kind e) =
-      omega (arith, length-append {A = Instr}, placed_length place e _ _ (into_length (own place) place e), fetch_length, convert_length)
+      omega (
+        arith,
+        length-append {A = Instr},
+        placed_length place e _ _ (into_length (own place) place e),
+        fetch_length,
+        convert_length,
+      )
   into_length d place (select condition accepted otherwise) =
-      omega (arith, length-append {A = Instr}, placed_length place condition _ _ (into_length (own place) place condition), placed_length (place + 1) accepted _ _ (into_length (own (place + 1)) (place + 1) accepted), placed_length (place + 2) otherwise _ _ (into_length (own (place + 2)) (place + 2) otherwise), fetch_length)
+      omega (
+        arith,
+        length-append {A = Instr},
+        placed_length place condition _ _ (into_length (own place) place condition),
+        placed_length (place + 1) accepted _ _ (into_length (own (place + 1)) (place + 1) accepted),
+        placed_length (place + 2) otherwise _ _ (into_length (own (place + 2)) (place + 2) otherwise),
+        fetch_length,
+      )
   into_length d place (element source x size index) =
       let n = 16 * (1 + term_nodes index) - 3 in
       let placed = placed_length place index _ _ (into_length (own place) place index) in
-      let few : length (code_by (near_element declared a x index) (near_code d (kind_at declared x)) (picked_code d place x index)) ≤ n =
-      code_length (near_element declared a x index) (near_code d (kind_at declared x)) (picked_code d place x index) n (λ o. omega arith)
+      let few : length (code_by (near_element declared a x index) (near_code d (kind_at declared x))
+      (picked_code d place x index)) ≤ n =
+      code_length (near_element declared a x index) (near_code d (kind_at declared x)) (picked_code d place x index) n
+      (λ o. omega arith)
       (omega (arith, length-append {A = Instr}, placed, fetch_length, address_length)) in
       omega (arith, few)
   into_length d place e = omega (arith, constant_length)

@@ -1,7 +1,10 @@
--- The registers that operators work on: those of temporaries, the homes of variables, and the spare ones; and which of them
--- the code for a place may write.
-use Rattle.std.proofs.Common.{◌≡◌, ◌≢◌, ◌⊎◌, inl, inr, ℕ, ◌+◌, ◌<◌, ◌≤◌, ◌==◌, ◌&&◌, ◌||◌, not, cond, nat_lt, nat_le, Bool, true, false, List, Option, None, Some, refl, sym, ap, ◌∙◌, arith}
-use Rattle.expression_code.proofs.Below.{Allocation, at_home as at_home_of, FlatVariable, home_of, InRegister, InSlot, IsAllocation, Location, nat_tests, operand, register_of, slot_of, temporary, TermTree, true≢false, variable, working_register}
+-- The registers that operators work on: those of temporaries, the homes of variables, and the spare ones; and which
+-- of them the code for a place may write.
+use Rattle.std.proofs.Common.{◌≡◌, ◌≢◌, ◌⊎◌, inl, inr, ℕ, ◌+◌, ◌<◌, ◌≤◌, ◌==◌, ◌&&◌, ◌||◌, not, cond, nat_lt, nat_le}
+use Rattle.std.proofs.Common.{Bool, true, false, List, Option, None, Some, refl, sym, ap, ◌∙◌, arith}
+use Rattle.expression_code.proofs.Below.{Allocation, at_home as at_home_of, FlatVariable, home_of, InRegister, InSlot}
+use Rattle.expression_code.proofs.Below.{IsAllocation, Location, nat_tests, operand, register_of, slot_of, temporary}
+use Rattle.expression_code.proofs.Below.{TermTree, true≢false, variable, working_register}
 
 -- a register that code may work on
 pub record IsFree (r : ℕ) : Type 0 where
@@ -41,7 +44,8 @@ pub lower_stays : (count place q : ℕ) → q < place → q < count → count �
 lower_stays count place q less small few = grind (arith, nat_tests)
 
 -- so a higher place writes no more
-pub higher_stays : (count less place q : ℕ) → less ≤ place → works_in count less q ≡ false → works_in count place q ≡ false
+pub higher_stays : (count less place q : ℕ) → less ≤ place → works_in count less q ≡ false
+    → works_in count place q ≡ false
 higher_stays count less place q few h = grind (arith, nat_tests)
 
 pub beside_stays : (count place d q : ℕ) → works_at count place d q ≡ false → works_in count place q ≡ false
@@ -52,16 +56,19 @@ pub home_beside : (count place d q : ℕ) → 5 + count ≤ q → q < 28 → q �
 home_beside count place d q low high other = grind (arith, nat_tests, other)
 
 -- where the value comes into the register of a place
-pub own_stays : (count place q : ℕ) → count ≤ 16 → works_in count place q ≡ false → works_at count place (working_register count place 29) q ≡ false
+pub own_stays : (count place q : ℕ) → count ≤ 16 → works_in count place q ≡ false
+    → works_at count place (working_register count place 29) q ≡ false
 own_stays count place q few h = grind (arith, nat_tests)
 
 pub target_works : (count place d : ℕ) → works_at count place d d ≡ true
 target_works count place d = grind (arith, nat_tests)
 
-pub own_works : (count place d spare : ℕ) → 28 < spare → works_at count place d (working_register count place spare) ≡ true
+pub own_works : (count place d spare : ℕ) → 28 < spare
+    → works_at count place d (working_register count place spare) ≡ true
 own_works count place d spare low = grind (arith, nat_tests)
 
-pub next_works : (count place d spare : ℕ) → 28 < spare → works_at count place d (working_register count (place + 1) spare) ≡ true
+pub next_works : (count place d spare : ℕ) → 28 < spare
+    → works_at count place d (working_register count (place + 1) spare) ≡ true
 next_works count place d spare low = grind (arith, nat_tests)
 
 pub spare_works : (count place d q : ℕ) → 27 < q → works_at count place d q ≡ true
@@ -75,13 +82,17 @@ not_written works q r h k e = true≢false (sym k ∙ (ap works (sym e) ∙ h))
 
 -- Working registers.
 
-pub working_free : (count place spare : ℕ) → count ≤ 16 → 28 < spare → spare < 32 → IsFree (working_register count place spare)
-working_free count place spare few low high = free_from (working_register count place spare) (grind (arith, nat_tests)) (grind (arith, nat_tests))
+pub working_free : (count place spare : ℕ) → count ≤ 16 → 28 < spare → spare < 32
+    → IsFree (working_register count place spare)
+working_free count place spare few low high =
+    free_from (working_register count place spare) (grind (arith, nat_tests)) (grind (arith, nat_tests))
 
-pub working_apart : (count p q s t : ℕ) → count ≤ 16 → p < q → 28 < s → s < t → working_register count p s ≢ working_register count q t
+pub working_apart : (count p q s t : ℕ) → count ≤ 16 → p < q → 28 < s → s < t
+    → working_register count p s ≢ working_register count q t
 working_apart count p q s t few less low more e = absurd (grind (arith, nat_tests, e))
 
-pub working_not : (count place spare other : ℕ) → count ≤ 16 → 27 < other → spare ≢ other → working_register count place spare ≢ other
+pub working_not : (count place spare other : ℕ) → count ≤ 16 → 27 < other → spare ≢ other
+    → working_register count place spare ≢ other
 working_not count place spare other few low apart e = absurd (grind (arith, nat_tests, e, apart))
 
 -- Operands: in a home, or in the register of a place, or in a spare one.
@@ -92,17 +103,23 @@ IsHome count r = (5 + count ≤ r) × (r < 28)
 abbrev pub IsOperand : ℕ → ℕ → ℕ → ℕ → Type 0
 IsOperand count place spare r = (r ≡ working_register count place spare) ⊎ IsHome count r
 
-pub operand_free : (count place spare r : ℕ) → count ≤ 16 → 28 < spare → spare < 32 → IsOperand count place spare r → IsFree r
-operand_free count place spare r few low high (inl e) = free_from r (grind (arith, nat_tests, e)) (grind (arith, nat_tests, e))
+pub operand_free : (count place spare r : ℕ) → count ≤ 16 → 28 < spare → spare < 32
+    → IsOperand count place spare r → IsFree r
+operand_free count place spare r few low high (inl e) =
+    free_from r (grind (arith, nat_tests, e)) (grind (arith, nat_tests, e))
 operand_free count place spare r few low high (inr home) = free_from r (omega (arith, home.0)) (omega (arith, home.1))
 
 -- an operand is not in a register that another place works in
-pub operand_apart : (count p q s t r : ℕ) → count ≤ 16 → p ≢ q → 28 < s → 28 < t → s ≢ t → IsOperand count p s r → r ≢ working_register count q t
-operand_apart count p q s t r few other low high apart (inl e) f = absurd (grind (arith, nat_tests, e, f, other, apart))
-operand_apart count p q s t r few other low high apart (inr home) f = absurd (grind (arith, nat_tests, home.0, home.1, f))
+pub operand_apart : (count p q s t r : ℕ) → count ≤ 16 → p ≢ q → 28 < s → 28 < t → s ≢ t → IsOperand count p s r
+    → r ≢ working_register count q t
+operand_apart count p q s t r few other low high apart (inl e) f =
+    absurd (grind (arith, nat_tests, e, f, other, apart))
+operand_apart count p q s t r few other low high apart (inr home) f =
+    absurd (grind (arith, nat_tests, home.0, home.1, f))
 
 -- or in another spare one
-pub operand_not : (count place spare other r : ℕ) → count ≤ 16 → 27 < other → spare ≢ other → IsOperand count place spare r → r ≢ other
+pub operand_not : (count place spare other r : ℕ) → count ≤ 16 → 27 < other → spare ≢ other
+    → IsOperand count place spare r → r ≢ other
 operand_not count place spare other r few low apart (inl e) f = absurd (grind (arith, nat_tests, e, f, apart))
 operand_not count place spare other r few low apart (inr home) f = absurd (omega (arith, home.1, f, low))
 
@@ -141,17 +158,24 @@ home_target count place d few home = record {
 -- Where an expression's value is.
 module _ (declared : List FlatVariable) (a : Allocation) (allocated : IsAllocation declared a) (free place : ℕ) where
   -- what is so of the temporary of a place and of each home is so of where any expression is
-  pub at_operand : (P : Location → Type 0) → P (temporary a.count free place) → ((home : ℕ) → IsHome a.count home → P (InRegister home)) → (e : TermTree) → P (operand a free place e)
-  at_operand P there at_home (variable x) = by_home (home_of a.homes x) (λ home is. at_home home (allocated.allowed x home is))
+  pub at_operand : (P : Location → Type 0) → P (temporary a.count free place)
+      → ((home : ℕ) → IsHome a.count home → P (InRegister home)) → (e : TermTree) → P (operand a free place e)
+  at_operand P there at_home (variable x) =
+      by_home (home_of a.homes x) (λ home is. at_home home (allocated.allowed x home is))
     where
-      by_home : (h : Option ℕ) → ((home : ℕ) → h ≡ Some home → P (InRegister home)) → P (at_home_of h (temporary a.count free place))
+      by_home : (h : Option ℕ) → ((home : ℕ) → h ≡ Some home → P (InRegister home))
+          → P (at_home_of h (temporary a.count free place))
       by_home None at = there
       by_home (Some home) at = at home refl
   at_operand P there at_home e = there
 
-  temporary_register : (spare : ℕ) (b : Bool) → register_of (cond b (InRegister (5 + place)) (InSlot (slot_of a.count free place))) spare ≡ cond b (5 + place) spare
+  temporary_register : (spare : ℕ) (b : Bool)
+      → register_of (cond b (InRegister (5 + place)) (InSlot (slot_of a.count free place))) spare
+      ≡ cond b (5 + place) spare
   temporary_register spare true = refl
   temporary_register spare false = refl
 
-  pub is_operand : (spare : ℕ) (e : TermTree) → IsOperand a.count place spare (register_of (operand a free place e) spare)
-  is_operand spare e = at_operand (λ location. IsOperand a.count place spare (register_of location spare)) (inl (temporary_register spare (nat_lt place a.count))) (λ home is. inr is) e
+  pub is_operand : (spare : ℕ) (e : TermTree)
+      → IsOperand a.count place spare (register_of (operand a free place e) spare)
+  is_operand spare e = at_operand (λ location. IsOperand a.count place spare (register_of location spare))
+      (inl (temporary_register spare (nat_lt place a.count))) (λ home is. inr is) e

@@ -1,11 +1,14 @@
--- Code that is worked out by hand: of expressions over two words, a and b, with homes x13 and x14, with one, and with none.
+-- Code that is worked out by hand: of expressions over two words, a and b, with homes x13 and x14, with one, and with
+-- none.
 use Rattle.std.proofs.Common.{◌≡◌, ℕ, List, [], ◌∷◌, true, false, None, Some, refl}
-use Rattle.expression_code.proofs.Below.{Allocation, binary, convert, element, expr_code, FlatVariable, Instr, into_code, Place, rotate, select, TermTree, variable, word_as, WordType}
+use Rattle.expression_code.proofs.Below.{Allocation, binary, convert, element, expr_code, FlatVariable, Instr}
+use Rattle.expression_code.proofs.Below.{into_code, Place, rotate, select, TermTree, variable, word_as, WordType}
 use Rattle.expression_code.specs.Allocation.{plain}
 use Rattle.inline.specs.Flat.{array_as, number}
 use Rattle.language.specs.declared.signature.Kind.TheVariants.{Uint8, Uint32}
 use Rattle.language.specs.declared.signature.Label.TheVariants.{Public}
-use Rattle.language.specs.declared.tree.BinaryOperator.TheVariants.{Add, Both, LessOrEqual, Multiply, ShiftLeft, Subtract, Unequal}
+use Rattle.language.specs.declared.tree.BinaryOperator.TheVariants.{Add, Both, LessOrEqual, Multiply, ShiftLeft}
+use Rattle.language.specs.declared.tree.BinaryOperator.TheVariants.{Subtract, Unequal}
 use Rattle.rv_code.specs.declared.instructions.Instr.TheVariants as instr
 use Rattle.rv_code.specs.declared.operations.ImmediateOperation.TheVariants.{Addi, Andi, Sltiu}
 use Rattle.rv_code.specs.declared.operations.LoadOperation.TheVariants.{Lw}
@@ -67,10 +70,12 @@ module _ (place : Place) where
 
   -- what is overwritten are temporaries
 
-  conjunction : code both_home (binary place Both W32 a b) ≡ instr.Register register.Sltu 6 0 14 ∷ instr.Register register.Sltu 5 0 13 ∷ instr.Register register.And 5 5 6 ∷ []
+  conjunction : code both_home (binary place Both W32 a b) ≡ instr.Register register.Sltu 6 0 14
+      ∷ instr.Register register.Sltu 5 0 13 ∷ instr.Register register.And 5 5 6 ∷ []
   conjunction = refl
 
-  choice : code both_home (select a a b) ≡ instr.Register register.Sub 5 0 13 ∷ instr.Register register.Xor 6 13 14 ∷ instr.Register register.And 6 6 5 ∷ instr.Register register.Xor 5 14 6 ∷ []
+  choice : code both_home (select a a b) ≡ instr.Register register.Sub 5 0 13 ∷ instr.Register register.Xor 6 13 14
+      ∷ instr.Register register.And 6 6 5 ∷ instr.Register register.Xor 5 14 6 ∷ []
   choice = refl
 
   narrowed : code both_home (convert Uint8 a) ≡ instr.Immediate Andi 5 13 255 ∷ []
@@ -79,10 +84,12 @@ module _ (place : Place) where
   widened : code both_home (convert Uint32 a) ≡ instr.Immediate Addi 5 13 0 ∷ []
   widened = refl
 
-  rotated : code both_home (rotate W32 a 7) ≡ instr.Shift Slli 30 13 7 ∷ instr.Shift Srli 5 13 25 ∷ instr.Register register.Add 5 30 5 ∷ []
+  rotated : code both_home (rotate W32 a 7) ≡ instr.Shift Slli 30 13 7 ∷ instr.Shift Srli 5 13 25
+      ∷ instr.Register register.Add 5 30 5 ∷ []
   rotated = refl
 
-  picked : code both_home (element place 2 4 b) ≡ instr.Shift Slli 5 14 2 ∷ instr.Register register.Add 5 5 2 ∷ instr.Load Lw 5 5 8 ∷ []
+  picked : code both_home (element place 2 4 b) ≡ instr.Shift Slli 5 14 2 ∷ instr.Register register.Add 5 5 2
+      ∷ instr.Load Lw 5 5 8 ∷ []
   picked = refl
 
   -- numbers in instructions
@@ -100,7 +107,8 @@ module _ (place : Place) where
   decrement = refl
 
   -- 2048 is too large, but can be taken away
-  too_large : code with_numbers (binary place Add W32 a (n 2048)) ≡ instr.Upper Lui 6 1 ∷ instr.Immediate Addi 6 6 2048 ∷ instr.Register register.Add 5 13 6 ∷ []
+  too_large : code with_numbers (binary place Add W32 a (n 2048)) ≡ instr.Upper Lui 6 1
+      ∷ instr.Immediate Addi 6 6 2048 ∷ instr.Register register.Add 5 13 6 ∷ []
   too_large = refl
 
   least : code with_numbers (binary place Subtract W32 a (n 2048)) ≡ instr.Immediate Addi 5 13 2048 ∷ []
@@ -113,11 +121,13 @@ module _ (place : Place) where
   zero_tested : code with_numbers (binary place Unequal W32 a (n 0)) ≡ instr.Register register.Sltu 5 0 13 ∷ []
   zero_tested = refl
 
-  at_least : code with_numbers (binary place LessOrEqual W32 (n 7) a) ≡ instr.Immediate Sltiu 5 13 7 ∷ instr.Immediate Sltiu 5 5 1 ∷ []
+  at_least : code with_numbers (binary place LessOrEqual W32 (n 7) a) ≡ instr.Immediate Sltiu 5 13 7
+      ∷ instr.Immediate Sltiu 5 5 1 ∷ []
   at_least = refl
 
   -- a product shows its factors, which stay in registers
-  product : code with_numbers (binary place Multiply W32 a (n 5)) ≡ instr.Immediate Addi 6 0 5 ∷ instr.Multiply Mul 5 13 6 ∷ []
+  product : code with_numbers (binary place Multiply W32 a (n 5)) ≡ instr.Immediate Addi 6 0 5
+      ∷ instr.Multiply Mul 5 13 6 ∷ []
   product = refl
 
   picked_at : code with_numbers (element place 2 4 (n 3)) ≡ instr.Load Lw 5 2 20 ∷ []

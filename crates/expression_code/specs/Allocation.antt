@@ -1,6 +1,7 @@
 -- Where words are. Temporaries are the values of subexpressions that are still needed. Each has a place, the count of
--- those that live beside it and were there before: the first so many places are registers, and those beyond are slots of
--- the frame. A variable is in its slot, or it has a home: a register of its own, in which it lives for the whole run.
+-- those that live beside it and were there before: the first so many places are registers, and those beyond are slots
+-- of the frame. A variable is in its slot, or it has a home: a register of its own, in which it lives for the whole
+-- run.
 use Rattle.std.specs.Prelude.{◌≡◌, ℕ, ◌+◌, ◌-◌, ◌*◌, ◌<◌, ◌≤◌, Bool, false, List, [], Option, None, Some, nat_lt, if◌then◌else◌, slice_get, unwrap_or}
 use Rattle.expression_code.specs.Registers.{value_register, address_register}
 use Rattle.expression_code.specs.declared.locations.Location.{Location}
@@ -12,8 +13,8 @@ abbrev pub register_of : Location → ℕ → ℕ
 register_of (InRegister register) spare = register
 register_of (InSlot offset) spare = spare
 
--- how registers are given out: how many temporaries have one, the home of each variable that has one, and whether a number
--- goes into an instruction that holds it, and needs no register then
+-- how registers are given out: how many temporaries have one, the home of each variable that has one, and whether a
+-- number goes into an instruction that holds it, and needs no register then
 pub record Allocation : Type 0 where
   pub count : ℕ
   pub homes : List (Option ℕ)
@@ -27,8 +28,8 @@ abbrev pub home_of : List (Option ℕ) → ℕ → Option ℕ
 home_of homes x = unwrap_or (slice_get homes x) None
 
 -- Homes are registers behind those of the temporaries and before the address register. No two variables have the same
--- one, and no array has one. The first three temporaries have registers, which statements work on, and at most sixteen
--- have one.
+-- one, and no array has one. The first three temporaries have registers, which statements work on, and at most
+-- sixteen have one.
 pub record IsAllocation (declared : List FlatVariable) (allocation : Allocation) : Type 0 where
   pub some : 3 ≤ allocation.count
   pub few : allocation.count ≤ 16

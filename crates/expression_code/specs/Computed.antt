@@ -1,7 +1,8 @@
 -- What the machine does on the code of an expression, wherever that stands and whichever the place of its value: the
 -- value is then where the expression is, in the home of a variable or in its place, the homes and the temporaries of
 -- lower places stay, and what is shown is decided by what the code's observer sees of the path.
-use Rattle.std.specs.Prelude.{◌≡◌, ℕ, ◌+◌, ◌*◌, ◌%◌, ◌^◌, ◌<◌, ◌≤◌, true, List, [], length, Option, None, Some, All, is_some, slice_get, slice_index}
+use Rattle.std.specs.Prelude.{◌≡◌, ℕ, ◌+◌, ◌*◌, ◌%◌, ◌^◌, ◌<◌, ◌≤◌, true, List, [], length, Option, None, Some, All}
+use Rattle.std.specs.Prelude.{is_some, slice_get, slice_index}
 use Rattle.expression_code.specs.Allocation.{Allocation, IsAllocation, home_of, temporary, slots_to}
 use Rattle.expression_code.specs.Inside.{IsInside}
 use Rattle.expression_code.specs.Layout.{bytes_of, place_of, result_offset}
@@ -58,8 +59,8 @@ word_in site s (InSlot offset) = number_at s.bytes 4 (site.frame + offset)
 abbrev pub temporary_in : Site → State → ℕ → Option ℕ
 temporary_in site s place = word_in site s (temporary site.allocation.count site.free place)
 
--- x2 has the frame's base, the frame's bytes are data, and the variables have these values, which are within their kinds,
--- in their homes or in the frame
+-- x2 has the frame's base, the frame's bytes are data, and the variables have these values, which are within their
+-- kinds, in their homes or in the frame
 pub record Has (site : Site) (m : Values) (s : State) : Type 0 where
   pub base : s.regs frame_register ≡ site.frame
   pub data_there : (o : ℕ) → o < site.size → is_some (s.bytes (site.frame + o)) ≡ true

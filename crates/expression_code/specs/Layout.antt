@@ -1,5 +1,6 @@
--- Where a program's words lie in the frame: the variables, of which the parameters are the first, then the result, the
--- control values, two words for each loop that others are in, and the temporaries. All these offsets are multiples of 4.
+-- Where a program's words lie in the frame: the variables, of which the parameters are the first, then the result,
+-- the control values, two words for each loop that others are in, and the temporaries. All these offsets are
+-- multiples of 4.
 use Rattle.std.specs.Prelude.{ℕ, ◌+◌, ◌*◌, List, [], ◌∷◌, Option, None, Some, take}
 use Rattle.expression_code.specs.Allocation.{Allocation, home_of, at_home}
 use Rattle.expression_code.specs.declared.locations.Location.{Location}

@@ -1,6 +1,7 @@
--- Operators with a number in the instruction: where the other operand is a number that its instruction holds, an operator is
--- a row too, of what is made of a register.
-use Rattle.std.specs.Prelude.{ℕ, ◌+◌, ◌-◌, ◌%◌, ◌^◌, ◌==◌, Bool, ◌&&◌, ◌||◌, Option, None, Some, nat_lt, if◌then◌else◌}
+-- Operators with a number in the instruction: where the other operand is a number that its instruction holds, an
+-- operator is a row too, of what is made of a register.
+use Rattle.std.specs.Prelude.{ℕ, ◌+◌, ◌-◌, ◌%◌, ◌^◌, ◌==◌, Bool, ◌&&◌, ◌||◌, Option, None, Some, nat_lt}
+use Rattle.std.specs.Prelude.{if◌then◌else◌}
 use Rattle.expression_code.specs.Allocation.{Allocation}
 use Rattle.expression_code.specs.declared.numbers.Finish.TheVariants as finish
 use Rattle.expression_code.specs.declared.numbers.Finish.{Finish}
@@ -39,10 +40,11 @@ shifted operation n = record { finish = finish.Narrowed; step = ByAmount operati
 abbrev pub above_zero : NumberRow
 above_zero = record { finish = finish.Alone; step = AboveZero }
 
--- A number is taken away by adding its negative. Whether numbers are equal is read off their difference, and at most a
--- number is less than the next one.
+-- A number is taken away by adding its negative. Whether numbers are equal is read off their difference, and at most
+-- a number is less than the next one.
 abbrev pub number_row : BinaryOperator → ℕ → Option NumberRow
-number_row operators.Equal n = if n == 0 then held Sltiu finish.Alone 1 else held Addi finish.GivesZero (negated W32 n)
+number_row operators.Equal n = if n == 0 then held Sltiu finish.Alone 1
+    else held Addi finish.GivesZero (negated W32 n)
 number_row operators.Unequal n = if n == 0 then Some above_zero else held Addi finish.GivesMore (negated W32 n)
 number_row operators.Less n = held Sltiu finish.Alone n
 number_row operators.LessOrEqual n = held Sltiu finish.Alone (n + 1)
@@ -77,10 +79,11 @@ known_row None n = None
 known_row (Some operator) None = None
 known_row (Some operator) (Some n) = number_row operator n
 
--- the row of an operator whose right operand is this expression, where numbers go into instructions, and of one whose left
--- operand it is
+-- the row of an operator whose right operand is this expression, where numbers go into instructions, and of one whose
+-- left operand it is
 abbrev pub right_row : Allocation → BinaryOperator → TermTree → Option NumberRow
 right_row allocation operator e = if allocation.immediates then known_row (Some operator) (number_of e) else None
 
 abbrev pub left_row : Allocation → BinaryOperator → TermTree → Option NumberRow
-left_row allocation operator e = if allocation.immediates then known_row (turned_operator operator) (number_of e) else None
+left_row allocation operator e = if allocation.immediates
+    then known_row (turned_operator operator) (number_of e) else None

@@ -1,5 +1,6 @@
 -- The instructions that are emitted for slots, numbers, operators and expressions.
-use Rattle.std.specs.Prelude.{ℕ, zero, suc, ◌+◌, ◌-◌, ◌*◌, ◌/◌, ◌%◌, ◌^◌, ◌==◌, ◌<◌, Bool, false, List, [], ◌∷◌, ◌++◌, max, nat_lt, Option, None, Some, is_some, if◌then◌else◌}
+use Rattle.std.specs.Prelude.{ℕ, zero, suc, ◌+◌, ◌-◌, ◌*◌, ◌/◌, ◌%◌, ◌^◌, ◌==◌, ◌<◌, Bool, false, List, [], ◌∷◌, ◌++◌}
+use Rattle.std.specs.Prelude.{max, nat_lt, Option, None, Some, is_some, if◌then◌else◌}
 use Rattle.expression_code.specs.Layout.{variable_offset, variable_location}
 use Rattle.expression_code.specs.Allocation.{register_of, Allocation, home_of, temporary, working_register, at_home}
 use Rattle.expression_code.specs.NumberRows.{number_of, right_row, left_row}
@@ -10,11 +11,13 @@ use Rattle.expression_code.specs.declared.numbers.NumberStep.{NumberStep}
 use Rattle.expression_code.specs.declared.numbers.NumberStep.TheVariants.{WithImmediate, ByAmount, AboveZero}
 use Rattle.expression_code.specs.declared.locations.Location.{Location}
 use Rattle.expression_code.specs.declared.locations.Location.TheVariants.{InRegister, InSlot}
-use Rattle.expression_code.specs.Registers.{zero_register, frame_register, address_register, first_spare, second_spare, third_spare}
+use Rattle.expression_code.specs.Registers.{zero_register, frame_register, address_register, first_spare}
+use Rattle.expression_code.specs.Registers.{second_spare, third_spare}
 use Rattle.inline.specs.declared.flat.FlatVariable.{FlatVariable}
 use Rattle.inline.specs.Flat.{TermTree, number, truth, variable, prefix, binary, rotate, convert, select, element}
 use Rattle.rv_code.specs.declared.instructions.Instr.{Instr}
-use Rattle.rv_code.specs.declared.instructions.Instr.TheVariants.{Upper, Immediate, Shift, Register, Multiply, Divide, Load, Store}
+use Rattle.rv_code.specs.declared.instructions.Instr.TheVariants.{Upper, Immediate, Shift, Register, Multiply, Divide}
+use Rattle.rv_code.specs.declared.instructions.Instr.TheVariants.{Load, Store}
 use Rattle.rv_code.specs.declared.operations.UpperOperation.TheVariants.{Lui}
 use Rattle.rv_code.specs.declared.operations.ImmediateOperation.TheVariants.{Addi, Sltiu, Andi}
 use Rattle.rv_code.specs.declared.operations.ShiftOperation.TheVariants.{Slli, Srli}
@@ -64,7 +67,8 @@ abbrev pub store_code : ℕ → ℕ → List Instr
 store_code register offset =
     if is_near offset
     then Store Sw register frame_register offset ∷ []
-    else Upper Lui address_register (upper_part offset) ∷ Register Add address_register address_register frame_register
+    else Upper Lui address_register (upper_part offset)
+    ∷ Register Add address_register address_register frame_register
     ∷ Store Sw register address_register (lower_part offset) ∷ []
 
 -- a number into a register
@@ -93,8 +97,8 @@ abbrev pub keep_code : Location → List Instr
 keep_code (InRegister r) = []
 keep_code (InSlot offset) = store_code first_spare offset
 
--- Operators, on the register r of one operand, or on l and r of two, into a register d. These may be any registers, and
--- no other is written but one that the operator is given for that.
+-- Operators, on the register r of one operand, or on l and r of two, into a register d. These may be any registers,
+-- and no other is written but one that the operator is given for that.
 
 -- cut to a width, where a narrow one is into d
 abbrev pub narrow_code : ℕ → ℕ → Width → List Instr
@@ -134,8 +138,8 @@ negation_code d r = Register Sub d zero_register r ∷ []
 
 -- Each operator between two operands is a row: a step between them, and what is made of its outcome.
 
--- into d: of both, of both turned round, of what they are as truths, the lower half of their product, or their quotient or
--- remainder
+-- into d: of both, of both turned round, of what they are as truths, the lower half of their product, or their
+-- quotient or remainder
 pub data Step : Type 0 where
   between : (operation : RegisterOperation) → Step
   turned : (operation : RegisterOperation) → Step
@@ -161,8 +165,8 @@ pub record Row : Type 0 where
   pub finish : Finish
   pub step : Step
 
--- Whether numbers are equal is read off their difference, and an order that takes equal numbers too is the other order,
--- turned round.
+-- Whether numbers are equal is read off their difference, and an order that takes equal numbers too is the other
+-- order, turned round.
 abbrev pub row_of : BinaryOperator → Row
 row_of operators.Either = record { finish = Alone; step = of_truths Or }
 row_of operators.Both = record { finish = Alone; step = of_truths And }
@@ -185,7 +189,8 @@ row_of operators.Remainder = record { finish = Alone; step = division Remu }
 
 -- an operator between two operands, where t may be written as well
 abbrev pub operator_code : ℕ → ℕ → ℕ → ℕ → BinaryOperator → Width → List Instr
-operator_code d t l r operator w = step_code d t l r (row_of operator).step ++ finish_code d w (row_of operator).finish
+operator_code d t l r operator w = step_code d t l r (row_of operator).step
+    ++ finish_code d w (row_of operator).finish
 
 -- Each operator between an operand and a number in the instruction is a row as well.
 
@@ -262,7 +267,8 @@ near_offset base kind (Some i) = let offset = base + element_bytes kind * i in i
 -- the same of an index that is this expression, where numbers go into instructions
 abbrev pub near_element : List FlatVariable → Allocation → ℕ → TermTree → Option ℕ
 near_element declared allocation x index =
-    if allocation.immediates then near_offset (variable_offset declared x) (kind_at declared x) (number_of index) else None
+    if allocation.immediates then near_offset (variable_offset declared x) (kind_at declared x) (number_of index)
+    else None
 
 -- the element at an offset that is near
 abbrev pub near_code : ℕ → Kind → ℕ → List Instr
@@ -308,8 +314,9 @@ module _ (declared : List FlatVariable) (allocation : Allocation) (free : ℕ) w
   placed_code place e into =
       if is_at_home allocation e then [] else into ++ keep_code (temporary allocation.count free place)
 
-  -- An expression into a register, with its operands in the places from this one on. None is fetched before the code of
-  -- all of them is through. Where the instruction holds an operand that is a number, the other one is the only operand.
+  -- An expression into a register, with its operands in the places from this one on. None is fetched before the code
+  -- of all of them is through. Where the instruction holds an operand that is a number, the other one is the only
+  -- operand.
   abbrev pub into_code : ℕ → ℕ → TermTree → List Instr
   into_code d place (number value kind) = constant_code d value
   into_code d place (truth value) = constant_code d (word_of value)
@@ -377,5 +384,6 @@ IsAmong count (prefix operator width operand) = IsAmong count operand
 IsAmong count (binary place operator width left right) = IsAmong count left × IsAmong count right
 IsAmong count (rotate width operand amount) = IsAmong count operand
 IsAmong count (convert kind operand) = IsAmong count operand
-IsAmong count (select condition accepted otherwise) = IsAmong count condition × IsAmong count accepted × IsAmong count otherwise
+IsAmong count (select condition accepted otherwise) = IsAmong count condition × IsAmong count accepted
+    × IsAmong count otherwise
 IsAmong count (element place x size index) = (x < count) × IsAmong count index

@@ -8,4 +8,5 @@ all_but_one [] = refl
 all_but_one (word ∷ []) = refl
 all_but_one (word ∷ next ∷ words) =
     let count : length (word ∷ next ∷ words) - 1 ≡ suc (length (next ∷ words) - 1) = omega arith in
-    ap (λ (n : ℕ). take n (word ∷ next ∷ words)) count ∙ ap (λ (rest : List ℕ). word ∷ rest) (all_but_one (next ∷ words))
+    ap (λ (n : ℕ). take n (word ∷ next ∷ words)) count
+    ∙ ap (λ (rest : List ℕ). word ∷ rest) (all_but_one (next ∷ words))

@@ -2,13 +2,17 @@
 use Rattle.std.proofs.Common.{◌≡◌, ℕ, List, [], ◌++◌, codes, ap, ◌∙◌}
 use Rattle.codegen.specs.Anywhere.{body_words}
 use Rattle.linked_calls.specs.Sections.{enter_sections, leave_sections}
-use Rattle.function_text.specs.AssemblerText.{ListsWords, IsAssemblerText, head_lines, tail_lines, sections_lines, title_line}
+use Rattle.function_text.specs.AssemblerText.{ListsWords, IsAssemblerText, head_lines, tail_lines, sections_lines}
+use Rattle.function_text.specs.AssemblerText.{title_line}
 use Rattle.function_text.specs.Functions.{Parts}
 
-pub assembled : (f : Parts) (start headed entered embodied left whole : List ℕ) → start ≡ [] → headed ≡ start ++ head_lines f
+pub assembled : (f : Parts) (start headed entered embodied left whole : List ℕ) → start ≡ []
+    → headed ≡ start ++ head_lines f
     → entered ≡ headed ++ sections_lines f.image (enter_sections f.image)
-    → (body : (lines : List ℕ) × ListsWords (body_words f.image.words) lines × (embodied ≡ entered ++ (title_line (codes "the body") ++ lines)))
-    → left ≡ embodied ++ sections_lines f.image (leave_sections f.image) → whole ≡ left ++ tail_lines f → IsAssemblerText f whole
+    → (body : (lines : List ℕ) × ListsWords (body_words f.image.words) lines
+    × (embodied ≡ entered ++ (title_line (codes "the body") ++ lines)))
+    → left ≡ embodied ++ sections_lines f.image (leave_sections f.image) → whole ≡ left ++ tail_lines f
+    → IsAssemblerText f whole
 assembled f start headed entered embodied left whole empty head enter body leave tail = record {
   body = body.0;
   listed = body.1;

@@ -1,7 +1,8 @@
 -- The export of an accepted text, and the function that is made of it.
 use Rattle.std.proofs.Common.{◌≡◌, ℕ, List, [], map, true, false, Option, Some, sym, ap, subst, inl, ◌∙◌}
 use Rattle.std.proofs.lemmas.Option.{same_Some}
-use Rattle.function_text.specs.Functions.{Parts, IsFunctionOf, HasTakenName, IsFaultOf, IsUnlessMemory, written_parameter}
+use Rattle.function_text.specs.Functions.{Parts, IsFunctionOf, HasTakenName, IsFaultOf, IsUnlessMemory}
+use Rattle.function_text.specs.Functions.{written_parameter}
 use Rattle.function_text.specs.Names.{is_taken_name}
 use Rattle.function_text.specs.declared.fault.FunctionFault.{FunctionFault}
 use Rattle.function_text.specs.declared.fault.FunctionFault.TheVariants.{Text, Name}
@@ -16,20 +17,26 @@ use Rattle.word.specs.declared.place.Place.{Place}
 use Rattle.word.specs.declared.profile.Profile.{Profile}
 
 -- the program that a text reads as has the export that it is accepted with
-pub export_in : OneAnswer → (profile : Profile) (text : List ℕ) (program of : ProgramTree) (before : List ProcedureTree) (export : ProcedureTree)
-    → Reads text (accepted program) → Judges profile text (accepts of before export) → exported [] program.procedures ≡ Some (before, export)
+pub export_in : OneAnswer
+    → (profile : Profile) (text : List ℕ) (program of : ProgramTree) (before : List ProcedureTree)
+    (export : ProcedureTree)
+    → Reads text (accepted program) → Judges profile text (accepts of before export)
+    → exported [] program.procedures ≡ Some (before, export)
 export_in one profile text program of before export reads (readable reads' (fine small in_range in_time)) =
     let answer : accepted program ≡ accepted of = one text (accepted program) (accepted of) reads reads' in
     let same : of ≡ program = cc in
     subst (λ (p : ProgramTree). exported [] p.procedures ≡ Some (before, export)) same small.well_formed.is_export
 
 -- two exports of a program are one
-pub same_export : (before before' : List ProcedureTree) (export export' : ProcedureTree) (found : Option (List ProcedureTree × ProcedureTree))
+pub same_export : (before before' : List ProcedureTree) (export export' : ProcedureTree)
+    (found : Option (List ProcedureTree × ProcedureTree))
     → found ≡ Some (before, export) → found ≡ Some (before', export') → export ≡ export'
 same_export before before' export export' found one other =
-    ap (λ (p : List ProcedureTree × ProcedureTree). p.1) (same_Some (before, export) (before', export') (sym one ∙ other))
+    ap (λ (p : List ProcedureTree × ProcedureTree). p.1)
+    (same_Some (before, export) (before', export') (sym one ∙ other))
 
-module _ (optimisation : Optimisation) (profile : Profile) (text bytes : List ℕ) (built : IsBuilt optimisation profile text bytes) (export : ProcedureTree) (same : built.export ≡ export) where
+module _ (optimisation : Optimisation) (profile : Profile) (text bytes : List ℕ)
+    (built : IsBuilt optimisation profile text bytes) (export : ProcedureTree) (same : built.export ≡ export) where
   -- its name is taken
   pub taken : (place : Place) → IsTaken export place → HasTakenName profile text place
   taken place is = record {
@@ -55,12 +62,15 @@ module _ (optimisation : Optimisation) (profile : Profile) (text bytes : List �
   }
 
   -- out of memory, or a name that is taken
-  pub fault_of : (fault : FunctionFault Refusal) → IsUnlessMemory fault (IsTaken export) → IsFaultOf profile text fault
+  pub fault_of : (fault : FunctionFault Refusal) → IsUnlessMemory fault (IsTaken export)
+      → IsFaultOf profile text fault
   fault_of (Text refusal) is = inl is
   fault_of (Name place) is = taken place is
 
 -- the export that a text is built with is the one of its program
-pub built_export : OneAnswer → (optimisation : Optimisation) (profile : Profile) (text bytes : List ℕ) (program : ProgramTree) (before : List ProcedureTree) (export : ProcedureTree)
+pub built_export : OneAnswer
+    → (optimisation : Optimisation) (profile : Profile) (text bytes : List ℕ) (program : ProgramTree)
+    (before : List ProcedureTree) (export : ProcedureTree)
     → (built : IsBuilt optimisation profile text bytes)
     → Reads text (accepted program) → exported [] program.procedures ≡ Some (before, export) → built.export ≡ export
 built_export one optimisation profile text bytes program before export built reads found =

@@ -1,6 +1,6 @@
--- The text of a function for an assembler. A word stands as a number, with its instruction as a comment, so nothing is left
--- for the assembler to encode. What changes for a debugger stands behind the word that changes it: where the caller's x2 was,
--- from which register on, and where the caller's registers are kept.
+-- The text of a function for an assembler. A word stands as a number, with its instruction as a comment, so nothing
+-- is left for the assembler to encode. What changes for a debugger stands behind the word that changes it: where the
+-- caller's x2 was, from which register on, and where the caller's registers are kept.
 use Rattle.std.specs.Prelude.{◌≡◌, ℕ, ◌-◌, ◌^◌, false, List, [], ◌∷◌, ◌++◌, codes, length}
 use Rattle.std.specs.Fmt.{decimal, digits, padded_integral, format_spec}
 use Rattle.std.specs.List.{flat_map}
@@ -8,7 +8,10 @@ use Rattle.codegen.specs.Anywhere.{body_words}
 use Rattle.linked_calls.specs.FunctionCode.{above_frame, room_of, function_words}
 use Rattle.linked_calls.specs.Sections.{enter_sections, leave_sections, section_code}
 use Rattle.linked_calls.specs.declared.section.Section.{Section}
-use Rattle.linked_calls.specs.declared.section.Section.TheVariants.{RoomAboveFrame, SavedRegisters, ArgumentRegisters, FrameBase, ClearedFrame, ArgumentIn, ResultOut, ArrayOut, FrameTop, RestoredRegisters, CallersStack, WipedRoom, ClearedRegisters, Return}
+use Rattle.linked_calls.specs.declared.section.Section.TheVariants.{RoomAboveFrame, SavedRegisters, ArgumentRegisters}
+use Rattle.linked_calls.specs.declared.section.Section.TheVariants.{FrameBase, ClearedFrame, ArgumentIn, ResultOut}
+use Rattle.linked_calls.specs.declared.section.Section.TheVariants.{ArrayOut, FrameTop, RestoredRegisters}
+use Rattle.linked_calls.specs.declared.section.Section.TheVariants.{CallersStack, WipedRoom, ClearedRegisters, Return}
 use Rattle.function_text.specs.Functions.{Parts}
 use Rattle.image_fields.specs.Fields.{Fields}
 use Rattle.language.specs.declared.signature.Form.{Form}
@@ -36,7 +39,8 @@ title_line title = codes "    # " ++ title ++ codes "\n"
 
 -- the caller's x2 is this register's value and a distance more
 abbrev pub frame_line : ℕ → ℕ → List ℕ
-frame_line register distance = codes "    .cfi_def_cfa " ++ decimal register ++ codes ", " ++ decimal distance ++ codes "\n"
+frame_line register distance = codes "    .cfi_def_cfa " ++ decimal register ++ codes ", " ++ decimal distance
+    ++ codes "\n"
 
 -- Sections.
 
@@ -88,11 +92,13 @@ end_line image WipedRoom = frame_line 2 0
 end_line image _ = []
 
 abbrev pub instruction_lines : Section → Instr → List ℕ
-instruction_lines section instruction = word_line (word_of instruction) (text_of instruction) ++ change_lines section instruction
+instruction_lines section instruction = word_line (word_of instruction) (text_of instruction)
+    ++ change_lines section instruction
 
 abbrev pub section_lines : Fields → Section → List ℕ
 section_lines image section =
-    title_line (section_title section) ++ flat_map (instruction_lines section) (section_code image section) ++ end_line image section
+    title_line (section_title section) ++ flat_map (instruction_lines section) (section_code image section)
+    ++ end_line image section
 
 abbrev pub sections_lines : Fields → List Section → List ℕ
 sections_lines image sections = flat_map (section_lines image) sections
@@ -100,7 +106,8 @@ sections_lines image sections = flat_map (section_lines image) sections
 -- The body, whose words are the image's.
 pub data ListsWords : List ℕ → List ℕ → Type 0 where
   nothing : ListsWords [] []
-  line : {word : ℕ} {words text rest : List ℕ} → IsTextOf word text → ListsWords words rest → ListsWords (word ∷ words) (word_line word text ++ rest)
+  line : {word : ℕ} {words text rest : List ℕ} → IsTextOf word text → ListsWords words rest
+      → ListsWords (word ∷ words) (word_line word text ++ rest)
 
 -- The whole.
 
@@ -120,22 +127,26 @@ first_line f = codes "# " ++ f.name ++ codes ": made by factc function; " ++ siz
 -- its words stand as they are, in a section of their own
 abbrev pub place_lines : Parts → List ℕ
 place_lines f =
-    codes "    .option push\n    .option norvc\n    .option norelax\n    .cfi_sections .debug_frame\n    .section .text."
+    codes
+    "    .option push\n    .option norvc\n    .option norelax\n    .cfi_sections .debug_frame\n    .section .text."
     ++ f.name ++ codes ", \"ax\", @progbits\n    .p2align 2\n"
 
 -- under its name
 abbrev pub symbol_lines : Parts → List ℕ
 symbol_lines f =
-    codes "    .globl " ++ f.name ++ codes "\n    .type " ++ f.name ++ codes ", @function\n" ++ f.name ++ codes ":\n    .cfi_startproc\n"
+    codes "    .globl " ++ f.name ++ codes "\n    .type " ++ f.name ++ codes ", @function\n" ++ f.name
+    ++ codes ":\n    .cfi_startproc\n"
 
 abbrev pub head_lines : Parts → List ℕ
 head_lines f = first_line f ++ place_lines f ++ symbol_lines f
 
 abbrev pub tail_lines : Parts → List ℕ
-tail_lines f = codes "    .cfi_endproc\n    .size " ++ f.name ++ codes ", . - " ++ f.name ++ codes "\n    .option pop\n"
+tail_lines f = codes "    .cfi_endproc\n    .size " ++ f.name ++ codes ", . - " ++ f.name
+    ++ codes "\n    .option pop\n"
 
 pub record IsAssemblerText (f : Parts) (text : List ℕ) : Type 0 where
   pub body : List ℕ
   pub listed : ListsWords (body_words f.image.words) body
-  pub whole : text ≡ head_lines f ++ sections_lines f.image (enter_sections f.image) ++ (title_line (codes "the body") ++ body)
+  pub whole : text ≡ head_lines f ++ sections_lines f.image (enter_sections f.image)
+      ++ (title_line (codes "the body") ++ body)
       ++ sections_lines f.image (leave_sections f.image) ++ tail_lines f

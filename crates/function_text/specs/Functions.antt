@@ -39,8 +39,10 @@ parts_of f = record { name = f.name.now; parameters = map named f.parameters.ite
 abbrev pub written_parameter : List ℕ → ParameterTree → Named
 written_parameter function p = record { name = written_name function p.name; param = param_of p }
 
--- the function of a text that is accepted for an observer: the code of its plain or its optimised image, under the names of its export
-pub record IsFunctionOf (optimisation : Optimisation) (profile : Profile) (text : List ℕ) (parts : Parts) : Type 0 where
+-- the function of a text that is accepted for an observer: the code of its plain or its optimised image, under the
+-- names of its export
+pub record IsFunctionOf (optimisation : Optimisation) (profile : Profile) (text : List ℕ) (parts : Parts) :
+    Type 0 where
   pub bytes : List ℕ
   pub program : ProgramTree
   pub before : List ProcedureTree

@@ -38,7 +38,8 @@ length_text MutableArray count = codes "[" ++ decimal count ++ codes "]"
 
 abbrev pub parameter_text : Named → List ℕ
 parameter_text p =
-    const_text p.param.form ++ type_text p.param.kind ++ codes " " ++ p.name ++ length_text p.param.form p.param.length
+    const_text p.param.form ++ type_text p.param.kind ++ codes " " ++ p.name
+    ++ length_text p.param.form p.param.length
     ++ codes " " ++ label_text p.param.label
 
 -- a line each, behind another one
@@ -57,19 +58,23 @@ result_text (Some slot) = type_text slot.kind ++ codes " " ++ label_text slot.la
 abbrev pub comment_lines : Parts → List ℕ
 comment_lines f =
     codes "/* " ++ f.name ++ codes ": made by factc function.\n"
-    ++ codes "   Arrays are aligned by their elements, lie outside the stack below the caller, and no two that are not const overlap.\n"
-    ++ codes "   Neither time nor addresses hang on what is secret, for an observer of profile " ++ profile_text f.image.profile ++ codes ". */\n"
+    ++ codes
+    "   Arrays are aligned by their elements, lie outside the stack below the caller, and no two that are not const overlap.\n"
+    ++ codes "   Neither time nor addresses hang on what is secret, for an observer of profile "
+    ++ profile_text f.image.profile ++ codes ". */\n"
 
 abbrev pub guard_lines : List ℕ → List ℕ
 guard_lines name = codes "#ifndef " ++ guard_name name ++ codes "\n#define " ++ guard_name name ++ codes "\n"
 
 abbrev pub stack_lines : Parts → List ℕ
 stack_lines f =
-    codes "#include <stdbool.h>\n#include <stdint.h>\n#define " ++ stack_name f.name ++ codes " " ++ decimal (room_of f.image) ++ codes "\n"
+    codes "#include <stdbool.h>\n#include <stdint.h>\n#define " ++ stack_name f.name ++ codes " "
+    ++ decimal (room_of f.image) ++ codes "\n"
 
 abbrev pub prototype_lines : Parts → List ℕ
 prototype_lines f =
-    codes "#ifdef __cplusplus\nextern \"C\" {\n#endif\n" ++ result_text f.image.returned ++ codes " " ++ f.name ++ codes "(\n    "
+    codes "#ifdef __cplusplus\nextern \"C\" {\n#endif\n" ++ result_text f.image.returned ++ codes " " ++ f.name
+    ++ codes "(\n    "
     ++ parameters_text f.parameters ++ codes ");\n#ifdef __cplusplus\n}\n#endif\n#endif\n"
 
 abbrev pub header_text : Parts → List ℕ

@@ -10,7 +10,8 @@ use Rattle.word.specs.declared.profile.Profile.{Profile}
 -- and what it does is what the text's program means, for an observer of this profile
 abbrev pub FunctionsAreLinked : Type 0
 FunctionsAreLinked =
-    (optimisation : Optimisation) (profile : Profile) (text : List ℕ) (parts : Parts) (of : IsFunctionOf optimisation profile text parts)
+    (optimisation : Optimisation) (profile : Profile) (text : List ℕ) (parts : Parts)
+    (of : IsFunctionOf optimisation profile text parts)
     → (code : Code) (site : Site)
     → IsSite parts.image code site
     → IsCallable of.program of.export parts.image code site

@@ -1,6 +1,7 @@
 -- Names that C, C++ or an assembler cannot take for a function, and the names of its parameters.
 use Rattle.std.specs.Char.{is_ascii_uppercase}
-use Rattle.std.specs.Prelude.{ℕ, Bool, ◌&&◌, ◌||◌, ◌==◌, nat_eq, nat_le, List, [], ◌∷◌, ◌++◌, length, slice_index, codes, if◌then◌else◌}
+use Rattle.std.specs.Prelude.{ℕ, Bool, ◌&&◌, ◌||◌, ◌==◌, nat_eq, nat_le, List, [], ◌∷◌, ◌++◌, length, slice_index}
+use Rattle.std.specs.Prelude.{codes, if◌then◌else◌}
 use Rattle.std.specs.Cmp.Lexicographic.{pointwise}
 use Rattle.std.specs.List.{list_any, starts_with, ends_with}
 
@@ -28,11 +29,13 @@ abbrev pub cpp_words : List (List ℕ)
 cpp_words =
     codes "alignas" ∷ codes "alignof" ∷ codes "and" ∷ codes "and_eq" ∷ codes "bitand" ∷ codes "bitor" ∷ codes "catch"
     ∷ codes "char8_t" ∷ codes "char16_t" ∷ codes "char32_t" ∷ codes "class" ∷ codes "co_await" ∷ codes "co_return"
-    ∷ codes "co_yield" ∷ codes "compl" ∷ codes "concept" ∷ codes "const_cast" ∷ codes "consteval" ∷ codes "constexpr" ∷ codes "constinit"
+    ∷ codes "co_yield" ∷ codes "compl" ∷ codes "concept" ∷ codes "const_cast" ∷ codes "consteval" ∷ codes "constexpr"
+    ∷ codes "constinit"
     ∷ codes "decltype" ∷ codes "delete" ∷ codes "dynamic_cast" ∷ codes "explicit" ∷ codes "export" ∷ codes "friend"
     ∷ codes "mutable" ∷ codes "namespace" ∷ codes "new" ∷ codes "noexcept" ∷ codes "not" ∷ codes "not_eq"
     ∷ codes "nullptr" ∷ codes "operator" ∷ codes "or" ∷ codes "or_eq" ∷ codes "private" ∷ codes "protected"
-    ∷ codes "public" ∷ codes "reinterpret_cast" ∷ codes "requires" ∷ codes "static_assert" ∷ codes "static_cast" ∷ codes "template"
+    ∷ codes "public" ∷ codes "reinterpret_cast" ∷ codes "requires" ∷ codes "static_assert" ∷ codes "static_cast"
+    ∷ codes "template"
     ∷ codes "this" ∷ codes "thread_local" ∷ codes "throw" ∷ codes "try" ∷ codes "typeid" ∷ codes "typename"
     ∷ codes "using" ∷ codes "virtual" ∷ codes "wchar_t" ∷ codes "xor" ∷ codes "xor_eq" ∷ []
 
@@ -53,7 +56,8 @@ register_words =
 abbrev pub other_words : List (List ℕ)
 other_words =
     codes "main" ∷ codes "linux" ∷ codes "unix" ∷ codes "PTRDIFF_MIN" ∷ codes "PTRDIFF_MAX" ∷ codes "SIG_ATOMIC_MIN"
-    ∷ codes "SIG_ATOMIC_MAX" ∷ codes "SIZE_MAX" ∷ codes "WCHAR_MIN" ∷ codes "WCHAR_MAX" ∷ codes "WINT_MIN" ∷ codes "WINT_MAX" ∷ []
+    ∷ codes "SIG_ATOMIC_MAX" ∷ codes "SIZE_MAX" ∷ codes "WCHAR_MIN" ∷ codes "WCHAR_MAX" ∷ codes "WINT_MIN"
+    ∷ codes "WINT_MAX" ∷ []
 
 unfoldable pub is_c_word : List ℕ → Bool
 is_c_word name = list_any (is_word name) c_words
@@ -82,10 +86,11 @@ is_integers name =
 
 unfoldable pub is_taken_name : List ℕ → Bool
 is_taken_name name =
-    is_c_word name || (is_cpp_word name || (is_register name || (is_other_word name || (is_compilers name || is_integers name))))
+    is_c_word name
+    || (is_cpp_word name || (is_register name || (is_other_word name || (is_compilers name || is_integers name))))
 
--- Parameters. A name that is taken is written with `_` behind, and one that ends in `_` with one more: so different names are
--- written differently.
+-- Parameters. A name that is taken is written with `_` behind, and one that ends in `_` with one more: so different
+-- names are written differently.
 
 -- the macros that the header of a function defines
 abbrev pub guard_name : List ℕ → List ℕ
@@ -96,7 +101,8 @@ stack_name function = function ++ codes "_STACK_BYTES"
 
 -- whether a parameter of the function cannot have this name
 abbrev pub is_taken_in : List ℕ → List ℕ → Bool
-is_taken_in function name = is_taken_name name || (is_word name (guard_name function) || is_word name (stack_name function))
+is_taken_in function name = is_taken_name name
+    || (is_word name (guard_name function) || is_word name (stack_name function))
 
 abbrev pub written_name : List ℕ → List ℕ → List ℕ
 written_name function name = if is_taken_in function name || ends name (codes "_") then name ++ codes "_" else name

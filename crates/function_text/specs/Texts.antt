@@ -6,7 +6,8 @@ use Rattle.function_text.specs.HeaderText.{header_text}
 use Rattle.hepurita.specs.declared.optimisation.Optimisation.{Optimisation}
 use Rattle.word.specs.declared.profile.Profile.{Profile}
 
-pub record AreTextsOf (optimisation : Optimisation) (profile : Profile) (text assembler header : List ℕ) : Type 0 where
+pub record AreTextsOf (optimisation : Optimisation) (profile : Profile) (text assembler header : List ℕ) :
+    Type 0 where
   pub parts : Parts
   pub function : IsFunctionOf optimisation profile text parts
   pub assembled : IsAssemblerText parts assembler

@@ -17,7 +17,8 @@ whole_program : (tokens : List Lexeme) → Whole procedures tokens [] → (tree 
 whole_program tokens whole = let w = tree_of procedures tokens [] whole refl in (_, a_program tokens w.0 w.1)
 
 beginning_begins : (tokens : List Lexeme) → IsBeginning tokens → Begins procedures tokens
-beginning_begins tokens (others, tree, is) = front_begins procedures tokens others (program_whole (tokens ++ others) tree is)
+beginning_begins tokens (others, tree, is) =
+    front_begins procedures tokens others (program_whole (tokens ++ others) tree is)
 
 begins_beginning : (tokens : List Lexeme) → Begins procedures tokens → IsBeginning tokens
 begins_beginning tokens begins =

@@ -1,5 +1,6 @@
 -- Each text has a list of tokens, and an answer.
-use Rattle.std.proofs.Common.{◌≡◌, ℕ, zero, suc, ◌≤◌, inl, inr, ⊎_elim, ◌⊎◌, Bool, true, false, List, [], ◌∷◌, length, take, drop, refl, arith, nat_eq}
+use Rattle.std.proofs.Common.{◌≡◌, ℕ, zero, suc, ◌≤◌, inl, inr, ⊎_elim, ◌⊎◌, Bool, true, false, List, [], ◌∷◌, length}
+use Rattle.std.proofs.Common.{take, drop, refl, arith, nat_eq}
 use Rattle.std.specs.Prelude.{codes}
 use Rattle.std.specs.List.{position_or_len, starts_with}
 use Rattle.word.specs.Places.{origin}
@@ -14,14 +15,17 @@ use Rattle.syntax.specs.Nesting.{outside}
 use Rattle.syntax.specs.Reading.{Answer, refused, Reads, too_long, by_tokens}
 use Rattle.syntax.specs.Spelling.{is_blank, is_line_feed, is_word_byte, sign_text}
 use Rattle.syntax.specs.private.Splitting.{is_no_word_byte}
-use Rattle.syntax.specs.Tokens.{BeginsWith, BeginsWithNone, Ending, ends_at, stops, Lexes, LexesFrom, at_end, past_space, past_token, at_bad_number, at_unknown_character, place_after}
+use Rattle.syntax.specs.Tokens.{BeginsWith, BeginsWithNone, Ending, ends_at, stops, Lexes, LexesFrom, at_end}
+use Rattle.syntax.specs.Tokens.{past_space, past_token, at_bad_number, at_unknown_character, place_after}
 use Rattle.syntax.specs.private.Machine.{program, verdict}
-use Rattle.grammar_laws.proofs.Below.{answers, OnlySigns, blank_piece, comment_piece, signs, word_piece, word_some, run_at, none_from_all, rest_shorter}
+use Rattle.grammar_laws.proofs.Below.{answers, OnlySigns, blank_piece, comment_piece, signs, word_piece, word_some}
+use Rattle.grammar_laws.proofs.Below.{run_at, none_from_all, rest_shorter}
 use Rattle.grammar_laws.proofs.Words.{below, word_spelled}
 
 -- the piece that a text begins with, if there is one
 abbrev Front : List ℕ → Type 0
-Front text = ((piece : Piece) × (spelling : List ℕ) × (rest : List ℕ) × BeginsWith text piece spelling rest) ⊎ BeginsWithNone text
+Front text = ((piece : Piece) × (spelling : List ℕ) × (rest : List ℕ) × BeginsWith text piece spelling rest)
+    ⊎ BeginsWithNone text
 
 module _ (b : ℕ) (tail : List ℕ) where
   abbrev text : List ℕ
@@ -34,10 +38,16 @@ module _ (b : ℕ) (tail : List ℕ) where
       (λ none. inr none)
       (signs text b only)
 
-  by_comment : is_blank b ≡ false → is_word_byte b ≡ false → (c : Bool) → starts_with nat_eq text (codes "//") ≡ c → Front text
+  by_comment : is_blank b ≡ false → is_word_byte b ≡ false → (c : Bool) → starts_with nat_eq text (codes "//") ≡ c
+      → Front text
   by_comment no_blank no_word true e =
       let n = position_or_len is_line_feed text in
-      inl (Space, take n text, drop n text, comment_piece text (take n text) (drop n text) e (run_at is_line_feed text))
+      inl (
+        Space,
+        take n text,
+        drop n text,
+        comment_piece text (take n text) (drop n text) e (run_at is_line_feed text),
+      )
   by_comment no_blank no_word false e =
       by_sign (record { first = refl; no_blank = no_blank; no_word = no_word; no_comment = e })
 
@@ -47,11 +57,17 @@ module _ (b : ℕ) (tail : List ℕ) where
       let split = run_at is_no_word_byte text in
       let some = word_some text (take n text) (drop n text) b refl e split in
       let spelled = word_spelled (take n text) some (none_from_all (take n text) split.before) in
-      inl (spelled.0, take n text, drop n text, word_piece text (take n text) (drop n text) spelled.0 split some spelled.1)
+      inl (
+        spelled.0,
+        take n text,
+        drop n text,
+        word_piece text (take n text) (drop n text) spelled.0 split some spelled.1,
+      )
   by_word no_blank false e = by_comment no_blank e (starts_with nat_eq text (codes "//")) refl
 
   by_blank : (w : Bool) → is_blank b ≡ w → Front text
-  by_blank true e = inl (Space, take 1 text, drop 1 text, blank_piece text (take 1 text) (drop 1 text) b refl e refl refl)
+  by_blank true e =
+      inl (Space, take 1 text, drop 1 text, blank_piece text (take 1 text) (drop 1 text) b refl e refl refl)
   by_blank false e = by_word e (is_word_byte b) refl
 
 -- the tokens of what stands from a place on
@@ -59,7 +75,8 @@ abbrev Lexing : Place → List ℕ → Type 0
 Lexing place text = (tokens : List Lexeme) × (end : Ending) × LexesFrom place text tokens end
 
 -- after a piece, with the tokens of shorter texts
-stepped : (n : ℕ) → ((place : Place) (text : List ℕ) → length text ≤ n → Lexing place text) → (place : Place) (text : List ℕ) → length text ≤ suc n
+stepped : (n : ℕ) → ((place : Place) (text : List ℕ) → length text ≤ n → Lexing place text)
+    → (place : Place) (text : List ℕ) → length text ≤ suc n
     → (piece : Piece) (spelling rest : List ℕ) → BeginsWith text piece spelling rest → Lexing place text
 stepped n shorter place text less Space spelling rest begins =
     let parts = rest_shorter text Space spelling rest begins in
@@ -67,9 +84,13 @@ stepped n shorter place text less Space spelling rest begins =
     (h.0, h.1, past_space place text spelling rest h.0 h.1 begins h.2)
 stepped n shorter place text less (Token kind) spelling rest begins =
     let parts = rest_shorter text (Token kind) spelling rest begins in
-    let h = shorter (place_after place spelling) rest (omega (arith, less, parts.0, parts.1)) in
-    (record { kind = kind; place = place; text = spelling } ∷ h.0, h.1, past_token place text spelling rest kind h.0 h.1 begins h.2)
-stepped n shorter place text less BadNumber spelling rest begins = ([], stops BadNumberRule place, at_bad_number place text spelling rest begins)
+    let h = shorter (place_after place spelling) rest (omega (arith, less, parts.0, parts.1)) in (
+      record { kind = kind; place = place; text = spelling } ∷ h.0,
+      h.1,
+      past_token place text spelling rest kind h.0 h.1 begins h.2,
+    )
+stepped n shorter place text less BadNumber spelling rest begins =
+    ([], stops BadNumberRule place, at_bad_number place text spelling rest begins)
 
 within : (n : ℕ) (place : Place) (text : List ℕ) → length text ≤ n → Lexing place text
 within n place [] less = ([], ends_at place, at_end place)

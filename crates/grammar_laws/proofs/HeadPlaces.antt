@@ -18,24 +18,31 @@ no_gap a b h = omega (arith, h)
 equal : (a b : ℕ) → gap a b ≡ 0 → a ≡ b
 equal a b h = omega (arith, h)
 
-in_place : (text : List ℕ) (place : Place) → place ≡ place_after origin (take place.offset text) → astray text place ≡ 0
+in_place : (text : List ℕ) (place : Place) → place ≡ place_after origin (take place.offset text)
+    → astray text place ≡ 0
 in_place text place is =
     let line = no_gap place.line (place_after origin (take place.offset text)).line (ap (λ (p : Place). p.line) is) in
-    let column = no_gap place.column (place_after origin (take place.offset text)).column (ap (λ (p : Place). p.column) is) in
+    let column = no_gap place.column (place_after origin (take place.offset text)).column
+    (ap (λ (p : Place). p.column) is) in
     omega (arith, line, column)
 
-tokens_in_place : (text : List ℕ) (tokens : List Lexeme) → All (IsPlacedIn text) tokens → among (astray text) tokens ≡ 0
+tokens_in_place : (text : List ℕ) (tokens : List Lexeme) → All (IsPlacedIn text) tokens
+    → among (astray text) tokens ≡ 0
 tokens_in_place text [] h = refl
 tokens_in_place text (t ∷ tokens) h =
     let here = in_place text t.place (All-head (IsPlacedIn text) t tokens h) in
     let others = tokens_in_place text tokens (All-tail (IsPlacedIn text) t tokens h) in
     omega (arith, here, others)
 
-answered : (text : List ℕ) (tokens : List Lexeme) (ending : Ending) (tree : ProgramTree) → Answers tokens ending (accepted tree) → among (astray text) tokens ≡ 0 → in_program (astray text) tree ≡ 0
-answered text tokens ending tree (program_answer _ end _ is within) none = let h = program (astray text) is in omega (arith, h, none)
+answered : (text : List ℕ) (tokens : List Lexeme) (ending : Ending) (tree : ProgramTree)
+    → Answers tokens ending (accepted tree) → among (astray text) tokens ≡ 0 → in_program (astray text) tree ≡ 0
+answered text tokens ending tree (program_answer _ end _ is within) none = let h = program (astray text) is in
+    omega (arith, h, none)
 
-pub heads_in_place : (text : List ℕ) (tree : ProgramTree) → Reads text (accepted tree) → in_program (astray text) tree ≡ 0
-heads_in_place text tree (by_tokens _ tokens ending _ short lexes answers) = answered text tokens ending tree answers (tokens_in_place text tokens (placed text tokens ending lexes))
+pub heads_in_place : (text : List ℕ) (tree : ProgramTree) → Reads text (accepted tree)
+    → in_program (astray text) tree ≡ 0
+heads_in_place text tree (by_tokens _ tokens ending _ short lexes answers) =
+    answered text tokens ending tree answers (tokens_in_place text tokens (placed text tokens ending lexes))
 
 -- two places at one offset are one
 pub one_place : (text : List ℕ) (p q : Place) → astray text p ≡ 0 → astray text q ≡ 0 → p.offset ≡ q.offset → p ≡ q

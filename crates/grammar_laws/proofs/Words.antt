@@ -1,5 +1,6 @@
 -- Each word of a text is a keyword, a name, a number or a bad one.
-use Rattle.std.proofs.Common.{◌≡◌, ◌≢◌, ℕ, ◌^◌, ◌<◌, ◌≤◌, ◌⊎◌, inl, inr, ⊎_elim, Bool, true, false, List, [], ◌∷◌, ◌++◌, length, take, drop, get_or, Option, Some, None, refl, sym, ap, ◌∙◌, subst, arith}
+use Rattle.std.proofs.Common.{◌≡◌, ◌≢◌, ℕ, ◌^◌, ◌<◌, ◌≤◌, ◌⊎◌, inl, inr, ⊎_elim, Bool, true, false, List, [], ◌∷◌}
+use Rattle.std.proofs.Common.{◌++◌, length, take, drop, get_or, Option, Some, None, refl, sym, ap, ◌∙◌, subst, arith}
 use Rattle.std.specs.Prelude.{codes, nat_lt}
 use Rattle.std.specs.Bool.{Decides}
 use Rattle.std.specs.Char.{digit_value, is_ascii_digit}
@@ -11,11 +12,15 @@ use Rattle.std.proofs.lemmas.Slice.Eq.{bytes_eq-Decides}
 use Rattle.syntax.specs.declared.lexer.piece.Piece.{Piece}
 use Rattle.syntax.specs.declared.lexer.piece.Piece.TheVariants.{Token, BadNumber}
 use Rattle.syntax.specs.declared.token.Keyword.{Keyword}
-use Rattle.syntax.specs.declared.token.Keyword.TheVariants.{Export, Void, Public, Secret, Mut, Bool as BoolWord, Uint8, Uint16, Uint32, True, False, If, Else, For, From, To, Return, Select}
+use Rattle.syntax.specs.declared.token.Keyword.TheVariants.{Export, Void, Public, Secret, Mut, Bool as BoolWord}
+use Rattle.syntax.specs.declared.token.Keyword.TheVariants.{Uint8, Uint16, Uint32, True, False, If, Else, For, From}
+use Rattle.syntax.specs.declared.token.Keyword.TheVariants.{To, Return, Select}
 use Rattle.syntax.specs.declared.token.Suffix.{Suffix}
 use Rattle.syntax.specs.declared.token.Suffix.TheVariants.{U8, U16, U32}
-use Rattle.syntax.specs.declared.token.TokenKind.TheVariants.{Keyword as KeywordToken, Name as NameToken, Number as NumberToken}
-use Rattle.syntax.specs.Spelling.{IsNumber, Spells, WritesValue, bad_number, keyword, keyword_text, is_word_byte, name, number, suffix_text}
+use Rattle.syntax.specs.declared.token.TokenKind.TheVariants.{Keyword as KeywordToken, Name as NameToken}
+use Rattle.syntax.specs.declared.token.TokenKind.TheVariants.{Number as NumberToken}
+use Rattle.syntax.specs.Spelling.{IsNumber, Spells, WritesValue, bad_number, keyword, keyword_text, is_word_byte}
+use Rattle.syntax.specs.Spelling.{name, number, suffix_text}
 use Rattle.syntax.specs.private.Splitting.{SplitsAtFirst, is_suffix_letter}
 use Rattle.grammar_laws.proofs.Below.{lt-true, lt-false, name_word, number_cut, number_word, value_unique, run_at}
 
@@ -37,7 +42,8 @@ same_bytes xs ys = by_test (bytes_eq xs ys) (bytes_eq-Decides xs ys)
 -- Keywords.
 
 keywords : List Keyword
-keywords = Export ∷ Void ∷ Public ∷ Secret ∷ Mut ∷ BoolWord ∷ Uint8 ∷ Uint16 ∷ Uint32 ∷ True ∷ False ∷ If ∷ Else ∷ For ∷ From ∷ To ∷ Return ∷ Select ∷ []
+keywords = Export ∷ Void ∷ Public ∷ Secret ∷ Mut ∷ BoolWord ∷ Uint8 ∷ Uint16 ∷ Uint32 ∷ True ∷ False ∷ If ∷ Else ∷ For
+    ∷ From ∷ To ∷ Return ∷ Select ∷ []
 
 each : (P : Keyword → Type 0) → AllByRecursion P keywords → (word : Keyword) → P word
 unfolding keywords
@@ -63,7 +69,8 @@ each P all Select = all.1.1.1.1.1.1.1.1.1.1.1.1.1.1.1.1.1.0
 abbrev None_of : List ℕ → List Keyword → Type 0
 None_of word = AllByRecursion (λ spelled. word ≢ keyword_text spelled)
 
-one_of : (word : List ℕ) (all : List Keyword) → ((spelled : Keyword) × (word ≡ keyword_text spelled)) ⊎ None_of word all
+one_of : (word : List ℕ) (all : List Keyword) → ((spelled : Keyword) × (word ≡ keyword_text spelled))
+    ⊎ None_of word all
 one_of word [] = inr tt
 one_of word (spelled ∷ all) =
     ⊎_elim
@@ -73,7 +80,8 @@ one_of word (spelled ∷ all) =
 
 -- Numbers.
 
-suffixes : (tail : List ℕ) → ((suffix : Option Suffix) × (suffix_text suffix ≡ tail)) ⊎ ((suffix : Option Suffix) → suffix_text suffix ≡ tail → ⊥)
+suffixes : (tail : List ℕ) → ((suffix : Option Suffix) × (suffix_text suffix ≡ tail))
+    ⊎ ((suffix : Option Suffix) → suffix_text suffix ≡ tail → ⊥)
 suffixes tail =
     ⊎_elim (λ is. inl (None, is)) (λ no0.
     ⊎_elim (λ is. inl (Some U8, is)) (λ no1.
@@ -84,7 +92,8 @@ suffixes tail =
     (same_bytes (suffix_text (Some U8)) tail))
     (same_bytes (suffix_text None) tail)
   where
-    no : (suffix_text None ≡ tail → ⊥) → (suffix_text (Some U8) ≡ tail → ⊥) → (suffix_text (Some U16) ≡ tail → ⊥) → (suffix_text (Some U32) ≡ tail → ⊥) → (suffix : Option Suffix) → suffix_text suffix ≡ tail → ⊥
+    no : (suffix_text None ≡ tail → ⊥) → (suffix_text (Some U8) ≡ tail → ⊥) → (suffix_text (Some U16) ≡ tail → ⊥)
+        → (suffix_text (Some U32) ≡ tail → ⊥) → (suffix : Option Suffix) → suffix_text suffix ≡ tail → ⊥
     no a b c d None = a
     no a b c d (Some U8) = b
     no a b c d (Some U16) = c
@@ -106,29 +115,45 @@ numeral radix (c ∷ digits) =
 written : (digits : List ℕ) → ((value : ℕ) × WritesValue digits value) ⊎ ((value : ℕ) → WritesValue digits value → ⊥)
 written digits = ⊎_elim (λ h. inl (digits_value 10 digits, inl (h, refl))) hexadecimal (numeral 10 digits)
   where
-    hexadecimal : (IsNumeral 10 digits → ⊥) → ((value : ℕ) × WritesValue digits value) ⊎ ((value : ℕ) → WritesValue digits value → ⊥)
+    hexadecimal : (IsNumeral 10 digits → ⊥) → ((value : ℕ) × WritesValue digits value)
+        ⊎ ((value : ℕ) → WritesValue digits value → ⊥)
     hexadecimal other =
         ⊎_elim
         (λ is.
-        let parts : digits ≡ codes "0x" ++ drop 2 digits = sym (take-append-drop 2 digits) ∙ ap (λ l. l ++ drop 2 digits) is in
+        let parts : digits ≡ codes "0x" ++ drop 2 digits = sym (take-append-drop 2 digits)
+        ∙ ap (λ l. l ++ drop 2 digits) is in
         ⊎_elim
         (λ h. inl (digits_value 16 (drop 2 digits), inr (drop 2 digits, parts, h, refl)))
-        (λ none. inr (λ value w. ⊎_elim (λ d. other d.0) (λ h. none (subst (IsNumeral 16) (sym (ap (drop 2) h.1)) h.2)) w))
+        (λ none.
+        inr (λ value w. ⊎_elim (λ d. other d.0) (λ h. none (subst (IsNumeral 16) (sym (ap (drop 2) h.1)) h.2))
+        w))
         (numeral 16 (drop 2 digits)))
         (λ unlike. inr (λ value w. ⊎_elim (λ d. other d.0) (λ h. unlike (ap (take 2) h.1)) w))
         (same_bytes (take 2 digits) (codes "0x"))
 
 abbrev Read : List ℕ → Type 0
-Read word = ((value : ℕ) × (suffix : Option Suffix) × IsNumber word value suffix) ⊎ ((value : ℕ) (suffix : Option Suffix) → IsNumber word value suffix → ⊥)
+Read word = ((value : ℕ) × (suffix : Option Suffix) × IsNumber word value suffix)
+    ⊎ ((value : ℕ) (suffix : Option Suffix) → IsNumber word value suffix → ⊥)
 
 module _ (word digits tail : List ℕ) (split : SplitsAtFirst is_suffix_letter word digits tail) where
   same_digits : (value : ℕ) (suffix : Option Suffix) → IsNumber word value suffix → WritesValue digits value
-  same_digits value suffix n = subst (λ l. WritesValue l value) (number_cut word digits tail split value suffix n).0 n.written
+  same_digits value suffix n =
+      subst (λ l. WritesValue l value) (number_cut word digits tail split value suffix n).0 n.written
 
-  with_value : (suffix : Option Suffix) → suffix_text suffix ≡ tail → (value : ℕ) → WritesValue digits value → Read word
+  with_value : (suffix : Option Suffix) → suffix_text suffix ≡ tail → (value : ℕ) → WritesValue digits value
+      → Read word
   with_value suffix is value writes =
       ⊎_elim
-      (λ small. inl (value, suffix, record { digits = digits; parts = split.parts ∙ ap (λ l. digits ++ l) (sym is); written = writes; small = small }))
+      (λ small. inl (
+        value,
+        suffix,
+        record {
+          digits = digits;
+          parts = split.parts ∙ ap (λ l. digits ++ l) (sym is);
+          written = writes;
+          small = small;
+        },
+      ))
       (λ large. inr (λ v s n.
       let same : v ≡ value = value_unique digits v value (same_digits v s n) writes in
       let small : v < 2 ^ 32 = n.small in
@@ -147,7 +172,8 @@ read word = read_parts word _ _ (run_at is_suffix_letter word)
 
 -- Words.
 
-pub word_spelled : (word : List ℕ) → 0 < length word → list_all is_word_byte word ≡ true → (piece : Piece) × Spells piece word
+pub word_spelled : (word : List ℕ) → 0 < length word → list_all is_word_byte word ≡ true
+    → (piece : Piece) × Spells piece word
 word_spelled word some all = by (is_ascii_digit (get_or word 0 0)) refl
   where
     by : (b : Bool) → is_ascii_digit (get_or word 0 0) ≡ b → (piece : Piece) × Spells piece word
@@ -159,5 +185,9 @@ word_spelled word some all = by (is_ascii_digit (get_or word 0 0)) refl
     by false e =
         ⊎_elim
         (λ h. (Token (KeywordToken h.0), subst (Spells (Token (KeywordToken h.0))) (sym h.1) (keyword h.0)))
-        (λ none. (Token NameToken, name word (name_word word some e all) (each (λ spelled. word ≢ keyword_text spelled) none)))
+        (λ none. (
+          Token NameToken,
+          name word (name_word word some e all)
+              (each (λ spelled. word ≢ keyword_text spelled) none),
+        ))
         (one_of word keywords)

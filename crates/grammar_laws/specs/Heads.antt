@@ -4,7 +4,10 @@ use Rattle.std.specs.Prelude.{ℕ, ◌+◌, ◌-◌, ◌==◌, List, [], ◌∷�
 use Rattle.word.specs.declared.place.Place.{Place}
 use Rattle.word.specs.Places.{origin}
 use Rattle.syntax.specs.Tokens.{place_after}
-use Rattle.language.specs.Tree.{ExprTree, number, truth, name, prefix, binary, rotate, convert, select, element, CallTree, RightTree, called, computed, StatementTree, declaration, array, assignment, element_assignment, call, conditional, loop, BlockTree, nothing, first, ParameterTree, ReturnTree, ProcedureTree, ProgramTree}
+use Rattle.language.specs.Tree.{ExprTree, number, truth, name, prefix, binary, rotate, convert, select, element}
+use Rattle.language.specs.Tree.{CallTree, RightTree, called, computed, StatementTree, declaration, array, assignment}
+use Rattle.language.specs.Tree.{element_assignment, call, conditional, loop, BlockTree, nothing, first, ParameterTree}
+use Rattle.language.specs.Tree.{ReturnTree, ProcedureTree, ProgramTree}
 
 -- two weights. 1 where the place is at the offset, else 0
 abbrev pub here : ℕ → Place → ℕ
@@ -27,7 +30,8 @@ in_expr w (prefix place operator operand) = w place + in_expr w operand
 in_expr w (binary place operator left right) = w place + in_expr w left + in_expr w right
 in_expr w (rotate place operand amount) = w place + in_expr w operand
 in_expr w (convert place kind operand) = w place + in_expr w operand
-in_expr w (select place condition accepted otherwise) = w place + in_expr w condition + in_expr w accepted + in_expr w otherwise
+in_expr w (select place condition accepted otherwise) =
+    w place + in_expr w condition + in_expr w accepted + in_expr w otherwise
 in_expr w (element place target text index) = w place + w target + in_expr w index
 
 abbrev pub in_exprs : (Place → ℕ) → List ExprTree → ℕ
@@ -50,10 +54,13 @@ abbrev mutual
   in_statement w (declaration place label mutable kind text right) = w place + in_right w right
   in_statement w (array place label mutable kind length text values) = w place + in_values w values
   in_statement w (assignment place target text right) = w place + w target + in_right w right
-  in_statement w (element_assignment place bracket target text index right) = w place + w bracket + w target + in_expr w index + in_right w right
+  in_statement w (element_assignment place bracket target text index right) =
+      w place + w bracket + w target + in_expr w index + in_right w right
   in_statement w (call c) = in_call w c
-  in_statement w (conditional place condition accepted otherwise) = w place + in_expr w condition + in_block w accepted + in_block w otherwise
-  in_statement w (loop place counter text low high body) = w place + w counter + in_expr w low + in_expr w high + in_block w body
+  in_statement w (conditional place condition accepted otherwise) =
+      w place + in_expr w condition + in_block w accepted + in_block w otherwise
+  in_statement w (loop place counter text low high body) =
+      w place + w counter + in_expr w low + in_expr w high + in_block w body
 
   pub in_block : (Place → ℕ) → BlockTree → ℕ
   in_block w nothing = 0
@@ -72,7 +79,8 @@ in_export w None = 0
 in_export w (Some place) = w place
 
 abbrev pub in_procedure : (Place → ℕ) → ProcedureTree → ℕ
-in_procedure w p = in_export w p.export + w p.place + in_parameters w p.parameters + in_block w p.body + in_return w p.returned
+in_procedure w p = in_export w p.export + w p.place + in_parameters w p.parameters + in_block w p.body
+    + in_return w p.returned
 
 abbrev pub in_procedures : (Place → ℕ) → List ProcedureTree → ℕ
 in_procedures w [] = 0

@@ -1,6 +1,7 @@
 -- The ends of a run of accepted texts' images under a schedule, and what its recorder takes.
 use Rattle.std.specs.Prelude.{◌⊎◌, slice_get}
-use Rattle.std.proofs.Common.{◌≡◌, ℕ, zero, suc, ◌+◌, ◌≤◌, Bool, List, [], ◌∷◌, Some, None, Ok, sym, ap, ◌∙◌, inl, inr, ⊎_elim, arith}
+use Rattle.std.proofs.Common.{◌≡◌, ℕ, zero, suc, ◌+◌, ◌≤◌, Bool, List, [], ◌∷◌, Some, None, Ok, sym, ap, ◌∙◌, inl}
+use Rattle.std.proofs.Common.{inr, ⊎_elim, arith}
 use Rattle.std.proofs.lemmas.Option.{none-some, same_Some}
 use Rattle.std.specs.List.{AllByRecursion}
 use Rattle.codegen.specs.Loaded.{results_in}
@@ -19,7 +20,9 @@ use Rattle.rv_machine.specs.declared.hart_recording.HartObservation.{HartObserva
 use Rattle.rv_machine.specs.declared.stops.Stop.TheVariants.{Ecall}
 
 -- the end of the hart with a number
-end_at : (base : ℕ) (jobs : List Job) (members : List Member) (bytes : ByteMap) (k : ℕ) (job : Job) (m : Member) → slice_get jobs k ≡ Some job → slice_get members k ≡ Some m → slice_get (ends_from base jobs members bytes) k ≡ Some (end_of (base + k) job m.stop bytes)
+end_at : (base : ℕ) (jobs : List Job) (members : List Member) (bytes : ByteMap) (k : ℕ) (job : Job) (m : Member)
+    → slice_get jobs k ≡ Some job → slice_get members k ≡ Some m
+    → slice_get (ends_from base jobs members bytes) k ≡ Some (end_of (base + k) job m.stop bytes)
 end_at base [] members bytes k job m at at' = absurd (none-some job at)
 end_at base (first ∷ jobs) [] bytes k job m at at' = absurd (none-some m at')
 end_at base (first ∷ jobs) (other ∷ members) bytes zero job m at at' =
@@ -32,9 +35,14 @@ end_at base (first ∷ jobs) (other ∷ members) bytes (suc k) job m at at' =
     end_at (suc base) jobs members bytes k job m at at' ∙ ap (λ i. Some (end_of i job m.stop bytes)) place
 
 -- a hart that was given its turns has ended with what its program means
-pub ends_as_meant : (jobs : List Job) (schedule : List ℕ) (keeps : Bool) (list list' : List HartObservation) (ends : List HartEnd) (k : ℕ) (job : Job) (from : IsFromText job) → AllByRecursion IsFromText jobs → RunsHarts jobs schedule keeps list (Ok ends) list' → slice_get jobs k ≡ Some job → job.image.max_steps ≤ turns_of k schedule
-    → (results : Results) × Means from.built.program job.args results × (slice_get ends k ≡ Some (record { stop = Some Ecall; outcome = Some results }))
-ends_as_meant jobs schedule keeps list list' ends k job from all (ran {end = end} allowed followed answered) at enough =
+pub ends_as_meant : (jobs : List Job) (schedule : List ℕ) (keeps : Bool) (list list' : List HartObservation)
+    (ends : List HartEnd) (k : ℕ) (job : Job) (from : IsFromText job) → AllByRecursion IsFromText jobs
+    → RunsHarts jobs schedule keeps list (Ok ends) list' → slice_get jobs k ≡ Some job
+    → job.image.max_steps ≤ turns_of k schedule
+    → (results : Results) × Means from.built.program job.args results
+    × (slice_get ends k ≡ Some (record { stop = Some Ecall; outcome = Some results }))
+ends_as_meant jobs schedule keeps list list' ends k job from all (ran {end = end} allowed followed answered)
+    at enough =
     let it = each_is_alone jobs schedule followed.0 end k job from allowed.few.1 all followed.1 at in
     let finished = it.finished enough in
     let are : ends ≡ ends_of jobs end = cc in
@@ -48,8 +56,12 @@ ends_as_meant jobs schedule keeps list list' ends k job from all (ran {end = end
     )
 
 -- however few its turns, it is still going, or has ended so
-pub ends_so_far : (jobs : List Job) (schedule : List ℕ) (keeps : Bool) (list list' : List HartObservation) (ends : List HartEnd) (k : ℕ) (job : Job) (from : IsFromText job) → AllByRecursion IsFromText jobs → RunsHarts jobs schedule keeps list (Ok ends) list' → slice_get jobs k ≡ Some job
-    → (slice_get ends k ≡ Some still_going) ⊎ ((results : Results) × Means from.built.program job.args results × (slice_get ends k ≡ Some (ended_with results)))
+pub ends_so_far : (jobs : List Job) (schedule : List ℕ) (keeps : Bool) (list list' : List HartObservation)
+    (ends : List HartEnd) (k : ℕ) (job : Job) (from : IsFromText job) → AllByRecursion IsFromText jobs
+    → RunsHarts jobs schedule keeps list (Ok ends) list' → slice_get jobs k ≡ Some job
+    → (slice_get ends k ≡ Some still_going)
+    ⊎ ((results : Results) × Means from.built.program job.args results
+    × (slice_get ends k ≡ Some (ended_with results)))
 ends_so_far jobs schedule keeps list list' ends k job from all (ran {end = end} allowed followed answered) at =
     let it = each_is_alone jobs schedule followed.0 end k job from allowed.few.1 all followed.1 at in
     let are : ends ≡ ends_of jobs end = cc in
@@ -61,11 +73,17 @@ ends_so_far jobs schedule keeps list list' ends k job from all (ran {end = end} 
     ∙ ap (λ i. Some (end_of i job it.member.stop end.bytes)) place in
     ⊎_elim
     (λ (none : it.member.stop ≡ None). inl (there ∙ ap (λ stop. Some (end_of k job stop end.bytes)) none))
-    (λ (ended : (it.member.stop ≡ Some Ecall) × Means from.built.program job.args results). inr (results, ended.1, there ∙ ap (λ stop. Some (end_of k job stop end.bytes)) ended.0))
+    (λ (ended : (it.member.stop ≡ Some Ecall) × Means from.built.program job.args results).
+    inr (results, ended.1, there ∙ ap (λ stop. Some (end_of k job stop end.bytes)) ended.0))
     it.so_far
 
 -- two runs whose arguments agree record one list
-pub one_record : (one other : List Job) (schedule : List ℕ) (keeps : Bool) (list after after' : List HartObservation) (ends ends' : List HartEnd) → AllByRecursion IsFromText one → AllAgree one other → RunsHarts one schedule keeps list (Ok ends) after → RunsHarts other schedule keeps list (Ok ends') after' → after ≡ after'
-one_record one other schedule keeps list after after' ends ends' all agree (ran {end = end} allowed followed answered) (ran {end = end'} allowed' followed' answered') =
-    let same = one_list one other schedule followed.0 followed'.0 end end' allowed.few.1 all agree followed.1 followed'.1 in
+pub one_record : (one other : List Job) (schedule : List ℕ) (keeps : Bool) (list after after' : List HartObservation)
+    (ends ends' : List HartEnd) → AllByRecursion IsFromText one → AllAgree one other
+    → RunsHarts one schedule keeps list (Ok ends) after → RunsHarts other schedule keeps list (Ok ends') after'
+    → after ≡ after'
+one_record one other schedule keeps list after after' ends ends' all agree (ran {end = end} allowed followed answered)
+    (ran {end = end'} allowed' followed' answered') =
+    let same = one_list one other schedule followed.0 followed'.0 end end' allowed.few.1 all agree followed.1
+    followed'.1 in
     followed.2 ∙ ap (kept_of keeps list) same ∙ sym followed'.2

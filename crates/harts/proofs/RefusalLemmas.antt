@@ -1,12 +1,14 @@
 -- Refusals, by the place where the check has come to.
-use Rattle.std.proofs.Common.{ℕ, ◌<◌, ◌≤◌, List, length, take, get_or, All, Ok, Err, Result, IfErr, lt-ltb, le-ltb, refl}
+use Rattle.std.proofs.Common.{ℕ, ◌<◌, ◌≤◌, List, length, take, get_or, All, Ok, Err, Result, IfErr, lt-ltb, le-ltb}
+use Rattle.std.proofs.Common.{refl}
 use Rattle.std.proofs.lemmas.Option.{slice_get-get_or}
 use Rattle.harts.specs.Refused.{most_turns, RefusesSchedule, of_entry}
 use Rattle.harts.specs.declared.fault.HartsFault.{HartsFault}
 use Rattle.harts.specs.declared.fault.HartsFault.TheVariants.{Schedule}
 use Rattle.harts.specs.declared.fault.HartsRule.TheVariants.{NoSuchHart, TooManyTurns}
 
-module _ (harts : ℕ) (schedule : List ℕ) (at : ℕ) (inside : at < length schedule) (before : All (λ number. number < harts) (take at schedule)) (near : at ≤ most_turns) where
+module _ (harts : ℕ) (schedule : List ℕ) (at : ℕ) (inside : at < length schedule)
+    (before : All (λ number. number < harts) (take at schedule)) (near : at ≤ most_turns) where
   pub no_such_hart : harts ≤ get_or schedule at 0 → RefusesSchedule harts schedule (Schedule NoSuchHart at)
   no_such_hart above =
       of_entry (record {
@@ -17,7 +19,8 @@ module _ (harts : ℕ) (schedule : List ℕ) (at : ℕ) (inside : at < length sc
         near = near;
       })
 
-  pub too_many_turns : get_or schedule at 0 < harts → most_turns ≤ at → RefusesSchedule harts schedule (Schedule TooManyTurns at)
+  pub too_many_turns : get_or schedule at 0 < harts → most_turns ≤ at
+      → RefusesSchedule harts schedule (Schedule TooManyTurns at)
   too_many_turns named far =
       of_entry (record {
         number = get_or schedule at 0;
@@ -28,6 +31,7 @@ module _ (harts : ℕ) (schedule : List ℕ) (at : ℕ) (inside : at < length sc
       })
 
 -- each fault that is answered, for another reason
-pub if_err_so : {A : Type 0} (P Q : HartsFault → Type 0) → ((fault : HartsFault) → P fault → Q fault) → (r : Result A HartsFault) → IfErr r P → IfErr r Q
+pub if_err_so : {A : Type 0} (P Q : HartsFault → Type 0) → ((fault : HartsFault) → P fault → Q fault)
+    → (r : Result A HartsFault) → IfErr r P → IfErr r Q
 if_err_so P Q so (Ok x) holds = tt
 if_err_so P Q so (Err fault) holds = so fault holds

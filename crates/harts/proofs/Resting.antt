@@ -9,10 +9,12 @@ resting : (more : ℕ) {bytes : ByteMap} {m : Member} {stop : Stop} → m.stop �
 resting zero is = none
 resting (suc more) is = one_more (rests is) (resting more is) refl
 
-pub rests_on : {k : ℕ} {own bytes : ByteMap} {m after : Member} {seen : List Observation} {stop : Stop} (more : ℕ) → after.stop ≡ Some stop → Makes k own m seen bytes after → Makes (k + more) own m seen bytes after
+pub rests_on : {k : ℕ} {own bytes : ByteMap} {m after : Member} {seen : List Observation} {stop : Stop} (more : ℕ)
+    → after.stop ≡ Some stop → Makes k own m seen bytes after → Makes (k + more) own m seen bytes after
 rests_on more is (none {bytes = bytes} {m = m}) =
     let e : more ≡ 0 + more = omega arith in
     subst (λ n. Makes n bytes m [] bytes m) e (resting more is)
-rests_on {own = own} {bytes = bytes} {m = m} {after = after} {seen = seen} more is (one_more {n = n} turn then shown) =
+rests_on {own = own} {bytes = bytes} {m = m} {after = after} {seen = seen} more is (one_more {n = n} turn
+    then shown) =
     let e : suc (n + more) ≡ suc n + more = omega arith in
     subst (λ k. Makes k own m seen bytes after) e (one_more turn (rests_on more is then) shown)

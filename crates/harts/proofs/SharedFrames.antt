@@ -2,7 +2,9 @@
 use Rattle.std.specs.Prelude.{slice_get, is_some, ◌||◌}
 use Rattle.std.specs.List.{AllByRecursion, list_any}
 use Rattle.std.proofs.Math.Path.{fun_ext}
-use Rattle.std.proofs.Common.{◌≡◌, ℕ, zero, suc, ◌+◌, ◌/◌, ◌%◌, ◌^◌, ◌<◌, ◌≤◌, List, [], ◌∷◌, ◌++◌, length, map, drop, get_or, All, Option, Some, None, true, false, cond, le-leb, le-ltb, refl, sym, ap, ◌∙◌, subst, ⊎_elim, arith, add-one}
+use Rattle.std.proofs.Common.{◌≡◌, ℕ, zero, suc, ◌+◌, ◌/◌, ◌%◌, ◌^◌, ◌<◌, ◌≤◌, List, [], ◌∷◌, ◌++◌, length, map, drop}
+use Rattle.std.proofs.Common.{get_or, All, Option, Some, None, true, false, cond, le-leb, le-ltb, refl, sym, ap, ◌∙◌}
+use Rattle.std.proofs.Common.{subst, ⊎_elim, arith, add-one}
 use Rattle.std.proofs.lemmas.Bool.{cases_eq, false≢true}
 use Rattle.std.proofs.lemmas.List.{drop_more}
 use Rattle.std.proofs.lemmas.List.Elements.{All-head, All-tail, All-cons, All-get_or, All-from_recursion}
@@ -10,7 +12,8 @@ use Rattle.std.proofs.lemmas.Option.{none-some, same_Some, slice_get_within, get
 use Rattle.arguments.specs.Within.{AreWithin}
 use Rattle.codegen.specs.Loaded.{with_numbers, with_argument, with_arguments}
 use Rattle.hepurita.specs.Frames.{HoldsSlot}
-use Rattle.harts.proofs.Below.{zeros_there, HoldsSlot-same, is_some-with_argument, slots_hold, with_byte_same, with_byte_other, with_number-zero, with_number-suc}
+use Rattle.harts.proofs.Below.{zeros_there, HoldsSlot-same, is_some-with_argument, slots_hold, with_byte_same}
+use Rattle.harts.proofs.Below.{with_byte_other, with_number-zero, with_number-suc}
 use Rattle.image_fields.specs.Fields.{slot_end, IsImage}
 use Rattle.image_fields.specs.declared.slot.Slot.{Slot}
 use Rattle.language.specs.Size.{element_bytes}
@@ -23,10 +26,16 @@ use Rattle.harts.specs.Frames.{each_from, IsRunnable, HasImage, frame_of, with_a
 use Rattle.harts.specs.SideBySide.{Job, frame_base_of, loaded_alone, bytes_from}
 
 -- the zeros of some ranges, and of others
-zeros_in-append : (xs ys : List AddressRange) (a : ℕ) → first_of (zeros_in xs a) (zeros_in ys a) ≡ zeros_in (xs ++ ys) a
+zeros_in-append : (xs ys : List AddressRange) (a : ℕ)
+    → first_of (zeros_in xs a) (zeros_in ys a) ≡ zeros_in (xs ++ ys) a
 zeros_in-append [] ys a = refl
 zeros_in-append (x ∷ xs) ys a =
-    elim (lies_in a x) as (λ t. first_of (cond (t || list_any (lies_in a) xs) (Some 0) None) (zeros_in ys a) ≡ cond (t || list_any (lies_in a) (xs ++ ys)) (Some 0) None) [ true ↦ refl | false ↦ zeros_in-append xs ys a ]
+    elim (lies_in a x) as (λ t. first_of (cond (t || list_any (lies_in a) xs) (Some 0) None) (zeros_in ys a)
+    ≡ cond (t || list_any (lies_in a) (xs ++ ys)) (Some 0) None) [
+      | true ↦ refl
+      | false ↦
+          zeros_in-append xs ys a
+    ]
 
 -- One frame among others.
 
@@ -38,8 +47,11 @@ module _ (p r : ByteMap) where
   among-byte : (b : ByteMap) (x v : ℕ) → p x ≡ None → with_byte (among b) x v ≡ among (with_byte b x v)
   among-byte b x v none =
       fun_ext (λ y. ⊎_elim
-      (λ (e : y ≡ x). with_byte_same (among b) x v y e ∙ sym (ap (λ o. first_of o (first_of (with_byte b x v y) (r y))) (ap p e ∙ none) ∙ ap (λ o. first_of o (r y)) (with_byte_same b x v y e)))
-      (λ (n : y ≡ x → ⊥). with_byte_other (among b) x v y n ∙ ap (λ o. first_of (p y) (first_of o (r y))) (sym (with_byte_other b x v y n)))
+      (λ (e : y ≡ x). with_byte_same (among b) x v y e
+      ∙ sym (ap (λ o. first_of o (first_of (with_byte b x v y) (r y))) (ap p e ∙ none)
+      ∙ ap (λ o. first_of o (r y)) (with_byte_same b x v y e)))
+      (λ (n : y ≡ x → ⊥). with_byte_other (among b) x v y n
+      ∙ ap (λ o. first_of (p y) (first_of o (r y))) (sym (with_byte_other b x v y n)))
       (cases_eq y x))
 
   module _ (low : ℕ) (empty : (x : ℕ) → low ≤ x → p x ≡ None) where
@@ -51,17 +63,21 @@ module _ (p r : ByteMap) where
         ∙ among-byte (with_number b n (a + 1) (v / 256)) a (v % 256) (empty a le)
         ∙ ap among (sym (with_number-suc b n a v))
 
-    among-numbers : (b : ByteMap) (size from : ℕ) (vs : List ℕ) → low ≤ from → with_numbers (among b) size from vs ≡ among (with_numbers b size from vs)
+    among-numbers : (b : ByteMap) (size from : ℕ) (vs : List ℕ) → low ≤ from
+        → with_numbers (among b) size from vs ≡ among (with_numbers b size from vs)
     among-numbers b size from [] le = refl
     among-numbers b size from (v ∷ vs) le =
         ap (λ m. with_numbers m size (from + size) vs) (among-number b size from v le)
         ∙ among-numbers (with_number b size from v) size (from + size) vs (omega arith)
 
-    among-argument : (b : ByteMap) (slot : Slot) (arg : Arg) → with_argument low (among b) slot arg ≡ among (with_argument low b slot arg)
+    among-argument : (b : ByteMap) (slot : Slot) (arg : Arg)
+        → with_argument low (among b) slot arg ≡ among (with_argument low b slot arg)
     among-argument b slot (Word word) = among-number b 4 (low + slot.offset) word (omega arith)
-    among-argument b slot (Array words) = among-numbers b (element_bytes slot.param.kind) (low + slot.offset) words (omega arith)
+    among-argument b slot (Array words) =
+        among-numbers b (element_bytes slot.param.kind) (low + slot.offset) words (omega arith)
 
-    pub among-arguments : (b : ByteMap) (slots : List Slot) (args : List Arg) → with_arguments low (among b) slots args ≡ among (with_arguments low b slots args)
+    pub among-arguments : (b : ByteMap) (slots : List Slot) (args : List Arg)
+        → with_arguments low (among b) slots args ≡ among (with_arguments low b slots args)
     among-arguments b [] args = refl
     among-arguments b (slot ∷ slots) [] = refl
     among-arguments b (slot ∷ slots) (arg ∷ args) =
@@ -70,16 +86,21 @@ module _ (p r : ByteMap) where
 
 -- Where the data is.
 
-still_held : (frame : ℕ) (old new : ByteMap) (slots : List Slot) → ((x : ℕ) → is_some (new x) ≡ is_some (old x)) → AllByRecursion (HoldsSlot frame old) slots → AllByRecursion (HoldsSlot frame new) slots
+still_held : (frame : ℕ) (old new : ByteMap) (slots : List Slot) → ((x : ℕ) → is_some (new x) ≡ is_some (old x))
+    → AllByRecursion (HoldsSlot frame old) slots → AllByRecursion (HoldsSlot frame new) slots
 still_held frame old new [] same held = tt
-still_held frame old new (slot ∷ slots) same held = (HoldsSlot-same frame old new slot same held.0, still_held frame old new slots same held.1)
+still_held frame old new (slot ∷ slots) same held =
+    (HoldsSlot-same frame old new slot same held.0, still_held frame old new slots same held.1)
 
-pub is_some-with_arguments : (frame : ℕ) (bytes : ByteMap) (slots : List Slot) (args : List Arg) → AllByRecursion (HoldsSlot frame bytes) slots → AreWithin (map (λ (slot : Slot). slot.param) slots) args → (x : ℕ) → is_some (with_arguments frame bytes slots args x) ≡ is_some (bytes x)
+pub is_some-with_arguments : (frame : ℕ) (bytes : ByteMap) (slots : List Slot) (args : List Arg)
+    → AllByRecursion (HoldsSlot frame bytes) slots → AreWithin (map (λ (slot : Slot). slot.param) slots) args
+    → (x : ℕ) → is_some (with_arguments frame bytes slots args x) ≡ is_some (bytes x)
 is_some-with_arguments frame bytes [] args held within x = refl
 is_some-with_arguments frame bytes (slot ∷ slots) [] held within x = refl
 is_some-with_arguments frame bytes (slot ∷ slots) (arg ∷ args) held within x =
     let same = is_some-with_argument frame bytes slot held.0 arg within.0.shape in
-    is_some-with_arguments frame (with_argument frame bytes slot arg) slots args (still_held frame bytes (with_argument frame bytes slot arg) slots same held.1) within.1 x ∙ same x
+    is_some-with_arguments frame (with_argument frame bytes slot arg) slots args
+    (still_held frame bytes (with_argument frame bytes slot arg) slots same held.1) within.1 x ∙ same x
 
 zeros_past : (base n x : ℕ) → base + n ≤ x → is_some (zeros base n x) ≡ false
 zeros_past base n x past = rw (le-leb base x (omega arith), le-ltb x (base + n) past) refl
@@ -89,7 +110,8 @@ none_of (Some b) is = absurd (false≢true (sym is))
 none_of None is = refl
 
 -- no data of a frame lies in the next one
-frame_ends : (k : ℕ) (job : Job) → k < 8 → HasImage job → IsRunnable job → (x : ℕ) → frame_base_of (suc k) ≤ x → (loaded_alone k job).bytes x ≡ None
+frame_ends : (k : ℕ) (job : Job) → k < 8 → HasImage job → IsRunnable job → (x : ℕ) → frame_base_of (suc k) ≤ x
+    → (loaded_alone k job).bytes x ≡ None
 frame_ends k job few allowed within x past =
     let base = frame_base_of k in
     let n = job.image.frame_bytes in
@@ -109,7 +131,10 @@ first_of-assoc (Some b) y z = refl
 first_of-assoc None y z = refl
 
 -- behind what lies before them, arguments that are put into zeros are the loaded frames
-arguments_put : (k : ℕ) (jobs : List Job) (p : ByteMap) → ((x : ℕ) → frame_base_of k ≤ x → p x ≡ None) → k + length jobs ≤ 8 → All HasImage jobs → All IsRunnable jobs → with_all_arguments k jobs (λ a. first_of (p a) (zeros_from k jobs a)) ≡ (λ a. first_of (p a) (bytes_from k jobs a))
+arguments_put : (k : ℕ) (jobs : List Job) (p : ByteMap) → ((x : ℕ) → frame_base_of k ≤ x → p x ≡ None)
+    → k + length jobs ≤ 8 → All HasImage jobs → All IsRunnable jobs
+    → with_all_arguments k jobs (λ a. first_of (p a) (zeros_from k jobs a))
+    ≡ (λ a. first_of (p a) (bytes_from k jobs a))
 arguments_put k [] p empty few allowed within = refl
 arguments_put k (job ∷ jobs) p empty few allowed within =
     let low = frame_base_of k in
@@ -118,18 +143,24 @@ arguments_put k (job ∷ jobs) p empty few allowed within =
     let rest = zeros_from (suc k) jobs in
     let q : ByteMap = λ a. first_of (p a) (alone a) in
     let put = among-arguments p rest low empty begun job.image.slots job.args in
-    let regrouped : among p rest alone ≡ (λ a. first_of (q a) (rest a)) = fun_ext (λ a. first_of-assoc (p a) (alone a) (rest a)) in
-    let ended = frame_ends k job (omega arith) (All-head HasImage job jobs allowed) (All-head IsRunnable job jobs within) in
-    let above : (x : ℕ) → frame_base_of (suc k) ≤ x → q x ≡ None = λ x past. ap (λ o. first_of o (alone x)) (empty x (omega arith)) ∙ ended x past in
+    let regrouped : among p rest alone ≡ (λ a. first_of (q a) (rest a)) =
+    fun_ext (λ a. first_of-assoc (p a) (alone a) (rest a)) in
+    let ended = frame_ends k job (omega arith) (All-head HasImage job jobs allowed)
+    (All-head IsRunnable job jobs within) in
+    let above : (x : ℕ) → frame_base_of (suc k) ≤ x
+    → q x ≡ None = λ x past. ap (λ o. first_of o (alone x)) (empty x (omega arith)) ∙ ended x past in
     ap (with_all_arguments (suc k) jobs) (put ∙ regrouped)
-    ∙ arguments_put (suc k) jobs q above (omega arith) (All-tail HasImage job jobs allowed) (All-tail IsRunnable job jobs within)
+    ∙ arguments_put (suc k) jobs q above (omega arith) (All-tail HasImage job jobs allowed)
+    (All-tail IsRunnable job jobs within)
     ∙ fun_ext (λ a. sym (first_of-assoc (p a) (alone a) (bytes_from (suc k) jobs a)))
 
 abbrev zero_byte : ℕ
 zero_byte = 0
 
-one_frame : (k : ℕ) (job : Job) (a : ℕ) → zeros_in (frame_of k job ∷ []) a ≡ zeros (frame_base_of k) job.image.frame_bytes a
-one_frame k job a = elim (lies_in a (frame_of k job)) as (λ t. cond (t || false) (Some zero_byte) None ≡ cond t (Some zero_byte) None) [ true ↦ refl | false ↦ refl ]
+one_frame : (k : ℕ) (job : Job) (a : ℕ) → zeros_in (frame_of k job ∷ []) a
+    ≡ zeros (frame_base_of k) job.image.frame_bytes a
+one_frame k job a = elim (lies_in a (frame_of k job)) as
+    (λ t. cond (t || false) (Some zero_byte) None ≡ cond t (Some zero_byte) None) [ true ↦ refl | false ↦ refl ]
 
 -- the zeros of their ranges
 pub zeros_in-frames : (k : ℕ) (jobs : List Job) (a : ℕ) → zeros_in (each_from frame_of k jobs) a ≡ zeros_from k jobs a
@@ -144,26 +175,36 @@ all_by P [] all = tt
 all_by P (x ∷ xs) all = (All-head P x xs all, all_by P xs (All-tail P x xs all))
 
 -- a slot that was held is held still
-pub all_held : (frame : ℕ) (old new : ByteMap) (slots : List Slot) → ((x : ℕ) → is_some (new x) ≡ is_some (old x)) → All (HoldsSlot frame old) slots → All (HoldsSlot frame new) slots
-all_held frame old new slots same held = All-from_recursion (HoldsSlot frame new) slots (still_held frame old new slots same (all_by (HoldsSlot frame old) slots held))
+pub all_held : (frame : ℕ) (old new : ByteMap) (slots : List Slot) → ((x : ℕ) → is_some (new x) ≡ is_some (old x))
+    → All (HoldsSlot frame old) slots → All (HoldsSlot frame new) slots
+all_held frame old new slots same held =
+    All-from_recursion (HoldsSlot frame new) slots
+    (still_held frame old new slots same (all_by (HoldsSlot frame old) slots held))
 
 -- arguments that are put leave the data where it was
-pub still_there : (frame : ℕ) (bytes : ByteMap) (slots : List Slot) (args : List Arg) → All (HoldsSlot frame bytes) slots → AreWithin (map (λ (slot : Slot). slot.param) slots) args → (x : ℕ) → is_some (with_arguments frame bytes slots args x) ≡ is_some (bytes x)
-still_there frame bytes slots args held within = is_some-with_arguments frame bytes slots args (all_by (HoldsSlot frame bytes) slots held) within
+pub still_there : (frame : ℕ) (bytes : ByteMap) (slots : List Slot) (args : List Arg)
+    → All (HoldsSlot frame bytes) slots → AreWithin (map (λ (slot : Slot). slot.param) slots) args → (x : ℕ)
+    → is_some (with_arguments frame bytes slots args x) ≡ is_some (bytes x)
+still_there frame bytes slots args held within =
+    is_some-with_arguments frame bytes slots args (all_by (HoldsSlot frame bytes) slots held) within
 
 -- which end where addresses do
-pub frames_below : (k : ℕ) (jobs : List Job) → k + length jobs ≤ 8 → All HasImage jobs → All (λ (range : AddressRange). range.end ≤ 2 ^ 32) (each_from frame_of k jobs)
+pub frames_below : (k : ℕ) (jobs : List Job) → k + length jobs ≤ 8 → All HasImage jobs
+    → All (λ (range : AddressRange). range.end ≤ 2 ^ 32) (each_from frame_of k jobs)
 frames_below k [] few allowed = All-from_recursion (λ (range : AddressRange). range.end ≤ 2 ^ 32) [] tt
 frames_below k (job ∷ jobs) few allowed =
     let image : IsImage job.image = All-head HasImage job jobs allowed in
     let first : (frame_of k job).end ≤ 2 ^ 32 = omega (arith, image.frame_size, few) in
-    All-cons (λ (range : AddressRange). range.end ≤ 2 ^ 32) (frame_of k job) (each_from frame_of (suc k) jobs) first (frames_below (suc k) jobs (omega arith) (All-tail HasImage job jobs allowed))
+    All-cons (λ (range : AddressRange). range.end ≤ 2 ^ 32) (frame_of k job) (each_from frame_of (suc k) jobs) first
+    (frames_below (suc k) jobs (omega arith) (All-tail HasImage job jobs allowed))
 
 -- so the memory of these ranges holds the loaded frames, once the arguments are put
-pub frames_loaded : (jobs : List Job) (begun : ByteMap) → begun ≡ zeros_in (each_from frame_of 0 jobs) → length jobs ≤ 8 → All HasImage jobs → All IsRunnable jobs → with_all_arguments 0 jobs begun ≡ bytes_from 0 jobs
+pub frames_loaded : (jobs : List Job) (begun : ByteMap) → begun ≡ zeros_in (each_from frame_of 0 jobs)
+    → length jobs ≤ 8 → All HasImage jobs → All IsRunnable jobs → with_all_arguments 0 jobs begun ≡ bytes_from 0 jobs
 frames_loaded jobs begun is few allowed within =
     let zeroed : begun ≡ zeros_from 0 jobs = is ∙ fun_ext (zeros_in-frames 0 jobs) in
-    ap (with_all_arguments 0 jobs) zeroed ∙ arguments_put 0 jobs (λ _. None) (λ x past. refl) (omega (arith, few)) allowed within
+    ap (with_all_arguments 0 jobs) zeroed
+    ∙ arguments_put 0 jobs (λ _. None) (λ x past. refl) (omega (arith, few)) allowed within
 
 first_there : (o r : Option ℕ) → is_some o ≡ true → is_some (first_of o r) ≡ true
 first_there (Some b) r is = refl
@@ -173,35 +214,55 @@ second_there : (o r : Option ℕ) → is_some r ≡ true → is_some (first_of o
 second_there (Some b) r is = refl
 second_there None r is = is
 
-zeros_from_there : (k : ℕ) (jobs : List Job) (i : ℕ) (job : Job) → slice_get jobs i ≡ Some job → (x : ℕ) → frame_base_of (k + i) ≤ x → x < frame_base_of (k + i) + job.image.frame_bytes → is_some (zeros_from k jobs x) ≡ true
+zeros_from_there : (k : ℕ) (jobs : List Job) (i : ℕ) (job : Job) → slice_get jobs i ≡ Some job → (x : ℕ)
+    → frame_base_of (k + i) ≤ x → x < frame_base_of (k + i) + job.image.frame_bytes
+    → is_some (zeros_from k jobs x) ≡ true
 zeros_from_there k [] i job is x low high = absurd (none-some _ is)
 zeros_from_there k (first ∷ jobs) zero job is x low high =
-    let same : job.image.frame_bytes ≡ first.image.frame_bytes = ap (λ (j : Job). j.image.frame_bytes) (sym (same_Some first job is)) in
-    first_there (zeros (frame_base_of k) first.image.frame_bytes x) (zeros_from (suc k) jobs x) (zeros_there (frame_base_of k) first.image.frame_bytes x (omega arith) (omega (arith, same)))
+    let same : job.image.frame_bytes ≡ first.image.frame_bytes =
+    ap (λ (j : Job). j.image.frame_bytes) (sym (same_Some first job is)) in
+    first_there (zeros (frame_base_of k) first.image.frame_bytes x) (zeros_from (suc k) jobs x)
+    (zeros_there (frame_base_of k) first.image.frame_bytes x (omega arith) (omega (arith, same)))
 zeros_from_there k (first ∷ jobs) (suc i) job is x low high =
-    second_there (zeros (frame_base_of k) first.image.frame_bytes x) (zeros_from (suc k) jobs x) (zeros_from_there (suc k) jobs i job is x (omega arith) (omega arith))
+    second_there (zeros (frame_base_of k) first.image.frame_bytes x) (zeros_from (suc k) jobs x)
+    (zeros_from_there (suc k) jobs i job is x (omega arith) (omega arith))
 
-slots_held : (frame bytes : ℕ) (there : ByteMap) (slots : List Slot) → AllByRecursion (λ slot. slot_end slot ≤ bytes) slots → frame + bytes < 2 ^ 32 → ((x : ℕ) → frame ≤ x → x < frame + bytes → is_some (there x) ≡ true) → AllByRecursion (HoldsSlot frame there) slots
+slots_held : (frame bytes : ℕ) (there : ByteMap) (slots : List Slot)
+    → AllByRecursion (λ slot. slot_end slot ≤ bytes) slots → frame + bytes < 2 ^ 32
+    → ((x : ℕ) → frame ≤ x → x < frame + bytes → is_some (there x) ≡ true)
+    → AllByRecursion (HoldsSlot frame there) slots
 slots_held frame bytes there [] inside below holds = tt
 slots_held frame bytes there (slot ∷ slots) inside below holds =
     let first : slot_end slot ≤ bytes = inside.0 in (
-      record { below = omega (arith, first); data_there = λ x low high. holds x (omega arith) (omega (arith, first)) },
+      record {
+        below = omega (arith, first);
+        data_there =
+            λ x low high. holds x (omega arith) (omega (arith, first));
+      },
       slots_held frame bytes there slots inside.1 below holds,
     )
 
 -- each slot lies in the memory of these ranges
-pub frames_held : (jobs : List Job) (begun : ByteMap) → begun ≡ zeros_in (each_from frame_of 0 jobs) → length jobs ≤ 8 → All HasImage jobs → HoldFrames jobs begun
+pub frames_held : (jobs : List Job) (begun : ByteMap) → begun ≡ zeros_in (each_from frame_of 0 jobs) → length jobs ≤ 8
+    → All HasImage jobs → HoldFrames jobs begun
 frames_held jobs begun is few allowed = λ k job there.
     let inside : k < length jobs = slice_get_within jobs k job there in
-    let image : IsImage job.image = subst HasImage (get_or_from_slice_get jobs k job job there) (All-get_or HasImage jobs k job inside allowed) in
+    let image : IsImage job.image =
+    subst HasImage (get_or_from_slice_get jobs k job job there) (All-get_or HasImage jobs k job inside allowed) in
     let base = frame_base_of k in
     let n = job.image.frame_bytes in
     let zeroed : begun ≡ zeros_from 0 jobs = is ∙ fun_ext (zeros_in-frames 0 jobs) in
-    let found : (x : ℕ) → base ≤ x → x < base + n → is_some (begun x) ≡ true = λ x low high. ap (λ (b : ByteMap). is_some (b x)) zeroed ∙ zeros_from_there 0 jobs k job there x (omega (arith, low)) (omega (arith, high)) in
-    All-from_recursion (HoldsSlot base begun) job.image.slots (slots_held base n begun job.image.slots image.slots_inside (omega (arith, image.frame_size, inside, few)) found)
+    let found : (x : ℕ) → base ≤ x → x < base + n → is_some (begun x) ≡ true =
+    λ x low high. ap (λ (b : ByteMap). is_some (b x)) zeroed
+    ∙ zeros_from_there 0 jobs k job there x (omega (arith, low)) (omega (arith, high)) in
+    All-from_recursion (HoldsSlot base begun) job.image.slots
+    (slots_held base n begun job.image.slots image.slots_inside
+    (omega (arith, image.frame_size, inside, few)) found)
 
 -- putting what is left begins with the next one's arguments
-pub with_all-next : (jobs : List Job) (i : ℕ) (job : Job) (b : ByteMap) → i < length jobs → get_or jobs i job ≡ job → with_all_arguments i (drop i jobs) b ≡ with_all_arguments (i + 1) (drop (i + 1) jobs) (with_arguments (frame_base_of i) b job.image.slots job.args)
+pub with_all-next : (jobs : List Job) (i : ℕ) (job : Job) (b : ByteMap) → i < length jobs → get_or jobs i job ≡ job
+    → with_all_arguments i (drop i jobs) b
+    ≡ with_all_arguments (i + 1) (drop (i + 1) jobs) (with_arguments (frame_base_of i) b job.image.slots job.args)
 with_all-next jobs i job b inside is =
     let next = with_arguments (frame_base_of i) b job.image.slots job.args in
     ap (λ xs. with_all_arguments i xs b) (drop_more jobs i job inside ∙ ap (λ x. x ∷ drop (i + 1) jobs) is)

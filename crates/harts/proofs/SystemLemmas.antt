@@ -1,6 +1,7 @@
 -- Where jobs side by side begin: each hart with a frame of its own, alone in which it stays.
 use Rattle.std.specs.Prelude.{slice_get}
-use Rattle.std.proofs.Common.{◌≡◌, ◌≢◌, ℕ, zero, suc, ◌+◌, ◌<◌, ◌≤◌, Bool, true, false, List, [], ◌∷◌, length, Option, Some, None, is_some, refl, sym, ap, ap₂, subst, ◌∙◌, ⊎_elim, arith}
+use Rattle.std.proofs.Common.{◌≡◌, ◌≢◌, ℕ, zero, suc, ◌+◌, ◌<◌, ◌≤◌, Bool, true, false, List, [], ◌∷◌, length, Option}
+use Rattle.std.proofs.Common.{Some, None, is_some, refl, sym, ap, ap₂, subst, ◌∙◌, ⊎_elim, arith}
 use Rattle.std.proofs.lemmas.Bool.{cases_lt, false≢true}
 use Rattle.std.proofs.lemmas.Option.{none-some, same_Some, slice_get_within}
 use Rattle.std.specs.List.{AllByRecursion}
@@ -9,7 +10,8 @@ use Rattle.codegen.specs.Bases.{AreBases}
 use Rattle.codegen.specs.Loaded.{params_of}
 use Rattle.harts.proofs.FrameLemmas.{frame_only}
 use Rattle.harts.specs.EverySchedule.{IsFromText}
-use Rattle.harts.specs.SideBySide.{code_base_of, frame_base_of, Job, loaded_alone, member_of, bytes_from, members_from, system_of}
+use Rattle.harts.specs.SideBySide.{code_base_of, frame_base_of, Job, loaded_alone, member_of, bytes_from}
+use Rattle.harts.specs.SideBySide.{members_from, system_of}
 use Rattle.hepurita.specs.Bases.{most_images, frame_distance}
 use Rattle.hepurita.specs.Compiled.{IsCompiled, RunsTo}
 use Rattle.image.specs.Reading.{Spells}
@@ -49,7 +51,8 @@ fit_of job from =
       export = built.export;
       compiled = subst (λ (f : Fields). IsCompiled built.program built.before built.export f) images built.compiled;
       allowed = subst IsImage images built.allowed;
-      bases = subst (λ (f : Fields). (k : ℕ) → k < most_images → AreBases f (code_base_of k) (frame_base_of k)) images built.bases;
+      bases = subst (λ (f : Fields). (k : ℕ) → k < most_images
+          → AreBases f (code_base_of k) (frame_base_of k)) images built.bases;
       within = from.within;
     }
 
@@ -57,7 +60,8 @@ pub all_fit : (jobs : List Job) → AllByRecursion IsFromText jobs → AllByRecu
 all_fit [] from = tt
 all_fit (job ∷ jobs) from = (fit_of job from.0, all_fit jobs from.1)
 
-pub fit_at : (jobs : List Job) (k : ℕ) (job : Job) → AllByRecursion IsFit jobs → slice_get jobs k ≡ Some job → IsFit job
+pub fit_at : (jobs : List Job) (k : ℕ) (job : Job) → AllByRecursion IsFit jobs → slice_get jobs k ≡ Some job
+    → IsFit job
 fit_at [] k job fits at = absurd (none-some job at)
 fit_at (first ∷ rest) zero job fits at = subst IsFit (same_Some first job at) fits.0
 fit_at (first ∷ rest) (suc k) job fits at = fit_at rest k job fits.1 at
@@ -70,17 +74,20 @@ module _ (k : ℕ) (job : Job) (fit : IsFit job) where
   pub inside_alone : k < most_images → KeepsInside (loaded_alone k job).bytes (member_of k job)
   inside_alone below =
       let run = (run_of below).run in
-      keeps_inside (member_of k job) (loaded_alone k job).bytes run.turns run.seen Ecall run.end refl run.halts (λ e. cc)
+      keeps_inside (member_of k job) (loaded_alone k job).bytes run.turns run.seen Ecall run.end refl
+      run.halts (λ e. cc)
 
   -- its data is in its frame
-  window : (a : ℕ) → is_some ((loaded_alone k job).bytes a) ≡ true → (frame_base_of k ≤ a) × (a < frame_base_of k + frame_distance)
+  window : (a : ℕ) → is_some ((loaded_alone k job).bytes a) ≡ true
+      → (frame_base_of k ≤ a) × (a < frame_base_of k + frame_distance)
   window a there =
       let inside = frame_only (code_base_of k) (frame_base_of k) job.image fit.allowed job.args fit.within a there in
       let size = fit.allowed.frame_size in
       (inside.0, omega (arith, inside.1, size))
 
 -- two frames have no byte in common
-apart_frames : (j k a : ℕ) → j ≢ k → (frame_base_of j ≤ a) × (a < frame_base_of j + frame_distance) → (frame_base_of k ≤ a) × (a < frame_base_of k + frame_distance) → ⊥
+apart_frames : (j k a : ℕ) → j ≢ k → (frame_base_of j ≤ a) × (a < frame_base_of j + frame_distance)
+    → (frame_base_of k ≤ a) × (a < frame_base_of k + frame_distance) → ⊥
 apart_frames j k a other one two =
     let low = one.0 in
     let high = one.1 in
@@ -88,7 +95,8 @@ apart_frames j k a other one two =
     let high' = two.1 in
     ⊎_elim
     (λ (h : j < k). omega (arith, h, low', high))
-    (λ (h : k ≤ j). ⊎_elim (λ (g : k < j). omega (arith, g, low, high')) (λ (g : j ≤ k). other (omega (arith, h, g))) (cases_lt k j))
+    (λ (h : k ≤ j). ⊎_elim (λ (g : k < j). omega (arith, g, low, high')) (λ (g : j ≤ k). other (omega (arith, h, g)))
+    (cases_lt k j))
     (cases_lt j k)
 
 not_true : (b : Bool) → (b ≡ true → ⊥) → b ≡ false
@@ -97,7 +105,8 @@ not_true false never = refl
 
 -- Jobs side by side.
 
-pub member_at : (base : ℕ) (jobs : List Job) (k : ℕ) (job : Job) → slice_get jobs k ≡ Some job → slice_get (members_from base jobs) k ≡ Some (member_of (base + k) job)
+pub member_at : (base : ℕ) (jobs : List Job) (k : ℕ) (job : Job) → slice_get jobs k ≡ Some job
+    → slice_get (members_from base jobs) k ≡ Some (member_of (base + k) job)
 member_at base [] k job at = absurd (none-some job at)
 member_at base (first ∷ rest) zero job at =
     let place : base ≡ base + 0 = omega arith in
@@ -106,7 +115,8 @@ member_at base (first ∷ rest) (suc k) job at =
     let place : suc base + k ≡ base + suc k = omega arith in
     member_at (suc base) rest k job at ∙ ap (λ i. Some (member_of i job)) place
 
-pub job_at : (base : ℕ) (jobs : List Job) (k : ℕ) (m : Member) → slice_get (members_from base jobs) k ≡ Some m → (job : Job) × (slice_get jobs k ≡ Some job) × (m ≡ member_of (base + k) job)
+pub job_at : (base : ℕ) (jobs : List Job) (k : ℕ) (m : Member) → slice_get (members_from base jobs) k ≡ Some m
+    → (job : Job) × (slice_get jobs k ≡ Some job) × (m ≡ member_of (base + k) job)
 job_at base [] k m at = absurd (none-some m at)
 job_at base (first ∷ rest) zero m at =
     let place : base ≡ base + 0 = omega arith in
@@ -125,18 +135,25 @@ second_there (Some byte) other none = absurd (false≢true (sym none))
 second_there None other none = refl
 
 -- each frame's bytes are there
-bytes_at : (base : ℕ) (jobs : List Job) → AllByRecursion IsFit jobs → (k : ℕ) (job : Job) → slice_get jobs k ≡ Some job → (a : ℕ) → is_some ((loaded_alone (base + k) job).bytes a) ≡ true → bytes_from base jobs a ≡ (loaded_alone (base + k) job).bytes a
+bytes_at : (base : ℕ) (jobs : List Job) → AllByRecursion IsFit jobs → (k : ℕ) (job : Job)
+    → slice_get jobs k ≡ Some job → (a : ℕ) → is_some ((loaded_alone (base + k) job).bytes a) ≡ true
+    → bytes_from base jobs a ≡ (loaded_alone (base + k) job).bytes a
 bytes_at base [] fits k job at a there = absurd (none-some job at)
 bytes_at base (first ∷ rest) fits zero job at a there =
     let place : base ≡ base + 0 = omega arith in
-    let same : (loaded_alone base first).bytes a ≡ (loaded_alone (base + 0) job).bytes a = ap₂ (λ i (it : Job). (loaded_alone i it).bytes a) place (same_Some first job at) in
+    let same : (loaded_alone base first).bytes a ≡ (loaded_alone (base + 0) job).bytes a =
+    ap₂ (λ i (it : Job). (loaded_alone i it).bytes a) place (same_Some first job at) in
     first_there ((loaded_alone base first).bytes a) (bytes_from (suc base) rest a) (ap is_some same ∙ there) ∙ same
 bytes_at base (first ∷ rest) fits (suc k) job at a there =
     let place : suc base + k ≡ base + suc k = omega arith in
-    let same : (loaded_alone (suc base + k) job).bytes a ≡ (loaded_alone (base + suc k) job).bytes a = ap (λ i. (loaded_alone i job).bytes a) place in
+    let same : (loaded_alone (suc base + k) job).bytes a ≡ (loaded_alone (base + suc k) job).bytes a =
+    ap (λ i. (loaded_alone i job).bytes a) place in
     let mine = window (base + suc k) job (fit_at rest k job fits.1 at) a there in
-    let none = not_true (is_some ((loaded_alone base first).bytes a)) (λ also. apart_frames base (base + suc k) a (λ e. omega (arith, e)) (window base first fits.0 a also) mine) in
-    second_there ((loaded_alone base first).bytes a) (bytes_from (suc base) rest a) none ∙ bytes_at (suc base) rest fits.1 k job at a (ap is_some same ∙ there) ∙ same
+    let none = not_true (is_some ((loaded_alone base first).bytes a))
+    (λ also. apart_frames base (base + suc k) a (λ e. omega (arith, e))
+    (window base first fits.0 a also) mine) in
+    second_there ((loaded_alone base first).bytes a) (bytes_from (suc base) rest a) none
+    ∙ bytes_at (suc base) rest fits.1 k job at a (ap is_some same ∙ there) ∙ same
 
 -- Each hart's own bytes.
 
@@ -147,15 +164,18 @@ own_at None k = λ a. None
 abbrev pub own_of : List Job → ℕ → ByteMap
 own_of jobs k = own_at (slice_get jobs k) k
 
-pub own_is : (jobs : List Job) (k : ℕ) (job : Job) → slice_get jobs k ≡ Some job → own_of jobs k ≡ (loaded_alone k job).bytes
+pub own_is : (jobs : List Job) (k : ℕ) (job : Job) → slice_get jobs k ≡ Some job
+    → own_of jobs k ≡ (loaded_alone k job).bytes
 own_is jobs k job at = ap (λ o. own_at o k) at
 
 module _ (jobs : List Job) (few : length jobs ≤ most_images) (fits : AllByRecursion IsFit jobs) where
-  owned : (k a : ℕ) (o : Option Job) → slice_get jobs k ≡ o → is_some (own_at o k a) ≡ true → (job : Job) × (slice_get jobs k ≡ Some job) × (is_some ((loaded_alone k job).bytes a) ≡ true)
+  owned : (k a : ℕ) (o : Option Job) → slice_get jobs k ≡ o → is_some (own_at o k a) ≡ true
+      → (job : Job) × (slice_get jobs k ≡ Some job) × (is_some ((loaded_alone k job).bytes a) ≡ true)
   owned k a (Some job) at there = (job, at, there)
   owned k a None at there = absurd (false≢true there)
 
-  own_window : (k a : ℕ) → is_some (own_of jobs k a) ≡ true → (frame_base_of k ≤ a) × (a < frame_base_of k + frame_distance)
+  own_window : (k a : ℕ) → is_some (own_of jobs k a) ≡ true
+      → (frame_base_of k ≤ a) × (a < frame_base_of k + frame_distance)
   own_window k a there =
       let found = owned k a (slice_get jobs k) refl there in
       window k found.0 (fit_at jobs k found.0 fits found.1) a found.2
@@ -164,8 +184,10 @@ module _ (jobs : List Job) (few : length jobs ≤ most_images) (fits : AllByRecu
   own_there k a there =
       let found = owned k a (slice_get jobs k) refl there in
       let place : zero + k ≡ k = omega arith in
-      let same : (loaded_alone (zero + k) found.0).bytes a ≡ (loaded_alone k found.0).bytes a = ap (λ i. (loaded_alone i found.0).bytes a) place in
-      bytes_at zero jobs fits k found.0 found.1 a (ap is_some same ∙ found.2) ∙ same ∙ ap (λ (b : ByteMap). b a) (sym (own_is jobs k found.0 found.1))
+      let same : (loaded_alone (zero + k) found.0).bytes a ≡ (loaded_alone k found.0).bytes a =
+      ap (λ i. (loaded_alone i found.0).bytes a) place in
+      bytes_at zero jobs fits k found.0 found.1 a (ap is_some same ∙ found.2) ∙ same
+      ∙ ap (λ (b : ByteMap). b a) (sym (own_is jobs k found.0 found.1))
 
   own_inside : (k : ℕ) (m : Member) → slice_get (members_from zero jobs) k ≡ Some m → KeepsInside (own_of jobs k) m
   own_inside k m at =
@@ -175,12 +197,15 @@ module _ (jobs : List Job) (few : length jobs ≤ most_images) (fits : AllByRecu
       let is : m ≡ member_of k job = found.2 ∙ ap (λ i. member_of i job) place in
       let short = slice_get_within jobs k job found.1 in
       let below : k < most_images = omega (arith, short, few) in
-      subst (λ (b : ByteMap). KeepsInside b m) (sym (own_is jobs k job found.1)) (subst (KeepsInside (loaded_alone k job).bytes) (sym is) (inside_alone k job (fit_at jobs k job fits found.1) below))
+      subst (λ (b : ByteMap). KeepsInside b m) (sym (own_is jobs k job found.1))
+      (subst (KeepsInside (loaded_alone k job).bytes) (sym is)
+      (inside_alone k job (fit_at jobs k job fits found.1) below))
 
   -- the harts have bytes of their own, and reach for no others
   pub jobs_apart : AreApart (own_of jobs) (system_of jobs)
   jobs_apart = record {
-    apart = λ j k a other there. not_true (is_some (own_of jobs k a)) (λ also. apart_frames j k a other (own_window j a there) (own_window k a also));
+    apart = λ j k a other there. not_true (is_some (own_of jobs k a))
+        (λ also. apart_frames j k a other (own_window j a there) (own_window k a also));
     there = own_there;
     inside = own_inside;
   }

@@ -6,7 +6,8 @@ use Rattle.language.specs.Results.{Results}
 use Rattle.rv_machine.specs.Bytes.{ByteMap}
 use Rattle.rv_machine.specs.System.{Member, System}
 use Rattle.rv_machine.specs.declared.stops.Stop.{Stop}
-use Rattle.rv_machine.specs.declared.stops.Stop.TheVariants.{Ecall, Break, Illegal, AccessFault, Misaligned, Budget, RecorderRefused}
+use Rattle.rv_machine.specs.declared.stops.Stop.TheVariants.{Ecall, Break, Illegal, AccessFault, Misaligned, Budget}
+use Rattle.rv_machine.specs.declared.stops.Stop.TheVariants.{RecorderRefused}
 use Rattle.harts.specs.SideBySide.{Job, frame_base_of}
 use Rattle.harts.specs.declared.ends.HartEnd.{HartEnd}
 
@@ -27,7 +28,8 @@ outcome_after None results = None
 
 -- the end of the hart with a number: its stop, and the numbers that its slots then hold
 abbrev pub end_of : ℕ → Job → Option Stop → ByteMap → HartEnd
-end_of k job stop bytes = record { stop = stop; outcome = outcome_after stop (results_in (frame_base_of k) job.image bytes) }
+end_of k job stop bytes =
+    record { stop = stop; outcome = outcome_after stop (results_in (frame_base_of k) job.image bytes) }
 
 -- the ends of harts numbered from k on
 abbrev pub ends_from : ℕ → List Job → List Member → ByteMap → List HartEnd

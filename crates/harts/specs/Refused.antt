@@ -1,5 +1,6 @@
 -- Which images, arguments and schedules are refused.
-use Rattle.std.specs.Prelude.{◌≡◌, ◌⊎◌, ℕ, ◌<◌, ◌≤◌, nat_lt, if◌then◌else◌, List, length, take, slice_get, Option, Some, None, All}
+use Rattle.std.specs.Prelude.{◌≡◌, ◌⊎◌, ℕ, ◌<◌, ◌≤◌, nat_lt, if◌then◌else◌, List, length, take, slice_get, Option}
+use Rattle.std.specs.Prelude.{Some, None, All}
 use Rattle.arguments.specs.Faults.{fault_of}
 use Rattle.arguments.specs.declared.fault.ArgumentFault.{ArgumentFault}
 use Rattle.codegen.specs.Loaded.{params_of}
@@ -51,17 +52,22 @@ pub data RefusesCount (harts : ℕ) : HartsFault → Type 0 where
 
 -- arguments of a hart are refused
 pub data RefusesArguments (jobs : List Job) : HartsFault → Type 0 where
-  of_argument : {hart : ℕ} {fault : ArgumentFault} → IsFirstFault jobs hart fault → RefusesArguments jobs (Argument hart fault.rule fault.index)
+  of_argument : {hart : ℕ} {fault : ArgumentFault} → IsFirstFault jobs hart fault
+      → RefusesArguments jobs (Argument hart fault.rule fault.index)
 
 -- an entry of a schedule is refused
 pub data RefusesSchedule (harts : ℕ) (schedule : List ℕ) : HartsFault → Type 0 where
-  of_entry : {at : ℕ} {rule : HartsRule} → IsFirstEntry harts schedule at rule → RefusesSchedule harts schedule (Schedule rule at)
+  of_entry : {at : ℕ} {rule : HartsRule} → IsFirstEntry harts schedule at rule
+      → RefusesSchedule harts schedule (Schedule rule at)
 
--- harts and a schedule are refused: by their count first, then by the arguments of hart after hart, then by the schedule
+-- harts and a schedule are refused: by their count first, then by the arguments of hart after hart, then by the
+-- schedule
 pub data Refuses (jobs : List Job) (schedule : List ℕ) : HartsFault → Type 0 where
   by_count : {fault : HartsFault} → RefusesCount (length jobs) fault → Refuses jobs schedule fault
-  by_arguments : {fault : HartsFault} → AreFew (length jobs) → RefusesArguments jobs fault → Refuses jobs schedule fault
-  by_schedule : {fault : HartsFault} → AreFew (length jobs) → All HasNoFault jobs → RefusesSchedule (length jobs) schedule fault → Refuses jobs schedule fault
+  by_arguments : {fault : HartsFault} → AreFew (length jobs) → RefusesArguments jobs fault
+      → Refuses jobs schedule fault
+  by_schedule : {fault : HartsFault} → AreFew (length jobs) → All HasNoFault jobs
+      → RefusesSchedule (length jobs) schedule fault → Refuses jobs schedule fault
 
 -- nothing of them is refused
 pub record AreAllowed (jobs : List Job) (schedule : List ℕ) : Type 0 where

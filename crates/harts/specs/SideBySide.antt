@@ -28,7 +28,12 @@ loaded_alone k job = loaded_at (code_base_of k) (frame_base_of k) job.image job.
 
 -- and among others
 abbrev pub member_of : ℕ → Job → Member
-member_of k job = record { code = code_at (code_base_of k) job.image; pc = (loaded_alone k job).pc; regs = (loaded_alone k job).regs; stop = None }
+member_of k job = record {
+  code = code_at (code_base_of k) job.image;
+  pc = (loaded_alone k job).pc;
+  regs = (loaded_alone k job).regs;
+  stop = None;
+}
 
 -- the bytes of all frames, those of the first job at the frame of this number
 abbrev pub bytes_from : ℕ → List Job → ByteMap

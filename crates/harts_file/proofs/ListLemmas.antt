@@ -1,5 +1,6 @@
 -- Where an element stands in two lists after one another, or in a mapped list.
-use Rattle.std.proofs.Common.{◌≡◌, ℕ, List, [], ◌∷◌, ◌++◌, length, map, All, ◌⊎◌, inl, inr, refl, sym, ap, ap₂, ◌∙◌, arith, length-append}
+use Rattle.std.proofs.Common.{◌≡◌, ℕ, List, [], ◌∷◌, ◌++◌, length, map, All, ◌⊎◌, inl, inr, refl, sym, ap, ap₂, ◌∙◌}
+use Rattle.std.proofs.Common.{arith, length-append}
 use Rattle.std.proofs.lemmas.List.Elements.{All-head, All-tail}
 
 pub head_or : {A : Type 0} → A → List A → A
@@ -51,9 +52,17 @@ pub record Mapped {A B : Type 0} (f : A → B) (xs : List A) (front : List B) (y
   pub front_is : front ≡ map f first
   pub is : y ≡ f one
 
-pub mapped : {A B : Type 0} (f : A → B) (xs : List A) (front rest : List B) (y : B) → map f xs ≡ front ++ y ∷ rest → Mapped f xs front y
+pub mapped : {A B : Type 0} (f : A → B) (xs : List A) (front rest : List B) (y : B) → map f xs ≡ front ++ y ∷ rest
+    → Mapped f xs front y
 mapped f [] front rest y e = absurd (not_empty front rest y e)
-mapped f (x ∷ xs) [] rest y e = record { first = []; one = x; others = xs; whole = refl; front_is = refl; is = sym (same_head (f x) y (map f xs) rest e) }
+mapped f (x ∷ xs) [] rest y e = record {
+  first = [];
+  one = x;
+  others = xs;
+  whole = refl;
+  front_is = refl;
+  is = sym (same_head (f x) y (map f xs) rest e);
+}
 mapped f (x ∷ xs) (z ∷ front) rest y e =
     let m = mapped f xs front rest y (same_tail (f x) z (map f xs) (front ++ y ∷ rest) e) in
     record {

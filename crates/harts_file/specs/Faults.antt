@@ -1,5 +1,6 @@
 -- Which line of a text is the first that breaks a rule.
-use Rattle.std.specs.Prelude.{◌≡◌, ℕ, ◌+◌, Bool, nat_lt, nat_le, ◌==◌, if◌then◌else◌, List, [], ◌∷◌, ◌++◌, length, flat_map, filter_map, Option, Some, None}
+use Rattle.std.specs.Prelude.{◌≡◌, ℕ, ◌+◌, Bool, nat_lt, nat_le, ◌==◌, if◌then◌else◌, List, [], ◌∷◌, ◌++◌, length}
+use Rattle.std.specs.Prelude.{flat_map, filter_map, Option, Some, None}
 use Rattle.hepurita.specs.Bases.{most_images}
 use Rattle.harts.specs.Refused.{most_turns}
 use Rattle.harts.specs.declared.fault.HartsRule.{HartsRule}
@@ -47,8 +48,8 @@ given_from harts turns = record {
 abbrev pub given_by : List (Option Said) → Given
 given_by lines = given_from (harts_of lines) (turns_lines_of lines)
 
--- the first rule that turns break behind so many harts and turns: there has to be a hart, and this hart, and the turns must not be too
--- many in all
+-- the first rule that turns break behind so many harts and turns: there has to be a hart, and this hart, and the
+-- turns must not be too many in all
 abbrev pub rule_of_turns : ℕ → ℕ → PlannedTurns → Option HartsRule
 rule_of_turns harts before turns =
     if harts == 0 then Some HartCount else
@@ -56,7 +57,8 @@ rule_of_turns harts before turns =
     (if nat_le (before + length (turns_listed harts turns)) most_turns then None else Some TooManyTurns) else
     Some NoSuchHart
 
--- the first rule that a line breaks behind lines that give so much: a hart must not follow turns, and must not be one too many
+-- the first rule that a line breaks behind lines that give so much: a hart must not follow turns, and must not be one
+-- too many
 abbrev pub rule_of_said : Given → Said → Option HartsRule
 rule_of_said given (a_hart hart) =
     if given.has_turns then Some LineForm else
@@ -70,10 +72,13 @@ rule_of given (Some said) = rule_of_said given said
 
 -- no line breaks a rule behind those before it
 abbrev pub AreFine : List (Option Said) → Type 0
-AreFine lines = (front rest : List (Option Said)) (line : Option Said) → lines ≡ front ++ line ∷ rest → rule_of (given_by front) line ≡ None
+AreFine lines = (front rest : List (Option Said)) (line : Option Said) → lines ≡ front ++ line ∷ rest
+    → rule_of (given_by front) line ≡ None
 
--- a text's first faulty line, counted from 1, and the first rule that it breaks. That there is no hart stands at line 1
+-- a text's first faulty line, counted from 1, and the first rule that it breaks. That there is no hart stands at line
+-- 1
 pub data IsFault (text : List ℕ) : HartsRule → ℕ → Type 0 where
-  of_line : (front rest : List (Option Said)) (line : Option Said) (rule : HartsRule) → said_in text ≡ front ++ line ∷ rest → AreFine front
+  of_line : (front rest : List (Option Said)) (line : Option Said) (rule : HartsRule)
+      → said_in text ≡ front ++ line ∷ rest → AreFine front
       → rule_of (given_by front) line ≡ Some rule → IsFault text rule (length front + 1)
   of_none : lines_of text ≡ [] → IsFault text HartCount 1

@@ -1,5 +1,6 @@
 -- The lines of a file of harts, and what each of them says.
-use Rattle.std.specs.Prelude.{ℕ, Bool, not, ◌&&◌, ◌==◌, if◌then◌else◌, List, [], ◌∷◌, length, map, codes, Option, Some, None}
+use Rattle.std.specs.Prelude.{ℕ, Bool, not, ◌&&◌, ◌==◌, if◌then◌else◌, List, [], ◌∷◌, length, map, codes, Option}
+use Rattle.std.specs.Prelude.{Some, None}
 use Rattle.std.specs.List.{slice_split, list_all, list_any}
 use Rattle.std.specs.Option.{option_map, option_and_then}
 use Rattle.std.specs.Str.{bytes_eq}
@@ -36,7 +37,8 @@ fields_of line = slice_split (λ byte. byte == 32) line
 
 -- no field is empty, and nowhere is a carriage return, the byte 13
 abbrev pub is_joined : List ℕ → Bool
-is_joined line = not (list_any (λ byte. byte == 13) line) && list_all (λ field. not (length field == 0)) (fields_of line)
+is_joined line = not (list_any (λ byte. byte == 13) line)
+    && list_all (λ field. not (length field == 0)) (fields_of line)
 
 -- behind the word `hart`: a path, and arguments
 abbrev pub hart_by : List (List ℕ) → Option Said
@@ -47,7 +49,8 @@ hart_by (path ∷ arguments) = Some (a_hart (record { path = path; arguments = a
 abbrev pub turns_by : List (List ℕ) → Option Said
 turns_by [] = None
 turns_by (hart ∷ []) = None
-turns_by (hart ∷ count ∷ []) = option_and_then (λ h. option_map (λ n. some_turns (turns_of h n)) (number_in 10 count)) (number_in 10 hart)
+turns_by (hart ∷ count ∷ []) =
+    option_and_then (λ h. option_map (λ n. some_turns (turns_of h n)) (number_in 10 count)) (number_in 10 hart)
 turns_by (hart ∷ count ∷ field ∷ fields) = None
 
 -- behind the word `round`: how many rounds

@@ -1,5 +1,6 @@
 -- Which plan a text gives.
-use Rattle.std.specs.Prelude.{◌≡◌, ℕ, ◌≤◌, Bool, true, nat_lt, List, ◌++◌, length, map, replicate, flat_map, All, Option, Some}
+use Rattle.std.specs.Prelude.{◌≡◌, ℕ, ◌≤◌, Bool, true, nat_lt, List, ◌++◌, length, map, replicate, flat_map, All}
+use Rattle.std.specs.Prelude.{Option, Some}
 use Rattle.std.specs.List.{range_with_len, repeat}
 use Rattle.hepurita.specs.Bases.{most_images}
 use Rattle.harts.specs.Refused.{most_turns}
@@ -22,8 +23,8 @@ hart_line hart = Some (a_hart hart)
 abbrev pub turns_line : PlannedTurns → Option Said
 turns_line turns = Some (some_turns turns)
 
--- a text gives these harts, and this schedule of their turns: the lines name the harts, one after another, and then turns of them. There
--- are 1 to 8 harts, and no more turns than there may be
+-- a text gives these harts, and this schedule of their turns: the lines name the harts, one after another, and then
+-- turns of them. There are 1 to 8 harts, and no more turns than there may be
 pub record IsPlan (text : List ℕ) (harts : List PlannedHart) (schedule : List ℕ) : Type 0 where
   pub turns : List PlannedTurns
   pub lines : said_in text ≡ map hart_line harts ++ map turns_line turns

@@ -1,5 +1,6 @@
 -- What is answered for a compiled image at the standard bases.
-use Rattle.std.proofs.Common.{◌≡◌, ◌≢◌, ◌↔◌, inl, inr, ℕ, ◌==◌, ◌&&◌, Bool, true, false, List, [], length, slice_get, Option, None, Some, Result, Ok, if◌then◌else◌, refl, sym, ap, subst, ◌∙◌, arith}
+use Rattle.std.proofs.Common.{◌≡◌, ◌≢◌, ◌↔◌, inl, inr, ℕ, ◌==◌, ◌&&◌, Bool, true, false, List, [], length, slice_get}
+use Rattle.std.proofs.Common.{Option, None, Some, Result, Ok, if◌then◌else◌, refl, sym, ap, subst, ◌∙◌, arith}
 use Rattle.std.specs.Option.{option_map}
 use Rattle.std.proofs.lemmas.Bool.Decides.{Decides-eqb}
 use Rattle.arguments.specs.Faults.{fault_of, count_fault}
@@ -16,7 +17,8 @@ use Rattle.rv_machine.specs.Recording.{kept}
 use Rattle.hepurita.proofs.Below.{Ran-halts}
 use Rattle.rv_machine.specs.declared.observation.Observation.{Observation}
 use Rattle.rv_machine.specs.declared.stops.Stop.{Stop}
-use Rattle.rv_machine.specs.declared.stops.Stop.TheVariants.{Ecall, Break, Illegal, AccessFault, Misaligned, Budget, RecorderRefused}
+use Rattle.rv_machine.specs.declared.stops.Stop.TheVariants.{Ecall, Break, Illegal, AccessFault, Misaligned, Budget}
+use Rattle.rv_machine.specs.declared.stops.Stop.TheVariants.{RecorderRefused}
 use Rattle.arguments.specs.Agreement.{Agree}
 use Rattle.arguments.specs.PublicResults.{AgreeInPublic}
 use Rattle.hepurita.specs.Bases.{code_base, frame_base}
@@ -48,7 +50,8 @@ OneForEach = (params : List Param) (args : List Arg) → AreWithin params args �
 -- ---- the image of an accepted text
 
 -- it is the export, compiled, and may lie at the standard bases
-pub record Fits (program : ProgramTree) (before : List ProcedureTree) (export : ProcedureTree) (image : Fields) : Type 0 where
+pub record Fits (program : ProgramTree) (before : List ProcedureTree) (export : ProcedureTree) (image : Fields) :
+    Type 0 where
   pub compiled : IsCompiled program before export image
   pub bases : AreBases image code_base frame_base
 
@@ -57,26 +60,37 @@ same_fields bytes f g one other =
     let both = sym one ∙ other in
     cc
 
-pub fits : OneAnswer → (optimisation : Optimisation) (profile : Profile) (text bytes : List ℕ) (program : ProgramTree) (before : List ProcedureTree) (export : ProcedureTree) (image : Fields)
+pub fits : OneAnswer → (optimisation : Optimisation) (profile : Profile) (text bytes : List ℕ) (program : ProgramTree)
+    (before : List ProcedureTree) (export : ProcedureTree) (image : Fields)
     → Builds optimisation profile text bytes program before export image → Fits program before export image
 fits one optimisation profile text bytes program before export image is =
     let built = is.built in
-    let same = one_export profile one text built.program program built.before before built.export export built.judged is.judged in
+    let same = one_export profile one text built.program program built.before before built.export export built.judged
+    is.judged in
     let images : built.image ≡ image = same_fields bytes built.image image built.spelled is.spelled in
     let compiled : IsCompiled program before export image =
     subst (λ (f : Fields). IsCompiled program before export f) images
     (subst (λ (p : ProcedureTree). IsCompiled program before p built.image) same.2
     (subst (λ (front : List ProcedureTree). IsCompiled program front built.export built.image) same.1
     (subst (λ (p : ProgramTree). IsCompiled p built.before built.export built.image) same.0 built.compiled))) in
-    record { compiled = compiled; bases = subst (λ (f : Fields). AreBases f code_base frame_base) images (built.bases 0 (omega arith)) }
+    record {
+      compiled = compiled;
+      bases =
+          subst (λ (f : Fields). AreBases f code_base frame_base) images (built.bases 0 (omega arith));
+    }
 
-module _ (program : ProgramTree) (before : List ProcedureTree) (export : ProcedureTree) (image : Fields) (is : Fits program before export image) where
+module _ (program : ProgramTree) (before : List ProcedureTree) (export : ProcedureTree) (image : Fields)
+    (is : Fits program before export image) where
   -- the run on arguments
   pub run_on : (args : List Arg) → AreWithin (params_of image) args → RunsTo program image code_base frame_base args
   run_on args within = is.compiled.results code_base frame_base args is.bases within
 
   -- a run that no recorder cuts short is that one
-  pub is_run : (args : List Arg) (within : AreWithin (params_of image) args) (keeps : Bool) (list after : List Observation) (stop : Stop) (end : State) → Ran (code_at code_base image) keeps image.max_steps (loaded_at code_base frame_base image args) list stop end after → stop ≢ RecorderRefused → (stop ≡ Ecall) × (end ≡ (run_on args within).run.end) × (after ≡ kept keeps list (run_on args within).run.seen)
+  pub is_run : (args : List Arg) (within : AreWithin (params_of image) args) (keeps : Bool)
+      (list after : List Observation) (stop : Stop) (end : State)
+      → Ran (code_at code_base image) keeps image.max_steps (loaded_at code_base frame_base image args) list stop end
+      after → stop ≢ RecorderRefused → (stop ≡ Ecall) × (end ≡ (run_on args within).run.end)
+      × (after ≡ kept keeps list (run_on args within).run.seen)
   is_run args within keeps list after stop end run calm =
       let to = run_on args within in
       Ran-halts keeps list to.run.halts to.within_steps run calm
@@ -84,27 +98,45 @@ module _ (program : ProgramTree) (before : List ProcedureTree) (export : Procedu
   -- ---- execute
 
   -- a run leaves the outcome, or the recorder refused
-  outcome_at : (args : List Arg) → AreWithin (params_of image) args → (keeps : Bool) (list after : List Observation) (end : State) (stop : Stop) → Ran (code_at code_base image) keeps image.max_steps (loaded_at code_base frame_base image args) list stop end after → IsTheOutcome program args (answer_at frame_base image stop end.bytes)
+  outcome_at : (args : List Arg) → AreWithin (params_of image) args
+      → (keeps : Bool) (list after : List Observation) (end : State) (stop : Stop)
+      → Ran (code_at code_base image) keeps image.max_steps (loaded_at code_base frame_base image args) list stop end
+      after → IsTheOutcome program args (answer_at frame_base image stop end.bytes)
   outcome_at args within keeps list after end Ecall run =
       let ended = is_run args within keeps list after Ecall end run (λ h. cc) in
-      subst (λ (t : State). Means program args (results_in frame_base image t.bytes)) (sym ended.1) (run_on args within).outcome
-  outcome_at args within keeps list after end Break run = let ended = (is_run args within keeps list after Break end run (λ h. cc)).0 in cc
-  outcome_at args within keeps list after end Illegal run = let ended = (is_run args within keeps list after Illegal end run (λ h. cc)).0 in cc
-  outcome_at args within keeps list after end AccessFault run = let ended = (is_run args within keeps list after AccessFault end run (λ h. cc)).0 in cc
-  outcome_at args within keeps list after end Misaligned run = let ended = (is_run args within keeps list after Misaligned end run (λ h. cc)).0 in cc
-  outcome_at args within keeps list after end Budget run = let ended = (is_run args within keeps list after Budget end run (λ h. cc)).0 in cc
+      subst (λ (t : State). Means program args (results_in frame_base image t.bytes)) (sym ended.1)
+      (run_on args within).outcome
+  outcome_at args within keeps list after end Break run = let ended =
+      (is_run args within keeps list after Break end run (λ h. cc)).0 in cc
+  outcome_at args within keeps list after end Illegal run = let ended =
+      (is_run args within keeps list after Illegal end run (λ h. cc)).0 in cc
+  outcome_at args within keeps list after end AccessFault run = let ended =
+      (is_run args within keeps list after AccessFault end run (λ h. cc)).0 in cc
+  outcome_at args within keeps list after end Misaligned run = let ended =
+      (is_run args within keeps list after Misaligned end run (λ h. cc)).0 in cc
+  outcome_at args within keeps list after end Budget run = let ended =
+      (is_run args within keeps list after Budget end run (λ h. cc)).0 in cc
   outcome_at args within keeps list after end RecorderRefused run = inr refl
 
-  pub the_outcome : Faultless → (args : List Arg) (keeps : Bool) (list after : List Observation) (answer : Result Results RunFault) → AreWithin (params_of image) args → Executed image args keeps list answer after → IsTheOutcome program args answer
+  pub the_outcome : Faultless
+      → (args : List Arg) (keeps : Bool) (list after : List Observation) (answer : Result Results RunFault)
+      → AreWithin (params_of image) args → Executed image args keeps list answer after
+      → IsTheOutcome program args answer
   the_outcome faultless args keeps list after answer within (refused first) =
       let none = (faultless (params_of image) args).1 within in
       cc
   the_outcome faultless args keeps list after answer within (out_of_memory none) = inl refl
   the_outcome faultless args keeps list after answer within (ran {stop} {end} none run answered) =
-      subst (λ (r : Result Results RunFault). IsTheOutcome program args r) (sym answered) (outcome_at args within keeps list after end stop run)
+      subst (λ (r : Result Results RunFault). IsTheOutcome program args r) (sym answered)
+      (outcome_at args within keeps list after end stop run)
 
   -- the results of a run that ends by ECALL, and what it showed
-  left_at : (args : List Arg) (within : AreWithin (params_of image) args) (keeps : Bool) (list after : List Observation) (end : State) (outcome : Results) (stop : Stop) → Ran (code_at code_base image) keeps image.max_steps (loaded_at code_base frame_base image args) list stop end after → Ok outcome ≡ answer_at frame_base image stop end.bytes → (outcome ≡ results_in frame_base image (run_on args within).run.end.bytes) × (after ≡ kept keeps list (run_on args within).run.seen)
+  left_at : (args : List Arg) (within : AreWithin (params_of image) args) (keeps : Bool)
+      (list after : List Observation) (end : State) (outcome : Results) (stop : Stop)
+      → Ran (code_at code_base image) keeps image.max_steps (loaded_at code_base frame_base image args) list stop end
+      after → Ok outcome ≡ answer_at frame_base image stop end.bytes
+      → (outcome ≡ results_in frame_base image (run_on args within).run.end.bytes)
+      × (after ≡ kept keeps list (run_on args within).run.seen)
   left_at args within keeps list after end outcome Ecall run answered =
       let ended = is_run args within keeps list after Ecall end run (λ h. cc) in
       let there : outcome ≡ results_in frame_base image end.bytes = cc in
@@ -116,8 +148,12 @@ module _ (program : ProgramTree) (before : List ProcedureTree) (export : Procedu
   left_at args within keeps list after end outcome Budget run answered = cc
   left_at args within keeps list after end outcome RecorderRefused run answered = cc
 
-  pub left : (args : List Arg) (keeps : Bool) (list after : List Observation) (outcome : Results) (within : AreWithin (params_of image) args) → Executed image args keeps list (Ok outcome) after → (outcome ≡ results_in frame_base image (run_on args within).run.end.bytes) × (after ≡ kept keeps list (run_on args within).run.seen)
-  left args keeps list after outcome within (ran {stop} {end} none run answered) = left_at args within keeps list after end outcome stop run answered
+  pub left : (args : List Arg) (keeps : Bool) (list after : List Observation) (outcome : Results)
+      (within : AreWithin (params_of image) args) → Executed image args keeps list (Ok outcome) after
+      → (outcome ≡ results_in frame_base image (run_on args within).run.end.bytes)
+      × (after ≡ kept keeps list (run_on args within).run.seen)
+  left args keeps list after outcome within (ran {stop} {end} none run answered) =
+      left_at args within keeps list after end outcome stop run answered
 
   -- ---- two lists of arguments
 
@@ -138,28 +174,38 @@ module _ (program : ProgramTree) (before : List ProcedureTree) (export : Procedu
     pub same_shown : (run_on one agree.one_within).run.seen ≡ (run_on other agree.other_within).run.seen
     same_shown = is.compiled.equal_leakage both_runs
 
-    pub one_list : (keeps : Bool) (list after after' : List Observation) (a b : Results) → Executed image one keeps list (Ok a) after → Executed image other keeps list (Ok b) after' → after ≡ after'
+    pub one_list : (keeps : Bool) (list after after' : List Observation) (a b : Results)
+        → Executed image one keeps list (Ok a) after → Executed image other keeps list (Ok b) after' → after ≡ after'
     one_list keeps list after after' a b first second =
         (left one keeps list after a agree.one_within first).1
         ∙ ap (kept keeps list) same_shown
         ∙ sym (left other keeps list after' b agree.other_within second).1
 
-    pub public_results : (keeps : Bool) (list after after' : List Observation) (x y : Results) → Executed image one keeps list (Ok x) after → Executed image other keeps list (Ok y) after' → AgreeInPublic (params_of image) export.result x y
+    pub public_results : (keeps : Bool) (list after after' : List Observation) (x y : Results)
+        → Executed image one keeps list (Ok x) after → Executed image other keeps list (Ok y) after'
+        → AgreeInPublic (params_of image) export.result x y
     public_results keeps list after after' x y first second =
-        subst (λ (r : Results). AgreeInPublic (params_of image) export.result r y) (sym (left one keeps list after x agree.one_within first).0)
-        (subst (λ (r : Results). AgreeInPublic (params_of image) export.result (results_in frame_base image (run_on one agree.one_within).run.end.bytes) r) (sym (left other keeps list after' y agree.other_within second).0)
+        subst (λ (r : Results). AgreeInPublic (params_of image) export.result r y)
+        (sym (left one keeps list after x agree.one_within first).0)
+        (subst (λ (r : Results). AgreeInPublic (params_of image) export.result
+        (results_in frame_base image (run_on one agree.one_within).run.end.bytes) r)
+        (sym (left other keeps list after' y agree.other_within second).0)
         (is.compiled.public_results both_runs))
 
     -- what is observed of a run is what it shows
-    seen_of : (args : List Arg) (within : AreWithin (params_of image) args) (list : List Observation) → Observed image args list → list ≡ (run_on args within).run.seen
-    seen_of args within list (stop, (end, (run, calm))) = (is_run args within true [] list stop end (list, run, refl) calm).2
+    seen_of : (args : List Arg) (within : AreWithin (params_of image) args) (list : List Observation)
+        → Observed image args list → list ≡ (run_on args within).run.seen
+    seen_of args within list (stop, (end, (run, calm))) =
+        (is_run args within true [] list stop end (list, run, refl) calm).2
 
     -- nothing differs from itself
-    compares_same : (list list' : List Entry) (pairing : Pairing) → list ≡ list' → Compares list list' pairing → pairing ≡ Same
+    compares_same : (list list' : List Entry) (pairing : Pairing) → list ≡ list' → Compares list list' pairing
+        → pairing ≡ Same
     compares_same list list' Same e h = refl
     compares_same list list' (Differ place) e h = absurd (h.there (ap (λ (l : List Entry). slice_get l place) e))
 
-    no_fault : (b c : Bool) (count : ℕ) (f g : Option ArgumentFault) → b ≡ true → c ≡ true → f ≡ None → g ≡ None → (if b && c then first_of f (option_map (shifted count) g) else Some count_fault) ≡ None
+    no_fault : (b c : Bool) (count : ℕ) (f g : Option ArgumentFault) → b ≡ true → c ≡ true → f ≡ None → g ≡ None
+        → (if b && c then first_of f (option_map (shifted count) g) else Some count_fault) ≡ None
     no_fault true true count None None h k m n = refl
     no_fault true true count None (Some g) h k m n = cc
     no_fault true true count (Some f) g h k m n = cc
@@ -169,16 +215,19 @@ module _ (program : ProgramTree) (before : List ProcedureTree) (export : Procedu
     no_pair_fault : Faultless → OneForEach → pair_fault (params_of image) one other ≡ None
     no_pair_fault faultless count =
         let params = params_of image in
-        no_fault (length one == length params) (length other == length params) (length params) (fault_of params one) (fault_of params other)
+        no_fault (length one == length params) (length other == length params) (length params) (fault_of params one)
+        (fault_of params other)
         ((Decides-eqb (length one) (length params)).1 (count params one agree.one_within))
         ((Decides-eqb (length other) (length params)).1 (count params other agree.other_within))
         ((faultless params one).1 agree.one_within) ((faultless params other).1 agree.other_within)
 
-    pub the_same : Faultless → OneForEach → (answer : Result Pairing RunFault) → Paired image one other answer → IsSame answer
+    pub the_same : Faultless → OneForEach → (answer : Result Pairing RunFault) → Paired image one other answer
+        → IsSame answer
     the_same faultless count answer (pairs.refused first) =
         let none = no_pair_fault faultless count in
         cc
     the_same faultless count answer (pairs.out_of_memory none) = refl
     the_same faultless count answer (pairs.compared {seen} {seen'} {pairing} none a b compares) =
-        let shown : seen ≡ seen' = seen_of one agree.one_within seen a ∙ same_shown ∙ sym (seen_of other agree.other_within seen' b) in
+        let shown : seen ≡ seen' = seen_of one agree.one_within seen a ∙ same_shown
+        ∙ sym (seen_of other agree.other_within seen' b) in
         compares_same (entries_of seen) (entries_of seen') pairing (ap entries_of shown) compares

@@ -11,12 +11,24 @@ use Rattle.language.specs.Tree.{ProcedureTree, ProgramTree}
 use Rattle.language.specs.Limits.{most_nodes}
 use Rattle.word.specs.declared.profile.Profile.{Profile}
 
-pub standard_bases : (program : ProgramTree) (before : List ProcedureTree) (p : ProcedureTree) (image : Fields) (k : ℕ) → IsCompiled program before p image → nodes_of (extents_of before) p ≤ most_nodes → k < most_images → AreBases image (code_base + code_distance * k) (frame_base + frame_distance * k)
+pub standard_bases : (program : ProgramTree) (before : List ProcedureTree) (p : ProcedureTree) (image : Fields)
+    (k : ℕ) → IsCompiled program before p image → nodes_of (extents_of before) p ≤ most_nodes → k < most_images
+    → AreBases image (code_base + code_distance * k) (frame_base + frame_distance * k)
 standard_bases program before p image k is small below =
     let words = is.word_count in
     let size = is.frame_size in
-    record { code_aligned = omega arith; frame_aligned = omega arith; code_ends = omega (arith, words, small, below); frame_ends = omega (arith, size, below) }
+    record {
+      code_aligned = omega arith;
+      frame_aligned = omega arith;
+      code_ends = omega (arith, words, small, below);
+      frame_ends = omega (arith, size, below);
+    }
 
 -- so they serve the image of an accepted program's export
-pub bases_of : (profile : Profile) (program : ProgramTree) (before : List ProcedureTree) (export : ProcedureTree) (image : Fields) → JudgesProgram profile program (accepts program before export) → IsCompiled program before export image → (k : ℕ) → k < most_images → AreBases image (code_base + code_distance * k) (frame_base + frame_distance * k)
-bases_of profile program before export image judged compiled k below = standard_bases program before export image k compiled (few_nodes profile program before export (small_of profile program program before export judged)) below
+pub bases_of : (profile : Profile) (program : ProgramTree) (before : List ProcedureTree) (export : ProcedureTree)
+    (image : Fields) → JudgesProgram profile program (accepts program before export)
+    → IsCompiled program before export image → (k : ℕ) → k < most_images
+    → AreBases image (code_base + code_distance * k) (frame_base + frame_distance * k)
+bases_of profile program before export image judged compiled k below =
+    standard_bases program before export image k compiled
+    (few_nodes profile program before export (small_of profile program program before export judged)) below

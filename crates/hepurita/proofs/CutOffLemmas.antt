@@ -1,6 +1,7 @@
 -- A run that is cut off is a beginning of the run that halts.
 use Rattle.std.specs.Prelude.{◌⊎◌}
-use Rattle.std.proofs.Common.{◌≡◌, ◌≢◌, inl, inr, ℕ, suc, ◌<◌, ◌≤◌, List, ◌∷◌, ◌++◌, length, length-append, take, refl, sym, ap, subst, ◌∙◌, ⊎_elim, arith}
+use Rattle.std.proofs.Common.{◌≡◌, ◌≢◌, inl, inr, ℕ, suc, ◌<◌, ◌≤◌, List, ◌∷◌, ◌++◌, length, length-append, take}
+use Rattle.std.proofs.Common.{refl, sym, ap, subst, ◌∙◌, ⊎_elim, arith}
 use Rattle.std.proofs.lemmas.List.{take_all}
 use Rattle.arguments.specs.Agreement.{Agree}
 use Rattle.arguments.specs.Within.{AreWithin}
@@ -21,11 +22,13 @@ use Rattle.rv_machine.specs.declared.stops.Stop.{Stop}
 use Rattle.rv_machine.specs.declared.stops.Stop.TheVariants.{Ecall, Budget, RecorderRefused}
 
 -- each turn shows one observation, and the one that stops at most one
-as_many_shown : {code : Code} {n : ℕ} {s t : State} {seen : List Observation} → Leads code n s seen t → length seen ≡ n
+as_many_shown : {code : Code} {n : ℕ} {s t : State} {seen : List Observation} → Leads code n s seen t
+    → length seen ≡ n
 as_many_shown stays = refl
 as_many_shown (turns turn rest) = ap suc (as_many_shown rest)
 
-few_shown : {code : Code} {n : ℕ} {s t : State} {seen : List Observation} {stop : Stop} → Halts code n s seen stop t → length seen ≤ n
+few_shown : {code : Code} {n : ℕ} {s t : State} {seen : List Observation} {stop : Stop} → Halts code n s seen stop t
+    → length seen ≤ n
 few_shown {code} (halts {n = n} {seen = seen} {last = last} {list = list} {stop = stop} {t = t} first end is) =
     let all = ap length is ∙ length-append seen last in
     let many = as_many_shown first in
@@ -34,10 +37,12 @@ few_shown {code} (halts {n = n} {seen = seen} {last = last} {list = list} {stop 
     few
 
 -- turns from a state whose later turn stops are no more than those before it, and show a beginning
-turns_begin : {code : Code} {m n : ℕ} {s t u : State} {a b last : List Observation} {stop : Stop} → Leads code m s a t → Turn code t (stops last stop) → Leads code n s b u → (n ≤ m) × (b ≡ take n (a ++ last))
+turns_begin : {code : Code} {m n : ℕ} {s t u : State} {a b last : List Observation} {stop : Stop} → Leads code m s a t
+    → Turn code t (stops last stop) → Leads code n s b u → (n ≤ m) × (b ≡ take n (a ++ last))
 turns_begin first end stays = (omega arith, refl)
 turns_begin stays end (turns other then) = absurd (goes_on≢stops other end)
-turns_begin {code} {u = u} {last = last} (turns {n = m} {o = o} {seen = a} {t = s'} first rest) end (turns {n = n} {o = p} {seen = b} {t = s''} other then) =
+turns_begin {code} {u = u} {last = last} (turns {n = m} {o = o} {seen = a} {t = s'} first rest) end
+    (turns {n = n} {o = p} {seen = b} {t = s''} other then) =
     let e = Turn-determined first other in
     let same : s'' ≡ s' = cc in
     let head : p ≡ o = cc in
@@ -46,11 +51,14 @@ turns_begin {code} {u = u} {last = last} (turns {n = m} {o = o} {seen = a} {t = 
     (omega (arith, within), ap (λ x. x ∷ b) head ∙ ap (λ xs. o ∷ xs) more.1)
 
 -- what a run is that was given so many turns, where the run that halts takes this many and shows this
-record Begun (n given : ℕ) (whole : List Observation) (stop : Stop) (end : State) (seen : List Observation) (other : Stop) (now : State) : Type 0 where
+record Begun (n given : ℕ) (whole : List Observation) (stop : Stop) (end : State) (seen : List Observation)
+    (other : Stop) (now : State) : Type 0 where
   pub shown : seen ≡ take given whole
   pub ended : ((other ≡ stop) × (now ≡ end)) ⊎ ((other ≡ Budget) × (given < n))
 
-begun : {code : Code} {n given : ℕ} {s end now : State} {whole seen : List Observation} {stop other : Stop} → Halts code n s whole stop end → Runs code given s seen other now → other ≢ RecorderRefused → Begun n given whole stop end seen other now
+begun : {code : Code} {n given : ℕ} {s end now : State} {whole seen : List Observation} {stop other : Stop}
+    → Halts code n s whole stop end → Runs code given s seen other now → other ≢ RecorderRefused
+    → Begun n given whole stop end seen other now
 begun {given = given} {whole = whole} halting (halted within halting') calm =
     let same = Halts-determined halting' halting in
     let few = few_shown halting in
@@ -68,21 +76,34 @@ begun {given = given} (halts {n = n} {seen = seen} {last = last} first end is) (
       ended = inr (refl, omega (arith, within));
     }
 
-module _ (program : ProgramTree) (before : List ProcedureTree) (export : ProcedureTree) (image : Fields) (is : Fits program before export image) where
-  begun_on : (args : List Arg) (within : AreWithin (params_of image) args) (given : ℕ) (seen : List Observation) (stop : Stop) (end : State) → RunsFor given image args seen stop end → (let to = run_on program before export image is args within in Begun to.run.turns given to.run.seen Ecall to.run.end seen stop end)
+module _ (program : ProgramTree) (before : List ProcedureTree) (export : ProcedureTree) (image : Fields)
+    (is : Fits program before export image) where
+  begun_on : (args : List Arg) (within : AreWithin (params_of image) args) (given : ℕ) (seen : List Observation)
+      (stop : Stop) (end : State) → RunsFor given image args seen stop end
+      → (let to = run_on program before export image is args within in
+      Begun to.run.turns given to.run.seen Ecall to.run.end seen stop end)
   begun_on args within given seen stop end run =
       begun (run_on program before export image is args within).run.halts run.0 run.1
 
-  pub right_so_far : (args : List Arg) (given : ℕ) (seen : List Observation) (stop : Stop) (end : State) → AreWithin (params_of image) args → RunsFor given image args seen stop end → IsRightSoFar program image args given stop end
+  pub right_so_far : (args : List Arg) (given : ℕ) (seen : List Observation) (stop : Stop) (end : State)
+      → AreWithin (params_of image) args → RunsFor given image args seen stop end
+      → IsRightSoFar program image args given stop end
   right_so_far args given seen stop end within run =
       let to = run_on program before export image is args within in
       let steps = to.within_steps in
       ⊎_elim
-      (λ (it : (stop ≡ Ecall) × (end ≡ to.run.end)). inl (it.0, subst (λ (t : State). Means program args (results_in frame_base image t.bytes)) (sym it.1) to.outcome))
+      (λ (it : (stop ≡ Ecall) × (end ≡ to.run.end)).
+      inl (
+        it.0,
+        subst (λ (t : State). Means program args (results_in frame_base image t.bytes)) (sym it.1)
+            to.outcome,
+      ))
       (λ (it : (stop ≡ Budget) × (given < to.run.turns)). let fewer = it.1 in inr (it.0, omega (arith, fewer, steps)))
       (begun_on args within given seen stop end run).ended
 
-  pub same_so_far : (one other : List Arg) (given : ℕ) (seen seen' : List Observation) (stop stop' : Stop) (end end' : State) → Agree (params_of image) one other → RunsFor given image one seen stop end → RunsFor given image other seen' stop' end' → seen ≡ seen'
+  pub same_so_far : (one other : List Arg) (given : ℕ) (seen seen' : List Observation) (stop stop' : Stop)
+      (end end' : State) → Agree (params_of image) one other → RunsFor given image one seen stop end
+      → RunsFor given image other seen' stop' end' → seen ≡ seen'
   same_so_far one other given seen seen' stop stop' end end' agree run run' =
       (begun_on one agree.one_within given seen stop end run).shown
       ∙ ap (take given) (same_shown program before export image is one other agree)

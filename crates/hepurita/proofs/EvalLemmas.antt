@@ -1,5 +1,6 @@
 -- What `eval` answers for an accepted text: its one outcome.
-use Rattle.std.proofs.Common.{◌≡◌, ◌++◌, ℕ, ◌≤◌, ◌||◌, Bool, true, false, nat_lt, List, length, map, Option, None, Ok, refl, sym, ap, ◌∙◌, arith}
+use Rattle.std.proofs.Common.{◌≡◌, ◌++◌, ℕ, ◌≤◌, ◌||◌, Bool, true, false, nat_lt, List, length, map, Option, None, Ok}
+use Rattle.std.proofs.Common.{refl, sym, ap, ◌∙◌, arith}
 use Rattle.std.proofs.lemmas.Bool.Decides.{nat_tests}
 use Rattle.arguments.specs.Faults.{fault_of}
 use Rattle.arguments.specs.Within.{AreWithin}
@@ -28,31 +29,48 @@ use Rattle.hepurita.proofs.GrammaticalExports.{grammatical_export, same_violatio
 use Rattle.word.specs.declared.profile.Profile.{Profile}
 
 -- an export that passes no limit on size opens no more bodies than allowed
-few_bodies : (place : Place) (many deep large : Bool) → length (at place (when (many || deep) InlinedSize ++ when large DeclaredBytes)) ≡ 0 → deep ≡ false
+few_bodies : (place : Place) (many deep large : Bool)
+    → length (at place (when (many || deep) InlinedSize ++ when large DeclaredBytes)) ≡ 0 → deep ≡ false
 few_bodies place true deep large none = absurd (omega (arith, none))
 few_bodies place false true large none = absurd (omega (arith, none))
 few_bodies place false false large none = refl
 
-bodies_fit : (before : List ProcedureTree) (export : ProcedureTree) → length (size_violations before export) ≡ 0 → bodies_of (extents_of before) export ≤ most_bodies
+bodies_fit : (before : List ProcedureTree) (export : ProcedureTree) → length (size_violations before export) ≡ 0
+    → bodies_of (extents_of before) export ≤ most_bodies
 bodies_fit before export none =
-    let e = few_bodies export.place (nat_lt most_nodes (nodes_of (extents_of before) export)) (nat_lt most_bodies (bodies_of (extents_of before) export)) (nat_lt most_declared_bytes (declared_bytes (extents_of before) export)) none in
+    let e = few_bodies export.place (nat_lt most_nodes (nodes_of (extents_of before) export))
+    (nat_lt most_bodies (bodies_of (extents_of before) export))
+    (nat_lt most_declared_bytes (declared_bytes (extents_of before) export)) none in
     grind (arith, nat_tests, e)
 
 -- arguments without a fault are answered by the run
-judged : (program : ProgramTree) (args : List Arg) (budget : ℕ) (params : List Param) → params_of program ≡ params → fault_of params args ≡ None
+judged : (program : ProgramTree) (args : List Arg) (budget : ℕ) (params : List Param) → params_of program ≡ params
+    → fault_of params args ≡ None
     → answer program args budget ≡ judged_answer None (program_run program args) budget
-judged program args budget params same none = ap (λ (fault : Option ArgumentFault). judged_answer fault (program_run program args) budget) (ap (λ ps. fault_of ps args) same ∙ none)
+judged program args budget params same none =
+    ap (λ (fault : Option ArgumentFault). judged_answer fault (program_run program args) budget)
+    (ap (λ ps. fault_of ps args) same ∙ none)
 
-pub evaluated : Faultless → (profile : Profile) (text : List ℕ) (program : ProgramTree) (before : List ProcedureTree) (export : ProcedureTree) (args : List Arg) (budget : ℕ) → Judges profile text (accepts program before export)
-    → AreWithin (map param_of export.parameters) args → most_work ≤ budget → (results : Results) × Means program args results × (answer program args budget ≡ Ok results)
-evaluated faultless profile text program before export args budget (readable reads (fine small in_range in_time)) within enough =
+pub evaluated : Faultless
+    → (profile : Profile) (text : List ℕ) (program : ProgramTree) (before : List ProcedureTree)
+    (export : ProcedureTree) (args : List Arg) (budget : ℕ) → Judges profile text (accepts program before export)
+    → AreWithin (map param_of export.parameters) args → most_work ≤ budget
+    → (results : Results) × Means program args results × (answer program args budget ≡ Ok results)
+evaluated faultless profile text program before export args budget (readable reads (fine small in_range in_time))
+    within enough =
     let plain = grammatical_export text program reads in
     let is = small.well_formed in
     let parts = plain before export is.is_export in
     let flat = flattened profile before export in
     let typed = flat_typed profile program before export plain small in
     let safe = accepted_is_safe flat typed in_range in
-    let work = within_work flat (ap (λ vs. length vs) (sym (same_violations profile program before export plain small)) ∙ in_time) in
+    let work =
+    within_work flat (ap (λ vs. length vs) (sym (same_violations profile program before export plain small))
+    ∙ in_time) in
     let params = map param_of export.parameters in
-    let run = answered profile program before export args budget is.typed is.is_export parts.0 parts.1 typed (bodies_fit before export small.sized) in_range work within enough in
-    (outcome_of flat args, safe_means profile program before export plain small safe args within, judged program args budget params (ap found_params is.is_export) ((faultless params args).1 within) ∙ run)
+    let run = answered profile program before export args budget is.typed is.is_export parts.0 parts.1 typed
+    (bodies_fit before export small.sized) in_range work within enough in (
+      outcome_of flat args,
+      safe_means profile program before export plain small safe args within,
+      judged program args budget params (ap found_params is.is_export) ((faultless params args).1 within) ∙ run,
+    )

@@ -16,15 +16,25 @@ use Rattle.codegen.specs.Loaded.{params_of, code_at, loaded_at}
 use Rattle.hepurita.specs.Executed.{Executed, refused, out_of_memory, ran, answer_at}
 
 -- out of memory, where there is no fault
-pub memory_executed : (image : Fields) (args : List Arg) (keeps : Bool) (list : List Observation) (r : Result Results RunFault) → fault_of (params_of image) args ≡ None → r ≡ Err Memory → Executed image args keeps list r list
-memory_executed image args keeps list r none is = subst (λ (x : Result Results RunFault). Executed image args keeps list x list) (sym is) (out_of_memory none)
+pub memory_executed : (image : Fields) (args : List Arg) (keeps : Bool) (list : List Observation)
+    (r : Result Results RunFault) → fault_of (params_of image) args ≡ None → r ≡ Err Memory
+    → Executed image args keeps list r list
+memory_executed image args keeps list r none is =
+    subst (λ (x : Result Results RunFault). Executed image args keeps list x list) (sym is) (out_of_memory none)
 
 -- the first fault
-pub refused_executed : (image : Fields) (args : List Arg) (keeps : Bool) (list : List Observation) (fault : ArgumentFault) (e : RunFault) → e ≡ Argument fault.rule fault.index → fault_of (params_of image) args ≡ Some fault → Executed image args keeps list (Err e) list
-refused_executed image args keeps list fault e is first = subst (λ (x : RunFault). Executed image args keeps list (Err x) list) (sym is) (refused first)
+pub refused_executed : (image : Fields) (args : List Arg) (keeps : Bool) (list : List Observation)
+    (fault : ArgumentFault) (e : RunFault) → e ≡ Argument fault.rule fault.index
+    → fault_of (params_of image) args ≡ Some fault → Executed image args keeps list (Err e) list
+refused_executed image args keeps list fault e is first =
+    subst (λ (x : RunFault). Executed image args keeps list (Err x) list) (sym is) (refused first)
 
 -- a run
-pub ran_executed : (image : Fields) (args : List Arg) (keeps : Bool) (list after : List Observation) (r : Result Results RunFault) (code : Code) (steps : ℕ) (s t : State) (stop : Stop) → fault_of (params_of image) args ≡ None → code ≡ code_at code_base image → steps ≡ image.max_steps → s ≡ loaded_at code_base frame_base image args → Ran code keeps steps s list stop t after → r ≡ answer_at frame_base image stop t.bytes → Executed image args keeps list r after
+pub ran_executed : (image : Fields) (args : List Arg) (keeps : Bool) (list after : List Observation)
+    (r : Result Results RunFault) (code : Code) (steps : ℕ) (s t : State) (stop : Stop)
+    → fault_of (params_of image) args ≡ None → code ≡ code_at code_base image → steps ≡ image.max_steps
+    → s ≡ loaded_at code_base frame_base image args → Ran code keeps steps s list stop t after
+    → r ≡ answer_at frame_base image stop t.bytes → Executed image args keeps list r after
 ran_executed image args keeps list after r code steps s t stop none code_is steps_is s_is run answer =
     ran none
     (subst (λ (x : State). Ran (code_at code_base image) keeps image.max_steps x list stop t after) s_is

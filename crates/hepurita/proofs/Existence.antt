@@ -9,14 +9,16 @@ use Rattle.language.specs.Size.{size_violations}
 use Rattle.language.specs.Tree.{ProcedureTree, ProgramTree}
 use Rattle.language.specs.Typing.{violations}
 use Rattle.syntax.specs.Reading.{Answer, Reads, accepted, refused}
-use Rattle.hepurita.specs.Built.{Judgement, IsWellFormed, IsSmall, Judges, JudgesProgram, accepts, refuses, ill_typed, too_large, out_of_range, too_much_work, fine, unreadable, readable}
+use Rattle.hepurita.specs.Built.{Judgement, IsWellFormed, IsSmall, Judges, JudgesProgram, accepts, refuses, ill_typed}
+use Rattle.hepurita.specs.Built.{too_large, out_of_range, too_much_work, fine, unreadable, readable}
 use Rattle.word.specs.declared.profile.Profile.{Profile}
 
 module _ (profile : Profile) (program : ProgramTree) where
   abbrev Judged : Type 0
   Judged = (judgement : Judgement) × JudgesProgram profile program judgement
 
-  by_work : (before : List ProcedureTree) (export : ProcedureTree) → IsSmall profile program before export → length (range_violations (flattened profile before export)) ≡ 0 → Judged
+  by_work : (before : List ProcedureTree) (export : ProcedureTree) → IsSmall profile program before export
+      → length (range_violations (flattened profile before export)) ≡ 0 → Judged
   by_work before export small in_range =
       ⊎_elim
       (λ in_time. (accepts program before export, fine small in_range in_time))
@@ -30,14 +32,16 @@ module _ (profile : Profile) (program : ProgramTree) where
       (λ first. (refuses first.0.rule first.0.place, out_of_range small first.1))
       (first_of (range_violations (flattened profile before export)))
 
-  by_size : (before : List ProcedureTree) (export : ProcedureTree) → IsWellFormed profile program before export → Judged
+  by_size : (before : List ProcedureTree) (export : ProcedureTree)
+      → IsWellFormed profile program before export → Judged
   by_size before export is =
       ⊎_elim
       (λ small. by_range before export (record { well_formed = is; sized = small }))
       (λ first. (refuses first.0.rule first.0.place, too_large is first.1))
       (first_of (size_violations before export))
 
-  by_export : length (violations profile program) ≡ 0 → (found : Export) → exported [] program.procedures ≡ found → Judged
+  by_export : length (violations profile program) ≡ 0 → (found : Export)
+      → exported [] program.procedures ≡ found → Judged
   by_export typed None is = absurd (has_export profile program typed is)
   by_export typed (Some (before, export)) is = by_size before export (record { typed = typed; is_export = is })
 
@@ -48,8 +52,10 @@ module _ (profile : Profile) (program : ProgramTree) where
       (λ first. (refuses first.0.rule first.0.place, ill_typed first.1))
       (first_of (violations profile program))
 
-by_answer : (profile : Profile) (text : List ℕ) (answer : Answer) → Reads text answer → (judgement : Judgement) × Judges profile text judgement
-by_answer profile text (accepted program) reads = let judged = judged_program profile program in (judged.0, readable reads judged.1)
+by_answer : (profile : Profile) (text : List ℕ) (answer : Answer) → Reads text answer
+    → (judgement : Judgement) × Judges profile text judgement
+by_answer profile text (accepted program) reads = let judged = judged_program profile program in
+    (judged.0, readable reads judged.1)
 by_answer profile text (refused rule place) reads = (refuses rule place, unreadable reads)
 
 pub each_judged : (profile : Profile) (text : List ℕ) → (judgement : Judgement) × Judges profile text judgement

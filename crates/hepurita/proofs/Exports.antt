@@ -23,9 +23,13 @@ front_or qs None = qs
 front_or qs (Some both) = both.0
 
 -- what holds of all procedures of a program holds of its export, and of all before it
-pub of_export : (P : ProcedureTree → Type 0) (ps front : List ProcedureTree) (p : ProcedureTree) → exported [] ps ≡ Some (front, p) → AllByRecursion P ps → AllByRecursion P front × P p
+pub of_export : (P : ProcedureTree → Type 0) (ps front : List ProcedureTree) (p : ProcedureTree)
+    → exported [] ps ≡ Some (front, p) → AllByRecursion P ps → AllByRecursion P front × P p
 of_export P ps front p is all =
     let at = export_at ps (length front) (ap export_index is) in
     let same = same_Some _ _ (sym at.2 ∙ is) in
-    let there = subst P (get_or_from_slice_get ps (length front) at.0 at.0 at.1) (All-get_or P ps (length front) at.0 (slice_get_within ps (length front) at.0 at.1) all) in
-    (subst (AllByRecursion P) (ap (λ both. both.0) same) (All-take P (length front) ps all), subst P (ap (λ both. both.1) same) there)
+    let there = subst P (get_or_from_slice_get ps (length front) at.0 at.0 at.1)
+    (All-get_or P ps (length front) at.0 (slice_get_within ps (length front) at.0 at.1) all) in (
+      subst (AllByRecursion P) (ap (λ both. both.0) same) (All-take P (length front) ps all),
+      subst P (ap (λ both. both.1) same) there,
+    )

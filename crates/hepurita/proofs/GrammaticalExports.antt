@@ -1,4 +1,5 @@
--- The export of a program that a text is, is grammatical; so its work is a sum over the source, and so is the limit on it.
+-- The export of a program that a text is, is grammatical; so its work is a sum over the source, and so is the limit
+-- on it.
 use Rattle.std.proofs.Common.{◌≡◌, ℕ, List, [], Some, ap, nat_lt}
 use Rattle.std.specs.List.{AllByRecursion}
 use Rattle.inline.specs.Numbering.{flattened}
@@ -19,21 +20,28 @@ use Rattle.hepurita.proofs.Exports.{of_export}
 
 -- what the grammar gives of a program's export, and of those before it
 abbrev pub HasGrammaticalExport : ProgramTree → Type 0
-HasGrammaticalExport program = (before : List ProcedureTree) (p : ProcedureTree) → exported [] program.procedures ≡ Some (before, p) → AllByRecursion IsGrammatical before × IsGrammatical p
+HasGrammaticalExport program = (before : List ProcedureTree) (p : ProcedureTree)
+    → exported [] program.procedures ≡ Some (before, p) → AllByRecursion IsGrammatical before × IsGrammatical p
 
 -- the export of a program that a text is, is grammatical, and so are those before it
-pub grammatical_export : (text : List ℕ) (program : ProgramTree) → Reads text (accepted program) → HasGrammaticalExport program
+pub grammatical_export : (text : List ℕ) (program : ProgramTree) → Reads text (accepted program)
+    → HasGrammaticalExport program
 grammatical_export text program reads before p is =
     of_export IsGrammatical program.procedures before p is (read_text text program reads)
 
 -- its work, as a sum over the source, is that of the body
-pub same_work : (profile : Profile) (program : ProgramTree) (before : List ProcedureTree) (export : ProcedureTree) → HasGrammaticalExport program → IsSmall profile program before export → source_work before export ≡ work_of (flattened profile before export)
+pub same_work : (profile : Profile) (program : ProgramTree) (before : List ProcedureTree) (export : ProcedureTree)
+    → HasGrammaticalExport program → IsSmall profile program before export
+    → source_work before export ≡ work_of (flattened profile before export)
 same_work profile program before export plain small =
     let is = small.well_formed in
     let parts = plain before export is.is_export in
     work_is_that_of_the_body profile program before export is.typed is.is_export parts.0 parts.1
 
 -- and one limit is passed by both
-pub same_violations : (profile : Profile) (program : ProgramTree) (before : List ProcedureTree) (export : ProcedureTree) → HasGrammaticalExport program → IsSmall profile program before export → work_violations before export ≡ body_violations (flattened profile before export)
+pub same_violations : (profile : Profile) (program : ProgramTree) (before : List ProcedureTree)
+    (export : ProcedureTree) → HasGrammaticalExport program → IsSmall profile program before export
+    → work_violations before export ≡ body_violations (flattened profile before export)
 same_violations profile program before export plain small =
-    ap (λ (work : ℕ). at export.place (when (nat_lt most_work work) TooMuchWork)) (same_work profile program before export plain small)
+    ap (λ (work : ℕ). at export.place (when (nat_lt most_work work) TooMuchWork))
+    (same_work profile program before export plain small)

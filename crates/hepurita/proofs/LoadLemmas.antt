@@ -1,5 +1,6 @@
 -- Slots inside the frame, and arguments put into them one after another.
-use Rattle.std.proofs.Common.{◌≡◌, ℕ, zero, suc, ◌+◌, ◌^◌, ◌<◌, ◌≤◌, List, [], ◌∷◌, length, map, drop, slice_index_or, refl, sym, ap, ◌∙◌, arith, drop-cons, add-one}
+use Rattle.std.proofs.Common.{◌≡◌, ℕ, zero, suc, ◌+◌, ◌^◌, ◌<◌, ◌≤◌, List, [], ◌∷◌, length, map, drop, slice_index_or}
+use Rattle.std.proofs.Common.{refl, sym, ap, ◌∙◌, arith, drop-cons, add-one}
 use Rattle.std.specs.List.{AllByRecursion}
 use Rattle.arguments.specs.Within.{AreWithin, HasShape}
 use Rattle.image_fields.specs.Fields.{slot_end}
@@ -16,11 +17,16 @@ use Rattle.hepurita.specs.Frames.{HoldsSlot}
 use Rattle.hepurita.proofs.DataLemmas.{zeros_there}
 
 -- each slot of an image lies in its frame
-pub slots_hold : (frame bytes : ℕ) (slots : List Slot) → AllByRecursion (λ slot. slot_end slot ≤ bytes) slots → frame + bytes < 2 ^ 32 → AllByRecursion (HoldsSlot frame (zeros frame bytes)) slots
+pub slots_hold : (frame bytes : ℕ) (slots : List Slot) → AllByRecursion (λ slot. slot_end slot ≤ bytes) slots
+    → frame + bytes < 2 ^ 32 → AllByRecursion (HoldsSlot frame (zeros frame bytes)) slots
 slots_hold frame bytes [] inside below = tt
 slots_hold frame bytes (slot ∷ slots) inside below =
     let first : slot_end slot ≤ bytes = inside.0 in (
-      record { below = omega (arith, first); data_there = λ x low high. zeros_there frame bytes x (omega arith) (omega (arith, first)) },
+      record {
+        below = omega (arith, first);
+        data_there =
+            λ x low high. zeros_there frame bytes x (omega arith) (omega (arith, first));
+      },
       slots_hold frame bytes slots inside.1 below,
     )
 
@@ -32,23 +38,32 @@ length-within (param ∷ params) [] within = absurd within
 length-within (param ∷ params) (arg ∷ args) within = ap suc (length-within params args within.1)
 
 -- each argument has its parameter's shape
-pub shape_at : (slots : List Slot) (args : List Arg) (i : ℕ) (slot : Slot) (arg : Arg) → AreWithin (map (λ (s : Slot). s.param) slots) args → i < length slots → HasShape (slice_index_or slots i slot).param.form (slice_index_or slots i slot).param.length (slice_index_or args i arg)
+pub shape_at : (slots : List Slot) (args : List Arg) (i : ℕ) (slot : Slot) (arg : Arg)
+    → AreWithin (map (λ (s : Slot). s.param) slots) args → i < length slots
+    → HasShape (slice_index_or slots i slot).param.form (slice_index_or slots i slot).param.length
+    (slice_index_or args i arg)
 shape_at [] args i slot arg within below = absurd (omega arith)
 shape_at (s ∷ slots) [] i slot arg within below = absurd within
 shape_at (s ∷ slots) (a ∷ args) zero slot arg within below = within.0.shape
 shape_at (s ∷ slots) (a ∷ args) (suc i) slot arg within below = shape_at slots args i slot arg within.1 (omega arith)
 
 -- putting what is left begins with the next argument
-pub with_arguments-next : (frame : ℕ) (bytes : ByteMap) (slots : List Slot) (args : List Arg) (i : ℕ) (slot : Slot) (arg : Arg) → i < length slots → i < length args → with_arguments frame bytes (drop i slots) (drop i args) ≡ with_arguments frame (with_argument frame bytes (slice_index_or slots i slot) (slice_index_or args i arg)) (drop (i + 1) slots) (drop (i + 1) args)
+pub with_arguments-next : (frame : ℕ) (bytes : ByteMap) (slots : List Slot) (args : List Arg) (i : ℕ) (slot : Slot)
+    (arg : Arg) → i < length slots → i < length args
+    → with_arguments frame bytes (drop i slots) (drop i args)
+    ≡ with_arguments frame (with_argument frame bytes (slice_index_or slots i slot) (slice_index_or args i arg))
+    (drop (i + 1) slots) (drop (i + 1) args)
 with_arguments-next frame bytes slots args i slot arg below below' =
     let next = with_argument frame bytes (slice_index_or slots i slot) (slice_index_or args i arg) in
     ap (λ (s : List Slot). with_arguments frame bytes s (drop i args)) (drop-cons slots i slot below)
-    ∙ (ap (λ (a : List Arg). with_arguments frame bytes (slice_index_or slots i slot ∷ drop (suc i) slots) a) (drop-cons args i arg below')
+    ∙ (ap (λ (a : List Arg). with_arguments frame bytes (slice_index_or slots i slot ∷ drop (suc i) slots) a)
+    (drop-cons args i arg below')
     ∙ ap (λ (k : ℕ). with_arguments frame next (drop k slots) (drop k args)) (sym (add-one i)))
 
 -- what stands where there is no slot
 abbrev pub no_slot : Slot
 no_slot = record { param = record { kind = Boolean; label = Public; form = SingleWord; length = 0 }; offset = 0 }
 
-pub same_state : (p p' : ℕ) (r r' : ℕ → ℕ) (b b' : ByteMap) → p ≡ p' → r ≡ r' → b ≡ b' → ◌≡◌ {A = State} (record { pc = p; regs = r; bytes = b }) (record { pc = p'; regs = r'; bytes = b' })
+pub same_state : (p p' : ℕ) (r r' : ℕ → ℕ) (b b' : ByteMap) → p ≡ p' → r ≡ r' → b ≡ b'
+    → ◌≡◌ {A = State} (record { pc = p; regs = r; bytes = b }) (record { pc = p'; regs = r'; bytes = b' })
 same_state p p' r r' b b' same_pc same_regs same_bytes = cc

@@ -19,6 +19,8 @@ ok_both (Err y) P Q p q = tt
 pub one_build : OneAnswer → (optimisation : Optimisation) (profile : Profile) (text one other : List ℕ)
     → IsBuilt optimisation profile text one → IsBuilt optimisation profile text other → one ≡ other
 one_build answer optimisation profile text one other a b =
-    let same = one_export profile answer text a.program b.program a.before b.before a.export b.export a.judged b.judged in
+    let same = one_export profile answer text a.program b.program a.before b.before a.export b.export a.judged
+    b.judged in
     let images : a.image ≡ b.image = a.exact ∙ (ap₂ (image_for optimisation profile) same.1 same.2 ∙ sym b.exact) in
-    one_by_fields one other b.image a.are_bytes b.are_bytes (subst (λ (f : Fields). Spells one f) images a.spelled) b.spelled
+    one_by_fields one other b.image a.are_bytes b.are_bytes
+    (subst (λ (f : Fields). Spells one f) images a.spelled) b.spelled

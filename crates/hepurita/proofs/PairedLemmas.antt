@@ -13,14 +13,21 @@ use Rattle.codegen.specs.Loaded.{params_of, code_at, loaded_at}
 use Rattle.hepurita.specs.Bases.{code_base, frame_base}
 use Rattle.hepurita.specs.Paired.{Observed, Paired, pair_fault, refused, out_of_memory}
 
-pub memory_paired : (image : Fields) (one other : List Arg) (r : Result Pairing RunFault) → pair_fault (params_of image) one other ≡ None → r ≡ Err Memory → Paired image one other r
-memory_paired image one other r none is = subst (λ (x : Result Pairing RunFault). Paired image one other x) (sym is) (out_of_memory none)
+pub memory_paired : (image : Fields) (one other : List Arg) (r : Result Pairing RunFault)
+    → pair_fault (params_of image) one other ≡ None → r ≡ Err Memory → Paired image one other r
+memory_paired image one other r none is =
+    subst (λ (x : Result Pairing RunFault). Paired image one other x) (sym is) (out_of_memory none)
 
-pub refused_paired : (image : Fields) (one other : List Arg) (fault : ArgumentFault) (e : RunFault) → e ≡ Argument fault.rule fault.index → pair_fault (params_of image) one other ≡ Some fault → Paired image one other (Err e)
-refused_paired image one other fault e is first = subst (λ (x : RunFault). Paired image one other (Err x)) (sym is) (refused first)
+pub refused_paired : (image : Fields) (one other : List Arg) (fault : ArgumentFault) (e : RunFault)
+    → e ≡ Argument fault.rule fault.index → pair_fault (params_of image) one other ≡ Some fault
+    → Paired image one other (Err e)
+refused_paired image one other fault e is first =
+    subst (λ (x : RunFault). Paired image one other (Err x)) (sym is) (refused first)
 
 -- what a run shows as it was loaded
-pub observed_from : (image : Fields) (args : List Arg) (code : Code) (steps : ℕ) (s : State) (seen : List Observation) → code ≡ code_at code_base image → steps ≡ image.max_steps → s ≡ loaded_at code_base frame_base image args → IsShown code steps s seen → Observed image args seen
+pub observed_from : (image : Fields) (args : List Arg) (code : Code) (steps : ℕ) (s : State) (seen : List Observation)
+    → code ≡ code_at code_base image → steps ≡ image.max_steps → s ≡ loaded_at code_base frame_base image args
+    → IsShown code steps s seen → Observed image args seen
 observed_from image args code steps s seen code_is steps_is s_is shown =
     let there =
     subst (λ (x : State). IsShown (code_at code_base image) image.max_steps x seen) s_is

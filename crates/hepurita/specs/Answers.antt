@@ -15,8 +15,10 @@ use Rattle.hepurita.specs.Compiled.{Means}
 use Rattle.hepurita.specs.declared.optimisation.Optimisation.{Optimisation}
 use Rattle.word.specs.declared.profile.Profile.{Profile}
 
--- a text that is accepted with this export, for an observer, and the plain or the optimised image that its bytes spell
-pub record Builds (optimisation : Optimisation) (profile : Profile) (text bytes : List ℕ) (program : ProgramTree) (before : List ProcedureTree) (export : ProcedureTree) (image : Fields) : Type 0 where
+-- a text that is accepted with this export, for an observer, and the plain or the optimised image that its bytes
+-- spell
+pub record Builds (optimisation : Optimisation) (profile : Profile) (text bytes : List ℕ) (program : ProgramTree)
+    (before : List ProcedureTree) (export : ProcedureTree) (image : Fields) : Type 0 where
   pub built : IsBuilt optimisation profile text bytes
   pub judged : Judges profile text (accepts program before export)
   pub allowed : IsImage image

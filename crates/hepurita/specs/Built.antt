@@ -29,41 +29,55 @@ pub data Judgement : Type 0 where
   refuses : (rule : Rule) (place : Place) → Judgement
 
 -- a program with this export behind these procedures, that violates no rule on names, types and labels
-pub record IsWellFormed (profile : Profile) (program : ProgramTree) (before : List ProcedureTree) (export : ProcedureTree) : Type 0 where
+pub record IsWellFormed (profile : Profile) (program : ProgramTree) (before : List ProcedureTree)
+    (export : ProcedureTree) : Type 0 where
   pub typed : length (violations profile program) ≡ 0
   pub is_export : exported [] program.procedures ≡ Some (before, export)
 
 -- whose export, with the bodies that it calls, passes no limit on size
-pub record IsSmall (profile : Profile) (program : ProgramTree) (before : List ProcedureTree) (export : ProcedureTree) : Type 0 where
+pub record IsSmall (profile : Profile) (program : ProgramTree) (before : List ProcedureTree)
+    (export : ProcedureTree) : Type 0 where
   pub well_formed : IsWellFormed profile program before export
   pub sized : length (size_violations before export) ≡ 0
 
 -- the judgement on a program, for an observer
 pub data JudgesProgram (profile : Profile) (program : ProgramTree) : Judgement → Type 0 where
   -- it violates a rule on names, types and labels
-  ill_typed : {first : Violation} → IsFirst (violations profile program) first → JudgesProgram profile program (refuses first.rule first.place)
+  ill_typed : {first : Violation} → IsFirst (violations profile program) first
+      → JudgesProgram profile program (refuses first.rule first.place)
   -- its export passes a limit on size
-  too_large : {before : List ProcedureTree} {export : ProcedureTree} {first : Violation} → IsWellFormed profile program before export → IsFirst (size_violations before export) first → JudgesProgram profile program (refuses first.rule first.place)
+  too_large : {before : List ProcedureTree} {export : ProcedureTree} {first : Violation}
+      → IsWellFormed profile program before export → IsFirst (size_violations before export) first
+      → JudgesProgram profile program (refuses first.rule first.place)
   -- an index in it may be out of range, or a divisor 0
-  out_of_range : {before : List ProcedureTree} {export : ProcedureTree} {first : Violation} → IsSmall profile program before export → IsFirst (range_violations (flattened profile before export)) first → JudgesProgram profile program (refuses first.rule first.place)
+  out_of_range : {before : List ProcedureTree} {export : ProcedureTree} {first : Violation}
+      → IsSmall profile program before export → IsFirst (range_violations (flattened profile before export)) first
+      → JudgesProgram profile program (refuses first.rule first.place)
   -- it is too much work
-  too_much_work : {before : List ProcedureTree} {export : ProcedureTree} {first : Violation} → IsSmall profile program before export → length (range_violations (flattened profile before export)) ≡ 0 → IsFirst (work_violations before export) first → JudgesProgram profile program (refuses first.rule first.place)
+  too_much_work : {before : List ProcedureTree} {export : ProcedureTree} {first : Violation}
+      → IsSmall profile program before export → length (range_violations (flattened profile before export)) ≡ 0
+      → IsFirst (work_violations before export) first → JudgesProgram profile program (refuses first.rule first.place)
   -- nothing is violated
-  fine : {before : List ProcedureTree} {export : ProcedureTree} → IsSmall profile program before export → length (range_violations (flattened profile before export)) ≡ 0 → length (work_violations before export) ≡ 0 → JudgesProgram profile program (accepts program before export)
+  fine : {before : List ProcedureTree} {export : ProcedureTree} → IsSmall profile program before export
+      → length (range_violations (flattened profile before export)) ≡ 0 → length (work_violations before export) ≡ 0
+      → JudgesProgram profile program (accepts program before export)
 
 -- the judgement on a text, for an observer
 pub data Judges (profile : Profile) (text : List ℕ) : Judgement → Type 0 where
   -- it is no program
-  unreadable : {rule : Rule} {place : Place} → Reads text (refused rule place) → Judges profile text (refuses rule place)
+  unreadable : {rule : Rule} {place : Place} → Reads text (refused rule place)
+      → Judges profile text (refuses rule place)
   -- it is one
-  readable : {program : ProgramTree} {judgement : Judgement} → Reads text (accepted program) → JudgesProgram profile program judgement → Judges profile text judgement
+  readable : {program : ProgramTree} {judgement : Judgement} → Reads text (accepted program)
+      → JudgesProgram profile program judgement → Judges profile text judgement
 
 -- the refusal is out of memory, which has no place, or it has a place and is the judgement
 abbrev pub IsRefusal : (Judgement → Type 0) → Refusal → Type 0
-IsRefusal J refusal = IsWantOfMemory refusal.rule refusal.place ⊎ ((place : Place) × (refusal.place ≡ Some place) × J (refuses refusal.rule place))
+IsRefusal J refusal = IsWantOfMemory refusal.rule refusal.place
+    ⊎ ((place : Place) × (refusal.place ≡ Some place) × J (refuses refusal.rule place))
 
--- the bytes are the image of an accepted text, plain or optimised, for an observer: they spell fields, which are those of the exported
--- procedure and what it calls, compiled; which texts are accepted is one question for both
+-- the bytes are the image of an accepted text, plain or optimised, for an observer: they spell fields, which are
+-- those of the exported procedure and what it calls, compiled; which texts are accepted is one question for both
 pub record IsBuilt (optimisation : Optimisation) (profile : Profile) (text bytes : List ℕ) : Type 0 where
   pub program : ProgramTree
   pub before : List ProcedureTree
@@ -78,4 +92,5 @@ pub record IsBuilt (optimisation : Optimisation) (profile : Profile) (text bytes
   pub spelled : Spells bytes image
   pub compiled : IsCompiled program before export image
   -- code and frame may lie at the standard bases, and those of several images side by side
-  pub bases : (k : ℕ) → k < most_images → AreBases image (code_base + code_distance * k) (frame_base + frame_distance * k)
+  pub bases : (k : ℕ) → k < most_images
+      → AreBases image (code_base + code_distance * k) (frame_base + frame_distance * k)

@@ -47,17 +47,22 @@ pub record TwoRuns (image : Fields) : Type 0 where
   pub other : WholeRun image code frame args'
 
 -- the image is the program's exported procedure, with the bodies of those before it where it calls them
-pub record IsCompiled (program : ProgramTree) (before : List ProcedureTree) (p : ProcedureTree) (image : Fields) : Type 0 where
+pub record IsCompiled (program : ProgramTree) (before : List ProcedureTree) (p : ProcedureTree) (image : Fields) :
+    Type 0 where
   pub params : params_of image ≡ map param_of p.parameters
   pub result : option_map type_in image.returned ≡ p.result
   pub max_steps : image.max_steps ≡ 32 * source_work before p + 64
   pub frame_size : image.frame_bytes ≤ most_frame_bytes
   pub word_count : length image.words ≤ 32 * nodes_of (extents_of before) p + 64
   -- results: on all arguments within the parameter types
-  pub results : (code frame : ℕ) (args : List Arg) → AreBases image code frame → AreWithin (params_of image) args → RunsTo program image code frame args
+  pub results : (code frame : ℕ) (args : List Arg) → AreBases image code frame → AreWithin (params_of image) args
+      → RunsTo program image code frame args
   -- equal leakage: two runs on arguments that agree show one and the same list of observations
   pub equal_leakage : (runs : TwoRuns image) → runs.one.seen ≡ runs.other.seen
   -- and leave one and the same return and `mut` arrays, where these are public
-  pub public_results : (runs : TwoRuns image) → AgreeInPublic (params_of image) p.result (results_in runs.frame image runs.one.end.bytes) (results_in runs.frame image runs.other.end.bytes)
+  pub public_results : (runs : TwoRuns image)
+      → AgreeInPublic (params_of image) p.result (results_in runs.frame image runs.one.end.bytes)
+      (results_in runs.frame image runs.other.end.bytes)
   -- and its body does the same wherever its words stand
-  pub linked : (code : Code) (start frame : ℕ) → IsPlaced image code start frame → IsLinked program p image code start frame
+  pub linked : (code : Code) (start frame : ℕ) → IsPlaced image code start frame
+      → IsLinked program p image code start frame

@@ -10,7 +10,9 @@ use Rattle.rv_machine.specs.declared.stops.Stop.TheVariants.{Ecall, Budget}
 use Rattle.hepurita.specs.Bases.{frame_base}
 use Rattle.hepurita.specs.Compiled.{Means}
 
--- it has stopped by ECALL with what the program means; or it has not stopped, and had fewer turns than the image states
+-- it has stopped by ECALL with what the program means; or it has not stopped, and had fewer turns than the image
+-- states
 abbrev pub IsRightSoFar : ProgramTree → Fields → List Arg → ℕ → Stop → State → Type 0
 IsRightSoFar program image args turns stop end =
-    ((stop ≡ Ecall) × Means program args (results_in frame_base image end.bytes)) ⊎ ((stop ≡ Budget) × (turns < image.max_steps))
+    ((stop ≡ Ecall) × Means program args (results_in frame_base image end.bytes))
+    ⊎ ((stop ≡ Budget) × (turns < image.max_steps))

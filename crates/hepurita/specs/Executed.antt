@@ -9,7 +9,8 @@ use Rattle.rv_machine.specs.Machine.{State}
 use Rattle.rv_machine.specs.Recording.{count_after}
 use Rattle.rv_machine.specs.declared.observation.Observation.{Observation}
 use Rattle.rv_machine.specs.declared.stops.Stop.{Stop}
-use Rattle.rv_machine.specs.declared.stops.Stop.TheVariants.{Ecall, Break, Illegal, AccessFault, Misaligned, Budget, RecorderRefused}
+use Rattle.rv_machine.specs.declared.stops.Stop.TheVariants.{Ecall, Break, Illegal, AccessFault, Misaligned, Budget}
+use Rattle.rv_machine.specs.declared.stops.Stop.TheVariants.{RecorderRefused}
 use Rattle.language.specs.Results.{Results}
 use Rattle.language.specs.declared.values.Arg.{Arg}
 use Rattle.hepurita.specs.declared.fault.RunFault.{RunFault}
@@ -42,9 +43,14 @@ stop_named (Err (Stopped stop)) = Some stop
 abbrev pub refusals_after : Result Results RunFault → ℕ → ℕ
 refusals_after answer count = count_after (stop_named answer) count
 
--- what is answered, and the recorder's list after it: arguments are refused by their first fault; else memory may be wanting, or the image runs
--- as loaded
-pub data Executed (image : Fields) (args : List Arg) (keeps : Bool) (list : List Observation) : Result Results RunFault → List Observation → Type 0 where
-  refused : {fault : ArgumentFault} → fault_of (params_of image) args ≡ Some fault → Executed image args keeps list (Err (Argument fault.rule fault.index)) list
+-- what is answered, and the recorder's list after it: arguments are refused by their first fault; else memory may be
+-- wanting, or the image runs as loaded
+pub data Executed (image : Fields) (args : List Arg) (keeps : Bool) (list : List Observation) : Result Results
+    RunFault → List Observation → Type 0 where
+  refused : {fault : ArgumentFault} → fault_of (params_of image) args ≡ Some fault
+      → Executed image args keeps list (Err (Argument fault.rule fault.index)) list
   out_of_memory : fault_of (params_of image) args ≡ None → Executed image args keeps list (Err Memory) list
-  ran : {stop : Stop} {end : State} {after : List Observation} {answer : Result Results RunFault} → fault_of (params_of image) args ≡ None → Ran (code_at code_base image) keeps image.max_steps (loaded_at code_base frame_base image args) list stop end after → answer ≡ answer_at frame_base image stop end.bytes → Executed image args keeps list answer after
+  ran : {stop : Stop} {end : State} {after : List Observation} {answer : Result Results RunFault}
+      → fault_of (params_of image) args ≡ None
+      → Ran (code_at code_base image) keeps image.max_steps (loaded_at code_base frame_base image args) list stop end
+      after → answer ≡ answer_at frame_base image stop end.bytes → Executed image args keeps list answer after

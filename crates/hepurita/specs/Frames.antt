@@ -1,5 +1,6 @@
 -- Where the data of a frame is, and what space there is for its arrays.
-use Rattle.std.specs.Prelude.{◌≡◌, ℕ, ◌+◌, ◌*◌, ◌^◌, ◌<◌, ◌≤◌, true, is_some, List, [], length, map, All, vec_capacity}
+use Rattle.std.specs.Prelude.{◌≡◌, ℕ, ◌+◌, ◌*◌, ◌^◌, ◌<◌, ◌≤◌, true, is_some, List, [], length, map, All}
+use Rattle.std.specs.Prelude.{vec_capacity}
 use Rattle.codegen.specs.Loaded.{arrays_in, numbers_at}
 use Rattle.image_fields.specs.Fields.{Fields, slot_end}
 use Rattle.image_fields.specs.declared.slot.Slot.{Slot}
@@ -15,7 +16,8 @@ pub record HoldsSlot (frame : ℕ) (bytes : ByteMap) (slot : Slot) : Type 0 wher
 
 -- the elements in a slot
 abbrev pub elements_in : ℕ → ByteMap → Slot → List ℕ
-elements_in frame bytes slot = numbers_at bytes (element_bytes slot.param.kind) (frame + slot.offset) slot.param.length
+elements_in frame bytes slot =
+    numbers_at bytes (element_bytes slot.param.kind) (frame + slot.offset) slot.param.length
 
 -- an empty list, with space for the elements of an array that lies in a frame of so many bytes
 pub record HasSpace (frame_bytes : ℕ) (one : ArraySpace) : Type 0 where
@@ -26,6 +28,7 @@ pub record HasSpace (frame_bytes : ℕ) (one : ArraySpace) : Type 0 where
 -- space for each array that an image's run may change, in the order of their slots
 pub record IsSpaceFor (image : Fields) (space : ResultSpace) : Type 0 where
   pub each : All (HasSpace image.frame_bytes) space.each.items
-  pub in_order : (frame : ℕ) (bytes : ByteMap) → map (λ one. elements_in frame bytes one.slot) space.each.items ≡ arrays_in frame bytes image.slots
+  pub in_order : (frame : ℕ) (bytes : ByteMap)
+      → map (λ one. elements_in frame bytes one.slot) space.each.items ≡ arrays_in frame bytes image.slots
   pub empty : space.arrays.items ≡ []
   pub enough : length space.each.items ≤ vec_capacity space.arrays

@@ -1,5 +1,5 @@
--- What is promised of the body of a compiled image, wherever its words stand, so that it can be the body of a function: among
--- whatever other code it does what the image does, and leaves what is not its own as it was.
+-- What is promised of the body of a compiled image, wherever its words stand, so that it can be the body of a
+-- function: among whatever other code it does what the image does, and leaves what is not its own as it was.
 use Rattle.std.specs.Prelude.{◌≡◌, ℕ, List}
 use Rattle.arguments.specs.Agreement.{Agree}
 use Rattle.arguments.specs.PublicResults.{AgreeInPublic}
@@ -15,19 +15,23 @@ use Rattle.rv_machine.specs.Machine.{State, Code}
 use Rattle.rv_machine.specs.declared.observation.Observation.{Observation}
 
 -- a run of the body on arguments, which gives what the source means
-pub record RunsLinked (program : ProgramTree) (image : Fields) (code : Code) (start frame : ℕ) (args : List Arg) (s : State) (list : List Observation) : Type 0 where
+pub record RunsLinked (program : ProgramTree) (image : Fields) (code : Code) (start frame : ℕ) (args : List Arg)
+    (s : State) (list : List Observation) : Type 0 where
   pub run : BodyRun image code start frame s list
   pub outcome : Means program args (results_in frame image run.end.bytes)
 
 -- where the body stands in this code, and its frame lies there
-pub record IsLinked (program : ProgramTree) (p : ProcedureTree) (image : Fields) (code : Code) (start frame : ℕ) : Type 0 where
+pub record IsLinked (program : ProgramTree) (p : ProcedureTree) (image : Fields) (code : Code) (start frame : ℕ) :
+    Type 0 where
   -- one list for each list of arguments, whatever the rest of the state
   pub shown : List Arg → List Observation
   -- results: from every state whose frame is loaded, on all arguments within the parameter types
-  pub runs : (args : List Arg) (s : State) → s.pc ≡ start → IsLoaded image frame args s → AreWithin (params_of image) args
+  pub runs : (args : List Arg) (s : State) → s.pc ≡ start → IsLoaded image frame args s
+      → AreWithin (params_of image) args
       → RunsLinked program image code start frame args s (shown args)
   -- equal leakage: on arguments that agree it is one list
   pub equal_leakage : (args args' : List Arg) → Agree (params_of image) args args' → shown args ≡ shown args'
   -- and what is left is one return and one list of `mut` arrays, where these are public
   pub public_results : (args args' : List Arg) (results results' : Results) → Agree (params_of image) args args'
-      → Means program args results → Means program args' results' → AgreeInPublic (params_of image) p.result results results'
+      → Means program args results → Means program args' results'
+      → AgreeInPublic (params_of image) p.result results results'

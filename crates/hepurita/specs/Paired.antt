@@ -1,5 +1,6 @@
 -- What two runs of an image look like side by side.
-use Rattle.std.specs.Prelude.{◌≡◌, ℕ, ◌+◌, ◌==◌, ◌&&◌, List, length, Option, Some, None, Result, Ok, Err, if◌then◌else◌}
+use Rattle.std.specs.Prelude.{◌≡◌, ℕ, ◌+◌, ◌==◌, ◌&&◌, List, length, Option, Some, None, Result, Ok, Err}
+use Rattle.std.specs.Prelude.{if◌then◌else◌}
 use Rattle.std.specs.Option.{option_map}
 use Rattle.arguments.specs.Faults.{fault_of, count_fault}
 use Rattle.arguments.specs.declared.fault.ArgumentFault.{ArgumentFault}
@@ -34,9 +35,12 @@ pair_fault params one other =
 abbrev pub Observed : Fields → List Arg → List Observation → Type 0
 Observed image args list = (stop : Stop) × ImageEnds image args list stop
 
--- what is answered for two lists of arguments: they are refused by their first fault; else memory may be wanting, or what is observed is
--- compared
+-- what is answered for two lists of arguments: they are refused by their first fault; else memory may be wanting, or
+-- what is observed is compared
 pub data Paired (image : Fields) (one other : List Arg) : Result Pairing RunFault → Type 0 where
-  refused : {fault : ArgumentFault} → pair_fault (params_of image) one other ≡ Some fault → Paired image one other (Err (Argument fault.rule fault.index))
+  refused : {fault : ArgumentFault} → pair_fault (params_of image) one other ≡ Some fault
+      → Paired image one other (Err (Argument fault.rule fault.index))
   out_of_memory : pair_fault (params_of image) one other ≡ None → Paired image one other (Err Memory)
-  compared : {seen seen' : List Observation} {pairing : Pairing} → pair_fault (params_of image) one other ≡ None → Observed image one seen → Observed image other seen' → Compares (entries_of seen) (entries_of seen') pairing → Paired image one other (Ok pairing)
+  compared : {seen seen' : List Observation} {pairing : Pairing} → pair_fault (params_of image) one other ≡ None
+      → Observed image one seen → Observed image other seen' → Compares (entries_of seen) (entries_of seen') pairing
+      → Paired image one other (Ok pairing)

@@ -16,7 +16,8 @@ RunsUncut code budget s seen stop end = Runs code budget s seen stop end × (sto
 
 -- the same of an image, loaded with these arguments
 abbrev pub RunsFor : ℕ → Fields → List Arg → List Observation → Stop → State → Type 0
-RunsFor turns image args seen stop end = RunsUncut (code_at code_base image) turns (loaded_at code_base frame_base image args) seen stop end
+RunsFor turns image args seen stop end =
+    RunsUncut (code_at code_base image) turns (loaded_at code_base frame_base image args) seen stop end
 
 -- within its steps it shows this and stops so
 abbrev pub ImageEnds : Fields → List Arg → List Observation → Stop → Type 0

@@ -1,5 +1,6 @@
 -- A number and its bytes determine each other.
-use Rattle.std.proofs.Common.{◌≡◌, ℕ, zero, suc, ◌+◌, ◌*◌, ◌/◌, ◌%◌, ◌^◌, ◌<◌, ◌≤◌, List, [], ◌∷◌, ◌++◌, length, get_or, drop, refl, sym, ap, ◌∙◌, arith}
+use Rattle.std.proofs.Common.{◌≡◌, ℕ, zero, suc, ◌+◌, ◌*◌, ◌/◌, ◌%◌, ◌^◌, ◌<◌, ◌≤◌, List, [], ◌∷◌, ◌++◌, length}
+use Rattle.std.proofs.Common.{get_or, drop, refl, sym, ap, ◌∙◌, arith}
 use Rattle.std.proofs.Math.Nat.{div-div-eq-div-mul, mod-lt, pow-succ'}
 use Rattle.std.specs.Int.{byte_at, bytes_low_first}
 use Rattle.byteorder.specs.Endian.{little_bytes, little_number}
@@ -60,7 +61,8 @@ number_back zero bytes le all = refl
 number_back (suc n) [] le all = absurd (omega arith)
 number_back (suc n) (b ∷ bytes) le all =
     let x = little_number n bytes in
-    let is : little_number (suc n) (b ∷ bytes) ≡ b + 256 * x = ap (λ (r : ℕ). b + 256 * r) (little_from-cons 0 n b bytes) in
+    let is : little_number (suc n) (b ∷ bytes) ≡ b + 256 * x =
+    ap (λ (r : ℕ). b + 256 * r) (little_from-cons 0 n b bytes) in
     let small = all.0 in
     let low : (b + 256 * x) % 256 ≡ b = omega (arith, small) in
     let high : (b + 256 * x) / 256 ≡ x = omega (arith, small) in

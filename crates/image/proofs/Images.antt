@@ -1,5 +1,6 @@
 -- The bytes of an image are its spelling, and its fields are allowed.
-use Rattle.std.proofs.Common.{◌≡◌, ℕ, zero, suc, ◌%◌, ◌^◌, ◌<◌, ◌≤◌, true, List, [], ◌∷◌, ◌++◌, length, Option, Some, None, refl, sym, ap, ap₂, subst, ◌∙◌, arith}
+use Rattle.std.proofs.Common.{◌≡◌, ℕ, zero, suc, ◌%◌, ◌^◌, ◌<◌, ◌≤◌, true, List, [], ◌∷◌, ◌++◌, length, Option, Some}
+use Rattle.std.proofs.Common.{None, refl, sym, ap, ap₂, subst, ◌∙◌, arith}
 use Rattle.std.proofs.lemmas.Bool.{eqb-true, leb-true, le-leb}
 use Rattle.std.proofs.lemmas.Bool.Decides.{nat_tests}
 use Rattle.std.proofs.lemmas.List.{append-nil}
@@ -7,12 +8,16 @@ use Rattle.std.specs.List.{AllByRecursion, flat_map}
 use Rattle.std.specs.Prelude.{IfSome, nat_le, nat_lt, ◌&&◌}
 use Rattle.image.specs.Format.{Format, ends}
 use Rattle.image.specs.Limits.{format_version, magic_number}
-use Rattle.image.specs.Reading.{coded_form, coded_kind, coded_label, flagged_format, image_format, is_frame_size, is_offset, layout_end, numbered_profile, one, result_format, slot_format, slots_format, words_format}
+use Rattle.image.specs.Reading.{coded_form, coded_kind, coded_label, flagged_format, image_format, is_frame_size}
+use Rattle.image.specs.Reading.{is_offset, layout_end, numbered_profile, one, result_format, slot_format}
+use Rattle.image.specs.Reading.{slots_format, words_format}
 use Rattle.image.specs.declared.field.Field.TheVariants as fields
-use Rattle.image.specs.private.Spelling.{form_code, kind_code, label_code, profile_number, spelled, spelled_result, spelled_slot, spelling}
+use Rattle.image.specs.private.Spelling.{form_code, kind_code, label_code, profile_number, spelled, spelled_result}
+use Rattle.image.specs.private.Spelling.{spelled_slot, spelling}
 use Rattle.image.proofs.Codes.{form_back, form_is, kind_back, kind_is, label_back, label_is, profile_back, profile_is}
 use Rattle.image.proofs.Texts.{Front, IsRead, IsText, IsWritten, behind, number}
-use Rattle.image_fields.specs.Fields.{AreSlots, Fields, IsImage, IsResultSlot, IsSlot, is_length, result_end, slot_end, slots_end}
+use Rattle.image_fields.specs.Fields.{AreSlots, Fields, IsImage, IsResultSlot, IsSlot, is_length, result_end}
+use Rattle.image_fields.specs.Fields.{slot_end, slots_end}
 use Rattle.image_fields.specs.Limits.{most_frame_bytes}
 use Rattle.image_fields.specs.declared.slot.ResultSlot.{ResultSlot}
 use Rattle.image_fields.specs.declared.slot.Slot.{Slot}
@@ -44,7 +49,11 @@ record IsFrame (low n : ℕ) : Type 0 where
   above : low ≤ n
 
 frame_is : (low n : ℕ) → is_frame_size low n ≡ true → IsFrame low n
-frame_is low n is = record { aligned = grind (arith, nat_tests); size = grind (arith, nat_tests); above = grind (arith, nat_tests) }
+frame_is low n is = record {
+  aligned = grind (arith, nat_tests);
+  size = grind (arith, nat_tests);
+  above = grind (arith, nat_tests);
+}
 
 is_frame_at : (low n : ℕ) → n % 4 ≡ 0 → n ≤ most_frame_bytes → low ≤ n → is_frame_size low n ≡ true
 is_frame_at low n aligned size above = grind (arith, nat_tests)
@@ -73,7 +82,8 @@ slot_written low slot next rest image h follows =
         (
           number (form_code slot.param.form) count form.fits form.is_allowed,
           (
-            number slot.param.length offset (length_fits slot.param.form slot.param.length h.length) (rw form.stands h.length),
+            number slot.param.length offset (length_fits slot.param.form slot.param.length h.length)
+                (rw form.stands h.length),
             (
               number slot.offset rest h.fits (is_offset_at low slot.offset h.aligned h.above),
               rw (kind.stands, label.stands, form.stands) follows,
@@ -92,27 +102,44 @@ slot_read low next bytes image h =
     let count = h.1.1.1.0 in
     let offset = h.1.1.1.1.0 in
     let above = offset_is low offset.n offset.is_allowed in
-    let param : Param = record { kind = coded_kind kind.n; label = coded_label label.n; form = coded_form form.n; length = count.n } in
+    let param : Param = record {
+      kind = coded_kind kind.n;
+      label = coded_label label.n;
+      form = coded_form form.n;
+      length = count.n;
+    } in
     let slot : Slot = record { param = param; offset = offset.n } in
     let parts : bytes ≡ spelled_slot slot ++ offset.rest =
-    rw (sym (kind_back kind.n kind.is_allowed), sym (label_back label.n label.is_allowed), sym (form_back form.n form.is_allowed))
+    rw (
+      sym (kind_back kind.n kind.is_allowed),
+      sym (label_back label.n label.is_allowed),
+      sym (form_back form.n form.is_allowed),
+    )
     (kind.parts ∙ behind (spelled fields.Kind kind.n)
     (label.parts ∙ behind (spelled fields.Label label.n)
     (form.parts ∙ behind (spelled fields.Form form.n)
     (count.parts ∙ behind (spelled (fields.Length param.form) count.n) offset.parts)))) in
-    let fact : IsSlot low slot = record { length = count.is_allowed; aligned = above.aligned; above = above.above; fits = offset.fits } in
+    let fact : IsSlot low slot = record {
+      length = count.is_allowed;
+      aligned = above.aligned;
+      above = above.above;
+      fits = offset.fits;
+    } in
     record { value = slot; rest = offset.rest; is = fact; parts = parts; follows = h.1.1.1.1.1 }
 
-slots_written : (low : ℕ) → IsWritten (AreSlots low) (flat_map spelled_slot) (λ slots. slots_format (length slots) low)
+slots_written : (low : ℕ)
+    → IsWritten (AreSlots low) (flat_map spelled_slot) (λ slots. slots_format (length slots) low)
 unfolding slots_format
 slots_written low [] next rest image h follows = follows
 slots_written low (slot ∷ slots) next rest image h follows =
     slot_written low slot _ (flat_map spelled_slot slots ++ rest) image h.0
     (slots_written (slot_end slot) slots (λ others. next (slot ∷ others)) rest image h.1 follows)
 
-slots_read : (n low : ℕ) → IsRead (λ slots. (length slots ≡ n) × AreSlots low slots) (flat_map spelled_slot) (slots_format n low)
+slots_read : (n low : ℕ)
+    → IsRead (λ slots. (length slots ≡ n) × AreSlots low slots) (flat_map spelled_slot) (slots_format n low)
 unfolding slots_format
-slots_read zero low next bytes image h = record { value = []; rest = bytes; is = (refl, tt); parts = refl; follows = h }
+slots_read zero low next bytes image h =
+    record { value = []; rest = bytes; is = (refl, tt); parts = refl; follows = h }
 slots_read (suc n) low next bytes image h =
     let one = slot_read low (λ slot. slots_format n (slot_end slot) (λ slots. next (slot ∷ slots))) bytes image h in
     let others = slots_read n (slot_end one.value) (λ slots. next (one.value ∷ slots)) one.rest image one.follows in
@@ -126,7 +153,8 @@ slots_read (suc n) low next bytes image h =
 
 -- ---- the result
 
-result_written : (low : ℕ) → IsWritten (λ returned. IfSome returned (IsResultSlot low)) spelled_result (λ _. result_format low)
+result_written : (low : ℕ)
+    → IsWritten (λ returned. IfSome returned (IsResultSlot low)) spelled_result (λ _. result_format low)
 unfolding result_format
 result_written low None next rest image h follows = (number 0 rest (omega arith) refl, follows)
 result_written low (Some slot) next rest image h follows =
@@ -152,9 +180,16 @@ unfolding result_format
 result_read low next bytes image h = by h.0.n h.0.rest h.0.parts h.0.is_allowed h.1
   where
     by : (flag : ℕ) (rest : List ℕ)
-        → bytes ≡ spelled fields.HasResult flag ++ rest → nat_lt flag 2 ≡ true → IsText (flagged_format low flag next) rest image
+        → bytes ≡ spelled fields.HasResult flag ++ rest → nat_lt flag 2 ≡ true
+        → IsText (flagged_format low flag next) rest image
         → Front (λ returned. IfSome returned (IsResultSlot low)) spelled_result next bytes image
-    by zero rest flagged is follows = record { value = None; rest = rest; is = tt; parts = flagged; follows = follows }
+    by zero rest flagged is follows = record {
+      value = None;
+      rest = rest;
+      is = tt;
+      parts = flagged;
+      follows = follows;
+    }
     by (suc zero) rest flagged is follows =
         let kind = follows.0 in
         let label = follows.1.0 in
@@ -166,7 +201,8 @@ result_read low next bytes image h = by h.0.n h.0.rest h.0.parts h.0.is_allowed 
         (flagged ∙ behind (spelled fields.HasResult 1)
         (kind.parts ∙ behind (spelled fields.Kind kind.n)
         (label.parts ∙ behind (spelled fields.Label label.n) offset.parts))) in
-        let fact : IsResultSlot low slot = record { aligned = above.aligned; above = above.above; fits = offset.fits } in
+        let fact : IsResultSlot low slot =
+        record { aligned = above.aligned; above = above.above; fits = offset.fits } in
         record { value = Some slot; rest = offset.rest; is = fact; parts = parts; follows = follows.1.1.1 }
     by (suc (suc n)) rest flagged is follows = absurd (grind (arith, nat_tests))
 
@@ -183,7 +219,8 @@ words_written (word ∷ words) next rest image h follows = (
   words_written words (λ others. next (word ∷ others)) rest image h.1 follows,
 )
 
-words_read : (n : ℕ) → IsRead (λ words. (length words ≡ n) × AreWords words) (flat_map (spelled fields.Word)) (words_format n)
+words_read : (n : ℕ)
+    → IsRead (λ words. (length words ≡ n) × AreWords words) (flat_map (spelled fields.Word)) (words_format n)
 unfolding words_format
 words_read zero next bytes image h = record { value = []; rest = bytes; is = (refl, tt); parts = refl; follows = h }
 words_read (suc n) next bytes image h =
@@ -210,7 +247,8 @@ abbrev AreInside : ℕ → List Slot → Type 0
 AreInside frame = AllByRecursion (λ slot. slot_end slot ≤ frame)
 
 -- where the last ends inside, each does
-all_inside : (low frame : ℕ) (slots : List Slot) → AreSlots low slots → slots_end low slots ≤ frame → AreInside frame slots
+all_inside : (low frame : ℕ) (slots : List Slot) → AreSlots low slots → slots_end low slots ≤ frame
+    → AreInside frame slots
 all_inside low frame [] h le = tt
 all_inside low frame (slot ∷ slots) h le =
     let above = slots_end_above (slot_end slot) slots h.1 in
@@ -225,7 +263,8 @@ module _ (low frame : ℕ) where
   abbrev IsInside : Option ResultSlot → Type 0
   IsInside returned = IfSome returned (λ slot. result_end slot ≤ frame)
 
-  layout_end_above : (returned : Option ResultSlot) → IfSome returned (IsResultSlot low) → low ≤ layout_end low returned
+  layout_end_above : (returned : Option ResultSlot) → IfSome returned (IsResultSlot low)
+      → low ≤ layout_end low returned
   layout_end_above None h = omega arith
   layout_end_above (Some slot) h = let here = h.above in omega (arith, here)
 
@@ -244,7 +283,14 @@ module _ (profile : Profile) (slots : List Slot) where
   abbrev after_words : Option ResultSlot → ℕ → ℕ → List ℕ → Format
   after_words returned frame steps words =
       let known = numbered_profile (profile_number profile) in
-      ends (record { profile = known; slots = slots; returned = returned; frame_bytes = frame; max_steps = steps; words = words })
+      ends (record {
+        profile = known;
+        slots = slots;
+        returned = returned;
+        frame_bytes = frame;
+        max_steps = steps;
+        words = words;
+      })
 
   abbrev after_result : Option ResultSlot → Format
   after_result returned =
@@ -282,14 +328,19 @@ image_written image h =
           number (profile_number image.profile) at_few profile.fits profile.is_allowed,
           (
             number (length image.slots) at_slots few (le-leb _ _ h.count),
-            slots_written 0 image.slots (λ slots. result_format (slots_end 0 slots) (after_result image.profile slots)) at_result image h.slots
-                (result_written low image.returned (after_result image.profile image.slots) at_frame image h.returned (
-                  number image.frame_bytes at_steps frame (is_frame_at last image.frame_bytes h.frame_aligned h.frame_size inside),
+            slots_written 0 image.slots
+                (λ slots. result_format (slots_end 0 slots) (after_result image.profile slots)) at_result
+                image h.slots
+                (result_written low image.returned (after_result image.profile image.slots) at_frame image
+                h.returned (
+                  number image.frame_bytes at_steps frame
+                      (is_frame_at last image.frame_bytes h.frame_aligned h.frame_size inside),
                   (
                     number image.max_steps at_count steps (range h.some_step h.steps),
                     (
                       number (length image.words) words count (range h.some_word h.word_count),
-                      subst (λ (bytes : List ℕ). IsText (words_format (length image.words) after_count) bytes image) (append-nil words) ended,
+                      subst (λ (bytes : List ℕ). IsText (words_format (length image.words) after_count) bytes image)
+                          (append-nil words) ended,
                     ),
                   ),
                 )),
@@ -298,7 +349,8 @@ image_written image h =
       ),
     )
 
-pub image_read : (bytes : List ℕ) (image : Fields) → IsText image_format bytes image → IsImage image × (bytes ≡ spelling image)
+pub image_read : (bytes : List ℕ) (image : Fields) → IsText image_format bytes image
+    → IsImage image × (bytes ≡ spelling image)
 unfolding image_format
 image_read bytes image h =
     let magic = h.0 in

@@ -1,5 +1,6 @@
 -- How many bytes spell an image.
-use Rattle.std.proofs.Common.{◌≡◌, ℕ, ◌+◌, ◌*◌, ◌≤◌, List, [], ◌∷◌, ◌++◌, length, Option, Some, None, refl, length-append, arith}
+use Rattle.std.proofs.Common.{◌≡◌, ℕ, ◌+◌, ◌*◌, ◌≤◌, List, [], ◌∷◌, ◌++◌, length, Option, Some, None, refl}
+use Rattle.std.proofs.Common.{length-append, arith}
 use Rattle.std.specs.List.{flat_map}
 use Rattle.image.specs.Limits.{longest_image}
 use Rattle.image.specs.declared.field.Field.TheVariants as fields
@@ -26,7 +27,8 @@ short image h =
     let slots = flat_map spelled_slot image.slots in
     let words = flat_map (spelled fields.Word) image.words in
     let at_count = spelled fields.WordCount (length image.words) ++ words in
-    let code = spelled (fields.FrameBytes 0) image.frame_bytes ++ (spelled fields.MaxSteps image.max_steps ++ at_count) in
+    let code = spelled (fields.FrameBytes 0) image.frame_bytes
+    ++ (spelled fields.MaxSteps image.max_steps ++ at_count) in
     let few = h.count in
     let count = h.word_count in
     omega (

@@ -19,7 +19,8 @@ pub reading_again : (image : Fields) → IsImage image → reading (spelling ima
 reading_again image h =
     let text = spelling image in
     let total = length (text ++ []) in
-    ap reading (sym (append-nil text)) ∙ text_read total image_format text [] image (image_written image h) ∙ nothing_left total image
+    ap reading (sym (append-nil text)) ∙ text_read total image_format text [] image (image_written image h)
+    ∙ nothing_left total image
 
 pub spelling_bytes : (image : Fields) → IsImage image → AreBytes (spelling image)
 spelling_bytes image h = text_bytes image_format (spelling image) image (image_written image h)
@@ -31,8 +32,10 @@ is_spelled bytes image all is = image_read bytes image (read_text (length bytes)
 -- ---- the laws
 
 pub allowed_by_bytes : (image : Fields) → IsImage image ↔ ((bytes : List ℕ) × AreBytes bytes × Spells bytes image)
-allowed_by_bytes image =
-    (λ h. (spelling image, spelling_bytes image h, reading_again image h), λ found. (is_spelled found.0 image found.1 found.2).0)
+allowed_by_bytes image = (
+  λ h. (spelling image, spelling_bytes image h, reading_again image h),
+  λ found. (is_spelled found.0 image found.1 found.2).0,
+)
 
 pub one_by_fields : (one other : List ℕ) (image : Fields)
     → AreBytes one → AreBytes other → Spells one image → Spells other image → one ≡ other

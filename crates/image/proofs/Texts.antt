@@ -1,5 +1,6 @@
 -- Bytes by a format: what is read of them, and which numbers they are, determine each other.
-use Rattle.std.proofs.Common.{◌≡◌, ℕ, ◌^◌, ◌<◌, Bool, true, false, cond, ltb, List, [], ◌++◌, length, drop, Result, Ok, Err, refl, sym, ap, append_assoc, length-append, arith}
+use Rattle.std.proofs.Common.{◌≡◌, ℕ, ◌^◌, ◌<◌, Bool, true, false, cond, ltb, List, [], ◌++◌, length, drop, Result}
+use Rattle.std.proofs.Common.{Ok, Err, refl, sym, ap, append_assoc, length-append, arith}
 use Rattle.std.proofs.lemmas.Bool.{eqb-true, ltb-false, le-ltb}
 use Rattle.std.proofs.lemmas.List.{drop_at, nil_from_length}
 use Rattle.byteorder.specs.Endian.{little_bytes, little_number}
@@ -28,7 +29,8 @@ IsText (ends fields) bytes image = (bytes ≡ []) × (fields ≡ image)
 IsText (field rule size allowed next) bytes image = (x : Number size allowed bytes) × IsText (next x.n) x.rest image
 
 -- bytes begin with the text of a value that is allowed, behind which stands a text by what follows the value
-pub record Front {A : Type 0} (Is : A → Type 0) (text : A → List ℕ) (next : A → Format) (bytes : List ℕ) (image : Fields) : Type 0 where
+pub record Front {A : Type 0} (Is : A → Type 0) (text : A → List ℕ) (next : A
+    → Format) (bytes : List ℕ) (image : Fields) : Type 0 where
   pub value : A
   pub rest : List ℕ
   pub is : Is value
@@ -44,7 +46,8 @@ IsWritten {A = A} Is text format =
 
 abbrev pub IsRead : {A : Type 0} → (A → Type 0) → (A → List ℕ) → ((A → Format) → Format) → Type 0
 IsRead {A = A} Is text format =
-    (next : A → Format) (bytes : List ℕ) (image : Fields) → IsText (format next) bytes image → Front Is text next bytes image
+    (next : A → Format) (bytes : List ℕ) (image : Fields) → IsText (format next) bytes image
+    → Front Is text next bytes image
 
 -- the same bytes in front
 pub behind : (front : List ℕ) {one other : List ℕ} → one ≡ other → front ++ one ≡ front ++ other
@@ -60,7 +63,8 @@ text_read total (field rule size allowed next) bytes more image h =
     let after = x.rest ++ more in
     let len : length (little_bytes size x.n) ≡ size = length-bytes_low_first 0 size x.n in
     let front = little_bytes size x.n in
-    let long : ltb (length (front ++ after)) size ≡ false = le-ltb _ _ (omega (arith, len, length-append front after)) in
+    let long : ltb (length (front ++ after)) size ≡ false =
+    le-ltb _ _ (omega (arith, len, length-append front after)) in
     let same = little_number-reads_back size x.n after x.fits in
     rw (x.parts, append_assoc front x.rest more, long, same, x.is_allowed, drop_at front after size len)
     (text_read total (next x.n) x.rest more image h.1)
@@ -69,7 +73,8 @@ pub text_bytes : (format : Format) (bytes : List ℕ) (image : Fields) → IsTex
 text_bytes (ends fields) bytes image h = rw h.0 tt
 text_bytes (field rule size allowed next) bytes image h =
     let x = h.0 in
-    rw x.parts (both_bytes (little_bytes size x.n) x.rest (number_bytes 0 size x.n) (text_bytes (next x.n) x.rest image h.1))
+    rw x.parts (both_bytes (little_bytes size x.n) x.rest (number_bytes 0 size x.n)
+    (text_bytes (next x.n) x.rest image h.1))
 
 refused : {b : Bool} (e : ImageFault) {r : Result Fields ImageFault} {image : Fields}
     → cond b (Err e) r ≡ Ok image → (b ≡ false) × (r ≡ Ok image)
@@ -100,5 +105,6 @@ read_text total (field rule size allowed next) bytes image all h =
     let parts = number_back size bytes (ltb-false _ _ long.0) all in
     let n = little_number size bytes in
     let rest = drop size bytes in
-    let first : Number size allowed bytes = record { n = n; rest = rest; parts = sym parts; fits = number_fits size bytes all; is_allowed = fine.0 } in
+    let first : Number size allowed bytes =
+    record { n = n; rest = rest; parts = sym parts; fits = number_fits size bytes all; is_allowed = fine.0 } in
     (first, read_text total (next n) rest image (bytes_behind size bytes all) fine.1)

@@ -7,8 +7,8 @@ use Rattle.image.specs.declared.fault.ImageFault.{ImageFault}
 use Rattle.image.specs.declared.fault.ImageFault.TheVariants.{Field}
 use Rattle.image_fields.specs.Fields.{Fields}
 
--- The end, where all is known. Or a number of so many bytes, the lowest first, which the rule wants to be allowed, and
--- what follows a value: which fields come later may depend on it.
+-- The end, where all is known. Or a number of so many bytes, the lowest first, which the rule wants to be allowed,
+-- and what follows a value: which fields come later may depend on it.
 pub data Format : Type 0 where
   ends : (fields : Fields) → Format
   field : (rule : ImageRule) (size : ℕ) (allowed : ℕ → Bool) (next : ℕ → Format) → Format
@@ -17,8 +17,8 @@ pub data Format : Type 0 where
 abbrev pub fault_at : ℕ → ImageRule → List ℕ → Result Fields ImageFault
 fault_at total rule left = Err (Field rule (total - length left))
 
--- What the bytes left, of so many, spell by a format: each field in turn, up to the first that is not wholly there or not
--- allowed; then nothing may be left.
+-- What the bytes left, of so many, spell by a format: each field in turn, up to the first that is not wholly there or
+-- not allowed; then nothing may be left.
 unfoldable pub read_by : ℕ → Format → List ℕ → Result Fields ImageFault
 read_by total (ends fields) left = if length left == 0 then Ok fields else fault_at total TrailingBytes left
 read_by total (field rule size allowed next) left =

@@ -1,5 +1,6 @@
 -- The format of an image: its fields from the first to the last, which values each may have, and what bytes spell.
-use Rattle.std.specs.Prelude.{◌≡◌, ℕ, zero, suc, ◌%◌, ◌<◌, Bool, true, ◌&&◌, List, [], ◌∷◌, length, get_or, Option, Some, None, Result, Ok, Err, nat_lt, nat_le, ◌==◌}
+use Rattle.std.specs.Prelude.{◌≡◌, ℕ, zero, suc, ◌%◌, ◌<◌, Bool, true, ◌&&◌, List, [], ◌∷◌, length, get_or, Option}
+use Rattle.std.specs.Prelude.{Some, None, Result, Ok, Err, nat_lt, nat_le, ◌==◌}
 use Rattle.std.specs.List.{AllByRecursion}
 use Rattle.language.specs.declared.signature.Kind.{Kind}
 use Rattle.language.specs.declared.signature.Kind.TheVariants.{Boolean, Uint8, Uint16, Uint32}
@@ -97,12 +98,21 @@ slot_format low next =
     one fields.Form (λ form.
     one (fields.Length (coded_form form)) (λ count.
     one (fields.Offset low) (λ offset.
-    next (record { param = record { kind = coded_kind kind; label = coded_label label; form = coded_form form; length = count }; offset = offset }))))))
+    next (record {
+      param = record {
+        kind = coded_kind kind;
+        label = coded_label label;
+        form = coded_form form;
+        length = count;
+      };
+      offset = offset;
+    }))))))
 
 -- so many slots
 unfoldable pub slots_format : ℕ → ℕ → (List Slot → Format) → Format
 slots_format zero low next = next []
-slots_format (suc n) low next = slot_format low (λ slot. slots_format n (slot_end slot) (λ slots. next (slot ∷ slots)))
+slots_format (suc n) low next =
+    slot_format low (λ slot. slots_format n (slot_end slot) (λ slots. next (slot ∷ slots)))
 
 -- whether there is a result, 1 or 0, and its slot where there is one
 abbrev pub flagged_format : ℕ → ℕ → (Option ResultSlot → Format) → Format
@@ -139,7 +149,14 @@ image_format =
     one fields.MaxSteps (λ steps.
     one fields.WordCount (λ count.
     words_format count (λ words.
-    ends (record { profile = numbered_profile profile; slots = slots; returned = returned; frame_bytes = frame; max_steps = steps; words = words })))))))))))
+    ends (record {
+      profile = numbered_profile profile;
+      slots = slots;
+      returned = returned;
+      frame_bytes = frame;
+      max_steps = steps;
+      words = words;
+    })))))))))))
 
 -- the fields that the bytes spell, or the first fault and the offset of its field
 abbrev pub reading : List ℕ → Result Fields ImageFault

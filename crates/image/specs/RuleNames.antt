@@ -1,7 +1,8 @@
 -- What each fault of an image is called where it is printed.
 use Rattle.std.specs.Prelude.{ℕ, List, codes}
 use Rattle.image.specs.declared.fault.ImageRule.{ImageRule}
-use Rattle.image.specs.declared.fault.ImageRule.TheVariants.{Magic, Version, Profile, Truncated, FieldOutOfRange, TrailingBytes}
+use Rattle.image.specs.declared.fault.ImageRule.TheVariants.{Magic, Version, Profile, Truncated, FieldOutOfRange}
+use Rattle.image.specs.declared.fault.ImageRule.TheVariants.{TrailingBytes}
 
 -- its short code
 abbrev pub code_of : ImageRule → List ℕ

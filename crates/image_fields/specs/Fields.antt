@@ -1,5 +1,6 @@
 -- The fields of an image, and which values they may have.
-use Rattle.std.specs.Prelude.{◌≡◌, ℕ, ◌+◌, ◌*◌, ◌%◌, ◌^◌, ◌<◌, ◌≤◌, ◌==◌, nat_le, Bool, true, ◌&&◌, List, [], ◌∷◌, length, Option, IfSome}
+use Rattle.std.specs.Prelude.{◌≡◌, ℕ, ◌+◌, ◌*◌, ◌%◌, ◌^◌, ◌<◌, ◌≤◌, ◌==◌, nat_le, Bool, true, ◌&&◌, List, [], ◌∷◌}
+use Rattle.std.specs.Prelude.{length, Option, IfSome}
 use Rattle.std.specs.List.{AllByRecursion}
 use Rattle.word.specs.declared.profile.Profile.{Profile}
 use Rattle.language.specs.declared.signature.Kind.{Kind}

@@ -1,5 +1,6 @@
 -- Where a called body begins: its words have new numbers, and its arrays those of the caller.
-use Rattle.std.proofs.Common.{◌≡◌, ℕ, ◌+◌, ◌<◌, ◌&&◌, ◌||◌, Bool, true, false, if◌then◌else◌, List, [], ◌∷◌, length, Option, Some, None, refl, sym, ap, ap₂, ◌∙◌, subst, arith, true≢false}
+use Rattle.std.proofs.Common.{◌≡◌, ℕ, ◌+◌, ◌<◌, ◌&&◌, ◌||◌, Bool, true, false, if◌then◌else◌, List, [], ◌∷◌, length}
+use Rattle.std.proofs.Common.{Option, Some, None, refl, sym, ap, ap₂, ◌∙◌, subst, arith, true≢false}
 use Rattle.std.proofs.lemmas.Option.{none-some, same_Some}
 use Rattle.std.specs.Str.{bytes_eq}
 use lib.Pointwise.{bytes_decides}
@@ -17,7 +18,9 @@ use Rattle.language.specs.Meaning.{is_word}
 use Rattle.language.specs.Tree.{ExprTree, name, ParameterTree}
 use Rattle.language.specs.Types.{Scope, declared}
 use Rattle.language.specs.Typing.{with_parameters, parameter_as, is_mutable, same_name}
-use Rattle.language.specs.WellTyped.{labelled, HasType, Suits, IsVariable, IsPassed, as_word, as_array, as_mutable_array, array_given, array_of, SharesNone, ArePassed, none_passed, one_passed, AreNew, one_is_new}
+use Rattle.language.specs.WellTyped.{labelled, HasType, Suits, IsVariable, IsPassed, as_word, as_array}
+use Rattle.language.specs.WellTyped.{as_mutable_array, array_given, array_of, SharesNone, ArePassed, none_passed}
+use Rattle.language.specs.WellTyped.{one_passed, AreNew, one_is_new}
 use Rattle.names.specs.Scope.{found}
 use Rattle.inline.proofs.Lookup.{found-new, found-other, found-kept}
 use Rattle.inline.proofs.Linked.{Linked, Serves, entry, linked_named, linked_beside, linked_declared, known_array}
@@ -53,7 +56,8 @@ no_word form is e = absurd (true≢false (sym (ap is_word is) ∙ e))
 no_array : {A : Type 0} (form other : Form) → form ≡ other → is_word other ≡ false → is_word form ≡ true → A
 no_array form other is off e = absurd (true≢false (sym e ∙ (ap is_word is ∙ off)))
 
-pub word_given : {scope : Scope} {p : ParameterTree} {e : ExprTree} → IsPassed scope p e → is_word p.form ≡ true → WordGiven scope p e
+pub word_given : {scope : Scope} {p : ParameterTree} {e : ExprTree} → IsPassed scope p e → is_word p.form ≡ true
+    → WordGiven scope p e
 word_given (as_word {given = given} form has suit) is = record { given = given; has = has; suits = suit; form = form }
 word_given {p = p} (as_array form known) is = no_array p.form FixedArray form refl is
 word_given {p = p} (as_mutable_array form known) is = no_array p.form MutableArray form refl is
@@ -81,12 +85,15 @@ module _ (scope : Scope) (names : Numbers) (types : Types) (n : ℕ) (linked : L
         elements = count;
         serves = record {
           free = k.typed.free;
-          is = k.typed.is ∙ ap (λ o. Some (record { word = labelled p.kind p.label; mutable = k.typed.free; elements = o })) (sym count);
+          is = k.typed.is
+              ∙ ap (λ o. Some (record { word = labelled p.kind p.label; mutable = k.typed.free; elements = o }))
+              (sym count);
           enough = λ e. k.typed.enough (enough (sym (ap is_mutable is) ∙ e));
         };
       }
 
-  pub array_passed : {p : ParameterTree} {e : ExprTree} → IsPassed scope p e → is_word p.form ≡ false → ArrayGiven names types n p e
+  pub array_passed : {p : ParameterTree} {e : ExprTree} → IsPassed scope p e → is_word p.form ≡ false
+      → ArrayGiven names types n p e
   array_passed {p = p} (as_word form has suit) off = no_word p.form form off
   array_passed {p = p} (as_array {place = place} {text = text} {mutable = mutable} form known) off =
       by_name p FixedArray place text mutable form known refl (λ e. absurd (true≢false (sym e))) refl
@@ -108,7 +115,8 @@ abbrev pub Distinct : Numbers → Numbers → List ParameterTree → List ExprTr
 Distinct names own [] es = Unit {0}
 Distinct names own (q ∷ qs) [] = Unit {0}
 Distinct names own (q ∷ qs) (b ∷ bs) =
-    ((text : List ℕ) (x : Numbered) → found own text ≡ Some x → is_word q.form ≡ false → x.number ≡ number_given names b
+    ((text : List ℕ) (x : Numbered) → found own text ≡ Some x → is_word q.form ≡ false
+    → x.number ≡ number_given names b
     → (x.declaration.mutable ≡ true → ⊥) × (is_mutable q.form ≡ true → ⊥)) × Distinct names own qs bs
 
 pub distinct_none : (names : Numbers) (ps : List ParameterTree) (es : List ExprTree) → Distinct names [] ps es
@@ -117,7 +125,8 @@ distinct_none names (q ∷ qs) [] = tt
 distinct_none names (q ∷ qs) (b ∷ bs) = ((λ text x is. absurd (none-some x is)), distinct_none names qs bs)
 
 distinct_more : (names own : Numbers) (text : List ℕ) (number : ℕ) (d : FlatVariable) → found own text ≡ None
-    → (ps : List ParameterTree) (es : List ExprTree) → Unshared names number d.mutable ps es → Distinct names own ps es
+    → (ps : List ParameterTree) (es : List ExprTree) → Unshared names number d.mutable ps es
+    → Distinct names own ps es
     → Distinct names (naming own text number d) ps es
 distinct_more names own text number d new [] es shares others = tt
 distinct_more names own text number d new (q ∷ qs) [] shares others = tt
@@ -134,7 +143,8 @@ distinct_more names own text number d new (q ∷ qs) (b ∷ bs) shares others = 
         let same = same_Some (entry number d) x (sym (found-new own text (entry number d) other e new) ∙ is) in
         let apart = shares.0 off (ap (λ (z : Numbered). z.number) same ∙ at) in
         ((λ free. apart.0 (ap (λ (z : Numbered). z.declaration.mutable) same ∙ free)), apart.1)
-    by_text other x false e is off at = others.0 other x (sym (found-other own text (entry number d) other e) ∙ is) off at
+    by_text other x false e is off at =
+        others.0 other x (sym (found-other own text (entry number d) other e) ∙ is) off at
 
 off_both : (s a b : Bool) → s && (a || b) ≡ false → s ≡ true → (b ≡ true → ⊥) × (a ≡ true → ⊥)
 off_both true true b h e = absurd (true≢false h)
@@ -147,7 +157,8 @@ same_names a b t u is is' equal = ap₂ same_name is is' ∙ (bytes_decides t u)
 
 module _ (scope : Scope) (names : Numbers) (types : Types) (n : ℕ) (linked : Linked scope names types n) where
   -- a new number is none of the caller's
-  unshared_word : (free : Bool) {ps : List ParameterTree} {es : List ExprTree} → ArePassed scope ps es → Unshared names n free ps es
+  unshared_word : (free : Bool) {ps : List ParameterTree} {es : List ExprTree} → ArePassed scope ps es
+      → Unshared names n free ps es
   unshared_word free none_passed = tt
   unshared_word free (one_passed is shares are) = (
     (λ off at. let b = array_passed scope names types n linked is off in let low = b.low in let here = b.here in
@@ -221,7 +232,8 @@ module _ (scope : Scope) (names : Numbers) where
       subst (Enters inner names [] [] own types) same (record { linked = within; named = tt })
   enters (one_passed {p = p} {ps = ps} {argument = e} {arguments = es} is shares are) inner own types n
       (one_is_new here there) linked within apart =
-      by_form (is_word p.form) refl (λ (own' : Numbers) types' n'. enters are (declared inner p.name (parameter_as p)) own' types' n' there)
+      by_form (is_word p.form) refl (λ (own' : Numbers) types' n'.
+      enters are (declared inner p.name (parameter_as p)) own' types' n' there)
     where
       -- the parameter's own name, in names that keep it
       whole : (own' end : Numbers) (types' : Types) (n' number : ℕ)
@@ -250,7 +262,8 @@ module _ (scope : Scope) (names : Numbers) where
           let rest = more own' types' (n + 1) (linked_beside scope names types n d linked) next
           (distinct_more names own p.name n d (within.none p.name here) ps es
           (unshared_word scope names types n linked d.mutable are) apart.1) in
-          let same : (n + 1) + length (passed_variables ps es) ≡ n + length (d ∷ passed_variables ps es) = omega arith in
+          let same : (n + 1) + length (passed_variables ps es) ≡ n + length (d ∷ passed_variables ps es) =
+          omega arith in
           let end = begun names own' (n + 1) ps es in
           subst (λ b. Enters inner names (p ∷ ps) (e ∷ es)
           (if b then end else begun names (naming own p.name (number_given names e) d) n ps es)

@@ -1,11 +1,13 @@
 -- A call comes to the same where the called body stands in its place.
-use Rattle.std.proofs.Common.{◌≡◌, ℕ, ◌+◌, ◌<◌, ◌≤◌, true, false, List, [], ◌∷◌, length, Option, Some, None, ◌⊎◌, inl, inr, refl, sym, ap, ◌∙◌, subst, arith, true≢false}
+use Rattle.std.proofs.Common.{◌≡◌, ℕ, ◌+◌, ◌<◌, ◌≤◌, true, false, List, [], ◌∷◌, length, Option, Some, None, ◌⊎◌, inl}
+use Rattle.std.proofs.Common.{inr, refl, sym, ap, ◌∙◌, subst, arith, true≢false}
 use Rattle.std.proofs.lemmas.Option.{none-some}
 use Rattle.inline.specs.declared.numbering.Numbered.{Numbered}
 use Rattle.inline.specs.Flat.{FlatBlock, chain}
 use Rattle.inline.specs.FlatMeaning.{Values, after_all, path_along, path_of_result}
 use Rattle.inline.specs.FlatTyping.{Types}
-use Rattle.inline.specs.Numbering.{Numbers, Callable, callable, callables, begun, passed, passed_variables, block, call_block, call_value, call_result, value_of, names_after_all}
+use Rattle.inline.specs.Numbering.{Numbers, Callable, callable, callables, begun, passed, passed_variables, block}
+use Rattle.inline.specs.Numbering.{call_block, call_value, call_result, value_of, names_after_all}
 use Rattle.inline.specs.Path.{either, first_fault}
 use Rattle.language.specs.declared.signature.Form.{Form}
 use Rattle.language.specs.declared.signature.Form.TheVariants.{SingleWord, FixedArray, MutableArray}
@@ -67,7 +69,8 @@ no_change scope (one_passed {p = p} {ps = ps} {argument = e} {arguments = es} is
         spares.spared a.text _ a.found (a.enough here.0) (sym a.here ∙ here.1)
     by_first (inr later) rest = rest later
 
-module _ (earlier : List ProcedureTree) (scope : Scope) (names : Numbers) (n : ℕ) (ready : Ready earlier scope names n) where
+module _ (earlier : List ProcedureTree) (scope : Scope) (names : Numbers) (n : ℕ)
+    (ready : Ready earlier scope names n) where
   -- a call of a procedure that means the same
   module _ (c : CallTree) (callee : Callee) (p : ProcedureTree)
       (meant : IsCallable IsKept earlier scope.profile c.name callee p)
@@ -157,7 +160,8 @@ module _ (earlier : List ProcedureTree) (scope : Scope) (names : Numbers) (n : �
             (subst (Holds x.declaration (s text)) (sym (body_kept x.number (ready.linked.below text x there) none m))
             (shows text x there))
 
-    call_ends_here : (s : State) (m : Values) → Shows names s m → AreAllSmall c.arguments → CallEnds (callables earlier c.name) s m
+    call_ends_here : (s : State) (m : Values) → Shows names s m → AreAllSmall c.arguments
+        → CallEnds (callables earlier c.name) s m
     call_ends_here s m shows small = subst (λ o. CallEnds o s m) (sym known_call) (own_ends s m shows small)
 
     result_here : call_result (callables earlier c.name) ≡ p.result
@@ -170,10 +174,12 @@ module _ (earlier : List ProcedureTree) (scope : Scope) (names : Numbers) (n : �
         ∙ (ap (λ (end : Values). end x) (after_chain passed_block body_block m)
         ∙ body_kept x spares.below (no_change scope passed_are names ready.types n x ready.linked spares) m)
 
-    nothing_here : call_result (callables earlier c.name) ≡ None → call_value (callables earlier c.name) names n c.arguments ≡ None
+    nothing_here : call_result (callables earlier c.name) ≡ None
+        → call_value (callables earlier c.name) names n c.arguments ≡ None
     nothing_here none =
         ap (λ o. call_value o names n c.arguments) known_call
-        ∙ ap (λ o. value_of (names_after_all (callables meant.before) own start p.body) o) (meant.good.returns (sym result_here ∙ none))
+        ∙ ap (λ o. value_of (names_after_all (callables meant.before) own start p.body) o)
+        (meant.good.returns (sym result_here ∙ none))
 
   -- what is known of each call
   pub record CallMeans (c : CallTree) (type : ValueType) : Type 0 where
@@ -184,10 +190,13 @@ module _ (earlier : List ProcedureTree) (scope : Scope) (names : Numbers) (n : �
         let end = after_all m tree in
         Comes (Calls earlier s c) (Agrees names end (call_result (callables earlier c.name)) value)
         (either (first_fault (path_along m tree)) (first_fault (path_of_result end value))))
-    pub nothing : call_result (callables earlier c.name) ≡ None → call_value (callables earlier c.name) names n c.arguments ≡ None
-    pub keeps : (x : ℕ) → Spares names n x → (m : Values) → after_all m (call_block (callables earlier c.name) names n c.arguments) x ≡ m x
+    pub nothing : call_result (callables earlier c.name) ≡ None
+        → call_value (callables earlier c.name) names n c.arguments ≡ None
+    pub keeps : (x : ℕ) → Spares names n x → (m : Values)
+        → after_all m (call_block (callables earlier c.name) names n c.arguments) x ≡ m x
 
-  pub call_means : {control : Label} {c : CallTree} {type : ValueType} → IsCall earlier scope control c type → CallMeans c type
+  pub call_means : {control : Label} {c : CallTree} {type : ValueType} → IsCall earlier scope control c type
+      → CallMeans c type
   call_means (of_procedure {c = c} {callee = callee} {p = p} is there are may) =
       let meant = ready.calls c.name callee p is there in
       record {

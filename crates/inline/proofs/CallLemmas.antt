@@ -1,5 +1,6 @@
 -- A call is the body of the procedure that it names, in names of its own.
-use Rattle.std.proofs.Common.{◌≡◌, ℕ, ◌+◌, List, [], ◌∷◌, ◌++◌, Option, Some, None, Result, length, map, refl, sym, ap, ap₂, subst, ◌∙◌}
+use Rattle.std.proofs.Common.{◌≡◌, ℕ, ◌+◌, List, [], ◌∷◌, ◌++◌, Option, Some, None, Result, length, map, refl, sym}
+use Rattle.std.proofs.Common.{ap, ap₂, subst, ◌∙◌}
 use Rattle.std.specs.Result.{OnOk}
 use Rattle.std.proofs.lemmas.List.{append_assoc, append-nil}
 use Rattle.std.specs.Option.{option_map}
@@ -10,7 +11,10 @@ use Rattle.inline.specs.declared.flat.FlatVariable.{FlatVariable}
 use Rattle.inline.specs.Callees.{called_by}
 use Rattle.inline.specs.Flat.{FlatBlock, TermTree, chain}
 use Rattle.inline.specs.Flat as flat
-use Rattle.inline.specs.Numbering.{Callable, Callables, Numbers, element_block, number_of, single, size_of, term, value_given, begun, block, callable, call_block, call_names, call_result, call_start, call_value, call_variables, declared_in_all, names_after_all, passed, passed_variables, value_of}
+use Rattle.inline.specs.Numbering.{Callable, Callables, Numbers, element_block, number_of, single, size_of, term}
+use Rattle.inline.specs.Numbering.{value_given, begun, block, callable, call_block, call_names, call_result}
+use Rattle.inline.specs.Numbering.{call_start, call_value, call_variables, declared_in_all, names_after_all, passed}
+use Rattle.inline.specs.Numbering.{passed_variables, value_of}
 use Rattle.word.specs.declared.place.Place.{Place}
 use Rattle.language.specs.declared.tree.Parameter.{Parameter}
 use Rattle.language.specs.declared.tree.Procedure.{Procedure}
@@ -22,7 +26,8 @@ use Rattle.language.specs.Tree.{CallTree, ExprTree, block_tree, parameter_tree, 
 -- no procedure has the name
 pub not_called : (earlier : List Procedure) (text : List ℕ) → None ≡ named [] (map procedure_tree earlier) text
     → called_by earlier text ≡ None
-not_called earlier text is = known_by_name callable (map procedure_tree earlier) text ∙ ap (option_map (made callable)) (sym is)
+not_called earlier text is = known_by_name callable (map procedure_tree earlier) text
+    ∙ ap (option_map (made callable)) (sym is)
 
 pub none_block : (earlier : List Procedure) (text : List ℕ) (names : Numbers) (n : ℕ) (es : List ExprTree)
     (done : FlatBlock) → None ≡ named [] (map procedure_tree earlier) text
@@ -37,7 +42,8 @@ none_declared earlier text es old is = sym (append-nil old) ∙ ap (λ (o : Opti
 
 pub none_value : (earlier : List Procedure) (text : List ℕ) (names : Numbers) (n : ℕ) (es : List ExprTree)
     → None ≡ named [] (map procedure_tree earlier) text → None ≡ call_value (called_by earlier text) names n es
-none_value earlier text names n es is = ap (λ (o : Option Callable). call_value o names n es) (sym (not_called earlier text is))
+none_value earlier text names n es is =
+    ap (λ (o : Option Callable). call_value o names n es) (sym (not_called earlier text is))
 
 pub none_result : (earlier : List Procedure) (text : List ℕ) → None ≡ named [] (map procedure_tree earlier) text
     → None ≡ call_result (called_by earlier text)
@@ -57,7 +63,8 @@ module _ (earlier before : List Procedure) (callee : Procedure) (text : List ℕ
 
   module _ (names : Numbers) (parameters : List Parameter) (es : List ExprTree)
       (list : parameters ≡ callee.parameters.items) (body : List Statement) (statements : body ≡ callee.body.items)
-      (old between : List FlatVariable) (passes : between ≡ old ++ passed_variables (map parameter_tree parameters) es)
+      (old between : List FlatVariable) (passes : between ≡ old
+      ++ passed_variables (map parameter_tree parameters) es)
       (own : Numbers) (begins : own ≡ begun names [] (length old) (map parameter_tree parameters) es) where
     start : length between ≡ call_start (length old) one es
     start = next_number old between (passed_variables (map parameter_tree parameters) es) passes
@@ -81,7 +88,8 @@ module _ (earlier before : List Procedure) (callee : Procedure) (text : List ℕ
         (block_tree body) → new ≡ old ++ call_variables (called_by earlier text) es
     called_declared new more =
         more ∙ ap (λ ds. ds ++ declared_in_all (called_by before) (block_tree body)) passes
-        ∙ append_assoc old (passed_variables (map parameter_tree parameters) es) (declared_in_all (called_by before) (block_tree body))
+        ∙ append_assoc old (passed_variables (map parameter_tree parameters) es)
+        (declared_in_all (called_by before) (block_tree body))
         ∙ ap₂ (λ ps ss. old ++ (passed_variables (map parameter_tree ps) es
         ++ declared_in_all (called_by before) (block_tree ss))) list statements
         ∙ ap (λ (o : Option Callable). old ++ call_variables o es) (sym called)
@@ -101,7 +109,8 @@ pub numbered_element : {A E : Type 0} (r : Result A E) (known : Callables) (name
     (old between : List FlatVariable) (d : FlatVariable) (bracket : Place) (text : List ℕ) (index : ExprTree)
     (c : CallTree)
     (held number size : ℕ) (position value : TermTree) (done one two new : FlatBlock) →
-    held ≡ length old → between ≡ old ++ d ∷ [] → number ≡ number_of names text → size ≡ size_of names text → position ≡ term names index →
+    held ≡ length old → between ≡ old ++ d ∷ [] → number ≡ number_of names text → size ≡ size_of names text
+    → position ≡ term names index →
     value ≡ value_given (call_value (known c.name) names (length between) c.arguments) →
     one ≡ chain done (single (flat.hold held bracket size position))
     → two ≡ chain one (call_block (known c.name) names (length between) c.arguments) →
@@ -111,7 +120,8 @@ numbered_element r known names old between d bracket text index c held number si
     is_held more is_number is_size is_position gives first then last =
     let next : length between ≡ length old + 1 = next_number old between (d ∷ []) more in
     let given = gives ∙ ap (λ k. value_given (call_value (known c.name) names k c.arguments)) next in
-    let hold_is : flat.hold held bracket size position ≡ flat.hold (length old) bracket (size_of names text) (term names index) = cc in
+    let hold_is : flat.hold held bracket size position
+    ≡ flat.hold (length old) bracket (size_of names text) (term names index) = cc in
     let put_is : flat.put bracket number size (flat.variable held) value
     ≡ flat.put bracket (number_of names text) (size_of names text) (flat.variable (length old))
     (value_given (call_value (known c.name) names (length old + 1) c.arguments)) = cc in

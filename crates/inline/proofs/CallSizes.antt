@@ -1,10 +1,14 @@
--- A call has as many nodes once its names are numbers, and what it declares besides takes no more words than a third of them.
-use Rattle.std.proofs.Common.{◌≡◌, ℕ, ◌+◌, ◌*◌, ◌≤◌, Bool, true, false, if◌then◌else◌, List, [], ◌∷◌, ◌++◌, length, map, Option, None, Some, refl, sym, subst, arith}
+-- A call has as many nodes once its names are numbers, and what it declares besides takes no more words than a third
+-- of them.
+use Rattle.std.proofs.Common.{◌≡◌, ℕ, ◌+◌, ◌*◌, ◌≤◌, Bool, true, false, if◌then◌else◌, List, [], ◌∷◌, ◌++◌, length}
+use Rattle.std.proofs.Common.{map, Option, None, Some, refl, sym, subst, arith}
 use Rattle.inline.specs.declared.flat.FlatVariable.{FlatVariable}
 use Rattle.inline.specs.Flat.{TermTree, elements_by}
 use Rattle.inline.specs.Flat as flat
 use Rattle.inline.specs.FlatSize.{term_nodes, terms_nodes, body_nodes, value_nodes, declared_words}
-use Rattle.inline.specs.Numbering.{Numbers, Callable, callable, callables, passed, passed_variables, begun, call_block, call_variables, call_result, call_value, value_given, value_of, declared_in_all, dropped_block, dropped_variables, names_after_all, block, term}
+use Rattle.inline.specs.Numbering.{Numbers, Callable, callable, callables, passed, passed_variables, begun}
+use Rattle.inline.specs.Numbering.{call_block, call_variables, call_result, call_value, value_given, value_of}
+use Rattle.inline.specs.Numbering.{declared_in_all, dropped_block, dropped_variables, names_after_all, block, term}
 use Rattle.language.specs.declared.signature.Form.{Form}
 use Rattle.language.specs.declared.signature.Form.TheVariants.{SingleWord, FixedArray, MutableArray}
 use Rattle.language.specs.declared.signature.Label.{Label}
@@ -12,8 +16,10 @@ use Rattle.language.specs.declared.typing.ValueType.{ValueType}
 use Rattle.language.specs.declared.typing.ValueType.TheVariants.{Word}
 use Rattle.language.specs.declared.typing.WordType.{WordType}
 use Rattle.language.specs.Meaning.{is_word, word_arguments}
-use Rattle.language.specs.Size.{Extent, nodes_in, nodes_in_all, nodes_passed, called_nodes, return_nodes, block_nodes, block_words, words_of_called, passed_words, extent_of, extents_of}
-use Rattle.language.specs.Tree.{ExprTree, number, truth, name, prefix, binary, rotate, convert, select, element, CallTree, ParameterTree, ProcedureTree, ReturnTree}
+use Rattle.language.specs.Size.{Extent, nodes_in, nodes_in_all, nodes_passed, called_nodes, return_nodes, block_nodes}
+use Rattle.language.specs.Size.{block_words, words_of_called, passed_words, extent_of, extents_of}
+use Rattle.language.specs.Tree.{ExprTree, number, truth, name, prefix, binary, rotate, convert, select, element}
+use Rattle.language.specs.Tree.{CallTree, ParameterTree, ProcedureTree, ReturnTree}
 use Rattle.language.specs.Types.{Scope}
 use Rattle.language.specs.Typing.{is_mutable, result_value}
 use Rattle.language.specs.WellTyped.{labelled, ArePassed, none_passed, one_passed, IsCall, of_procedure}
@@ -102,7 +108,8 @@ words-append (x ∷ xs) ys = omega (arith, words-append xs ys)
 
 -- a called body within its extent
 pub record SizedBody (before : List ProcedureTree) (at : Scope) (p : ProcedureTree) : Type 0 where
-  pub nodes : (names : Numbers) (n : ℕ) → body_nodes (block (callables before) names n p.body) ≡ block_nodes (extents_of before) p.body
+  pub nodes : (names : Numbers) (n : ℕ) → body_nodes (block (callables before) names n p.body)
+      ≡ block_nodes (extents_of before) p.body
   pub words : 3 * declared_words (declared_in_all (callables before) p.body)
       ≤ 3 * block_words (extents_of before) p.body + block_nodes (extents_of before) p.body
   pub returns : GoTogether p.result p.returned
@@ -113,7 +120,8 @@ passed_nodes : (names : Numbers) (n : ℕ) (ps : List ParameterTree) (es : List 
     → body_nodes (passed names n ps es) ≡ nodes_passed (word_arguments ps es)
 passed_nodes names n [] es = refl
 passed_nodes names n (p ∷ ps) [] = refl
-passed_nodes names n (p ∷ ps) (e ∷ es) = by_form (is_word p.form) (passed_nodes names (n + 1) ps es) (passed_nodes names n ps es)
+passed_nodes names n (p ∷ ps) (e ∷ es) =
+    by_form (is_word p.form) (passed_nodes names (n + 1) ps es) (passed_nodes names n ps es)
   where
     by_form : (b : Bool) → body_nodes (passed names (n + 1) ps es) ≡ nodes_passed (word_arguments ps es)
         → body_nodes (passed names n ps es) ≡ nodes_passed (word_arguments ps es)
@@ -137,8 +145,10 @@ passed_take (one_passed {p = p} {ps = ps} {arguments = es} is shares are) = by_f
     by_form MutableArray same = omega (arith, same)
 
 -- a call, with the variables that it declares
-pub record CallSized (names : Numbers) (n : ℕ) (c : CallTree) (type : ValueType) (o : Option Callable) (x : Option Extent) : Type 0 where
-  pub nodes : 1 + body_nodes (call_block o names n c.arguments) + value_nodes (call_value o names n c.arguments) ≡ called_nodes x c
+pub record CallSized (names : Numbers) (n : ℕ) (c : CallTree) (type : ValueType) (o : Option Callable)
+    (x : Option Extent) : Type 0 where
+  pub nodes : 1 + body_nodes (call_block o names n c.arguments) + value_nodes (call_value o names n c.arguments)
+      ≡ called_nodes x c
   pub words : 3 * declared_words (call_variables o c.arguments) + 1 + value_nodes (call_value o names n c.arguments)
       ≤ 3 * words_of_called x + called_nodes x c
   pub gives : type ≡ result_value (call_result o)
@@ -146,7 +156,8 @@ pub record CallSized (names : Numbers) (n : ℕ) (c : CallTree) (type : ValueTyp
 
 body_sized : (before : List ProcedureTree) (at : Scope) (p : ProcedureTree) → SizedBody before at p
     → (scope : Scope) (names : Numbers) (n : ℕ) (c : CallTree) → ArePassed scope p.parameters c.arguments
-    → CallSized names n c (result_value p.result) (Some (callable (callables before) p)) (Some (extent_of (extents_of before) p))
+    → CallSized names n c (result_value p.result) (Some (callable (callables before) p))
+    (Some (extent_of (extents_of before) p))
 body_sized before at p body scope names n c are =
     let vars = passed_variables p.parameters c.arguments in
     let front = passed names n p.parameters c.arguments in

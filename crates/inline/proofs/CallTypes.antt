@@ -1,11 +1,14 @@
 -- A call is well typed once its names are numbers: words are declared, and then comes the called body.
-use Rattle.std.proofs.Common.{◌≡◌, ℕ, ◌+◌, Bool, true, false, if◌then◌else◌, List, [], ◌∷◌, length, Option, Some, None, refl, sym, ap, ◌∙◌, subst, arith}
+use Rattle.std.proofs.Common.{◌≡◌, ℕ, ◌+◌, Bool, true, false, if◌then◌else◌, List, [], ◌∷◌, length, Option, Some}
+use Rattle.std.proofs.Common.{None, refl, sym, ap, ◌∙◌, subst, arith}
 use Rattle.std.proofs.lemmas.Option.{none-some}
 use Rattle.inline.specs.declared.flat.FlatVariable.{FlatVariable}
 use Rattle.inline.specs.Flat.{TermTree, word_as, elements_by}
 use Rattle.inline.specs.Flat as flat
 use Rattle.inline.specs.FlatTyping.{Types, with_type, AreTyped, IsResult, Suits, types_after_all}
-use Rattle.inline.specs.Numbering.{Numbers, Callable, callable, callables, passed, passed_variables, own_variable, begun, call_block, call_variables, call_result, call_value, value_given, value_of, declared_in_all, names_after_all, block, term, dropped_block, dropped_variables}
+use Rattle.inline.specs.Numbering.{Numbers, Callable, callable, callables, passed, passed_variables, own_variable}
+use Rattle.inline.specs.Numbering.{begun, call_block, call_variables, call_result, call_value, value_given, value_of}
+use Rattle.inline.specs.Numbering.{declared_in_all, names_after_all, block, term, dropped_block, dropped_variables}
 use Rattle.language.specs.declared.signature.Form.{Form}
 use Rattle.language.specs.declared.signature.Form.TheVariants.{SingleWord, FixedArray, MutableArray}
 use Rattle.language.specs.declared.signature.Label.{Label}
@@ -18,7 +21,8 @@ use Rattle.language.specs.Grammatical.{AreAllSmall}
 use Rattle.language.specs.Meaning.{is_word}
 use Rattle.language.specs.Tree.{ExprTree, CallTree, ParameterTree, ProcedureTree}
 use Rattle.language.specs.Types.{Scope, found, callee, joined}
-use Rattle.language.specs.Typing.{is_mutable, may_assign, calls_one, assigns_public, body_scope, result_value, with_procedure}
+use Rattle.language.specs.Typing.{is_mutable, may_assign, calls_one, assigns_public, body_scope, result_value}
+use Rattle.language.specs.Typing.{with_procedure}
 use Rattle.language.specs.WellTyped as rules
 use Rattle.language.specs.WellTyped.{labelled, AreNew, ArePassed, none_passed, one_passed, IsCall, of_procedure}
 use Rattle.inline.proofs.Begun.{word_given, enters, distinct_none}
@@ -30,14 +34,15 @@ use Rattle.inline.proofs.Parameters.{NoVariables, typed_with}
 use Rattle.inline.proofs.Procedures.{Stand, IsWithin}
 use Rattle.inline.proofs.Terms.{means, still_public, suits_there}
 
--- A called body is well typed wherever its parameters' names have numbers: also under secret control, where it may assign to
--- nothing public.
+-- A called body is well typed wherever its parameters' names have numbers: also under secret control, where it may
+-- assign to nothing public.
 pub record TypedBody (before : List ProcedureTree) (at : Scope) (p : ProcedureTree) : Type 0 where
   pub variables : NoVariables (with_procedure at (length before) p)
   pub parameters : AreNew (with_procedure at (length before) p) p.parameters
   pub typed : (all : List FlatVariable) (control : Label) (names : Numbers) (types : Types) (n : ℕ)
       → Linked (body_scope at (length before) p) names types n → (control ≡ Secret → assigns_public at p ≡ false)
-      → Lists all n (declared_in_all (callables before) p.body) → AreTyped all types control (block (callables before) names n p.body)
+      → Lists all n (declared_in_all (callables before) p.body)
+      → AreTyped all types control (block (callables before) names n p.body)
   pub result : (names : Numbers) (types : Types) (n : ℕ) → Linked (body_scope at (length before) p) names types n
       → IsResult (types_after_all types (block (callables before) names n p.body)) p.result
       (value_of (names_after_all (callables before) names n p.body) p.returned)
@@ -76,7 +81,8 @@ module _ (all : List FlatVariable) (control : Label) (scope : Scope) (names : Nu
       → (types : Types) (n : ℕ) → Linked scope names types n → Lists all n (passed_variables ps es)
       → AreTyped all types control (passed names n ps es)
   passed_typed none_passed small types n linked lists = tt
-  passed_typed (one_passed {p = p} {ps = ps} {argument = e} {arguments = es} is shares are) small types n linked lists =
+  passed_typed (one_passed {p = p} {ps = ps} {argument = e} {arguments = es} is shares are) small types n
+      linked lists =
       by_form (is_word p.form) refl (λ (types' : Types) (n' : ℕ). passed_typed are small.1 types' n') lists
     where
       by_form : (b : Bool) → is_word p.form ≡ b
@@ -89,7 +95,8 @@ module _ (all : List FlatVariable) (control : Label) (scope : Scope) (names : Nu
       by_form true form more those =
           let own = word_as (labelled p.kind p.label) false in
           let w = word_given is form in
-          let listed = lists_first all n (own_variable p) (passed_variables ps es) those ∙ ap (λ d. Some d) (own_word p p.form form) in (
+          let listed = lists_first all n (own_variable p) (passed_variables ps es) those
+          ∙ ap (λ d. Some d) (own_word p p.form form) in (
             (
               record { new = linked.fresh n (omega arith); listed = listed },
               suits_there
@@ -145,7 +152,8 @@ body_fits before at p body all control quiet scope same names types n linked es 
     record {
       typed = chain-typed all types control front back one (body.typed all control own inside m ready quiet behind);
       result = subst (λ (t : Types). IsResult t p.result
-          (value_of (names_after_all (callables before) own m p.body) p.returned)) (sym (chain-types types front back))
+          (value_of (names_after_all (callables before) own m p.body) p.returned))
+          (sym (chain-types types front back))
           (body.result own inside m ready);
       gives = refl;
     }
@@ -176,7 +184,8 @@ module _ (earlier : List ProcedureTree) (at : Scope) (stand : Stand TypedBody ea
 -- What a call gives.
 
 -- a value of the one type, put where the other is wanted
-pub suits_as : {types : Types} {given wanted : WordType} {e : TermTree} → Suits types given e → rules.Suits given wanted
+pub suits_as : {types : Types} {given wanted : WordType} {e : TermTree} → Suits types given e
+    → rules.Suits given wanted
     → Suits types wanted e
 suits_as is (rules.suits flow) = record
     { word = is.word; has_type = is.has_type; kind = is.kind; label = λ e. is.label (still_public flow e) }
@@ -192,7 +201,8 @@ result_suits types (Some word) (Some value) given wanted is same suit =
 
 -- a result that nothing takes
 pub dropped_typed : (all : List FlatVariable) (types : Types) (control : Label) (n : ℕ) (result : Option WordType)
-    (value : Option TermTree) → types.at n ≡ None → Lists all n (dropped_variables result) → IsResult types result value
+    (value : Option TermTree) → types.at n ≡ None → Lists all n (dropped_variables result)
+    → IsResult types result value
     → AreTyped all types control (dropped_block n result value)
 dropped_typed all types control n None value new lists is = tt
 dropped_typed all types control n (Some word) None new lists is = absurd is

@@ -1,12 +1,15 @@
 -- What is known of procedures that may be called, and of the names where they are.
-use Rattle.std.proofs.Common.{◌≡◌, ℕ, suc, ◌+◌, ◌<◌, ◌≤◌, true, List, [], ◌∷◌, ◌++◌, length, Option, Some, None, arith, length-append}
+use Rattle.std.proofs.Common.{◌≡◌, ℕ, suc, ◌+◌, ◌<◌, ◌≤◌, true, List, [], ◌∷◌, ◌++◌, length, Option, Some, None}
+use Rattle.std.proofs.Common.{arith, length-append}
 use Rattle.word.specs.declared.profile.Profile.{Profile}
 use Rattle.inline.specs.declared.flat.FlatVariable.{FlatVariable}
 use Rattle.inline.specs.declared.numbering.Numbered.{Numbered}
 use Rattle.inline.specs.Flat.{TermTree, word_as, array_as}
 use Rattle.inline.specs.FlatMeaning.{Values, value_in, after_all, path_along, path_of_result}
 use Rattle.inline.specs.FlatTyping.{Types, with_type}
-use Rattle.inline.specs.Numbering.{Numbers, callables, naming, block, names_after, names_after_all, value_of, right_end, right_variables, element_variables, call_variables, call_result, dropped_variables, declared_in, declared_in_all, numbers_taken, numbers_taken_all}
+use Rattle.inline.specs.Numbering.{Numbers, callables, naming, block, names_after, names_after_all, value_of}
+use Rattle.inline.specs.Numbering.{right_end, right_variables, element_variables, call_variables, call_result}
+use Rattle.inline.specs.Numbering.{dropped_variables, declared_in, declared_in_all, numbers_taken, numbers_taken_all}
 use Rattle.inline.specs.Path.{either, first_fault}
 use Rattle.language.specs.declared.typing.Declared.TheVariants.{Variable}
 use Rattle.language.specs.declared.signature.Label.{Label}
@@ -16,7 +19,8 @@ use Rattle.language.specs.State.{State, Word}
 use Rattle.language.specs.Tree.{StatementTree, BlockTree, ProcedureTree}
 use Rattle.language.specs.Types.{Scope, declared}
 use Rattle.language.specs.Typing.{with_parameters, scope_after, scope_after_all}
-use Rattle.language.specs.WellTyped.{labelled, AreNew, IsWellTyped, declares, declares_array, assigns, assigns_element, calls, chooses, repeats, AreWellTyped, no_statement, one_more}
+use Rattle.language.specs.WellTyped.{labelled, AreNew, IsWellTyped, declares, declares_array, assigns}
+use Rattle.language.specs.WellTyped.{assigns_element, calls, chooses, repeats, AreWellTyped, no_statement, one_more}
 use Rattle.names.specs.Scope.{found}
 use Rattle.inline.proofs.Comes.{Comes}
 use Rattle.inline.proofs.Linked.{Linked, later, linked_declared, variable_as}
@@ -31,14 +35,17 @@ pub data HasResult (m : Values) : Option WordType → Option TermTree → Option
       → HasResult m (Some word) (Some value) (Some w)
 
 -- what a body or a call came to is what the flat one came to
-pub record Agrees (names : Numbers) (m : Values) (result : Option WordType) (value : Option TermTree) (r : Returned) : Type 0 where
+pub record Agrees (names : Numbers) (m : Values) (result : Option WordType) (value : Option TermTree) (r : Returned) :
+    Type 0 where
   pub word : HasResult m result value r.word
   pub shows : Shows names r.state m
 
--- A number that a body changes nowhere, where n is the next number: it is none of its own, and none of a mutable name.
+-- A number that a body changes nowhere, where n is the next number: it is none of its own, and none of a mutable
+-- name.
 pub record Spares (names : Numbers) (n x : ℕ) : Type 0 where
   pub below : x < n
-  pub spared : (text : List ℕ) (y : Numbered) → found names text ≡ Some y → y.declaration.mutable ≡ true → y.number ≡ x → ⊥
+  pub spared : (text : List ℕ) (y : Numbered) → found names text ≡ Some y → y.declaration.mutable ≡ true
+      → y.number ≡ x → ⊥
 
 -- a body in these names, in a state that they show
 abbrev pub BodyComes : List ProcedureTree → ProcedureTree → Numbers → ℕ → State → Values → Type 0
@@ -91,8 +98,10 @@ ready_declared {earlier = earlier} {scope = scope} {names = names} n ready text 
 module _ (earlier : List ProcedureTree) where
   pub ready_after : {scope : Scope} {control : Label} {s : StatementTree} → IsWellTyped earlier scope control s
       → (names : Numbers) (n : ℕ) → Ready earlier scope names n
-      → Ready earlier (scope_after scope s) (names_after (callables earlier) names n s) (n + numbers_taken (callables earlier) s)
-  ready_after (declares {scope = scope} {label = label} {mutable = mutable} {kind = kind} {text = text} {right = right}
+      → Ready earlier (scope_after scope s) (names_after (callables earlier) names n s)
+      (n + numbers_taken (callables earlier) s)
+  ready_after (declares {scope = scope} {label = label} {mutable = mutable} {kind = kind} {text =
+      text} {right = right}
       new has suit flow) names n ready =
       let k = right_end (callables earlier) n right in
       let own = word_as (labelled kind label) mutable in

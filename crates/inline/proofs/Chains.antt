@@ -19,7 +19,8 @@ fault_chain (first s a) b m =
     ∙ (ap (either (first_fault (path_at m s))) (fault_chain a b (after m s))
     ∙ (sym (either-assoc (first_fault (path_at m s)) (first_fault (path_along (after m s) a))
     (first_fault (path_along (after_all (after m s) a) b)))
-    ∙ ap (λ f. either f (first_fault (path_along (after_all (after m s) a) b))) (sym (across (path_at m s) (path_along (after m s) a)))))
+    ∙ ap (λ f. either f (first_fault (path_along (after_all (after m s) a) b)))
+    (sym (across (path_at m s) (path_along (after m s) a)))))
 
 -- a block of one statement
 pub fault_single : (s : FlatTree) (m : Values) → first_fault (path_along m (single s)) ≡ first_fault (path_at m s)

@@ -1,5 +1,6 @@
 -- What the caller's names hold once a called body has ended.
-use Rattle.std.proofs.Common.{◌≡◌, ℕ, ◌+◌, ◌<◌, ◌==◌, Bool, true, false, if◌then◌else◌, List, [], ◌∷◌, length, Some, None, ◌⊎◌, inl, inr, refl, sym, ap, ◌∙◌, subst, true≢false, eq-eqb}
+use Rattle.std.proofs.Common.{◌≡◌, ℕ, ◌+◌, ◌<◌, ◌==◌, Bool, true, false, if◌then◌else◌, List, [], ◌∷◌, length, Some}
+use Rattle.std.proofs.Common.{None, ◌⊎◌, inl, inr, refl, sym, ap, ◌∙◌, subst, true≢false, eq-eqb}
 use Rattle.std.proofs.lemmas.Bool.{eqb-true}
 use Rattle.std.proofs.lemmas.Option.{none-some, same_Some}
 use Rattle.std.specs.Str.{bytes_eq}
@@ -18,7 +19,8 @@ use Rattle.language.specs.State.{State}
 use Rattle.language.specs.Tree.{ExprTree, name, ParameterTree}
 use Rattle.language.specs.Types.{Scope}
 use Rattle.language.specs.Typing.{is_mutable}
-use Rattle.language.specs.WellTyped.{labelled, IsVariable, as_word, as_array, as_mutable_array, array_of, ArePassed, none_passed, one_passed}
+use Rattle.language.specs.WellTyped.{labelled, IsVariable, as_word, as_array, as_mutable_array, array_of, ArePassed}
+use Rattle.language.specs.WellTyped.{none_passed, one_passed}
 use Rattle.names.specs.Scope.{found}
 use Rattle.inline.proofs.Begun.{NamesGiven}
 use Rattle.inline.proofs.Called.{Spares}
@@ -37,7 +39,8 @@ pub changes_or_not : (names : Numbers) (y : ℕ) (ps : List ParameterTree) (es :
     → Changes names y ps es ⊎ (Changes names y ps es → ⊥)
 changes_or_not names y [] es = inr (λ h. h)
 changes_or_not names y (p ∷ ps) [] = inr (λ h. h)
-changes_or_not names y (p ∷ ps) (e ∷ es) = by_two (is_mutable p.form) refl (number_given names e == y) refl (changes_or_not names y ps es)
+changes_or_not names y (p ∷ ps) (e ∷ es) =
+    by_two (is_mutable p.form) refl (number_given names e == y) refl (changes_or_not names y ps es)
   where
     by_two : (m : Bool) → is_mutable p.form ≡ m → (b : Bool) → (number_given names e == y) ≡ b
         → Changes names y ps es ⊎ (Changes names y ps es → ⊥)
@@ -86,17 +89,24 @@ mutable_begun names (p ∷ ps) (e ∷ es) own n text z is free =
             → (found own text ≡ Some z) ⊎ Changes names z.number (p ∷ ps) (e ∷ es)
         by_rest (inl here) = by_own (found-split own p.name (entry n (own_variable p)) text z here)
         by_rest (inr later) = inr (inr later)
-    by_form false form more there = by_rest (more (naming own p.name (number_given names e) (own_variable p)) n text z there free)
+    by_form false form more there =
+        by_rest (more (naming own p.name (number_given names e) (own_variable p)) n text z there free)
       where
         by_own : (found own text ≡ Some z) ⊎
             ((bytes_eq text p.name ≡ true) × (entry (number_given names e) (own_variable p) ≡ z))
             → (found own text ≡ Some z) ⊎ Changes names z.number (p ∷ ps) (e ∷ es)
         by_own (inl old) = inl old
-        by_own (inr new) = inr (inl (ap (λ (y : Numbered). y.declaration.mutable) new.1 ∙ free, ap (λ (y : Numbered). y.number) new.1))
+        by_own (inr new) =
+            inr (inl (
+              ap (λ (y : Numbered). y.declaration.mutable) new.1
+                  ∙ free,
+              ap (λ (y : Numbered). y.number) new.1,
+            ))
 
         by_rest : (found (naming own p.name (number_given names e) (own_variable p)) text ≡ Some z) ⊎ Changes names
             z.number ps es → (found own text ≡ Some z) ⊎ Changes names z.number (p ∷ ps) (e ∷ es)
-        by_rest (inl here) = by_own (found-split own p.name (entry (number_given names e) (own_variable p)) text z here)
+        by_rest (inl here) =
+            by_own (found-split own p.name (entry (number_given names e) (own_variable p)) text z here)
         by_rest (inr later) = inr (inr later)
 
 -- a number that the call changes nowhere
@@ -120,7 +130,8 @@ module _ (scope : Scope) (names : Numbers) (types : Types) (n : ℕ) (linked : L
       → Changes names x.number ps es ⊎ Holds x.declaration (s text) (m x.number)
 
   immutable_back : (p : ParameterTree) (form : Form) (e : ExprTree) (ps : List ParameterTree) (es : List ExprTree)
-      (s : State) → p.form ≡ form → is_mutable form ≡ false → gone_back form s t e p.name ≡ s → Back (p ∷ ps) (e ∷ es) s
+      (s : State) → p.form ≡ form → is_mutable form ≡ false → gone_back form s t e p.name ≡ s
+      → Back (p ∷ ps) (e ∷ es) s
       → Back ps es (gone_back p.form s t e p.name)
   immutable_back p form e ps es s is off nothing back text x there = by_first (back text x there)
     where
@@ -145,7 +156,8 @@ module _ (scope : Scope) (names : Numbers) (types : Types) (n : ℕ) (linked : L
       by_text true same first =
           let k = known_array scope names types n linked array (array_of p) true known in
           let d = array_as (labelled p.kind p.label) true p.length in
-          let alike = same_Some (entry k.number d) x (sym k.found ∙ (ap (found names) (sym ((bytes_decides text array).0 same)) ∙ there)) in
+          let alike = same_Some (entry k.number d) x (sym k.found
+          ∙ (ap (found names) (sym ((bytes_decides text array).0 same)) ∙ there)) in
           let here = ap (λ (y : Numbered). y.number) k.here in
           let holds = shows p.name _ named in
           let size : elements_by p.form p.length ≡ Some p.length = ap (λ f. elements_by f p.length) form in
@@ -155,11 +167,15 @@ module _ (scope : Scope) (names : Numbers) (types : Types) (n : ℕ) (linked : L
                 ∙ ap (λ y. Some (held p.kind (Some p.length) (m y))) here);
             count = ap (λ y. length (m y)) (sym here) ∙ (holds.count ∙ ap numbers_in size);
           } in
-          inr (subst (λ (y : Numbered). Holds y.declaration (with_some s array (t p.name) text) (m y.number)) alike ours)
+          inr (subst (λ (y : Numbered). Holds y.declaration (with_some s array (t p.name) text) (m y.number))
+          alike ours)
       by_text false other (inl (inl here)) =
           let k = known_array scope names types n linked array (array_of p) true known in
           let equal = sym (ap (λ (y : Numbered). y.number) k.here) ∙ here.1 in
-          absurd (true≢false (sym ((bytes_decides text array).1 (sym (linked.apart array text _ x k.found there equal refl))) ∙ other))
+          absurd
+          (true≢false
+          (sym ((bytes_decides text array).1 (sym (linked.apart array text _ x k.found there equal refl)))
+          ∙ other))
       by_text false other (inl (inr later)) = inl later
       by_text false other (inr holds) = inr
           (subst (λ o. Holds x.declaration o (m x.number)) (sym (held_by_other s array text (t p.name) other)) holds)
@@ -174,8 +190,10 @@ module _ (scope : Scope) (names : Numbers) (types : Types) (n : ℕ) (linked : L
   copied (one_passed {p = p} {ps = ps} {argument = e} {arguments = es} (as_word form has suit) shares are) named s
       back = copied are named.1 (gone_back p.form s t e p.name)
       (immutable_back p SingleWord e ps es s form refl refl back)
-  copied (one_passed {p = p} {ps = ps} {argument = e} {arguments = es} (as_array form known) shares are) named s back =
+  copied (one_passed {p = p} {ps = ps} {argument = e} {arguments = es} (as_array form known) shares are)
+      named s back =
       copied are named.1 (gone_back p.form s t e p.name) (immutable_back p FixedArray e ps es s form refl refl back)
   copied (one_passed {p = p} {ps = ps} {argument = e} {arguments = es}
       (as_mutable_array {place = place} {text = array} form known) shares are) named s back =
-      copied are named.1 (gone_back p.form s t e p.name) (mutable_back p place array ps es s form known (named.0 (ap is_word form)) back)
+      copied are named.1 (gone_back p.form s t e p.name)
+      (mutable_back p place array ps es s form known (named.0 (ap is_word form)) back)

@@ -2,8 +2,11 @@
 use Rattle.std.proofs.Common.{◌≡◌, ℕ, Option, Some, None, refl, subst, sym, arith}
 use Rattle.std.specs.Option.{option_map}
 use Rattle.inline.specs.Counts.{AreCountsTo, counted_to, extent_to}
-use Rattle.language.specs.Size.{Extent, Extents, called_nodes, right_nodes, statement_nodes, block_nodes, words_of_called, right_words, statement_words, block_words, bodies_of_called, right_bodies, statement_bodies, block_bodies, extent_of}
-use Rattle.language.specs.Tree.{CallTree, RightTree, called, computed, StatementTree, declaration, array, assignment, element_assignment, call, conditional, loop, BlockTree, nothing, first, ProcedureTree}
+use Rattle.language.specs.Size.{Extent, Extents, called_nodes, right_nodes, statement_nodes, block_nodes}
+use Rattle.language.specs.Size.{words_of_called, right_words, statement_words, block_words, bodies_of_called}
+use Rattle.language.specs.Size.{right_bodies, statement_bodies, block_bodies, extent_of}
+use Rattle.language.specs.Tree.{CallTree, RightTree, called, computed, StatementTree, declaration, array, assignment}
+use Rattle.language.specs.Tree.{element_assignment, call, conditional, loop, BlockTree, nothing, first, ProcedureTree}
 
 module _ (most : ℕ) where
   -- so many nodes, words and open bodies count the same as so many others
@@ -31,7 +34,8 @@ module _ (most : ℕ) where
     right_alike (computed e) = record { nodes = refl; words = refl; bodies = refl }
 
     mutual
-      pub statement_alike : (s : StatementTree) → AreAlike (statement_nodes counts s) (statement_words counts s) (statement_bodies counts s)
+      pub statement_alike : (s : StatementTree)
+          → AreAlike (statement_nodes counts s) (statement_words counts s) (statement_bodies counts s)
           (statement_nodes extents s) (statement_words extents s) (statement_bodies extents s)
       statement_alike (declaration p l m k t r) = let h = right_alike r in record
           { nodes = omega (arith, h.nodes); words = omega (arith, h.words); bodies = h.bodies }
@@ -53,7 +57,8 @@ module _ (most : ℕ) where
       statement_alike (loop p c t l h b) = let k = block_alike b in record
           { nodes = omega (arith, k.nodes); words = omega (arith, k.words); bodies = k.bodies }
 
-      pub block_alike : (b : BlockTree) → AreAlike (block_nodes counts b) (block_words counts b) (block_bodies counts b)
+      pub block_alike : (b : BlockTree)
+          → AreAlike (block_nodes counts b) (block_words counts b) (block_bodies counts b)
           (block_nodes extents b) (block_words extents b) (block_bodies extents b)
       block_alike nothing = record { nodes = refl; words = refl; bodies = refl }
       block_alike (first s b) =
@@ -70,7 +75,10 @@ module _ (most : ℕ) where
     pub extent_same : (p : ProcedureTree) → extent_to most (extent_of counts p) ≡ extent_to most (extent_of extents p)
     extent_same p =
         let k = block_alike p.body in
-        let n : counted_to most (extent_of counts p).nodes ≡ counted_to most (extent_of extents p).nodes = omega (arith, k.nodes) in
-        let w : counted_to most (extent_of counts p).words ≡ counted_to most (extent_of extents p).words = omega (arith, k.words) in
-        let b : counted_to most (extent_of counts p).bodies ≡ counted_to most (extent_of extents p).bodies = omega (arith, k.bodies) in
+        let n : counted_to most (extent_of counts p).nodes ≡ counted_to most (extent_of extents p).nodes =
+        omega (arith, k.nodes) in
+        let w : counted_to most (extent_of counts p).words ≡ counted_to most (extent_of extents p).words =
+        omega (arith, k.words) in
+        let b : counted_to most (extent_of counts p).bodies ≡ counted_to most (extent_of extents p).bodies =
+        omega (arith, k.bodies) in
         λ i. record { parameters = p.parameters; nodes = n i; words = w i; bodies = b i }

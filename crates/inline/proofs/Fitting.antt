@@ -1,5 +1,6 @@
 -- A well-typed expression's value is within its kind.
-use Rattle.std.proofs.Common.{◌≡◌, ℕ, ◌<◌, ◌==◌, ◌&&◌, ◌||◌, Bool, true, false, not, nat_lt, nat_le, if◌then◌else◌, List, length, All, slice_index, refl, sym, subst, arith}
+use Rattle.std.proofs.Common.{◌≡◌, ℕ, ◌<◌, ◌==◌, ◌&&◌, ◌||◌, Bool, true, false, not, nat_lt, nat_le, if◌then◌else◌}
+use Rattle.std.proofs.Common.{List, length, All, slice_index, refl, sym, subst, arith}
 use Rattle.std.proofs.lemmas.Nat.{or_lt, xor_lt}
 use Rattle.std.specs.Int.Bits.{and_lt}
 use Rattle.std.proofs.Math.Nat.{div-le_self, mod-le}
@@ -13,18 +14,23 @@ use Rattle.word.specs.Widths.{IsWord}
 use Rattle.inline.specs.Fitting.{IsWithinKind, Fits}
 use Rattle.inline.specs.Flat.{TermTree, word_as, array_as}
 use Rattle.inline.specs.FlatMeaning.{Values, value_in}
-use Rattle.inline.specs.FlatTyping.{Types, HasType, of_number, of_truth, of_variable, of_prefix, of_binary, of_rotation, of_conversion, of_selection, of_element, Suits}
+use Rattle.inline.specs.FlatTyping.{Types, HasType, of_number, of_truth, of_variable, of_prefix, of_binary}
+use Rattle.inline.specs.FlatTyping.{of_rotation, of_conversion, of_selection, of_element, Suits}
 use Rattle.language.specs.declared.signature.Kind.{Kind}
 use Rattle.language.specs.declared.signature.Kind.TheVariants.{Boolean, Uint8, Uint16, Uint32}
 use Rattle.language.specs.declared.tree.BinaryOperator.{BinaryOperator}
-use Rattle.language.specs.declared.tree.BinaryOperator.TheVariants.{Either, Both, Equal, Unequal, Less, LessOrEqual, Greater, GreaterOrEqual, BitOr, BitXor, BitAnd, ShiftLeft, ShiftRight, Add, Subtract, Multiply, Divide, Remainder}
+use Rattle.language.specs.declared.tree.BinaryOperator.TheVariants.{Either, Both, Equal, Unequal, Less, LessOrEqual}
+use Rattle.language.specs.declared.tree.BinaryOperator.TheVariants.{Greater, GreaterOrEqual, BitOr, BitXor, BitAnd}
+use Rattle.language.specs.declared.tree.BinaryOperator.TheVariants.{ShiftLeft, ShiftRight, Add, Subtract, Multiply}
+use Rattle.language.specs.declared.tree.BinaryOperator.TheVariants.{Divide, Remainder}
 use Rattle.language.specs.declared.tree.PrefixOperator.{PrefixOperator}
 use Rattle.language.specs.declared.tree.PrefixOperator.TheVariants.{Not, Complement, Negate}
 use Rattle.language.specs.declared.typing.WordType.{WordType}
 use Rattle.language.specs.ExprTyping.{operation_of}
 use Rattle.language.specs.Grammatical.{IsNumberKind}
 use Rattle.language.specs.Operators.{operated, prefix_value, truth_of, width_of}
-use Rattle.language.specs.WellTyped.{Makes, arithmetic, multiplication, division, shift, equality, order, logic, Takes}
+use Rattle.language.specs.WellTyped.{Makes, arithmetic, multiplication, division, shift, equality, order, logic}
+use Rattle.language.specs.WellTyped.{Takes}
 
 -- Words.
 
@@ -69,14 +75,17 @@ remainder_fits w a b low = let less = mod-le a b in omega (arith, low, less)
 
 -- Operators.
 
-pub prefix_fits : (operator : PrefixOperator) (k : Kind) (a : ℕ) → Takes operator k → IsWithinKind k (prefix_value operator (width_of k) a)
-prefix_fits Not k a is = subst (λ j. IsWithinKind j (word_of (not (truth_of a)))) (sym is) (bit_fits (not (truth_of a)))
+pub prefix_fits : (operator : PrefixOperator) (k : Kind) (a : ℕ) → Takes operator k
+    → IsWithinKind k (prefix_value operator (width_of k) a)
+prefix_fits Not k a is = subst (λ j. IsWithinKind j (word_of (not (truth_of a)))) (sym is)
+    (bit_fits (not (truth_of a)))
 prefix_fits Complement k a numeric = number_fits k _ numeric (complement_fits (width_of k) a)
 prefix_fits Negate k a numeric = number_fits k _ numeric (wrapped_fits (width_of k) _)
 
 pub operated_fits : {profile : Profile} (operator : BinaryOperator) {one other whole : WordType} (a b : ℕ)
     → Makes profile (operation_of operator) one other whole
-    → IsWithinKind one.kind a → IsWithinKind other.kind b → IsWithinKind whole.kind (operated operator (width_of one.kind) a b)
+    → IsWithinKind one.kind a → IsWithinKind other.kind b
+    → IsWithinKind whole.kind (operated operator (width_of one.kind) a b)
 operated_fits Either a b logic low high = bit_fits (truth_of a || truth_of b)
 operated_fits Both a b logic low high = bit_fits (truth_of a && truth_of b)
 operated_fits Equal a b equality low high = bit_fits (a == b)
@@ -88,25 +97,32 @@ operated_fits GreaterOrEqual a b (order numeric) low high = bit_fits (nat_le b a
 operated_fits BitOr a b (arithmetic numeric) low high = or_lt _ a b low high
 operated_fits BitXor a b (arithmetic numeric) low high = xor_lt _ a b low high
 operated_fits BitAnd a b (arithmetic numeric) low high = and_lt _ a b low high
-operated_fits ShiftLeft a b (shift {kind = k} numeric) low high = number_fits k _ numeric (wrapped_fits (width_of k) _)
-operated_fits ShiftRight a b (shift {kind = k} numeric) low high = number_fits k _ numeric (wrapped_fits (width_of k) _)
+operated_fits ShiftLeft a b (shift {kind = k} numeric) low high =
+    number_fits k _ numeric (wrapped_fits (width_of k) _)
+operated_fits ShiftRight a b (shift {kind = k} numeric) low high =
+    number_fits k _ numeric (wrapped_fits (width_of k) _)
 operated_fits Add a b (arithmetic {kind = k} numeric) low high = number_fits k _ numeric (wrapped_fits (width_of k) _)
-operated_fits Subtract a b (arithmetic {kind = k} numeric) low high = number_fits k _ numeric (wrapped_fits (width_of k) _)
-operated_fits Multiply a b (multiplication {kind = k} numeric may) low high = number_fits k _ numeric (wrapped_fits (width_of k) _)
+operated_fits Subtract a b (arithmetic {kind = k} numeric) low high =
+    number_fits k _ numeric (wrapped_fits (width_of k) _)
+operated_fits Multiply a b (multiplication {kind = k} numeric may) low high =
+    number_fits k _ numeric (wrapped_fits (width_of k) _)
 operated_fits Divide a b (division {kind = k} numeric) low high =
     number_fits k _ numeric (quotient_fits (width_of k) a b (fits_number k a numeric low))
 operated_fits Remainder a b (division {kind = k} numeric) low high =
     number_fits k _ numeric (remainder_fits (width_of k) a b (fits_number k a numeric low))
 
 -- an element is within the kind, or 0 where there is none
-pub element_fits : (kind : Kind) (numbers : List ℕ) (i : ℕ) → All (IsWithinKind kind) numbers → IsWithinKind kind (slice_index numbers i)
+pub element_fits : (kind : Kind) (numbers : List ℕ) (i : ℕ) → All (IsWithinKind kind) numbers
+    → IsWithinKind kind (slice_index numbers i)
 element_fits kind numbers i within = by_place (nat_lt i (length numbers)) refl
   where
     by_place : (b : Bool) → nat_lt i (length numbers) ≡ b → IsWithinKind kind (slice_index numbers i)
     by_place true e = within i 0 (grind (arith, nat_tests, e))
-    by_place false e = subst (λ v. IsWithinKind kind v) (sym (get_or_past numbers i 0 (grind (arith, nat_tests, e)))) (some_bit kind)
+    by_place false e = subst (λ v. IsWithinKind kind v) (sym (get_or_past numbers i 0 (grind (arith, nat_tests, e))))
+        (some_bit kind)
 
-pub either_fits : (kind : Kind) (b : Bool) (x y : ℕ) → IsWithinKind kind x → IsWithinKind kind y → IsWithinKind kind (if b then y else x)
+pub either_fits : (kind : Kind) (b : Bool) (x y : ℕ) → IsWithinKind kind x → IsWithinKind kind y
+    → IsWithinKind kind (if b then y else x)
 either_fits kind true x y one other = other
 either_fits kind false x y one other = one
 
@@ -119,7 +135,8 @@ module _ (types : Types) (m : Values) (fits : Fits types m) where
   value_fits (of_prefix {operator = operator} {operand = operand} {kind = kind} has takes width) =
       subst (λ w. IsWithinKind kind (prefix_value operator w (value_in m operand))) (sym width)
       (prefix_fits operator kind (value_in m operand) takes)
-  value_fits (of_binary {operator = operator} {left = left} {right = right} {one = one} {whole = whole} has more makes width) =
+  value_fits (of_binary {operator = operator} {left = left} {right = right} {one = one} {whole = whole} has more
+      makes width) =
       subst (λ w. IsWithinKind whole.kind (operated operator w (value_in m left) (value_in m right))) (sym width)
       (operated_fits operator (value_in m left) (value_in m right) makes (value_fits has) (value_fits more))
   value_fits (of_rotation {operand = operand} {amount = amount} {kind = kind} has numeric low high width) =
@@ -127,11 +144,14 @@ module _ (types : Types) (m : Values) (fits : Fits types m) where
       (number_fits kind _ numeric (wrapped_fits (width_of kind) _))
   value_fits (of_conversion {kind = kind} {operand = operand} has numeric) =
       number_fits kind _ numeric (wrapped_fits (width_of kind) (value_in m operand))
-  value_fits (of_selection {condition = condition} {accepted = accepted} {otherwise = otherwise} {kind = kind} chooser has more) =
-      either_fits kind (value_in m condition == 0) (value_in m accepted) (value_in m otherwise) (value_fits has) (value_fits more)
+  value_fits (of_selection {condition = condition} {accepted = accepted} {otherwise = otherwise} {kind =
+      kind} chooser has more) =
+      either_fits kind (value_in m condition == 0) (value_in m accepted) (value_in m otherwise) (value_fits has)
+      (value_fits more)
   value_fits (of_element {x = x} {size = size} {index = index} {word = word} {mutable = mutable} is has) =
       element_fits word.kind (m x) (value_in m index) (fits x (array_as word mutable size) is).within
 
   -- and what suits is within the kind that is wanted
-  pub suited_fits : (wanted : WordType) (e : TermTree) → Suits types wanted e → IsWithinKind wanted.kind (value_in m e)
+  pub suited_fits : (wanted : WordType) (e : TermTree) → Suits types wanted e
+      → IsWithinKind wanted.kind (value_in m e)
   suited_fits wanted e suits = subst (λ k. IsWithinKind k (value_in m e)) suits.kind (value_fits suits.has_type)

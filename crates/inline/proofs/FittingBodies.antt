@@ -1,14 +1,18 @@
 -- A well-typed body keeps each variable in scope as it is declared.
-use Rattle.std.proofs.Common.{◌≡◌, ℕ, zero, suc, ◌+◌, ◌-◌, ◌^◌, ◌<◌, ◌≤◌, ◌==◌, Bool, true, false, if◌then◌else◌, List, [], ◌∷◌, length, map, take, drop, All, slice_get, slice_set, Some, sym, ap, ◌∙◌, subst, refl, arith, eqb-true}
+use Rattle.std.proofs.Common.{◌≡◌, ℕ, zero, suc, ◌+◌, ◌-◌, ◌^◌, ◌<◌, ◌≤◌, ◌==◌, Bool, true, false, if◌then◌else◌}
+use Rattle.std.proofs.Common.{List, [], ◌∷◌, length, map, take, drop, All, slice_get, slice_set, Some, sym, ap, ◌∙◌}
+use Rattle.std.proofs.Common.{subst, refl, arith, eqb-true}
 use Rattle.std.proofs.lemmas.List.{length-set, length-replicate, length-map}
 use Rattle.std.proofs.lemmas.List.Elements.{All-nil, All-cons, All-set, All-replicate}
 use Rattle.std.proofs.lemmas.Option.{none-some, same_Some}
 use Rattle.arguments.specs.Within.{AreWithin, IsWithin, greatest_of, words_of}
 use Rattle.inline.specs.declared.flat.FlatVariable.{FlatVariable}
 use Rattle.inline.specs.Fitting.{IsWithinKind, IsHeld, Fits}
-use Rattle.inline.specs.Flat.{TermTree, FlatTree, declare, array, assign, put, hold, skip, branch, loop, FlatBlock, nothing, first, FlatProgram, word_as, array_as, declaration_of}
+use Rattle.inline.specs.Flat.{TermTree, FlatTree, declare, array, assign, put, hold, skip, branch, loop, FlatBlock}
+use Rattle.inline.specs.Flat.{nothing, first, FlatProgram, word_as, array_as, declaration_of}
 use Rattle.inline.specs.FlatMeaning.{Values, with_value, value_in, elements, turns, after, after_all, given, end_of}
-use Rattle.inline.specs.FlatTyping.{Types, with_type, AllSuit, HasCount, IsTyped, AreTyped, IsTypedProgram, IsResult, counter_type, types_after, types_after_all, parameter_types, end_types}
+use Rattle.inline.specs.FlatTyping.{Types, with_type, AllSuit, HasCount, IsTyped, AreTyped, IsTypedProgram, IsResult}
+use Rattle.inline.specs.FlatTyping.{counter_type, types_after, types_after_all, parameter_types, end_types}
 use Rattle.language.specs.declared.signature.Kind.{Kind}
 use Rattle.language.specs.declared.signature.Kind.TheVariants.{Boolean, Uint8, Uint16, Uint32}
 use Rattle.language.specs.declared.signature.Label.{Label}
@@ -24,11 +28,13 @@ use Rattle.inline.proofs.TypesKept.{types_kept, new_number}
 
 -- Values.
 
-pub one_held : (word : WordType) (mutable : Bool) (v : ℕ) → IsWithinKind word.kind v → IsHeld (word_as word mutable) (v ∷ [])
+pub one_held : (word : WordType) (mutable : Bool) (v : ℕ) → IsWithinKind word.kind v
+    → IsHeld (word_as word mutable) (v ∷ [])
 one_held word mutable v below = record
     { count = refl; within = All-cons (IsWithinKind word.kind) v [] below (All-nil (IsWithinKind word.kind)) }
 
-pub fits_declared : (types : Types) (m : Values) (y : ℕ) (v : List ℕ) (own : FlatVariable) → IsHeld own v → Fits types m
+pub fits_declared : (types : Types) (m : Values) (y : ℕ) (v : List ℕ) (own : FlatVariable) → IsHeld own v
+    → Fits types m
     → Fits (with_type types y own) (with_value m y v)
 fits_declared types m y v own here fits x d is = by_number (x == y) is
   where
@@ -59,7 +65,8 @@ module _ (types : Types) (m : Values) (fits : Fits types m) (word : WordType) wh
   elements_held mutable size (e ∷ es) suit count = record
       { count = length-map (e ∷ es) (value_in m) ∙ count; within = all_fit (e ∷ es) suit }
 
-either_fits : (types : Types) (b : Bool) (m n : Values) → Fits types m → Fits types n → Fits types (if b then n else m)
+either_fits : (types : Types) (b : Bool) (m n : Values) → Fits types m → Fits types n
+    → Fits types (if b then n else m)
 either_fits types true m n one other = other
 either_fits types false m n one other = one
 
@@ -117,10 +124,12 @@ module _ (all : List FlatVariable) where
         (λ i t less held x d is.
         fits_after_all body inside control typed.3 (with_value t y (i ∷ []))
         (fits_declared types t y (i ∷ []) own (one_held counter_type false i (omega (arith, less, most))) held) x d
-        (types_kept all inside control body typed.3 x d (with_type-other types y x own (new_number types y x d typed.2.new is) ∙ is)))
+        (types_kept all inside control body typed.3 x d
+        (with_type-other types y x own (new_number types y x d typed.2.new is) ∙ is)))
         (b - a) a m refl fits
 
-    pub fits_after_all : (b : FlatBlock) (types : Types) (control : Label) → AreTyped all types control b → (m : Values)
+    pub fits_after_all : (b : FlatBlock) (types : Types) (control : Label) → AreTyped all types control b
+        → (m : Values)
         → Fits types m → Fits (types_after_all types b) (after_all m b)
     fits_after_all nothing types control typed m fits = fits
     fits_after_all (first s rest) types control typed m fits =
@@ -151,14 +160,16 @@ fits_given (p ∷ ps) (e ∷ ds) [] within front x d is = absurd within
 fits_given (p ∷ ps) (e ∷ ds) (arg ∷ args) within front zero d is =
     subst (λ (t : FlatVariable). IsHeld t (words_of arg)) (same_Some (declaration_of p) d is)
     (argument_held p arg within.0)
-fits_given (p ∷ ps) (e ∷ ds) (arg ∷ args) within front (suc x) d is = fits_given ps ds args within.1 (ap (λ xs. drop 1 xs) front) x d is
+fits_given (p ∷ ps) (e ∷ ds) (arg ∷ args) within front (suc x) d is =
+    fits_given ps ds args within.1 (ap (λ xs. drop 1 xs) front) x d is
 
 -- in a well-typed program
 pub parameters_fit : (p : FlatProgram) (args : List Arg) → IsTypedProgram p → AreWithin p.parameters args
     → Fits (parameter_types p.profile p.parameters) (given p.declared args)
 parameters_fit p args typed within x d is = fits_given p.parameters p.declared args within typed.parameters x d is
 
-pub end_fits : (p : FlatProgram) (args : List Arg) → IsTypedProgram p → AreWithin p.parameters args → Fits (end_types p) (end_of p args)
+pub end_fits : (p : FlatProgram) (args : List Arg) → IsTypedProgram p → AreWithin p.parameters args
+    → Fits (end_types p) (end_of p args)
 end_fits p args typed within = fits_after_all p.declared p.body (parameter_types p.profile p.parameters) Public
     typed.body (given p.declared args) (parameters_fit p args typed within)
 

@@ -1,15 +1,21 @@
 -- A well-typed statement comes to the same once its names are numbers.
-use Rattle.std.proofs.Common.{◌≡◌, ℕ, zero, suc, ◌+◌, ◌-◌, ◌<◌, ◌==◌, Bool, true, false, not, if◌then◌else◌, List, [], ◌∷◌, length, map, replicate, Option, Some, None, slice_index, slice_set, refl, sym, ap, ap₂, ◌∙◌, subst, arith}
+use Rattle.std.proofs.Common.{◌≡◌, ℕ, zero, suc, ◌+◌, ◌-◌, ◌<◌, ◌==◌, Bool, true, false, not, if◌then◌else◌, List, []}
+use Rattle.std.proofs.Common.{◌∷◌, length, map, replicate, Option, Some, None, slice_index, slice_set, refl, sym, ap}
+use Rattle.std.proofs.Common.{ap₂, ◌∙◌, subst, arith}
 use Rattle.std.proofs.lemmas.List.{length-set, length-replicate, length-map}
 use Rattle.word.specs.declared.place.Place.{Place}
 use Rattle.inline.specs.declared.numbering.Numbered.{Numbered}
 use Rattle.inline.specs.Flat as flat_tree
 use Rattle.inline.specs.Flat.{FlatTree, FlatBlock, chain, word_as, array_as, numbers_in, TermTree}
-use Rattle.inline.specs.FlatMeaning.{Values, value_in, path_in, path_in_all, elements, after, after_all, path_at, path_along, path_of_turns, path_of_result, ending_by}
+use Rattle.inline.specs.FlatMeaning.{Values, value_in, path_in, path_in_all, elements, after, after_all, path_at}
+use Rattle.inline.specs.FlatMeaning.{path_along, path_of_turns, path_of_result, ending_by}
 use Rattle.inline.specs.FlatMeaning as flat
 use Rattle.inline.specs.FlatTyping.{Types, counter_type}
 use Rattle.inline.specs.Numbering as numbering
-use Rattle.inline.specs.Numbering.{Numbers, callables, single as single_block, number_of, size_of, term, block, naming, names_after, names_after_all, numbers_taken, numbers_taken_all, right, right_block, right_end, call_block, call_value, call_result, call_variables, dropped_block, value_given}
+use Rattle.inline.specs.Numbering.{Numbers, callables, single as single_block, number_of, size_of, term, block}
+use Rattle.inline.specs.Numbering.{naming, names_after, names_after_all, numbers_taken, numbers_taken_all, right}
+use Rattle.inline.specs.Numbering.{right_block, right_end, call_block, call_value, call_result, call_variables}
+use Rattle.inline.specs.Numbering.{dropped_block, value_given}
 use Rattle.inline.specs.Path.{Path, indexed, bounded, fault_at, either, first_fault}
 use Rattle.language.specs.declared.signature.Kind.{Kind}
 use Rattle.language.specs.declared.signature.Kind.TheVariants.{Uint32}
@@ -18,10 +24,17 @@ use Rattle.language.specs.declared.typing.ArrayType.{ArrayType}
 use Rattle.language.specs.declared.typing.ValueType.TheVariants.{Array}
 use Rattle.language.specs.declared.typing.WordType.{WordType}
 use Rattle.language.specs.Grammatical.{AreAllSmall, IsPlain, ArePlain}
-use Rattle.language.specs.Meaning.{Ending, Evaluates, EvaluatesAll, by_operands, operand_faults, none_left, one_more, this_faults, gives, element_held, made_array, counting, with_some, with_element, word_given, of_expr, expr_faults, Runs, RunsAll, Turns, no_turn, turn_faults, a_turn, declares, declaration_faults, declares_array, first_value_faults, assigns, assignment_faults, target_faults, right_faults, assigns_element, calls, call_faults, condition_faults, accepts, declines, bounds_fault, loops, ends, stops, goes_on}
+use Rattle.language.specs.Meaning.{Ending, Evaluates, EvaluatesAll, by_operands, operand_faults, none_left, one_more}
+use Rattle.language.specs.Meaning.{this_faults, gives, element_held, made_array, counting, with_some, with_element}
+use Rattle.language.specs.Meaning.{word_given, of_expr, expr_faults, Runs, RunsAll, Turns, no_turn, turn_faults}
+use Rattle.language.specs.Meaning.{a_turn, declares, declaration_faults, declares_array, first_value_faults, assigns}
+use Rattle.language.specs.Meaning.{assignment_faults, target_faults, right_faults, assigns_element, calls}
+use Rattle.language.specs.Meaning.{call_faults, condition_faults, accepts, declines, bounds_fault, loops, ends, stops}
+use Rattle.language.specs.Meaning.{goes_on}
 use Rattle.language.specs.State.{State, single, with_value}
 use Rattle.language.specs.State as state
-use Rattle.language.specs.Tree.{ExprTree, element, called, computed, StatementTree, element_assignment, call, conditional, loop, BlockTree, first, ProcedureTree, written}
+use Rattle.language.specs.Tree.{ExprTree, element, called, computed, StatementTree, element_assignment, call}
+use Rattle.language.specs.Tree.{conditional, loop, BlockTree, first, ProcedureTree, written}
 use Rattle.language.specs.Types.{Scope}
 use Rattle.language.specs.WellTyped as rules
 use Rattle.language.specs.WellTyped.{labelled, IsVariable}
@@ -34,7 +47,8 @@ use Rattle.inline.proofs.Kept.{dropped_keeps}
 use Rattle.inline.proofs.Linked.{Linked, entry, known_word, known_array}
 use Rattle.inline.proofs.Lookup.{found-kept}
 use Rattle.inline.proofs.Rights.{right_means, call_gives, path_given}
-use Rattle.inline.proofs.States.{shows_declared, shows_changed, shows_before, shows_kept, with_value-other, with_value-same}
+use Rattle.inline.proofs.States.{shows_declared, shows_changed, shows_before, shows_kept, with_value-other}
+use Rattle.inline.proofs.States.{with_value-same}
 use Rattle.inline.proofs.Terms.{Holds, Shows, word_at, element_found, means, no_values, more_values}
 
 -- Words.
@@ -54,15 +68,18 @@ unworded : (kind : Kind) (vs : List ℕ) → map (λ (w : state.Word). w.value) 
 unworded kind [] = refl
 unworded kind (v ∷ vs) = ap (λ us. v ∷ us) (unworded kind vs)
 
-made_filled : (kind : Kind) (size : ℕ) (vs : List ℕ) → made_array kind size (map (word_at kind) vs) ≡ state.array kind (filled size vs)
+made_filled : (kind : Kind) (size : ℕ) (vs : List ℕ)
+    → made_array kind size (map (word_at kind) vs) ≡ state.array kind (filled size vs)
 made_filled kind size [] = refl
 made_filled kind size (v ∷ vs) = ap (λ us. state.array kind (v ∷ us)) (unworded kind vs)
 
-elements_filled : (m : Values) (size : ℕ) (es : List TermTree) → elements m size es ≡ filled size (map (value_in m) es)
+elements_filled : (m : Values) (size : ℕ) (es : List TermTree)
+    → elements m size es ≡ filled size (map (value_in m) es)
 elements_filled m size [] = refl
 elements_filled m size (e ∷ es) = refl
 
-filled_count : (m : Values) (names : Numbers) {size : ℕ} {values : Option (List ExprTree)} → rules.HasCount size values
+filled_count : (m : Values) (names : Numbers) {size : ℕ} {values : Option (List ExprTree)}
+    → rules.HasCount size values
     → length (elements m size (map (term names) (written values))) ≡ size
 filled_count m names {size = size} rules.all_zero = length-replicate size 0
 filled_count m names {size = size} (rules.all_given {values = []} is) = length-replicate size 0
@@ -116,7 +133,8 @@ module _ (ps : List ProcedureTree) (text : List ℕ) (body : BlockTree) (names :
 
 -- Conditionals.
 
-one_arm : (ps : List ProcedureTree) (s : State) (place : Place) (condition : ExprTree) (accepted otherwise : BlockTree)
+one_arm : (ps : List ProcedureTree) (s : State) (place : Place) (condition : ExprTree)
+    (accepted otherwise : BlockTree)
     (names : Numbers) (if_true if_false : Values) (p q : Path) (c : state.Word) (v : ℕ)
     → Evaluates s condition (gives c) → c.value ≡ v
     → Comes (RunsAll ps s accepted) (λ t. Shows names t if_true) (first_fault p)
@@ -134,7 +152,8 @@ one_arm ps s place condition accepted otherwise names if_true if_false p q c v i
 at_end : {Is : Ending State → Type 0} (b : FlatBlock) (last : FlatTree) (m : Values) (Good : State → Values → Type 0)
     → Comes Is (λ t. Good t (after (after_all m b) last))
     (either (first_fault (path_along m b)) (first_fault (path_at (after_all m b) last)))
-    → Comes Is (λ t. Good t (after_all m (chain b (single_block last)))) (first_fault (path_along m (chain b (single_block last))))
+    → Comes Is (λ t. Good t (after_all m (chain b (single_block last))))
+    (first_fault (path_along m (chain b (single_block last))))
 at_end {Is = Is} b last m Good comes =
     subst (λ (end : Values). Comes Is (λ t. Good t end) (first_fault (path_along m (chain b (single_block last)))))
     (sym (after_chain b (single_block last) m))
@@ -148,7 +167,8 @@ alone : {Is : Ending State → Type 0} {Good : State → Type 0} (only : FlatTre
 alone {Is = Is} {Good = Good} only m comes = subst (Comes Is Good) (sym (fault_single only m)) comes
 
 -- a mark that is met twice
-met_twice : (a k c q : Option Place) → either (either a (either k None)) (either c (either k q)) ≡ either a (either k (either c q))
+met_twice : (a k c q : Option Place) → either (either a (either k None)) (either c (either k q))
+    ≡ either a (either k (either c q))
 met_twice (Some at) k c q = refl
 met_twice None (Some at) c q = refl
 met_twice None None c q = refl
@@ -205,7 +225,8 @@ module _ (ps : List ProcedureTree) where
   abbrev pub SameEnds : Numbers → ℕ → BlockTree → State → Values → Type 0
   SameEnds names n b s m =
       let tree = block (callables ps) names n b in
-      Comes (RunsAll ps s b) (λ t. Shows (names_after_all (callables ps) names n b) t (after_all m tree)) (first_fault (path_along m tree))
+      Comes (RunsAll ps s b) (λ t. Shows (names_after_all (callables ps) names n b) t (after_all m tree))
+      (first_fault (path_along m tree))
 
   module _ (scope : Scope) (names : Numbers) (types : Types) (n : ℕ) (linked : Linked scope names types n) (s : State)
       (m : Values) (shows : Shows names s m) where
@@ -251,7 +272,8 @@ module _ (ps : List ProcedureTree) where
         (λ vs is same. (
           with_value s text (made_array kind size vs),
           declares_array is,
-          shows_declared scope names ready.types n ready.linked s m shows text own (made_array kind size vs) (elements m size terms)
+          shows_declared scope names ready.types n ready.linked s m shows text own (made_array kind size vs)
+              (elements m size terms)
               (record {
                 is = ap (λ us. Some (made_array kind size us)) same
                     ∙ (ap Some (made_filled kind size (map (value_in m) terms))
@@ -279,8 +301,10 @@ module _ (ps : List ProcedureTree) where
               (x.found ∙ ap (λ (y : Numbered). Some (entry y.number (word_as own true))) (sym x.here)) refl,
         ))
         (λ at is. assignment_faults is))
-    same_end (rules.assigns_element {scope = scope} {place = place} {bracket = bracket} {target = target} {text = text}
-        {index = index} {array = own} is has (rules.of_value {e = value} given) (rules.suits suits) flow) names n ready
+    same_end (rules.assigns_element {scope = scope} {place = place} {bracket = bracket} {target =
+        target} {text = text}
+        {index = index} {array = own} is has (rules.of_value {e = value} given) (rules.suits suits) flow)
+        names n ready
         plain s m shows =
         let i = value_in m (term names index) in
         let v = value_in m (term names value) in
@@ -293,20 +317,24 @@ module _ (ps : List ProcedureTree) where
         (sym (across p (indexed bracket (size_of names text) i ∷ q)))
         (then_comes ((means scope names ready.types n ready.linked has plain.0).value s m shows)
         (λ u one same.
-        then_comes (element_first scope names ready.types n ready.linked text own is s m shows bracket target index u i
+        then_comes (element_first scope names ready.types n ready.linked text own is s m shows bracket
+        target index u i
         one (ap (λ (w : state.Word). w.value) same))
         (λ old there _.
         also ((means scope names ready.types n ready.linked given plain.1).value s m shows)
         (λ w are alike. (
           with_some s text (with_element (s text) u.value w),
           assigns_element there one (of_expr are),
-          element_shown scope names ready.types n ready.linked text own is s m shows u w i v (ap (λ (w : state.Word). w.value) same) alike,
+          element_shown scope names ready.types n ready.linked text own is s m shows u w i v
+              (ap (λ (w : state.Word). w.value) same) alike,
         ))
         (λ at are. right_faults there (expr_faults are)))
         (λ at there. target_faults there))
         (λ at one. target_faults (operand_faults (this_faults one)))))
-    same_end (rules.assigns_element {scope = scope} {place = place} {bracket = bracket} {target = target} {text = text}
-        {index = index} {array = own} is has (rules.of_call {c = c} given) (rules.suits suits) flow) names n ready plain
+    same_end (rules.assigns_element {scope = scope} {place = place} {bracket = bracket} {target =
+        target} {text = text}
+        {index = index} {array = own} is has (rules.of_call {c = c} given) (rules.suits suits) flow) names n
+        ready plain
         s m shows =
         let i = value_in m (term names index) in
         let y = number_of names text in
@@ -327,13 +355,15 @@ module _ (ps : List ProcedureTree) where
           spared = λ name x there free same. let low = ready.linked.below name x there in omega
               arith;
         } in
-        let kept : end n ≡ i ∷ [] = (call_means ps scope names (n + 1) next given).keeps n spares began ∙ with_value-same m n (i ∷ []) in
+        let kept : end n ≡ i ∷ [] = (call_means ps scope names (n + 1) next given).keeps n spares began
+        ∙ with_value-same m n (i ∷ []) in
         let a = first_fault (path_in m (term names index)) in
         let k = fault_at (indexed bracket size i) in
         let f = first_fault (path_along began tree) in
         let q = first_fault (path_in end taken) in
         let here : slice_index (end n) 0 ≡ i = ap (λ ns. slice_index ns 0) kept in
-        let fault : first_fault (path_along m (flat_tree.first held (chain tree (single_block last)))) ≡ either a (either k (either f q)) =
+        let fault : first_fault (path_along m (flat_tree.first held (chain tree (single_block last))))
+        ≡ either a (either k (either f q)) =
         across (path_at m held) (path_along began (chain tree (single_block last)))
         ∙ (ap₂ either (across (path_in m (term names index)) (indexed bracket size i ∷ []))
         (fault_chain tree (single_block last) began ∙ ap (either f)
@@ -348,14 +378,16 @@ module _ (ps : List ProcedureTree) where
         (λ t. Shows names t (flat.with_value end y (slice_set (end y) i v)))) (sym fault)
         (then_comes ((means scope names ready.types n ready.linked has plain.0).value s m shows)
         (λ u one same.
-        then_comes (element_first scope names ready.types n ready.linked text own is s m shows bracket target index u i
+        then_comes (element_first scope names ready.types n ready.linked text own is s m shows bracket
+        target index u i
         one (ap (λ (w : state.Word). w.value) same))
         (λ old there _.
         also (call_gives ps scope names (n + 1) next given s began shown plain.1)
         (λ r are good. (
           with_some r.state text (with_element (r.state text) u.value (word_given r.word)),
           assigns_element there one are,
-          element_shown scope names ready.types n ready.linked text own is r.state end good.shows u (word_given r.word)
+          element_shown scope names ready.types n ready.linked text own is r.state end good.shows u
+              (word_given r.word)
               i v (ap (λ (w : state.Word). w.value) same) good.word,
         ))
         (λ at are. right_faults there are))
@@ -405,7 +437,8 @@ module _ (ps : List ProcedureTree) where
         (λ c is same. one_arm ps s place condition accepted otherwise names if_true if_false p q c v is
         (ap (λ (w : state.Word). w.value) same) first_arm other_arm (v == 0) refl)
         (λ at is. condition_faults is)))
-    same_end (rules.repeats {scope = scope} {place = place} {counter = counter} {text = text} {low = low} {high = high}
+    same_end (rules.repeats {scope = scope} {place = place} {counter = counter} {text = text} {low =
+        low} {high = high}
         {body = body} one other new inner) names n ready plain s m shows =
         let a = value_in m (term names low) in
         let b = value_in m (term names high) in
@@ -428,19 +461,22 @@ module _ (ps : List ProcedureTree) where
               (found-kept names text (entry n own) other x is)),
         )) (λ at is. is) in
         alone (flat_tree.loop n (term names low) (term names high) flat_body) m
-        (subst (Comes (Runs ps s (loop place counter text low high body)) (λ t. Shows names t (flat.turns (b - a) a turn m)))
+        (subst (Comes (Runs ps s (loop place counter text low high body))
+        (λ t. Shows names t (flat.turns (b - a) a turn m)))
         (ap (λ f. either f (first_fault (path_of_turns (b - a) a turn path m)))
         (ap (either (first_fault p)) (either-none (first_fault q)))
         ∙ sym (across₃ p q (bounded n a b ∷ path_of_turns (b - a) a turn path m)))
         (then_comes (more_values s ((means scope names ready.types n ready.linked one plain.0).value s m shows)
         (more_values s ((means scope names ready.types n ready.linked other plain.1).value s m shows)
         (no_values s)))
-        (λ vs is same. bounded_by vs is same (same_turns ps text body names turn path step (b - a) a b s m refl shows))
+        (λ vs is same. bounded_by vs is same
+        (same_turns ps text body names turn path step (b - a) a b s m refl shows))
         (λ at is. bounds_fault is)))
       where
         bounded_by : {a b : ℕ} {good : State → Type 0} {fault : Option Place} (vs : List state.Word)
             → EvaluatesAll s (low ∷ high ∷ []) (gives vs) → vs ≡ word_at Uint32 a ∷ word_at Uint32 b ∷ []
-            → Comes (Turns ps s text body a b) good fault → Comes (Runs ps s (loop place counter text low high body)) good fault
+            → Comes (Turns ps s text body a b) good fault
+            → Comes (Runs ps s (loop place counter text low high body)) good fault
         bounded_by {a = a} {b = b} vs is same turns =
             let are = subst (λ us. EvaluatesAll s (low ∷ high ∷ []) (gives us)) same is in
             also turns (λ t all good. (t, loops are all, good)) (λ at all. loops are all)
@@ -461,6 +497,8 @@ module _ (ps : List ProcedureTree) where
         (λ t. Shows (names_after_all (callables ps) later_names k rest) t (after_all (after_all m tree) more)))
         (sym (fault_chain tree more m))
         (then_comes (same_end here names n ready plain.0 s m shows)
-        (λ t is good. also (same_ends there later_names k (ready_after ps here names n ready) plain.1 t (after_all m tree) good)
+        (λ t is good.
+        also (same_ends there later_names k (ready_after ps here names n ready) plain.1 t
+        (after_all m tree) good)
         (λ u are shows. (u, goes_on is are, shows)) (λ at are. goes_on is are))
         (λ at is. stops is)))

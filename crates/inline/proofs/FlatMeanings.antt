@@ -1,40 +1,47 @@
 -- A program that violates no rule comes to what the flat program comes to.
-use Rattle.std.proofs.Common.{◌≡◌, ℕ, ◌+◌, List, [], ◌++◌, length, map, Option, None, Some, refl, sym, ap, ap₂, ◌∙◌, subst}
+use Rattle.std.proofs.Common.{◌≡◌, ℕ, ◌+◌, List, [], ◌++◌, length, map, Option, None, Some, refl, sym, ap, ap₂, ◌∙◌}
+use Rattle.std.proofs.Common.{subst}
 use Rattle.std.specs.List.{AllByRecursion}
 use Rattle.std.specs.Option.{option_map}
 use Rattle.word.specs.declared.place.Place.{Place}
 use Rattle.word.specs.declared.profile.Profile.{Profile}
 use Rattle.arguments.specs.Within.{AreWithin}
 use Rattle.inline.specs.Flat.{TermTree}
-use Rattle.inline.specs.FlatMeaning.{Values, given, value_in, path_along, path_of_result, after_all, outcome_of, ending_by, ending_of}
+use Rattle.inline.specs.FlatMeaning.{Values, given, value_in, path_along, path_of_result, after_all, outcome_of}
+use Rattle.inline.specs.FlatMeaning.{ending_by, ending_of}
 use Rattle.inline.specs.FlatTyping.{Types, parameter_types}
-use Rattle.inline.specs.Numbering.{Numbers, param_of, callables, parameter_names, names_after_all, value_of, flattened, block, term, declared_in_all, numbers_taken_all}
+use Rattle.inline.specs.Numbering.{Numbers, param_of, callables, parameter_names, names_after_all, value_of}
+use Rattle.inline.specs.Numbering.{flattened, block, term, declared_in_all, numbers_taken_all}
 use Rattle.inline.specs.Path.{first_fault}
 use Rattle.language.specs.declared.typing.WordType.{WordType}
 use Rattle.language.specs.declared.values.Arg.{Arg}
 use Rattle.language.specs.Grammatical.{IsGrammatical, IsSmallReturn}
-use Rattle.language.specs.Meaning.{Bodies, statements_fault, returns, returns_nothing, return_faults, Gives, ends_well, meets_fault, RunsAll, exported, final_arrays, gives, holding}
+use Rattle.language.specs.Meaning.{Bodies, statements_fault, returns, returns_nothing, return_faults, Gives}
+use Rattle.language.specs.Meaning.{ends_well, meets_fault, RunsAll, exported, final_arrays, gives, holding}
 use Rattle.language.specs.Results.{Results}
 use Rattle.language.specs.State.{State, Word}
 use Rattle.language.specs.Tree.{ProcedureTree, ProgramTree, ReturnTree}
 use Rattle.language.specs.Types.{Scope}
 use Rattle.language.specs.Typing.{body_scope, scope_after_all, violations, with_procedure}
 use Rattle.language.specs.WellTyped as rules
-use Rattle.inline.proofs.Called.{Agrees, HasResult, nothing_given, a_word, Behaves, BodyComes, IsKept, Ready, ready_after_all}
+use Rattle.inline.proofs.Called.{Agrees, HasResult, nothing_given, a_word, Behaves, BodyComes, IsKept, Ready}
+use Rattle.inline.proofs.Called.{ready_after_all}
 use Rattle.inline.proofs.Comes.{Comes, well, fails, then_comes, also, across}
 use Rattle.inline.proofs.FlatEnds.{same_ends}
 use Rattle.inline.proofs.Kept.{block_keeps}
 use Rattle.inline.proofs.Linked.{Linked}
 use Rattle.inline.proofs.Parameters.{shows_arguments, arrays_same, all_own, where_begun, linked_parameters}
 use Rattle.inline.proofs.Passing.{kind_suits}
-use Rattle.inline.proofs.Procedures.{Stand, IsCallable, callable_parameters, callable_within, own_typing, variables_within}
+use Rattle.inline.proofs.Procedures.{Stand, IsCallable, callable_parameters, callable_within, own_typing}
+use Rattle.inline.proofs.Procedures.{variables_within}
 use Rattle.inline.proofs.States.{shows_before}
 use Rattle.inline.proofs.Terms.{Shows, means}
 
 -- Procedures.
 
 -- a result, where there is one
-pub no_result : {scope : Scope} {result : Option WordType} {o : Option ReturnTree} → rules.Returns scope result o → result ≡ None → o ≡ None
+pub no_result : {scope : Scope} {result : Option WordType} {o : Option ReturnTree} → rules.Returns scope result o
+    → result ≡ None → o ≡ None
 no_result rules.nothing_returned none = refl
 no_result (rules.value_returned has suit) none = absurd cc
 
@@ -43,10 +50,13 @@ result_comes : (before : List ProcedureTree) (p : ProcedureTree) (start end : St
     (types : Types) (n : ℕ) (m : Values) → Linked scope names types n → Shows names end m
     → RunsAll before start p.body (gives end) → {result : Option WordType} {o : Option ReturnTree}
     → rules.Returns scope result o → p.returned ≡ o → IsSmallReturn o
-    → Comes (Bodies before p start) (Agrees names m result (value_of names o)) (first_fault (path_of_result m (value_of names o)))
+    → Comes (Bodies before p start) (Agrees names m result (value_of names o))
+    (first_fault (path_of_result m (value_of names o)))
 result_comes before p start end scope names types n m linked shows run rules.nothing_returned is small =
-    well (record { word = None; state = end }) (returns_nothing run is) (record { word = nothing_given; shows = shows })
-result_comes before p start end scope names types n m linked shows run (rules.value_returned {r = r} has suit) is small =
+    well (record { word = None; state = end }) (returns_nothing run is)
+    (record { word = nothing_given; shows = shows })
+result_comes before p start end scope names types n m linked shows run
+    (rules.value_returned {r = r} has suit) is small =
     let v = value_in m (term names r.value) in
     also ((means scope names types n linked has small).value end m shows)
     (λ w gives same. (
@@ -58,7 +68,8 @@ result_comes before p start end scope names types n m linked shows run (rules.va
 
 module _ (before : List ProcedureTree) (scope : Scope) (p : ProcedureTree) (stand : Stand IsKept before scope)
     (typed : rules.IsProcedure before scope p) (plain : IsGrammatical p) where
-  module _ (names : Numbers) (types : Types) (n : ℕ) (linked : Linked (body_scope scope (length before) p) names types n) where
+  module _ (names : Numbers) (types : Types) (n : ℕ)
+      (linked : Linked (body_scope scope (length before) p) names types n) where
     pub begins : Ready before (body_scope scope (length before) p) names n
     begins = record {
       types = types;
@@ -79,7 +90,14 @@ module _ (before : List ProcedureTree) (scope : Scope) (p : ProcedureTree) (stan
         (λ t run good.
         also (result_comes before p s t (scope_after_all (body_scope scope (length before) p) p.body) last ready.types
         (n + numbers_taken_all known p.body) end ready.linked good run typed.returns refl plain.returned)
-        (λ r is agrees. (r, is, record { word = agrees.word; shows = shows_before known p.body names n r.state end agrees.shows }))
+        (λ r is agrees. (
+          r,
+          is,
+          record {
+            word = agrees.word;
+            shows = shows_before known p.body names n r.state end agrees.shows;
+          },
+        ))
         (λ at is. is))
         (λ at run. statements_fault run)
 
@@ -103,7 +121,8 @@ word_same nothing_given = refl
 word_same (a_word same) = ap (λ (w : Word). Some w.value) same
 
 -- the end of the whole
-ended : (program : ProgramTree) (args : List Arg) (before : List ProcedureTree) (p : ProcedureTree) (outcome : Results)
+ended : (program : ProgramTree) (args : List Arg) (before : List ProcedureTree) (p : ProcedureTree)
+    (outcome : Results)
     (fault : Option Place) → exported [] program.procedures ≡ Some (before, p)
     → Comes (Bodies before p (holding p.parameters args))
     (λ r. record {
@@ -112,7 +131,8 @@ ended : (program : ProgramTree) (args : List Arg) (before : List ProcedureTree) 
           p.parameters;
     } ≡ outcome) fault
     → Gives program args (ending_by fault outcome)
-ended program args before p outcome fault is (well r body same) = subst (λ x. Gives program args (gives x)) same (ends_well is body)
+ended program args before p outcome fault is (well r body same) =
+    subst (λ x. Gives program args (gives x)) same (ends_well is body)
 ended program args before p outcome fault is (fails at body) = meets_fault is body
 
 pub flat_keeps_meaning : (profile : Profile) (program : ProgramTree) (before : List ProcedureTree) (p : ProcedureTree)
@@ -137,7 +157,8 @@ flat_keeps_meaning profile program before p args h is grammatical plain within =
     (first_fault (path_along from body ++ path_of_result m value)) is
     (subst (Comes (Bodies before p start) (λ r. _ ≡ outcome_of (flattened profile before p) args))
     (sym (across (path_along from body) (path_of_result m value)))
-    (also (body_comes before e.scope p e.stand e.typed plain names (parameter_types profile (map param_of p.parameters))
+    (also (body_comes before e.scope p e.stand e.typed plain names
+    (parameter_types profile (map param_of p.parameters))
     n linked start from (shows_arguments p.parameters (declared_in_all known p.body) args within))
     (λ r bodies agrees. (
       r,

@@ -1,12 +1,15 @@
 -- The export of a program that violates no rule is a well-typed flat program.
-use Rattle.std.proofs.Common.{◌≡◌, ℕ, ◌+◌, false, List, [], ◌∷◌, ◌++◌, length, map, take, Option, Some, refl, sym, ap, ◌∙◌, subst, arith}
+use Rattle.std.proofs.Common.{◌≡◌, ℕ, ◌+◌, false, List, [], ◌∷◌, ◌++◌, length, map, take, Option, Some, refl, sym, ap}
+use Rattle.std.proofs.Common.{◌∙◌, subst, arith}
 use Rattle.std.proofs.Math.Seq.{take-append_seam}
 use Rattle.std.proofs.lemmas.List.{length-map}
 use Rattle.std.specs.List.{AllByRecursion}
 use Rattle.word.specs.declared.profile.Profile.{Profile}
 use Rattle.inline.specs.declared.flat.FlatVariable.{FlatVariable}
-use Rattle.inline.specs.FlatTyping.{Types, IsTypedProgram, AreNumbered, AreTyped, IsResult, parameter_types, types_after_all}
-use Rattle.inline.specs.Numbering.{Numbers, param_of, parameter_names, flattened, callables, block, declared_in_all, numbers_taken_all, names_after_all, value_of}
+use Rattle.inline.specs.FlatTyping.{Types, IsTypedProgram, AreNumbered, AreTyped, IsResult, parameter_types}
+use Rattle.inline.specs.FlatTyping.{types_after_all}
+use Rattle.inline.specs.Numbering.{Numbers, param_of, parameter_names, flattened, callables, block, declared_in_all}
+use Rattle.inline.specs.Numbering.{numbers_taken_all, names_after_all, value_of}
 use Rattle.language.specs.declared.signature.Label.{Label}
 use Rattle.language.specs.declared.signature.Label.TheVariants.{Public, Secret}
 use Rattle.language.specs.declared.typing.WordType.{WordType}
@@ -14,7 +17,8 @@ use Rattle.language.specs.Grammatical.{IsGrammatical, IsSmallReturn}
 use Rattle.language.specs.Meaning.{exported}
 use Rattle.language.specs.Tree.{ParameterTree, ProcedureTree, ProgramTree, ReturnTree}
 use Rattle.language.specs.Types.{Scope, joined}
-use Rattle.language.specs.Typing.{assigns_public, parameters_assign, block_assigns, with_procedure, body_scope, violations, scope_after_all}
+use Rattle.language.specs.Typing.{assigns_public, parameters_assign, block_assigns, with_procedure, body_scope}
+use Rattle.language.specs.Typing.{violations, scope_after_all}
 use Rattle.language.specs.WellTyped.{Returns, nothing_returned, value_returned, IsProcedure}
 use Rattle.inline.proofs.CallTypes.{TypedBody}
 use Rattle.inline.proofs.FlatTypes.{IsHushed, typed_block, linked_after_all}
@@ -22,7 +26,8 @@ use Rattle.inline.proofs.Hiding.{either_false, hides_none, hides_parameters}
 use Rattle.inline.proofs.Linked.{Linked}
 use Rattle.inline.proofs.Listed.{Lists, lists_end, block_takes, all_counted}
 use Rattle.inline.proofs.Parameters.{linked_parameters, all_own}
-use Rattle.inline.proofs.Procedures.{Stand, Exported, IsAt, IsWithin, own_typing, variables_within, earlier_within, callable_parameters}
+use Rattle.inline.proofs.Procedures.{Stand, Exported, IsAt, IsWithin, own_typing, variables_within, earlier_within}
+use Rattle.inline.proofs.Procedures.{callable_parameters}
 use Rattle.inline.proofs.Terms.{means, suits_there}
 
 -- a value is returned exactly where there is a result
@@ -30,7 +35,8 @@ result_typed : (scope : Scope) (names : Numbers) (types : Types) (n : ℕ) → L
     → {result : Option WordType} {returned : Option ReturnTree} → Returns scope result returned
     → IsSmallReturn returned → IsResult types result (value_of names returned)
 result_typed scope names types n linked nothing_returned small = tt
-result_typed scope names types n linked (value_returned has suit) small = suits_there (means scope names types n linked has small) suit
+result_typed scope names types n linked (value_returned has suit) small =
+    suits_there (means scope names types n linked has small) suit
 
 joined-public : (label : Label) → joined label Public ≡ label
 joined-public Public = refl
@@ -44,11 +50,13 @@ module _ (before : List ProcedureTree) (at : Scope) (p : ProcedureTree) (stand :
   inside = body_scope at (length before) p
 
   -- where secret control is around it
-  hushed : (outer : Label) → (outer ≡ Secret → assigns_public at p ≡ false) → IsHushed outer inside (block_assigns at p.body)
+  hushed : (outer : Label) → (outer ≡ Secret → assigns_public at p ≡ false)
+      → IsHushed outer inside (block_assigns at p.body)
   hushed outer quiet e =
       let split = either_false (parameters_assign p.parameters) (block_assigns at p.body) (quiet e) in (
         hides_parameters typed.parameters
-            (hides_none (with_procedure at (length before) p) (variables_within TypedBody before at stand p typed.is_new))
+            (hides_none (with_procedure at (length before) p)
+            (variables_within TypedBody before at stand p typed.is_new))
             split.0,
         split.1,
       )
@@ -59,10 +67,12 @@ module _ (before : List ProcedureTree) (at : Scope) (p : ProcedureTree) (stand :
 
   body_typed : (all : List FlatVariable) (control : Label) (names : Numbers) (types : Types) (n : ℕ)
       → Linked inside names types n → (control ≡ Secret → assigns_public at p ≡ false)
-      → Lists all n (declared_in_all (callables before) p.body) → AreTyped all types control (block (callables before) names n p.body)
+      → Lists all n (declared_in_all (callables before) p.body)
+      → AreTyped all types control (block (callables before) names n p.body)
   body_typed all control names types n linked quiet lists =
       subst (λ l. AreTyped all types l (block (callables before) names n p.body)) (joined-public control)
-      (typed_block before at stand all control typed.body within (hushed control quiet) names types n linked plain.body lists)
+      (typed_block before at stand all control typed.body within (hushed control quiet) names types n linked
+      plain.body lists)
 
   body_gives : (names : Numbers) (types : Types) (n : ℕ) → Linked inside names types n
       → IsResult (types_after_all types (block (callables before) names n p.body)) p.result
@@ -110,7 +120,8 @@ flat_is_typed profile program before p h is earlier plain =
     let linked = linked_parameters profile (with_procedure e.scope (length before) p) e.observed one.variables
     p.parameters e.typed.parameters in
     record {
-      parameters = ap (λ k. take k (front ++ back)) (many ∙ sym (own_count p.parameters)) ∙ take-append_seam front back;
+      parameters = ap (λ k. take k (front ++ back)) (many ∙ sym (own_count p.parameters))
+          ∙ take-append_seam front back;
       numbered = subst (λ k. AreNumbered k (block (callables before) (parameter_names p) n p.body)) (sym many)
           (block_takes (callables before) (all_counted before) (parameter_names p) n p.body).numbered;
       body = one.typed (front ++ back) Public (parameter_names p) types n linked (λ e. absurd (public_not_secret e))

@@ -1,5 +1,6 @@
 -- The body of a procedure within the limits on size is within them too, with the bodies that it calls in it.
-use Rattle.std.proofs.Common.{◌≡◌, ℕ, ◌+◌, ◌*◌, ◌≤◌, ◌||◌, Bool, true, false, nat_lt, List, [], ◌∷◌, ◌++◌, length, map, Option, Some, refl, arith, length-append}
+use Rattle.std.proofs.Common.{◌≡◌, ℕ, ◌+◌, ◌*◌, ◌≤◌, ◌||◌, Bool, true, false, nat_lt, List, [], ◌∷◌, ◌++◌, length}
+use Rattle.std.proofs.Common.{map, Option, Some, refl, arith, length-append}
 use Rattle.std.proofs.lemmas.Bool.Decides.{nat_tests}
 use Rattle.std.proofs.lemmas.List.{length-map}
 use Rattle.std.specs.List.{AllByRecursion}
@@ -7,7 +8,11 @@ use Rattle.inline.specs.Flat.{elements_by, word_as, counter_type}
 use Rattle.inline.specs.Flat as tree
 use Rattle.inline.specs.FlatSize as flat
 use Rattle.inline.specs.FlatSize.{term_nodes, body_nodes, words_by, declared_words, IsSized}
-use Rattle.inline.specs.Numbering.{Numbers, Callables, callables, call_block, call_variables, call_result, call_value, right_block, right_variables, right_end, right, value_given, dropped_block, dropped_variables, declared_in, declared_in_all, numbers_taken, numbers_taken_all, naming, names_after, statement, block, single, number_of, size_of, param_of, parameter_names, return_names, flattened}
+use Rattle.inline.specs.Numbering.{Numbers, Callables, callables, call_block, call_variables, call_result, call_value}
+use Rattle.inline.specs.Numbering.{right_block, right_variables, right_end, right, value_given, dropped_block}
+use Rattle.inline.specs.Numbering.{dropped_variables, declared_in, declared_in_all, numbers_taken, numbers_taken_all}
+use Rattle.inline.specs.Numbering.{naming, names_after, statement, block, single, number_of, size_of, param_of}
+use Rattle.inline.specs.Numbering.{parameter_names, return_names, flattened}
 use Rattle.language.specs.Limits.{most_nodes, most_bodies, most_declared_bytes}
 use Rattle.language.specs.declared.rule.Rule.{Rule}
 use Rattle.language.specs.declared.rule.Rule.TheVariants.{InlinedSize, DeclaredBytes}
@@ -20,17 +25,24 @@ use Rattle.language.specs.declared.typing.Violation.{Violation}
 use Rattle.language.specs.declared.typing.WordType.{WordType}
 use Rattle.language.specs.Grammatical.{HasLength, HasForm, IsGrammatical}
 use Rattle.language.specs.Meaning.{exported}
-use Rattle.language.specs.Size.{Extents, extents_of, right_nodes, right_words, statement_nodes, block_nodes, nodes_of, bodies_of, held_words, parameter_words, statement_words, block_words, declared_bytes, size_violations}
-use Rattle.language.specs.Tree.{ExprTree, RightTree, StatementTree, element_assignment, BlockTree, ParameterTree, ProcedureTree, ProgramTree, ReturnTree, written}
+use Rattle.language.specs.Size.{Extents, extents_of, right_nodes, right_words, statement_nodes, block_nodes, nodes_of}
+use Rattle.language.specs.Size.{bodies_of, held_words, parameter_words, statement_words, block_words, declared_bytes}
+use Rattle.language.specs.Size.{size_violations}
+use Rattle.language.specs.Tree.{ExprTree, RightTree, StatementTree, element_assignment, BlockTree, ParameterTree}
+use Rattle.language.specs.Tree.{ProcedureTree, ProgramTree, ReturnTree, written}
 use Rattle.language.specs.Types.{Scope, when}
 use Rattle.language.specs.Typing.{violations, with_procedure}
-use Rattle.language.specs.WellTyped.{labelled, Gives, of_call, of_value, IsWellTyped, declares, declares_array, assigns, assigns_element, calls, chooses, repeats, AreWellTyped, no_statement, one_more, IsProcedure, Returns, nothing_returned, value_returned}
+use Rattle.language.specs.WellTyped.{labelled, Gives, of_call, of_value, IsWellTyped, declares, declares_array}
+use Rattle.language.specs.WellTyped.{assigns, assigns_element, calls, chooses, repeats, AreWellTyped, no_statement}
+use Rattle.language.specs.WellTyped.{one_more, IsProcedure, Returns, nothing_returned, value_returned}
 use Rattle.word.specs.declared.place.Place.{Place}
 use Rattle.word.specs.declared.profile.Profile.{Profile}
-use Rattle.inline.proofs.CallSizes.{same_nodes, same_all, same_result, GoTogether, value_there, dropped_nodes, dropped_words, words-append, SizedBody, call_sized}
+use Rattle.inline.proofs.CallSizes.{same_nodes, same_all, same_result, GoTogether, value_there, dropped_nodes}
+use Rattle.inline.proofs.CallSizes.{dropped_words, words-append, SizedBody, call_sized}
 use Rattle.inline.proofs.ChainTypes.{chain-nodes}
 use Rattle.inline.proofs.Parameters.{own, all_own}
-use Rattle.inline.proofs.Procedures.{Stand, IsAt, IsWithin, own_typing, earlier_within, callable_after, callable_declared, callable_parameters}
+use Rattle.inline.proofs.Procedures.{Stand, IsAt, IsWithin, own_typing, earlier_within, callable_after}
+use Rattle.inline.proofs.Procedures.{callable_declared, callable_parameters}
 
 -- Limits.
 
@@ -78,12 +90,14 @@ module _ (earlier : List ProcedureTree) (at : Scope) (stand : Stand SizedBody ea
   right_sized : {scope : Scope} {control : Label} {r : RightTree} {given : WordType}
       → Gives earlier scope control r (Word given) → IsWithin earlier at scope → (names : Numbers) (n : ℕ)
       → RightSized names n r
-  right_sized (of_value {e = e} has) inside names n = record { nodes = omega (arith, same_nodes names e); words = omega arith }
+  right_sized (of_value {e = e} has) inside names n =
+      record { nodes = omega (arith, same_nodes names e); words = omega arith }
   right_sized {given = given} (of_call {c = c} is) inside names n =
       let f = call_sized earlier at stand is inside names n in
       let body = call_block (known c.name) names n c.arguments in
       let whole = chain-nodes body (single tree.skip) in
-      let value = value_there (call_result (known c.name)) (call_value (known c.name) names n c.arguments) given f.gives f.returns in
+      let value = value_there (call_result (known c.name)) (call_value (known c.name) names n c.arguments) given
+      f.gives f.returns in
       let same = f.nodes in
       let few = f.words in
       record { nodes = omega (arith, whole, value, same); words = omega (arith, few) }
@@ -107,8 +121,11 @@ module _ (earlier : List ProcedureTree) (at : Scope) (stand : Stand SizedBody ea
       let f = call_sized earlier at stand is inside names (n + 1) in
       let body = call_block (known c.name) names (n + 1) c.arguments in
       let value = value_given (call_value (known c.name) names (n + 1) c.arguments) in
-      let whole = chain-nodes body (single (tree.put bracket (number_of names text) (size_of names text) (tree.variable n) value)) in
-      let there = value_there (call_result (known c.name)) (call_value (known c.name) names (n + 1) c.arguments) given f.gives f.returns in
+      let whole =
+      chain-nodes body
+      (single (tree.put bracket (number_of names text) (size_of names text) (tree.variable n) value)) in
+      let there = value_there (call_result (known c.name)) (call_value (known c.name) names (n + 1) c.arguments) given
+      f.gives f.returns in
       let same = f.nodes in
       let few = f.words in
       record { nodes = omega (arith, whole, there, same, same_nodes names index); words = omega (arith, few) }
@@ -116,7 +133,8 @@ module _ (earlier : List ProcedureTree) (at : Scope) (stand : Stand SizedBody ea
   mutual
     pub statement_sized : {scope : Scope} {control : Label} {s : StatementTree} → IsWellTyped earlier scope control s
         → IsWithin earlier at scope → (names : Numbers) (n : ℕ) → StatementSized names n s
-    statement_sized (declares {label = label} {mutable = mutable} {kind = kind} {right = r} new has suit flow) inside names n =
+    statement_sized (declares {label = label} {mutable = mutable} {kind = kind} {right = r} new has suit flow)
+        inside names n =
         let f = right_sized has inside names n in
         let own = word_as (labelled kind label) mutable in
         let whole = chain-nodes (right_block known names n r)
@@ -129,11 +147,13 @@ module _ (earlier : List ProcedureTree) (at : Scope) (stand : Stand SizedBody ea
         record { nodes = omega (arith, same_all names (written values)); words = omega arith }
     statement_sized (assigns {text = text} {right = r} is has suit flow) inside names n =
         let f = right_sized has inside names n in
-        let whole = chain-nodes (right_block known names n r) (single (tree.assign (number_of names text) (right known names n r))) in
+        let whole = chain-nodes (right_block known names n r)
+        (single (tree.assign (number_of names text) (right known names n r))) in
         let same = f.nodes in
         let few = f.words in
         record { nodes = omega (arith, whole, same); words = omega (arith, few) }
-    statement_sized (assigns_element {place = place} {bracket = bracket} {target = target} {text = text} {index = index}
+    statement_sized (assigns_element {place = place} {bracket = bracket} {target = target} {text =
+        text} {index = index}
         is has value suit flow) inside names n = element_sized value inside place bracket target text index names n
     statement_sized (calls {c = c} is) inside names n =
         let f = call_sized earlier at stand is inside names n in
@@ -148,7 +168,8 @@ module _ (earlier : List ProcedureTree) (at : Scope) (stand : Stand SizedBody ea
         let same = f.nodes in
         let few = f.words in
         record { nodes = omega (arith, whole, back, same); words = omega (arith, sum, held, few) }
-    statement_sized (chooses {condition = condition} {accepted = accepted} {otherwise = otherwise} has one other) inside names n =
+    statement_sized (chooses {condition = condition} {accepted = accepted} {otherwise = otherwise} has one other)
+        inside names n =
         let a = block_sized one inside names n in
         let b = block_sized other inside names (n + numbers_taken_all known accepted) in
         let sum = words-append (declared_in_all known accepted) (declared_in_all known otherwise) in
@@ -156,13 +177,20 @@ module _ (earlier : List ProcedureTree) (at : Scope) (stand : Stand SizedBody ea
         let right = b.nodes in
         let few = a.words in
         let more = b.words in
-        record { nodes = omega (arith, left, right, same_nodes names condition); words = omega (arith, sum, few, more) }
-    statement_sized (repeats {scope = scope} {text = text} {low = low} {high = high} {body = body} has is new all) inside names n =
+        record {
+          nodes = omega (arith, left, right, same_nodes names condition);
+          words = omega (arith, sum, few, more);
+        }
+    statement_sized (repeats {scope = scope} {text = text} {low = low} {high = high} {body = body} has is new all)
+        inside names n =
         let b = block_sized all (callable_declared earlier (IsAt at) scope text _ inside)
         (naming names text n (word_as counter_type false)) (n + 1) in
         let same = b.nodes in
         let few = b.words in
-        record { nodes = omega (arith, same, same_nodes names low, same_nodes names high); words = omega (arith, few) }
+        record {
+          nodes = omega (arith, same, same_nodes names low, same_nodes names high);
+          words = omega (arith, few);
+        }
 
     pub block_sized : {scope : Scope} {control : Label} {b : BlockTree} → AreWellTyped earlier scope control b
         → IsWithin earlier at scope → (names : Numbers) (n : ℕ) → BlockSized names n b
@@ -171,7 +199,8 @@ module _ (earlier : List ProcedureTree) (at : Scope) (stand : Stand SizedBody ea
         let a = statement_sized here inside names n in
         let b = block_sized there (callable_after earlier (IsAt at) here inside) (names_after known names n s)
         (n + numbers_taken known s) in
-        let whole = chain-nodes (statement known names n s) (block known (names_after known names n s) (n + numbers_taken known s) rest) in
+        let whole = chain-nodes (statement known names n s)
+        (block known (names_after known names n s) (n + numbers_taken known s) rest) in
         let sum = words-append (declared_in known s) (declared_in_all known rest) in
         let left = a.nodes in
         let right = b.nodes in
@@ -199,7 +228,8 @@ sized_one before at p stand typed =
 
 -- Parameters.
 
-parameter_takes : (p : ParameterTree) (form : Form) → words_by (own p).word (elements_by form p.length) ≡ held_words form p.kind p.length
+parameter_takes : (p : ParameterTree) (form : Form)
+    → words_by (own p).word (elements_by form p.length) ≡ held_words form p.kind p.length
 parameter_takes p SingleWord = refl
 parameter_takes p FixedArray = refl
 parameter_takes p MutableArray = refl

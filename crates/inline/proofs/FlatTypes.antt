@@ -1,6 +1,7 @@
--- A well-typed statement is well typed once its names are numbers, under the control label of the source, and under secret
--- control too where it assigns to nothing public.
-use Rattle.std.proofs.Common.{◌≡◌, ℕ, suc, ◌+◌, Bool, false, true, List, [], ◌∷◌, ◌++◌, length, map, Option, Some, None, refl, sym, ap, ◌∙◌, subst, arith, length-append}
+-- A well-typed statement is well typed once its names are numbers, under the control label of the source, and under
+-- secret control too where it assigns to nothing public.
+use Rattle.std.proofs.Common.{◌≡◌, ℕ, suc, ◌+◌, Bool, false, true, List, [], ◌∷◌, ◌++◌, length, map, Option, Some}
+use Rattle.std.proofs.Common.{None, refl, sym, ap, ◌∙◌, subst, arith, length-append}
 use Rattle.std.proofs.lemmas.List.{length-map}
 use Rattle.inline.specs.declared.flat.FlatVariable.{FlatVariable}
 use Rattle.inline.specs.declared.numbering.Numbered.{Numbered}
@@ -8,7 +9,11 @@ use Rattle.inline.specs.Flat.{chain, word_as, array_as, numbers_in}
 use Rattle.inline.specs.Flat as tree
 use Rattle.inline.specs.FlatTyping.{Types, AreTyped, IsPut, Suits, types_after_all, with_type, counter_type}
 use Rattle.inline.specs.FlatTyping as flat
-use Rattle.inline.specs.Numbering.{Numbers, Callables, callables, call_block, call_variables, call_result, call_value, right_block, right_variables, right_end, right, value_given, element_block, element_variables, dropped_block, dropped_variables, statement, block, names_after, names_after_all, naming, number_of, size_of, declared_in, declared_in_all, numbers_taken, numbers_taken_all, term, single}
+use Rattle.inline.specs.Numbering.{Numbers, Callables, callables, call_block, call_variables, call_result, call_value}
+use Rattle.inline.specs.Numbering.{right_block, right_variables, right_end, right, value_given, element_block}
+use Rattle.inline.specs.Numbering.{element_variables, dropped_block, dropped_variables, statement, block, names_after}
+use Rattle.inline.specs.Numbering.{names_after_all, naming, number_of, size_of, declared_in, declared_in_all}
+use Rattle.inline.specs.Numbering.{numbers_taken, numbers_taken_all, term, single}
 use Rattle.language.specs.declared.signature.Kind.TheVariants.{Boolean}
 use Rattle.language.specs.declared.signature.Label.{Label}
 use Rattle.language.specs.declared.signature.Label.TheVariants.{Public, Secret}
@@ -16,18 +21,23 @@ use Rattle.language.specs.declared.typing.ArrayType.{ArrayType}
 use Rattle.language.specs.declared.typing.ValueType.TheVariants.{Word, Array}
 use Rattle.language.specs.declared.typing.WordType.{WordType}
 use Rattle.language.specs.Grammatical.{AreSmall, AreAllSmall, AreSmallValues, IsSmallRight, IsPlain, ArePlain}
-use Rattle.language.specs.Tree.{ExprTree, RightTree, StatementTree, declaration, assignment, element_assignment, call, BlockTree, ProcedureTree, written}
+use Rattle.language.specs.Tree.{ExprTree, RightTree, StatementTree, declaration, assignment, element_assignment, call}
+use Rattle.language.specs.Tree.{BlockTree, ProcedureTree, written}
 use Rattle.language.specs.Types.{Scope, joined}
 use Rattle.language.specs.Typing.{block_assigns, right_assigns, scope_after, scope_after_all, statement_assigns}
 use Rattle.language.specs.WellTyped as rules
-use Rattle.language.specs.WellTyped.{labelled, IsVariable, FlowsTo, public_flows, secret_flows, Gives, of_call, of_value, IsWellTyped, declares, declares_array, assigns, assigns_element, calls, chooses, repeats, AreWellTyped, no_statement, one_more}
+use Rattle.language.specs.WellTyped.{labelled, IsVariable, FlowsTo, public_flows, secret_flows, Gives, of_call}
+use Rattle.language.specs.WellTyped.{of_value, IsWellTyped, declares, declares_array, assigns, assigns_element, calls}
+use Rattle.language.specs.WellTyped.{chooses, repeats, AreWellTyped, no_statement, one_more}
 use Rattle.word.specs.declared.place.Place.{Place}
 use Rattle.inline.proofs.CallTypes.{TypedBody, call_fits, result_suits, dropped_typed}
 use Rattle.inline.proofs.ChainTypes.{chain-types, chain-typed, types_before}
 use Rattle.inline.proofs.Hiding.{Hides, hides_after, hides_counter, either_false}
 use Rattle.inline.proofs.KnownLemmas.{AllKnown}
-use Rattle.inline.proofs.Linked.{Linked, Serves, KnownAs, linked_beside, linked_declared, known_word, known_array, later, with_type-same}
-use Rattle.inline.proofs.Listed.{Lists, IsCounted, call_takes, right_takes, statement_takes, passed_over, all_counted, lists_first, lists_left, lists_right}
+use Rattle.inline.proofs.Linked.{Linked, Serves, KnownAs, linked_beside, linked_declared, known_word, known_array}
+use Rattle.inline.proofs.Linked.{later, with_type-same}
+use Rattle.inline.proofs.Listed.{Lists, IsCounted, call_takes, right_takes, statement_takes, passed_over, all_counted}
+use Rattle.inline.proofs.Listed.{lists_first, lists_left, lists_right}
 use Rattle.inline.proofs.Procedures.{Stand, IsAt, IsWithin, callable_after, callable_declared}
 use Rattle.inline.proofs.Terms.{means, suits_there}
 
@@ -54,7 +64,8 @@ joined-swap Secret Secret control = refl
 -- what may be assigned to is declared so
 served : {there : Option FlatVariable} {d : FlatVariable} → Serves there d → d.mutable ≡ true
     → there ≡ Some (record { word = d.word; mutable = true; elements = d.elements })
-served {d = d} serves free = serves.is ∙ ap (λ b. Some (record { word = d.word; mutable = b; elements = d.elements })) (serves.enough free)
+served {d = d} serves free = serves.is
+    ∙ ap (λ b. Some (record { word = d.word; mutable = b; elements = d.elements })) (serves.enough free)
 
 -- an array's number and size
 array_there : {names : Numbers} {types : Types} {text : List ℕ} {array : ArrayType}
@@ -70,13 +81,15 @@ module _ (scope : Scope) (names : Numbers) (types : Types) (n : ℕ) (linked : L
   all_suit : {wanted : WordType} {es : List ExprTree} → rules.AllSuit scope wanted es → AreAllSmall es
       → flat.AllSuit types wanted (map (term names) es)
   all_suit rules.none_wanted small = tt
-  all_suit (rules.one_suits has suit all) small = (suits_there (means scope names types n linked has small.0) suit, all_suit all small.1)
+  all_suit (rules.one_suits has suit all) small =
+      (suits_there (means scope names types n linked has small.0) suit, all_suit all small.1)
 
 pub small_values : (values : Option (List ExprTree)) → AreSmallValues values → AreAllSmall (written values)
 small_values None small = tt
 small_values (Some es) small = small
 
-as_many : (names : Numbers) (size : ℕ) (es : List ExprTree) → length es ≡ size → flat.HasCount size (map (term names) es)
+as_many : (names : Numbers) (size : ℕ) (es : List ExprTree) → length es ≡ size
+    → flat.HasCount size (map (term names) es)
 as_many names size [] is = tt
 as_many names size (e ∷ es) is = length-map (e ∷ es) (term names) ∙ is
 
@@ -100,7 +113,8 @@ module _ (earlier : List ProcedureTree) where
 
   -- names, types and numbers still go together behind a right side
   linked_right : (scope : Scope) (names : Numbers) (types : Types) (n : ℕ) → Linked scope names types n
-      → (r : RightTree) → Linked scope names (types_after_all types (right_block known names n r)) (right_end known n r)
+      → (r : RightTree)
+      → Linked scope names (types_after_all types (right_block known names n r)) (right_end known n r)
   linked_right scope names types n linked r = passed_over scope names types n (right_block known names n r)
       (length (right_variables known r)) (right_takes known counted names n r) linked
 
@@ -109,7 +123,8 @@ module _ (earlier : List ProcedureTree) where
       → (names : Numbers) (types : Types) (n : ℕ) → Linked scope names types n
       → Linked (scope_after scope s) (names_after known names n s) (types_after_all types (statement known names n s))
       (n + numbers_taken known s)
-  linked_after (declares {scope = scope} {place = place} {label = label} {mutable = mutable} {kind = kind} {text = text}
+  linked_after (declares {scope = scope} {place = place} {label = label} {mutable = mutable} {kind =
+      kind} {text = text}
       {right = r} new has suit flow) names types n linked =
       let own = word_as (labelled kind label) mutable in
       let vars = right_variables known r in
@@ -117,10 +132,12 @@ module _ (earlier : List ProcedureTree) where
       let m = right_end known n r in
       let count = length-append vars (own ∷ []) in
       let same : m + 1 ≡ n + length (vars ++ own ∷ []) = omega (arith, count) in
-      let there = linked_declared scope names (types_after_all types front) m (linked_right scope names types n linked r) text own new in
+      let there = linked_declared scope names (types_after_all types front) m
+      (linked_right scope names types n linked r) text own new in
       subst (Linked (scope_after scope (declaration place label mutable kind text r)) (naming names text m own)
       (types_after_all types (statement known names n (declaration place label mutable kind text r)))) same
-      (subst (λ t. Linked (scope_after scope (declaration place label mutable kind text r)) (naming names text m own) t
+      (subst (λ t. Linked (scope_after scope (declaration place label mutable kind text r))
+      (naming names text m own) t
       (m + 1)) (sym (chain-types types front
       (single (tree.declare m (labelled kind label) mutable (right known names n r))))) there)
   linked_after (declares_array {scope = scope} {label = label} {mutable = mutable} {kind = kind} {size = size}
@@ -135,8 +152,10 @@ module _ (earlier : List ProcedureTree) where
       (statement_takes known counted names n (element_assignment place bracket target text index r)) linked
   linked_after (calls {scope = scope} {c = c} is) names types n linked =
       passed_over scope names types n _ _ (statement_takes known counted names n (call c)) linked
-  linked_after (chooses {scope = scope} {accepted = accepted} {otherwise = otherwise} has one other) names types n linked =
-      later scope names types n (n + length (declared_in_all known accepted ++ declared_in_all known otherwise)) (omega arith) linked
+  linked_after (chooses {scope = scope} {accepted = accepted} {otherwise = otherwise} has one other) names
+      types n linked =
+      later scope names types n (n + length (declared_in_all known accepted ++ declared_in_all known otherwise))
+      (omega arith) linked
   linked_after (repeats {scope = scope} {body = body} low high new inner) names types n linked =
       later scope names types n (n + suc (numbers_taken_all known body)) (omega arith) linked
 
@@ -144,7 +163,8 @@ module _ (earlier : List ProcedureTree) where
       → (names : Numbers) (types : Types) (n : ℕ) → Linked scope names types n
       → Linked (scope_after_all scope b) (names_after_all known names n b)
       (types_after_all types (block known names n b)) (n + numbers_taken_all known b)
-  linked_after_all (no_statement {scope = scope}) names types n linked = later scope names types n (n + 0) (omega arith) linked
+  linked_after_all (no_statement {scope = scope}) names types n linked =
+      later scope names types n (n + 0) (omega arith) linked
   linked_after_all (one_more {scope = scope} {statement = s} {rest = rest} here there) names types n linked =
       let m = n + numbers_taken known s in
       let next = names_after known names n s in
@@ -152,7 +172,8 @@ module _ (earlier : List ProcedureTree) where
       let inside = types_after_all types (statement known names n s) in
       let end = linked_after_all there next inside m (linked_after here names types n linked) in
       let count = length-append (declared_in known s) (declared_in_all known rest) in
-      let same : m + numbers_taken_all known rest ≡ n + length (declared_in known s ++ declared_in_all known rest) = omega (arith, count) in
+      let same : m + numbers_taken_all known rest ≡ n + length (declared_in known s ++ declared_in_all known rest) =
+      omega (arith, count) in
       subst (Linked (scope_after_all (scope_after scope s) rest) (names_after_all known next m rest)
       (types_after_all types (chain (statement known names n s) back))) same
       (subst (λ t. Linked (scope_after_all (scope_after scope s) rest) (names_after_all known next m rest) t
@@ -160,7 +181,8 @@ module _ (earlier : List ProcedureTree) where
 
   module _ (at : Scope) (stand : Stand TypedBody earlier at) (all : List FlatVariable) (outer : Label) where
     -- a right side that is well typed
-    record RightFits (types : Types) (control : Label) (names : Numbers) (n : ℕ) (r : RightTree) (wanted : WordType) : Type 0 where
+    record RightFits (types : Types) (control : Label) (names : Numbers) (n : ℕ) (r : RightTree) (wanted : WordType) :
+        Type 0 where
       pub typed : AreTyped all types control (right_block known names n r)
       pub suits : Suits (types_after_all types (right_block known names n r)) wanted (right known names n r)
 
@@ -171,15 +193,18 @@ module _ (earlier : List ProcedureTree) where
         → Lists all n (right_variables known r) → RightFits types (joined outer control) names n r wanted
     right_fits {scope = scope} (of_value has) suit within hush names types n linked small lists =
         record { typed = tt; suits = suits_there (means scope names types n linked has small) suit }
-    right_fits {control = control} {given = given} {wanted = wanted} (of_call {c = c} is) suit within hush names types n
+    right_fits {control = control} {given = given} {wanted = wanted} (of_call {c = c} is) suit within hush
+        names types n
         linked small lists =
         let f = call_fits earlier at stand is within outer hush all names types n linked small lists in
         let body = call_block (known c.name) names n c.arguments in
         let value = call_value (known c.name) names n c.arguments in
-        let suits = result_suits (types_after_all types body) (call_result (known c.name)) value given wanted f.result f.gives suit in
+        let suits = result_suits (types_after_all types body) (call_result (known c.name)) value given wanted f.result
+        f.gives suit in
         record {
           typed = (tt, chain-typed all types (joined outer control) body (single tree.skip) f.typed (tt, tt));
-          suits = subst (λ t. Suits t wanted (value_given value)) (sym (chain-types types body (single tree.skip))) suits;
+          suits = subst (λ t. Suits t wanted (value_given value))
+              (sym (chain-types types body (single tree.skip))) suits;
         }
 
     -- an assignment to an element
@@ -192,7 +217,8 @@ module _ (earlier : List ProcedureTree) where
         → (names : Numbers) (types : Types) (n : ℕ) → Linked scope names types n → AreSmall index → IsSmallRight r
         → Lists all n (element_variables known r) → AreTyped all types (joined outer control)
         (element_block known names n bracket text index r)
-    element_typed text {scope = scope} {array = own} is has (of_value value) suit flow within hush bracket names types n
+    element_typed text {scope = scope} {array = own} is has (of_value value) suit flow within hush bracket
+        names types n
         linked plain small lists = (
           record {
             word = own.element;
@@ -221,7 +247,8 @@ module _ (earlier : List ProcedureTree) where
         (value_given value) = record {
           word = own.element;
           known = array_there (known_array scope names end ((n + 1) + length vars) there text own true is);
-          index_type = flat.of_variable (types_before inside (n + 1) body takes.numbered n (omega arith) ∙ with_type-same types n counter);
+          index_type = flat.of_variable (types_before inside (n + 1) body takes.numbered n (omega arith)
+              ∙ with_type-same types n counter);
           suits = result_suits end (call_result o) value given own.element f.result f.gives suit;
           hidden = still_secret outer flow (λ e. (hush e).0 text _ is refl);
         } in (
@@ -235,7 +262,8 @@ module _ (earlier : List ProcedureTree) where
         )
 
     mutual
-      pub typed_statement : {scope : Scope} {control : Label} {s : StatementTree} → IsWellTyped earlier scope control s
+      pub typed_statement : {scope : Scope} {control : Label} {s : StatementTree}
+          → IsWellTyped earlier scope control s
           → IsWithin earlier at scope → IsHushed outer scope (statement_assigns at s)
           → (names : Numbers) (types : Types) (n : ℕ) → Linked scope names types n → IsPlain s
           → Lists all n (declared_in known s) → AreTyped all types (joined outer control)
@@ -256,7 +284,10 @@ module _ (earlier : List ProcedureTree) where
       typed_statement (declares_array {scope = scope} {label = label} {mutable = mutable} {kind = kind} {size = size}
           {values = values} new suit count flow) within hush names types n linked plain lists = (
             (
-              record { new = linked.fresh n (omega arith); listed = lists_first all n (array_as (labelled kind label) mutable size) [] lists },
+              record {
+                new = linked.fresh n (omega arith);
+                listed = lists_first all n (array_as (labelled kind label) mutable size) [] lists;
+              },
               all_suit scope names types n linked suit (small_values values plain.1),
               has_count names count,
             ),
@@ -269,7 +300,8 @@ module _ (earlier : List ProcedureTree) where
           let inside = types_after_all types front in
           let x = known_word scope names inside m (linked_right scope names types n linked r) text wanted true is in
           let f = right_fits has suit within (λ e. (hush e).1) names types n linked plain lists in
-          chain-typed all types (joined outer control) front (single (tree.assign (number_of names text) (right known names n r))) f.typed (
+          chain-typed all types (joined outer control) front
+          (single (tree.assign (number_of names text) (right known names n r))) f.typed (
             record {
               word = wanted;
               known = ap (λ (x : Numbered). inside.at x.number) x.here ∙ served x.typed refl;
@@ -278,10 +310,12 @@ module _ (earlier : List ProcedureTree) where
             },
             tt,
           )
-      typed_statement (assigns_element {bracket = bracket} {text = text} is has value suit flow) within hush names types
+      typed_statement (assigns_element {bracket = bracket} {text = text} is has value suit flow) within hush
+          names types
           n linked plain lists =
           element_typed text is has value suit flow within hush bracket names types n linked plain.0 plain.1 lists
-      typed_statement (calls {scope = scope} {control = control} {c = c} is) within hush names types n linked plain lists =
+      typed_statement (calls {scope = scope} {control = control} {c = c} is) within hush names types n linked
+          plain lists =
           let o = known c.name in
           let vars = call_variables o c.arguments in
           let dropped = dropped_variables (call_result o) in
@@ -290,7 +324,8 @@ module _ (earlier : List ProcedureTree) where
           let m = n + length vars in
           let f = call_fits earlier at stand is within outer (λ e. (hush e).1) all names types n linked plain
           (lists_left all n vars dropped lists) in
-          let there = passed_over scope names types n body (length vars) (call_takes names c.arguments n o (counted c.name)) linked in (
+          let there = passed_over scope names types n body (length vars)
+          (call_takes names c.arguments n o (counted c.name)) linked in (
             tt,
             chain-typed all types (joined outer control) body (dropped_block m (call_result o) value) f.typed
                 (dropped_typed all (types_after_all types body) (joined outer control) m (call_result o) value
@@ -300,7 +335,8 @@ module _ (earlier : List ProcedureTree) where
           {otherwise = otherwise} {label = label} has one other) within hush names types n linked plain lists =
           let m = n + numbers_taken_all known accepted in
           let c = means scope names types n linked has plain.0 in
-          let quiet = λ (e : outer ≡ Secret). either_false (block_assigns at accepted) (block_assigns at otherwise) (hush e).1 in
+          let quiet = λ (e : outer ≡ Secret). either_false (block_assigns at accepted) (block_assigns at otherwise)
+          (hush e).1 in
           let a = typed_block one within (λ e. ((hush e).0, (quiet e).0)) names types n linked plain.1
           (lists_left all n (declared_in_all known accepted) (declared_in_all known otherwise) lists) in
           let b = typed_block other within (λ e. ((hush e).0, (quiet e).1)) names types m
@@ -315,13 +351,17 @@ module _ (earlier : List ProcedureTree) where
                 (sym c.label) (c.typed, arms.0, arms.1),
             tt,
           )
-      typed_statement (repeats {scope = scope} {text = text} {body = body} low high new inner) within hush names types n
+      typed_statement (repeats {scope = scope} {text = text} {body = body} low high new inner) within hush
+          names types n
           linked plain lists =
           let own = word_as counter_type false in (
             (
               (means scope names types n linked low plain.0).typed,
               (means scope names types n linked high plain.1).typed,
-              record { new = linked.fresh n (omega arith); listed = lists_first all n own (declared_in_all known body) lists },
+              record {
+                new = linked.fresh n (omega arith);
+                listed = lists_first all n own (declared_in_all known body) lists;
+              },
               typed_block inner (callable_declared earlier (IsAt at) scope text _ within)
                   (λ e. (hides_counter scope text new (hush e).0, (hush e).1)) (naming names text n own)
                   (with_type types n own) (n + 1) (linked_declared scope names types n linked text own new) plain.2
@@ -336,11 +376,13 @@ module _ (earlier : List ProcedureTree) where
           → Lists all n (declared_in_all known b) → AreTyped all types (joined outer control)
           (block known names n b)
       typed_block no_statement within hush names types n linked plain lists = tt
-      typed_block (one_more {control = control} {statement = s} {rest = rest} here there) within hush names types n linked plain lists =
+      typed_block (one_more {control = control} {statement = s} {rest = rest} here there) within hush names types n
+          linked plain lists =
           let front = statement known names n s in
           let next = names_after known names n s in
           let m = n + numbers_taken known s in
-          let quiet = λ (e : outer ≡ Secret). either_false (statement_assigns at s) (block_assigns at rest) (hush e).1 in
+          let quiet = λ (e : outer ≡ Secret). either_false (statement_assigns at s) (block_assigns at rest)
+          (hush e).1 in
           chain-typed all types (joined outer control) front (block known next m rest)
           (typed_statement here within (λ e. ((hush e).0, (quiet e).0)) names types n linked plain.0
           (lists_left all n (declared_in known s) (declared_in_all known rest) lists))

@@ -9,8 +9,10 @@ use Rattle.language.specs.declared.typing.Declared.TheVariants.{Variable}
 use Rattle.language.specs.declared.typing.VariableType.{VariableType}
 use Rattle.language.specs.Tree.{ParameterTree, ProcedureTree, StatementTree}
 use Rattle.language.specs.Types.{Scope, found, declared, label_of}
-use Rattle.language.specs.Typing.{is_mutable, is_public_mutable, counter_as, parameter_value, parameters_assign, right_assigns, scope_after, statement_assigns, with_parameters}
-use Rattle.language.specs.WellTyped.{IsWellTyped, declares, declares_array, assigns, assigns_element, calls, chooses, repeats, AreNew, no_parameter, one_is_new}
+use Rattle.language.specs.Typing.{is_mutable, is_public_mutable, counter_as, parameter_value, parameters_assign}
+use Rattle.language.specs.Typing.{right_assigns, scope_after, statement_assigns, with_parameters}
+use Rattle.language.specs.WellTyped.{IsWellTyped, declares, declares_array, assigns, assigns_element, calls, chooses}
+use Rattle.language.specs.WellTyped.{repeats, AreNew, no_parameter, one_is_new}
 use Rattle.inline.proofs.Linked.{same_variable}
 use Rattle.inline.proofs.Lookup.{found-new, found-other}
 use Rattle.inline.proofs.Parameters.{NoVariables}
@@ -21,7 +23,8 @@ either_false true b e = absurd (true≢false e)
 
 -- each name that may be assigned to is secret
 abbrev pub Hides : Scope → Type 0
-Hides scope = (text : List ℕ) (v : VariableType) → found scope text ≡ Some (Variable v) → v.mutable ≡ true → label_of v.value ≡ Secret
+Hides scope = (text : List ℕ) (v : VariableType) → found scope text ≡ Some (Variable v) → v.mutable ≡ true
+    → label_of v.value ≡ Secret
 
 pub hides_declared : (scope : Scope) (name : List ℕ) (v : VariableType) → found scope name ≡ None
     → (v.mutable ≡ true → label_of v.value ≡ Secret) → Hides scope → Hides (declared scope name (Variable v))
@@ -33,15 +36,18 @@ hides_declared scope name v new own hides text w is = by_name (bytes_eq text nam
     by_name false e = hides text w (sym (found-other scope.names name (Variable v) text e) ∙ is)
 
 -- what is no public name that may be assigned to
-secret_one : (label : Label) (mutable : Bool) → is_public_mutable label mutable ≡ false → mutable ≡ true → label ≡ Secret
+secret_one : (label : Label) (mutable : Bool) → is_public_mutable label mutable ≡ false → mutable ≡ true
+    → label ≡ Secret
 secret_one Public true none e = absurd (true≢false none)
 secret_one Public false none e = absurd (true≢false (sym e))
 secret_one Secret mutable none e = refl
 
 module _ (at : Scope) where
   pub hides_after : {earlier : List ProcedureTree} {scope : Scope} {control : Label} {s : StatementTree}
-      → IsWellTyped earlier scope control s → Hides scope → statement_assigns at s ≡ false → Hides (scope_after scope s)
-  hides_after (declares {scope = scope} {label = label} {mutable = mutable} {text = text} {right = r} new has suit flow) hides none =
+      → IsWellTyped earlier scope control s → Hides scope → statement_assigns at s ≡ false
+      → Hides (scope_after scope s)
+  hides_after (declares {scope = scope} {label = label} {mutable = mutable} {text = text} {right = r} new has suit
+      flow) hides none =
       hides_declared scope text _ new
       (secret_one label mutable (either_false (is_public_mutable label mutable) (right_assigns at r) none).0) hides
   hides_after (declares_array {scope = scope} {label = label} {mutable = mutable} {text = text} new suit count flow)
@@ -52,7 +58,8 @@ module _ (at : Scope) where
   hides_after (chooses has one other) hides none = hides
   hides_after (repeats low high new inner) hides none = hides
 
-pub hides_counter : (scope : Scope) (text : List ℕ) → found scope text ≡ None → Hides scope → Hides (declared scope text counter_as)
+pub hides_counter : (scope : Scope) (text : List ℕ) → found scope text ≡ None → Hides scope
+    → Hides (declared scope text counter_as)
 hides_counter scope text new hides = hides_declared scope text _ new (λ e. absurd (true≢false (sym e))) hides
 
 -- a scope of procedures

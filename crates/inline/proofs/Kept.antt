@@ -1,5 +1,6 @@
 -- A well-typed statement changes its own numbers and those of mutable names, and no others.
-use Rattle.std.proofs.Common.{◌≡◌, ℕ, zero, suc, ◌+◌, ◌-◌, ◌<◌, ◌≤◌, ◌==◌, Bool, true, false, if◌then◌else◌, List, [], ◌∷◌, length, map, Option, Some, None, ◌⊎◌, inl, inr, refl, sym, ap, ◌∙◌, arith}
+use Rattle.std.proofs.Common.{◌≡◌, ℕ, zero, suc, ◌+◌, ◌-◌, ◌<◌, ◌≤◌, ◌==◌, Bool, true, false, if◌then◌else◌, List, []}
+use Rattle.std.proofs.Common.{◌∷◌, length, map, Option, Some, None, ◌⊎◌, inl, inr, refl, sym, ap, ◌∙◌, arith}
 use Rattle.std.specs.Str.{bytes_eq}
 use Rattle.inline.specs.declared.flat.FlatVariable.{FlatVariable}
 use Rattle.inline.specs.declared.numbering.Numbered.{Numbered}
@@ -8,14 +9,18 @@ use Rattle.inline.specs.Flat.{FlatTree, FlatBlock, chain, word_as, array_as}
 use Rattle.inline.specs.FlatMeaning.{Values, value_in, elements, after, after_all, turns}
 use Rattle.inline.specs.FlatMeaning as flat_meaning
 use Rattle.inline.specs.FlatTyping.{counter_type}
-use Rattle.inline.specs.Numbering.{Numbers, callables, single, naming, number_of, size_of, term, statement, block, names_after, numbers_taken, numbers_taken_all, right, right_block, right_end, call_block, call_value, call_result, call_variables, dropped_block, value_given}
+use Rattle.inline.specs.Numbering.{Numbers, callables, single, naming, number_of, size_of, term, statement, block}
+use Rattle.inline.specs.Numbering.{names_after, numbers_taken, numbers_taken_all, right, right_block, right_end}
+use Rattle.inline.specs.Numbering.{call_block, call_value, call_result, call_variables, dropped_block, value_given}
 use Rattle.language.specs.declared.signature.Label.{Label}
 use Rattle.language.specs.declared.typing.ArrayType.{ArrayType}
 use Rattle.language.specs.declared.typing.ValueType.TheVariants.{Word, Array}
 use Rattle.language.specs.declared.typing.WordType.{WordType}
 use Rattle.language.specs.Tree.{StatementTree, BlockTree, ProcedureTree, written}
 use Rattle.language.specs.Types.{Scope}
-use Rattle.language.specs.WellTyped.{labelled, IsVariable, of_value, of_call, IsWellTyped, declares, declares_array, assigns, assigns_element, calls, chooses, repeats, AreWellTyped, no_statement, one_more}
+use Rattle.language.specs.WellTyped.{labelled, IsVariable, of_value, of_call, IsWellTyped, declares, declares_array}
+use Rattle.language.specs.WellTyped.{assigns, assigns_element, calls, chooses, repeats, AreWellTyped, no_statement}
+use Rattle.language.specs.WellTyped.{one_more}
 use Rattle.names.specs.Scope.{found}
 use Rattle.inline.specs.Flat.{TermTree}
 use Rattle.inline.proofs.Called.{Spares, Ready, ready_later, ready_declared, ready_after}
@@ -27,7 +32,8 @@ use Rattle.inline.proofs.Rights.{right_means}
 use Rattle.inline.proofs.States.{with_value-other}
 
 -- with one more name, of a number of its own
-pub spares_named : (names : Numbers) (n x : ℕ) → Spares names n x → (text : List ℕ) (k m : ℕ) (d : FlatVariable) → n ≤ k
+pub spares_named : (names : Numbers) (n x : ℕ) → Spares names n x
+    → (text : List ℕ) (k m : ℕ) (d : FlatVariable) → n ≤ k
     → n ≤ m → Spares (naming names text k d) m x
 spares_named names n x spares text k m d one other = record {
   below = let low = spares.below in omega arith;
@@ -43,14 +49,16 @@ spares_named names n x spares text k m d one other = record {
         omega arith
 
 pub spares_later : (names : Numbers) (n m x : ℕ) → n ≤ m → Spares names n x → Spares names m x
-spares_later names n m x more spares = record { below = let low = spares.below in omega arith; spared = spares.spared }
+spares_later names n m x more spares =
+    record { below = let low = spares.below in omega arith; spared = spares.spared }
 
 spares_after : (earlier : List ProcedureTree) {scope : Scope} {control : Label} {s : StatementTree}
     → IsWellTyped earlier scope control s → (names : Numbers) (n x : ℕ) → Spares names n x
     → Spares (names_after (callables earlier) names n s) (n + numbers_taken (callables earlier) s) x
 spares_after earlier {s = s} (declares {label = label} {mutable = mutable} {kind = kind} {text = text} {right = right}
     new has suit flow) names n x spares =
-    spares_named names n x spares text (right_end (callables earlier) n right) (n + numbers_taken (callables earlier) s)
+    spares_named names n x spares text (right_end (callables earlier) n right)
+    (n + numbers_taken (callables earlier) s)
     (word_as (labelled kind label) mutable) (omega arith) (omega arith)
 spares_after earlier {s = s} (declares_array {label = label} {mutable = mutable} {kind = kind} {size = size}
     {text = text} new all count flow) names n x spares =
@@ -73,11 +81,13 @@ behind : (b : FlatBlock) (s : FlatTree) (x : ℕ) (m : Values) → ((t : Values)
 behind b s x m step kept = ap (λ (end : Values). end x) (after_chain b (single s) m) ∙ (step (after_all m b) ∙ kept)
 
 -- so many turns
-turns_keep : (x k i : ℕ) (turn : ℕ → Values → Values) → ((i : ℕ) (t : Values) → turn i t x ≡ t x) → (m : Values) → turns k i turn m x ≡ m x
+turns_keep : (x k i : ℕ) (turn : ℕ → Values → Values) → ((i : ℕ) (t : Values) → turn i t x ≡ t x) → (m : Values)
+    → turns k i turn m x ≡ m x
 turns_keep x zero i turn step m = refl
 turns_keep x (suc k) i turn step m = turns_keep x k (i + 1) turn step (turn i m) ∙ step i m
 
-either_arm : (b : Bool) (x : ℕ) (one other m : Values) → one x ≡ m x → other x ≡ m x → (if b then other else one) x ≡ m x
+either_arm : (b : Bool) (x : ℕ) (one other m : Values) → one x ≡ m x → other x ≡ m x
+    → (if b then other else one) x ≡ m x
 either_arm true x one other m same alike = alike
 either_arm false x one other m same alike = same
 
@@ -85,17 +95,21 @@ either_arm false x one other m same alike = same
 pub dropped_keeps : (k x : ℕ) → x < k → (result : Option WordType) (value : Option TermTree) (m : Values)
     → after_all m (dropped_block k result value) x ≡ m x
 dropped_keeps k x low None value m = refl
-dropped_keeps k x low (Some word) value m = with_value-other m k x (value_in m (value_given value) ∷ []) (λ q. omega arith)
+dropped_keeps k x low (Some word) value m =
+    with_value-other m k x (value_in m (value_given value) ∷ []) (λ q. omega arith)
 
 module _ (earlier : List ProcedureTree) where
   -- what may be assigned to is none of them
-  module _ (scope : Scope) (names : Numbers) (n : ℕ) (ready : Ready earlier scope names n) (x : ℕ) (spares : Spares names n x) where
-    other_word : (text : List ℕ) (wanted : WordType) → IsVariable scope text (Word wanted) true → x ≡ number_of names text → ⊥
+  module _ (scope : Scope) (names : Numbers) (n : ℕ) (ready : Ready earlier scope names n) (x : ℕ)
+      (spares : Spares names n x) where
+    other_word : (text : List ℕ) (wanted : WordType) → IsVariable scope text (Word wanted) true
+        → x ≡ number_of names text → ⊥
     other_word text wanted is same =
         let k = known_word scope names ready.types n ready.linked text wanted true is in
         spares.spared text _ k.found refl (sym (ap (λ (z : Numbered). z.number) k.here) ∙ sym same)
 
-    other_array : (text : List ℕ) (array : ArrayType) → IsVariable scope text (Array array) true → x ≡ number_of names text → ⊥
+    other_array : (text : List ℕ) (array : ArrayType) → IsVariable scope text (Array array) true
+        → x ≡ number_of names text → ⊥
     other_array text array is same =
         let k = known_array scope names ready.types n ready.linked text array true is in
         spares.spared text _ k.found refl (sym (ap (λ (z : Numbered). z.number) k.here) ∙ sym same)
@@ -109,13 +123,15 @@ module _ (earlier : List ProcedureTree) where
         let k = right_end (callables earlier) n value in
         let low = spares.below in
         let taken = right (callables earlier) names n value in
-        behind (right_block (callables earlier) names n value) (flat.declare k (labelled kind label) mutable taken) x m
+        behind (right_block (callables earlier) names n value)
+        (flat.declare k (labelled kind label) mutable taken) x m
         (λ t. with_value-other t k x (value_in t taken ∷ []) (λ q. omega arith))
         ((right_means earlier scope names n ready has).keeps x spares m)
     statement_keeps (declares_array {size = size} {values = values} new all count flow) names n ready x spares m =
         let low = spares.below in
         with_value-other m n x (elements m size (map (term names) (written values))) (λ q. omega arith)
-    statement_keeps (assigns {scope = scope} {text = text} {right = value} {wanted = wanted} is has suit flow) names n ready x spares m =
+    statement_keeps (assigns {scope = scope} {text = text} {right = value} {wanted = wanted} is has suit flow) names n
+        ready x spares m =
         let taken = right (callables earlier) names n value in
         behind (right_block (callables earlier) names n value) (flat.assign (number_of names text) taken) x m
         (λ t. with_value-other t (number_of names text) x (value_in t taken ∷ [])
@@ -142,15 +158,19 @@ module _ (earlier : List ProcedureTree) where
         let value = call_value (callables earlier c.name) names n c.arguments in
         let low = spares.below in
         ap (λ (end : Values). end x) (after_chain tree (dropped_block k result value) m)
-        ∙ (dropped_keeps k x (omega arith) result value (after_all m tree) ∙ (call_means earlier scope names n ready is).keeps x spares m)
-    statement_keeps (chooses {condition = condition} {accepted = accepted} {otherwise = otherwise} has one other) names n ready x spares m =
+        ∙ (dropped_keeps k x (omega arith) result value (after_all m tree)
+        ∙ (call_means earlier scope names n ready is).keeps x spares m)
+    statement_keeps (chooses {condition = condition} {accepted = accepted} {otherwise = otherwise} has one other)
+        names n ready x spares m =
         let k = n + numbers_taken_all (callables earlier) accepted in
-        either_arm (value_in m (term names condition) == 0) x (after_all m (block (callables earlier) names n accepted))
+        either_arm (value_in m (term names condition) == 0) x
+        (after_all m (block (callables earlier) names n accepted))
         (after_all m (block (callables earlier) names k otherwise)) m
         (block_keeps one names n ready x spares m)
         (block_keeps other names k (ready_later n k (omega arith) ready) x
         (spares_later names n k x (omega arith) spares) m)
-    statement_keeps (repeats {text = text} {low = low} {high = high} {body = body} one other new inner) names n ready x spares m =
+    statement_keeps (repeats {text = text} {low = low} {high = high} {body = body} one other new inner) names n ready
+        x spares m =
         let own = word_as counter_type false in
         let inside = naming names text n own in
         let under = spares.below in

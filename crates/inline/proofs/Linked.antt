@@ -1,5 +1,6 @@
 -- Names, their types and their numbers, as they go together.
-use Rattle.std.proofs.Common.{◌≡◌, ℕ, ◌+◌, ◌<◌, ◌≤◌, Bool, true, false, if◌then◌else◌, List, Option, Some, None, unwrap_or, refl, sym, ap, ap₂, ◌∙◌, subst, arith, eq-eqb, ne_eqb}
+use Rattle.std.proofs.Common.{◌≡◌, ℕ, ◌+◌, ◌<◌, ◌≤◌, Bool, true, false, if◌then◌else◌, List, Option, Some, None}
+use Rattle.std.proofs.Common.{unwrap_or, refl, sym, ap, ap₂, ◌∙◌, subst, arith, eq-eqb, ne_eqb}
 use Rattle.std.proofs.lemmas.Option.{none-some, same_Some}
 use Rattle.std.specs.Str.{bytes_eq}
 use lib.Pointwise.{bytes_decides}
@@ -31,8 +32,8 @@ variable_as d = record { value = value_as d.word d.elements; mutable = d.mutable
 abbrev pub entry : ℕ → FlatVariable → Numbered
 entry n d = record { number = n; declaration = d }
 
--- What a number is declared as serves where this is wanted: it is declared alike, and may be assigned to where that is. An array
--- that may be assigned to may stand for a parameter that may not.
+-- What a number is declared as serves where this is wanted: it is declared alike, and may be assigned to where that
+-- is. An array that may be assigned to may stand for a parameter that may not.
 pub record Serves (there : Option FlatVariable) (d : FlatVariable) : Type 0 where
   pub free : Bool
   pub is : there ≡ Some (record { word = d.word; mutable = free; elements = d.elements })
@@ -41,7 +42,8 @@ pub record Serves (there : Option FlatVariable) (d : FlatVariable) : Type 0 wher
 pub serves_itself : (there : Option FlatVariable) (d : FlatVariable) → there ≡ Some d → Serves there d
 serves_itself there d is = record { free = d.mutable; is = is; enough = λ e. e }
 
-pub serves_alike : {there other : Option FlatVariable} {d : FlatVariable} → other ≡ there → Serves there d → Serves other d
+pub serves_alike : {there other : Option FlatVariable} {d : FlatVariable} → other ≡ there → Serves there d
+    → Serves other d
 serves_alike same serves = record { free = serves.free; is = same ∙ serves.is; enough = serves.enough }
 
 -- a variable: its number, and what its name is declared as
@@ -57,7 +59,8 @@ pub record Linked (scope : Scope) (names : Numbers) (types : Types) (n : ℕ) : 
   -- the observer is the same
   pub observed : types.profile ≡ scope.profile
   -- a variable's number has its type
-  pub known : (text : List ℕ) (v : VariableType) → found scope.names text ≡ Some (Variable v) → Known names types text v
+  pub known : (text : List ℕ) (v : VariableType) → found scope.names text ≡ Some (Variable v)
+      → Known names types text v
   -- only what is in scope has a number
   pub none : (text : List ℕ) → found scope.names text ≡ None → found names text ≡ None
   pub below : (text : List ℕ) (x : Numbered) → found names text ≡ Some x → x.number < n
@@ -90,14 +93,16 @@ widened scope names types others n m more one same new linked = record {
   fresh = new;
 }
 
-pub later : (scope : Scope) (names : Numbers) (types : Types) (n m : ℕ) → n ≤ m → Linked scope names types n → Linked scope names types m
+pub later : (scope : Scope) (names : Numbers) (types : Types) (n m : ℕ) → n ≤ m → Linked scope names types n
+    → Linked scope names types m
 later scope names types n m more linked = widened scope names types types n m more refl (λ x low. refl)
     (λ x high. linked.fresh x (omega arith)) linked
 
 pub with_type-same : (types : Types) (n : ℕ) (d : FlatVariable) → (with_type types n d).at n ≡ Some d
 with_type-same types n d = ap (λ b. if b then Some d else types.at n) (eq-eqb n n refl)
 
-pub with_type-other : (types : Types) (n x : ℕ) (d : FlatVariable) → (x ≡ n → ⊥) → (with_type types n d).at x ≡ types.at x
+pub with_type-other : (types : Types) (n x : ℕ) (d : FlatVariable) → (x ≡ n → ⊥)
+    → (with_type types n d).at x ≡ types.at x
 with_type-other types n x d other = ap (λ b. if b then Some d else types.at x) (ne_eqb x n other)
 
 pub same_variable : (v w : VariableType) → Some (Variable v) ≡ Some (Variable w) → v ≡ w
@@ -105,7 +110,8 @@ same_variable v w e = cc
 
 -- A name for a number that is declared: for a new one, or for a caller's array.
 
-module _ (scope : Scope) (names : Numbers) (types : Types) (n : ℕ) (linked : Linked scope names types n) (text : List ℕ)
+module _ (scope : Scope) (names : Numbers) (types : Types) (n : ℕ) (linked : Linked scope names types n)
+    (text : List ℕ)
     (new : found scope.names text ≡ None) (number : ℕ) (own : FlatVariable)
     (low : number < n) (typed : Serves (types.at number) own)
     (clear : (other : List ℕ) (x : Numbered) → found names other ≡ Some x → x.number ≡ number
@@ -116,11 +122,15 @@ module _ (scope : Scope) (names : Numbers) (types : Types) (n : ℕ) (linked : L
   after_names : Numbers
   after_names = naming names text number own
 
-  this_one : (other : List ℕ) (x : Numbered) → bytes_eq other text ≡ true → found after_names other ≡ Some x → entry number own ≡ x
+  this_one : (other : List ℕ) (x : Numbered) → bytes_eq other text ≡ true → found after_names other ≡ Some x
+      → entry number own ≡ x
   unfolding after_names
-  this_one other x e is = same_Some (entry number own) x (sym (found-new names text (entry number own) other e (linked.none text new)) ∙ is)
+  this_one other x e is =
+      same_Some (entry number own) x (sym (found-new names text (entry number own) other e (linked.none text new))
+      ∙ is)
 
-  old_one : (other : List ℕ) (x : Numbered) → bytes_eq other text ≡ false → found after_names other ≡ Some x → found names other ≡ Some x
+  old_one : (other : List ℕ) (x : Numbered) → bytes_eq other text ≡ false → found after_names other ≡ Some x
+      → found names other ≡ Some x
   unfolding after_names
   old_one other x e is = sym (found-other names text (entry number own) other e) ∙ is
 
@@ -128,7 +138,8 @@ module _ (scope : Scope) (names : Numbers) (types : Types) (n : ℕ) (linked : L
       → found after_scope.names other ≡ Some (Variable w) → Known after_names types other w
   unfolding after_scope after_names
   known_by other w true e is =
-      let same = same_variable (variable_as own) w (sym (found-new scope.names text (Variable (variable_as own)) other e new) ∙ is) in
+      let same = same_variable (variable_as own) w
+      (sym (found-new scope.names text (Variable (variable_as own)) other e new) ∙ is) in
       record {
         number = number;
         declaration = own;
@@ -146,7 +157,8 @@ module _ (scope : Scope) (names : Numbers) (types : Types) (n : ℕ) (linked : L
         typed = old.typed;
       }
 
-  none_by : (other : List ℕ) (b : Bool) → bytes_eq other text ≡ b → found after_scope.names other ≡ None → found after_names other ≡ None
+  none_by : (other : List ℕ) (b : Bool) → bytes_eq other text ≡ b → found after_scope.names other ≡ None
+      → found after_names other ≡ None
   unfolding after_scope after_names
   none_by other true e is = absurd
       (none-some (Variable (variable_as own))
@@ -154,12 +166,15 @@ module _ (scope : Scope) (names : Numbers) (types : Types) (n : ℕ) (linked : L
   none_by other false e is = found-other names text (entry number own) other e
       ∙ linked.none other (sym (found-other scope.names text (Variable (variable_as own)) other e) ∙ is)
 
-  below_by : (other : List ℕ) (x : Numbered) (b : Bool) → bytes_eq other text ≡ b → found after_names other ≡ Some x → x.number < n
-  below_by other x true e is = let same = ap (λ (z : Numbered). z.number) (this_one other x e is) in omega (arith, same, low)
+  below_by : (other : List ℕ) (x : Numbered) (b : Bool) → bytes_eq other text ≡ b → found after_names other ≡ Some x
+      → x.number < n
+  below_by other x true e is = let same = ap (λ (z : Numbered). z.number) (this_one other x e is) in
+      omega (arith, same, low)
   below_by other x false e is = linked.below other x (old_one other x e is)
 
   apart_by : (a b : List ℕ) (x y : Numbered) (s t : Bool) → bytes_eq a text ≡ s → bytes_eq b text ≡ t
-      → found after_names a ≡ Some x → found after_names b ≡ Some y → x.number ≡ y.number → x.declaration.mutable ≡ true
+      → found after_names a ≡ Some x → found after_names b ≡ Some y → x.number ≡ y.number
+      → x.declaration.mutable ≡ true
       → a ≡ b
   apart_by a b x y true true d e is is' equal free = (bytes_decides a text).0 d ∙ sym ((bytes_decides b text).0 e)
   apart_by a b x y true false d e is is' equal free =
@@ -169,7 +184,8 @@ module _ (scope : Scope) (names : Numbers) (types : Types) (n : ℕ) (linked : L
   apart_by a b x y false true d e is is' equal free =
       let same = this_one b y e is' in
       absurd ((clear a x (old_one a x d is) (equal ∙ ap (λ (z : Numbered). z.number) (sym same))).0 free)
-  apart_by a b x y false false d e is is' equal free = linked.apart a b x y (old_one a x d is) (old_one b y e is') equal free
+  apart_by a b x y false false d e is is' equal free =
+      linked.apart a b x y (old_one a x d is) (old_one b y e is') equal free
 
   pub linked_named : Linked (declared scope text (Variable (variable_as own))) (naming names text number own) types n
   unfolding after_scope after_names
@@ -193,7 +209,8 @@ linked_beside scope names types n own linked =
 -- a declaration
 pub linked_declared : (scope : Scope) (names : Numbers) (types : Types) (n : ℕ) → Linked scope names types n
     → (text : List ℕ) (own : FlatVariable) → found scope.names text ≡ None
-    → Linked (declared scope text (Variable (variable_as own))) (naming names text n own) (with_type types n own) (n + 1)
+    → Linked (declared scope text (Variable (variable_as own))) (naming names text n own)
+    (with_type types n own) (n + 1)
 linked_declared scope names types n linked text own new =
     linked_named scope names (with_type types n own) (n + 1) (linked_beside scope names types n own linked) text new n
     own (omega arith) (serves_itself ((with_type types n own).at n) own (with_type-same types n own))

@@ -1,15 +1,24 @@
 -- Where declarations stand in the list of all, and how many there are.
-use Rattle.std.proofs.Common.{◌≡◌, ℕ, zero, suc, ◌+◌, Bool, true, false, List, [], ◌∷◌, ◌++◌, length, Option, Some, None, if◌then◌else◌, refl, ap, ◌∙◌, sym, subst, arith, slice_get, length-append}
+use Rattle.std.proofs.Common.{◌≡◌, ℕ, zero, suc, ◌+◌, Bool, true, false, List, [], ◌∷◌, ◌++◌, length, Option, Some}
+use Rattle.std.proofs.Common.{None, if◌then◌else◌, refl, ap, ◌∙◌, sym, subst, arith, slice_get, length-append}
 use Rattle.std.proofs.lemmas.Option.{none-some}
 use Rattle.inline.specs.declared.flat.FlatVariable.{FlatVariable}
 use Rattle.inline.specs.Flat.{TermTree, FlatTree, FlatBlock, chain, word_as, counter_type}
 use Rattle.inline.specs.Flat as flat
-use Rattle.inline.specs.FlatTyping.{Types, types_after_all, declarations_in, declarations_in_all, IsNumbered, AreNumbered}
-use Rattle.inline.specs.Numbering.{Numbers, Callable, Callables, callable, callables, passed, passed_variables, own_variable, call_block, call_variables, call_result, call_value, call_names, call_start, right_block, right_variables, right_end, right, value_given, element_block, element_variables, dropped_block, dropped_variables, declared_in, declared_in_all, numbers_taken, numbers_taken_all, names_after, naming, statement, block, single, term, number_of, size_of}
+use Rattle.inline.specs.FlatTyping.{Types, types_after_all, declarations_in, declarations_in_all, IsNumbered}
+use Rattle.inline.specs.FlatTyping.{AreNumbered}
+use Rattle.inline.specs.Numbering.{Numbers, Callable, Callables, callable, callables, passed, passed_variables}
+use Rattle.inline.specs.Numbering.{own_variable, call_block, call_variables, call_result, call_value, call_names}
+use Rattle.inline.specs.Numbering.{call_start, right_block, right_variables, right_end, right, value_given}
+use Rattle.inline.specs.Numbering.{element_block, element_variables, dropped_block, dropped_variables, declared_in}
+use Rattle.inline.specs.Numbering.{declared_in_all, numbers_taken, numbers_taken_all, names_after, naming, statement}
+use Rattle.inline.specs.Numbering.{block, single, term, number_of, size_of}
 use Rattle.word.specs.declared.place.Place.{Place}
 use Rattle.language.specs.declared.typing.WordType.{WordType}
 use Rattle.language.specs.Meaning.{is_word}
-use Rattle.language.specs.Tree.{ExprTree, ParameterTree, ProcedureTree, RightTree, called, computed, StatementTree, declaration, array, assignment, element_assignment, call, conditional, loop, BlockTree, nothing, first}
+use Rattle.language.specs.Tree.{ExprTree, ParameterTree, ProcedureTree, RightTree, called, computed, StatementTree}
+use Rattle.language.specs.Tree.{declaration, array, assignment, element_assignment, call, conditional, loop}
+use Rattle.language.specs.Tree.{BlockTree, nothing, first}
 use Rattle.language.specs.Types.{Scope}
 use Rattle.language.specs.WellTyped.{labelled}
 use Rattle.inline.proofs.ChainTypes.{chain-declarations, chain-numbered, types_observed, types_before, types_behind}
@@ -20,7 +29,8 @@ use Rattle.inline.proofs.Linked.{Linked, widened}
 abbrev pub Lists : List FlatVariable → ℕ → List FlatVariable → Type 0
 Lists all n ds = (i : ℕ) (d : FlatVariable) → slice_get ds i ≡ Some d → slice_get all (n + i) ≡ Some d
 
-get_left : (xs ys : List FlatVariable) (i : ℕ) (d : FlatVariable) → slice_get xs i ≡ Some d → slice_get (xs ++ ys) i ≡ Some d
+get_left : (xs ys : List FlatVariable) (i : ℕ) (d : FlatVariable) → slice_get xs i ≡ Some d
+    → slice_get (xs ++ ys) i ≡ Some d
 get_left [] ys i d is = absurd (none-some d is)
 get_left (x ∷ xs) ys zero d is = is
 get_left (x ∷ xs) ys (suc i) d is = get_left xs ys i d is
@@ -37,11 +47,14 @@ pub lists_first : (all : List FlatVariable) (n : ℕ) (d : FlatVariable) (ds : L
     → slice_get all n ≡ Some d
 lists_first all n d ds lists = ap (slice_get all) (omega arith) ∙ lists 0 d refl
 
-pub lists_left : (all : List FlatVariable) (n : ℕ) (xs ys : List FlatVariable) → Lists all n (xs ++ ys) → Lists all n xs
+pub lists_left : (all : List FlatVariable) (n : ℕ) (xs ys : List FlatVariable) → Lists all n (xs ++ ys)
+    → Lists all n xs
 lists_left all n xs ys lists i d is = lists i d (get_left xs ys i d is)
 
-pub lists_right : (all : List FlatVariable) (n : ℕ) (xs ys : List FlatVariable) → Lists all n (xs ++ ys) → Lists all (n + length xs) ys
-lists_right all n xs ys lists i d is = ap (slice_get all) (omega arith) ∙ lists (length xs + i) d (get_right xs ys i ∙ is)
+pub lists_right : (all : List FlatVariable) (n : ℕ) (xs ys : List FlatVariable) → Lists all n (xs ++ ys)
+    → Lists all (n + length xs) ys
+lists_right all n xs ys lists i d is = ap (slice_get all) (omega arith)
+    ∙ lists (length xs + i) d (get_right xs ys i ∙ is)
 
 -- the list that ends with these
 pub lists_end : (xs ys : List FlatVariable) → Lists (xs ++ ys) (length xs) ys
@@ -85,7 +98,8 @@ passed_over scope names types n b count takes linked =
     let same = takes.counted in
     widened scope names types (types_after_all types b) n (n + count) (omega arith) (types_observed types b)
     (types_before types n b takes.numbered)
-    (λ x high. types_behind types n b takes.numbered x (omega (arith, same, high)) ∙ linked.fresh x (omega (arith, high))) linked
+    (λ x high. types_behind types n b takes.numbered x (omega (arith, same, high))
+    ∙ linked.fresh x (omega (arith, high))) linked
 
 -- Calls.
 
@@ -97,7 +111,8 @@ pub passed_takes : (names : Numbers) (n : ℕ) (ps : List ParameterTree) (es : L
     → Takes n (passed names n ps es) (length (passed_variables ps es))
 passed_takes names n [] es = record { numbered = tt; counted = refl }
 passed_takes names n (p ∷ ps) [] = record { numbered = tt; counted = refl }
-passed_takes names n (p ∷ ps) (e ∷ es) = by_form (is_word p.form) (passed_takes names (n + 1) ps es) (passed_takes names n ps es)
+passed_takes names n (p ∷ ps) (e ∷ es) =
+    by_form (is_word p.form) (passed_takes names (n + 1) ps es) (passed_takes names n ps es)
   where
     by_form : (b : Bool) → Takes (n + 1) (passed names (n + 1) ps es) (length (passed_variables ps es))
         → Takes n (passed names n ps es) (length (passed_variables ps es))
@@ -110,12 +125,14 @@ passed_takes names n (p ∷ ps) (e ∷ es) = by_form (is_word p.form) (passed_ta
     by_form false one other = other
 
 module _ (names : Numbers) (es : List ExprTree) where
-  pub call_takes : (n : ℕ) (o : Option Callable) → OnSome IsCounted o → Takes n (call_block o names n es) (length (call_variables o es))
+  pub call_takes : (n : ℕ) (o : Option Callable) → OnSome IsCounted o
+      → Takes n (call_block o names n es) (length (call_variables o es))
   call_takes n None is = record { numbered = tt; counted = refl }
   call_takes n (Some c) is =
       let words = passed_variables c.parameters es in
       let count = length-append words c.declared in
-      let whole = takes_chain n (passed names n c.parameters es) (c.body (call_names names n c es) (call_start n c es))
+      let whole = takes_chain n (passed names n c.parameters es)
+      (c.body (call_names names n c es) (call_start n c es))
       (length words) (length c.declared) (passed_takes names n c.parameters es)
       (is (call_names names n c es) (call_start n c es)) in
       subst (Takes n (call_block (Some c) names n es)) (sym count) whole
@@ -128,7 +145,8 @@ dropped_takes n (Some word) value = takes_one n (flat.declare n word false (valu
 -- Statements.
 
 module _ (known : Callables) (counted : AllKnown IsCounted known) where
-  pub right_takes : (names : Numbers) (n : ℕ) (r : RightTree) → Takes n (right_block known names n r) (length (right_variables known r))
+  pub right_takes : (names : Numbers) (n : ℕ) (r : RightTree)
+      → Takes n (right_block known names n r) (length (right_variables known r))
   right_takes names n (computed e) = record { numbered = tt; counted = refl }
   right_takes names n (called c) =
       let body = call_block (known c.name) names n c.arguments in
@@ -164,7 +182,8 @@ module _ (known : Callables) (counted : AllKnown IsCounted known) where
       record { numbered = (refl, whole.numbered); counted = omega (arith, count) }
 
   mutual
-    pub statement_takes : (names : Numbers) (n : ℕ) (s : StatementTree) → Takes n (statement known names n s) (numbers_taken known s)
+    pub statement_takes : (names : Numbers) (n : ℕ) (s : StatementTree)
+        → Takes n (statement known names n s) (numbers_taken known s)
     statement_takes names n (declaration place label mutable kind text value) =
         let own = word_as (labelled kind label) mutable in
         let m = right_end known n value in
@@ -172,11 +191,13 @@ module _ (known : Callables) (counted : AllKnown IsCounted known) where
         let last = flat.declare m (labelled kind label) mutable (right known names n value) in
         let whole = takes_chain n (right_block known names n value) (single last) (length vars) 1
         (right_takes names n value) (takes_one m last refl refl) in
-        subst (Takes n (chain (right_block known names n value) (single last))) (sym (length-append vars (own ∷ []))) whole
+        subst (Takes n (chain (right_block known names n value) (single last)))
+        (sym (length-append vars (own ∷ []))) whole
     statement_takes names n (array place label mutable kind size text values) = takes_one n _ refl refl
     statement_takes names n (assignment place target text value) =
         then_none names n value (flat.assign (number_of names text) (right known names n value)) tt refl
-    statement_takes names n (element_assignment place bracket target text index value) = element_takes names n bracket text index value
+    statement_takes names n (element_assignment place bracket target text index value) =
+        element_takes names n bracket text index value
     statement_takes names n (call c) =
         let o = known c.name in
         let vars = call_variables o c.arguments in
@@ -196,7 +217,10 @@ module _ (known : Callables) (counted : AllKnown IsCounted known) where
         let one = a.counted in
         let other = b.counted in
         record {
-          numbered = ((a.numbered, subst (λ k. AreNumbered (n + k) (block known names m otherwise)) (sym one) b.numbered), tt);
+          numbered = (
+            (a.numbered, subst (λ k. AreNumbered (n + k) (block known names m otherwise)) (sym one) b.numbered),
+            tt,
+          );
           counted = omega (arith, count, one, other);
         }
     statement_takes names n (loop place counter text low high body) =
@@ -204,7 +228,8 @@ module _ (known : Callables) (counted : AllKnown IsCounted known) where
         let count = b.counted in
         record { numbered = ((refl, b.numbered), tt); counted = omega (arith, count) }
 
-    pub block_takes : (names : Numbers) (n : ℕ) (b : BlockTree) → Takes n (block known names n b) (numbers_taken_all known b)
+    pub block_takes : (names : Numbers) (n : ℕ) (b : BlockTree)
+        → Takes n (block known names n b) (numbers_taken_all known b)
     block_takes names n nothing = record { numbered = tt; counted = refl }
     block_takes names n (first s rest) =
         let m = n + numbers_taken known s in
@@ -216,4 +241,5 @@ module _ (known : Callables) (counted : AllKnown IsCounted known) where
 
 -- of procedures that may be called
 pub all_counted : (before : List ProcedureTree) → AllKnown IsCounted (callables before)
-all_counted before = known-true IsCounted callable (λ known counted p names n. block_takes known counted names n p.body) before
+all_counted before =
+    known-true IsCounted callable (λ known counted p names n. block_takes known counted names n p.body) before

@@ -1,5 +1,6 @@
 -- What a name stands for after a declaration.
-use Rattle.std.proofs.Common.{◌≡◌, ℕ, Bool, true, false, cond, List, [], ◌∷◌, ◌++◌, Option, Some, None, is_some, ◌⊎◌, inl, inr, refl, sym, ap, ◌∙◌, true≢false}
+use Rattle.std.proofs.Common.{◌≡◌, ℕ, Bool, true, false, cond, List, [], ◌∷◌, ◌++◌, Option, Some, None, is_some, ◌⊎◌}
+use Rattle.std.proofs.Common.{inl, inr, refl, sym, ap, ◌∙◌, true≢false}
 use Rattle.std.proofs.lemmas.Option.{same_Some}
 use Rattle.std.specs.Map.{lookup}
 use Rattle.std.specs.Str.{bytes_eq}
@@ -44,15 +45,18 @@ module _ {V : Type 0} (scope : List (List ℕ × V)) (name : List ℕ) (what : V
   after false e = lookup_append (bytes_eq text) scope ((name, what) ∷ [])
 
   -- a declaration is found where nothing was found before
-  pub found_declared : found (declared scope name what) text ≡ first_of_two (found scope text) (cond (bytes_eq text name) (Some what) None)
+  pub found_declared : found (declared scope name what) text
+      ≡ first_of_two (found scope text) (cond (bytes_eq text name) (Some what) None)
   found_declared = after (is_some (found scope name)) refl
 
   -- another name stands for what it stood for
   pub found-other : bytes_eq text name ≡ false → found (declared scope name what) text ≡ found scope text
-  found-other e = found_declared ∙ (ap (λ b. first_of_two (found scope text) (cond b (Some what) None)) e ∙ first-none (found scope text))
+  found-other e = found_declared
+      ∙ (ap (λ b. first_of_two (found scope text) (cond b (Some what) None)) e ∙ first-none (found scope text))
 
   -- a new name stands for what was declared
-  pub found-new : bytes_eq text name ≡ true → found scope name ≡ None → found (declared scope name what) text ≡ Some what
+  pub found-new : bytes_eq text name ≡ true → found scope name ≡ None
+      → found (declared scope name what) text ≡ Some what
   found-new e absent =
       found_declared
       ∙ (ap (λ b. first_of_two (found scope text) (cond b (Some what) None)) e

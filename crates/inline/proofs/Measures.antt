@@ -9,8 +9,10 @@ use Rattle.language.specs.declared.tree.Expr.{Expr}
 use Rattle.language.specs.declared.tree.Procedure.{Procedure}
 use Rattle.language.specs.declared.tree.Statement.{Statement, If, For}
 use Rattle.language.specs.Meaning.{named, word_arguments}
-use Rattle.language.specs.Size.{Extents, block_nodes, called_nodes, call_nodes, extent_of, extents_of, nodes_in, nodes_passed, return_nodes, right_nodes, statement_nodes}
-use Rattle.language.specs.Tree.{CallTree, RightTree, StatementTree, block_tree, expr_tree, procedure_tree, statement_tree}
+use Rattle.language.specs.Size.{Extents, block_nodes, called_nodes, call_nodes, extent_of, extents_of, nodes_in}
+use Rattle.language.specs.Size.{nodes_passed, return_nodes, right_nodes, statement_nodes}
+use Rattle.language.specs.Tree.{CallTree, RightTree, StatementTree, block_tree, expr_tree, procedure_tree}
+use Rattle.language.specs.Tree.{statement_tree}
 
 abbrev pub extents_by : List Procedure → Extents
 extents_by earlier = extents_of (map procedure_tree earlier)
@@ -38,7 +40,8 @@ body_smaller earlier before callee c body is list =
     let count : nodes_of_call earlier c ≡ 1 + nodes_passed (word_arguments p.parameters c.arguments)
     + (block_nodes (extents_by before) p.body + return_nodes p.returned) =
     ap (λ o. called_nodes o c) known in
-    let same : nodes_of_block before body ≡ block_nodes (extents_by before) p.body = ap (nodes_of_block before) list in
+    let same : nodes_of_block before body ≡ block_nodes (extents_by before) p.body =
+    ap (nodes_of_block before) list in
     omega (arith, count, same)
 
 -- the parts of a conditional and of a loop
@@ -50,7 +53,8 @@ pub conditional_smaller : (earlier : List Procedure) (s : Statement) (place : Pl
 conditional_smaller earlier s place condition accepted otherwise ones others is first_arm second_arm =
     let whole : nodes_of_statement earlier (statement_tree s) ≡ 1 + nodes_in (expr_tree condition)
     + nodes_of_block earlier ones + nodes_of_block earlier others =
-    ap (nodes_of_statement earlier) (conditional_whole s place condition accepted otherwise ones others is first_arm second_arm) in
+    ap (nodes_of_statement earlier)
+    (conditional_whole s place condition accepted otherwise ones others is first_arm second_arm) in
     omega (arith, whole)
 
 pub loop_smaller : (earlier : List Procedure) (s : Statement) (place : Place) (counter : Counter) (low high : Expr)
@@ -59,7 +63,8 @@ pub loop_smaller : (earlier : List Procedure) (s : Statement) (place : Place) (c
     8 * (1 + nodes_in (expr_tree low) + nodes_in (expr_tree high) + nodes_of_block earlier ones) + 5
     < 8 * nodes_of_statement earlier (statement_tree s) + 6
 loop_smaller earlier s place counter low high body ones is list =
-    let whole : nodes_of_statement earlier (statement_tree s) ≡ 1 + nodes_in (expr_tree low) + nodes_in (expr_tree high)
+    let whole : nodes_of_statement earlier (statement_tree s)
+    ≡ 1 + nodes_in (expr_tree low) + nodes_in (expr_tree high)
     + nodes_of_block earlier ones =
     ap (nodes_of_statement earlier) (loop_whole s place counter low high body ones is list) in
     omega (arith, whole)

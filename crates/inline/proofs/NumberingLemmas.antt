@@ -1,5 +1,6 @@
 -- Numbering statements one by one, and the names that outlast them.
-use Rattle.std.proofs.Common.{◌≡◌, ℕ, ◌+◌, true, false, Bool, List, [], ◌∷◌, ◌++◌, Vec, Global, length, take, is_some, Option, Some, refl, sym, ap, ap₂, ◌∙◌, length-append}
+use Rattle.std.proofs.Common.{◌≡◌, ℕ, ◌+◌, true, false, Bool, List, [], ◌∷◌, ◌++◌, Vec, Global, length, take, is_some}
+use Rattle.std.proofs.Common.{Option, Some, refl, sym, ap, ap₂, ◌∙◌, length-append}
 use Rattle.std.proofs.lemmas.List.{append_assoc, append-nil}
 use Rattle.std.proofs.Math.Seq.{take-append_seam}
 use Rattle.inline.proofs.Below.{conditional_tree, loop_tree}
@@ -15,12 +16,15 @@ use Rattle.language.specs.declared.signature.Label.{Label}
 use Rattle.language.specs.declared.typing.WordType.{WordType}
 use Rattle.language.specs.declared.tree.Counter.{Counter}
 use Rattle.language.specs.WellTyped.{labelled}
-use Rattle.inline.specs.Numbering.{Callables, Numbers, block, names_after, names_after_all, naming, statement, single, term, label_in, right_end, declared_in, declared_in_all, numbers_taken, numbers_taken_all, dropped_block, value_given}
+use Rattle.inline.specs.Numbering.{Callables, Numbers, block, names_after, names_after_all, naming, statement, single}
+use Rattle.inline.specs.Numbering.{term, label_in, right_end, declared_in, declared_in_all, numbers_taken}
+use Rattle.inline.specs.Numbering.{numbers_taken_all, dropped_block, value_given}
 use Rattle.names.specs.Scope.{declared, found}
 use Rattle.word.specs.declared.place.Place.{Place}
 use Rattle.language.specs.declared.tree.Expr.{Expr}
 use Rattle.language.specs.declared.tree.Statement.{Statement, If, For}
-use Rattle.language.specs.Tree.{ExprTree, StatementTree, declaration, assignment, conditional, BlockTree, expr_tree, statement_tree, block_tree}
+use Rattle.language.specs.Tree.{ExprTree, StatementTree, declaration, assignment, conditional, BlockTree, expr_tree}
+use Rattle.language.specs.Tree.{statement_tree, block_tree}
 use Rattle.language.specs.Tree as source
 
 -- the next number, once these have been declared
@@ -40,30 +44,41 @@ module _ (known : Callables) (names between : Numbers) (old new : List FlatVaria
   one_more done all is =
       behind done all (chain all (block known between (length new) rest)) (statement known names (length old) s)
       (block known between (length new) rest) is refl
-      ∙ ap (λ b. chain done (chain (statement known names (length old) s) b)) (ap₂ (λ ns n. block known ns n rest) named next)
+      ∙ ap (λ b. chain done (chain (statement known names (length old) s) b))
+      (ap₂ (λ ns n. block known ns n rest) named next)
 
-  pub more_names : names_after_all known between (length new) rest ≡ names_after_all known names (length old) (source.first s rest)
+  pub more_names : names_after_all known between (length new) rest
+      ≡ names_after_all known names (length old) (source.first s rest)
   more_names = ap₂ (λ ns n. names_after_all known ns n rest) named next
 
   pub more_declared : new ++ declared_in_all known rest ≡ old ++ declared_in_all known (source.first s rest)
-  more_declared = ap (λ ds. ds ++ declared_in_all known rest) more ∙ append_assoc old (declared_in known s) (declared_in_all known rest)
+  more_declared = ap (λ ds. ds ++ declared_in_all known rest) more
+      ∙ append_assoc old (declared_in known s) (declared_in_all known rest)
 
 -- a conditional, by the lists of its arms
-module _ (s : Statement) (place : Place) (condition : Expr) (accepted otherwise : Vec Statement Global) (ones others : List Statement)
-    (is : s ≡ If place condition accepted otherwise) (first_arm : ones ≡ accepted.items) (second_arm : others ≡ otherwise.items) where
-  pub conditional_whole : statement_tree s ≡ conditional place (expr_tree condition) (block_tree ones) (block_tree others)
+module _ (s : Statement) (place : Place) (condition : Expr) (accepted otherwise : Vec Statement Global)
+    (ones others : List Statement)
+    (is : s ≡ If place condition accepted otherwise) (first_arm : ones ≡ accepted.items)
+    (second_arm : others ≡ otherwise.items) where
+  pub conditional_whole : statement_tree s
+      ≡ conditional place (expr_tree condition) (block_tree ones) (block_tree others)
   conditional_whole = ap statement_tree is ∙ conditional_tree place condition accepted otherwise
-      ∙ ap₂ (λ a b. conditional place (expr_tree condition) (block_tree a) (block_tree b)) (sym first_arm) (sym second_arm)
+      ∙ ap₂ (λ a b. conditional place (expr_tree condition) (block_tree a) (block_tree b)) (sym first_arm)
+      (sym second_arm)
 
 -- a loop, by the list of its body
-module _ (s : Statement) (place : Place) (counter : Counter) (low high : Expr) (body : Vec Statement Global) (ones : List Statement)
+module _ (s : Statement) (place : Place) (counter : Counter) (low high : Expr) (body : Vec Statement Global)
+    (ones : List Statement)
     (is : s ≡ For place counter low high body) (list : ones ≡ body.items) where
-  pub loop_whole : statement_tree s ≡ source.loop place counter.place counter.name.now (expr_tree low) (expr_tree high) (block_tree ones)
+  pub loop_whole : statement_tree s ≡ source.loop place counter.place counter.name.now (expr_tree low)
+      (expr_tree high) (block_tree ones)
   loop_whole = ap statement_tree is ∙ loop_tree place counter low high body
-      ∙ ap (λ b. source.loop place counter.place counter.name.now (expr_tree low) (expr_tree high) (block_tree b)) (sym list)
+      ∙ ap (λ b. source.loop place counter.place counter.name.now (expr_tree low) (expr_tree high) (block_tree b))
+      (sym list)
 
 -- a declaration only appends
-declared_more : (names : Numbers) (text : List ℕ) (what : Numbered) → (more : Numbers) × (declared names text what ≡ names ++ more)
+declared_more : (names : Numbers) (text : List ℕ) (what : Numbered)
+    → (more : Numbers) × (declared names text what ≡ names ++ more)
 declared_more names text what = by (is_some (found names text)) refl
   where
     by : (b : Bool) → is_some (found names text) ≡ b → (more : Numbers) × (declared names text what ≡ names ++ more)
@@ -78,7 +93,8 @@ after_more known names n (declaration place label mutable kind text value) =
 after_more known names n (assignment place target text value) = ([], sym (append-nil names))
 after_more known names n (source.array place label mutable kind size text values) =
     declared_more names text (record { number = n; declaration = array_as (labelled kind label) mutable size })
-after_more known names n (source.element_assignment place bracket target text index right) = ([], sym (append-nil names))
+after_more known names n (source.element_assignment place bracket target text index right) =
+    ([], sym (append-nil names))
 after_more known names n (source.call c) = ([], sym (append-nil names))
 after_more known names n (source.loop place counter text low high body) = ([], sym (append-nil names))
 after_more known names n (conditional place condition accepted otherwise) = ([], sym (append-nil names))
@@ -110,14 +126,17 @@ names_before_loop known names n k text d b =
 -- a conditional of flat arms
 pub numbered_branch : (known : Callables) (names between : Numbers) (old new : List FlatVariable) (e : ExprTree)
     (ones others : BlockTree) (label : Label) (value : Term) (flat_ones flat_others : Vec FlatStatement Global) →
-    label ≡ label_in names e → term_tree value ≡ term names e → flat_block flat_ones.items ≡ block known names (length old) ones →
-    between ≡ names → new ≡ old ++ declared_in_all known ones → flat_block flat_others.items ≡ block known between (length new) others →
+    label ≡ label_in names e → term_tree value ≡ term names e
+    → flat_block flat_ones.items ≡ block known names (length old) ones →
+    between ≡ names → new ≡ old ++ declared_in_all known ones
+    → flat_block flat_others.items ≡ block known between (length new) others →
     single (flat_tree (Branch label value flat_ones flat_others))
     ≡ single (flat.branch (label_in names e) (term names e) (block known names (length old) ones)
     (block known names (length old + numbers_taken_all known ones) others))
 numbered_branch known names between old new e ones others label value flat_ones flat_others l v a same more o =
     let next = next_number old new (declared_in_all known ones) more in
-    let other : flat_block flat_others.items ≡ block known names (length old + numbers_taken_all known ones) others = o
+    let other : flat_block flat_others.items ≡ block known names (length old + numbers_taken_all known ones) others =
+    o
     ∙ ap₂ (λ ns n. block known ns n others) same next in
     ap single (branch_tree label value flat_ones flat_others ∙ ap₂
     (λ k t. flat.branch k t (flat_block flat_ones.items) (flat_block flat_others.items)) l v
@@ -138,7 +157,8 @@ numbered_turns known names inner old new text d body x lo hi low high start turn
     let turns : flat_block turn.items ≡ block known (naming names text (length old) d) (length old + 1) body =
     inside ∙ ap (λ ss. chain (flat_block ss) (block known inner (length new) body)) empty
     ∙ ap₂ (λ ns n. block known ns n body) begins next in
-    ap single (flat_loop_tree x low high turn ∙ ap₂ (λ k t. flat.loop k t (term_tree high) (flat_block turn.items)) number l
+    ap single (flat_loop_tree x low high turn
+    ∙ ap₂ (λ k t. flat.loop k t (term_tree high) (flat_block turn.items)) number l
     ∙ ap₂ (flat.loop (length old) (term names lo)) h turns)
 
 -- a result that is held

@@ -1,5 +1,6 @@
 -- Where a body begins: the parameters have the first numbers, and hold the arguments.
-use Rattle.std.proofs.Common.{◌≡◌, ◌≢◌, ℕ, zero, suc, ◌+◌, ◌<◌, ◌≤◌, Bool, true, false, cond, List, [], ◌∷◌, ◌++◌, length, map, Option, Some, None, slice_get, refl, sym, ap, ◌∙◌, subst, arith}
+use Rattle.std.proofs.Common.{◌≡◌, ◌≢◌, ℕ, zero, suc, ◌+◌, ◌<◌, ◌≤◌, Bool, true, false, cond, List, [], ◌∷◌, ◌++◌}
+use Rattle.std.proofs.Common.{length, map, Option, Some, None, slice_get, refl, sym, ap, ◌∙◌, subst, arith}
 use Rattle.std.proofs.lemmas.Option.{none-some, same_Some}
 use Rattle.std.specs.Str.{bytes_eq}
 use Rattle.word.specs.declared.profile.Profile.{Profile}
@@ -27,7 +28,8 @@ use Rattle.language.specs.Types.{Scope, declared}
 use Rattle.language.specs.Typing.{with_parameters, parameter_as, parameter_value, is_mutable}
 use Rattle.language.specs.WellTyped.{AreNew, one_is_new}
 use Rattle.inline.proofs.Lookup.{found-new, found-other, found-kept}
-use Rattle.inline.proofs.Linked.{Linked, widened, entry, value_as, variable_as, linked_declared, with_type-same, with_type-other}
+use Rattle.inline.proofs.Linked.{Linked, widened, entry, value_as, variable_as, linked_declared, with_type-same}
+use Rattle.inline.proofs.Linked.{with_type-other}
 use Rattle.inline.proofs.Terms.{held, Holds, Shows}
 
 -- what a parameter is declared as
@@ -38,7 +40,8 @@ abbrev pub all_own : List ParameterTree → List FlatVariable
 all_own ps = map declaration_of (map param_of ps)
 
 -- its name stands for that in the scope
-value_same : (p : ParameterTree) (form : Form) → parameter_value p form ≡ value_as (own p).word (elements_by form p.length)
+value_same : (p : ParameterTree) (form : Form)
+    → parameter_value p form ≡ value_as (own p).word (elements_by form p.length)
 value_same p SingleWord = refl
 value_same p FixedArray = refl
 value_same p MutableArray = refl
@@ -66,7 +69,8 @@ Named names n [] = Unit {0}
 Named names n (p ∷ ps) = (found names p.name ≡ Some (entry n (own p))) × Named names (n + 1) ps
 
 pub record Begins (scope : Scope) (names : Numbers) (types : Types) (n : ℕ) (ps : List ParameterTree) : Type 0 where
-  pub linked : Linked (with_parameters scope ps) (numbering.with_parameters names n ps) (typed_with types n (all_own ps)) (n + length ps)
+  pub linked : Linked (with_parameters scope ps) (numbering.with_parameters names n ps)
+      (typed_with types n (all_own ps)) (n + length ps)
   pub named : Named (numbering.with_parameters names n ps) n ps
 
 pub itself : (text : List ℕ) → bytes_eq text text ≡ true
@@ -78,7 +82,8 @@ begins [] scope names types n new linked =
     let same : n ≡ n + 0 = omega arith in
     record { linked = subst (Linked scope names types) same linked; named = tt }
 begins (p ∷ ps) scope names types n (one_is_new here there) linked =
-    let next = subst (λ d. Linked (declared scope p.name d) (naming names p.name n (own p)) (with_type types n (own p))
+    let next =
+    subst (λ d. Linked (declared scope p.name d) (naming names p.name n (own p)) (with_type types n (own p))
     (n + 1)) (parameter_same p) (linked_declared scope names types n linked p.name (own p) here) in
     let rest = begins ps _ (naming names p.name n (own p)) (with_type types n (own p)) (n + 1) there next in
     let same : (n + 1) + length ps ≡ n + length (p ∷ ps) = omega arith in
@@ -103,7 +108,8 @@ from_all : (ds : List FlatVariable) (types : Types) (n i : ℕ) → ((x : ℕ) �
 from_all [] types n i fresh = fresh (n + i) (omega arith)
 from_all (d ∷ ds) types n zero fresh =
     let same : n + 0 ≡ n = omega arith in
-    ap (typed_with types n (d ∷ ds)).at same ∙ (before_all ds (with_type types n d) (n + 1) n (omega arith) ∙ with_type-same types n d)
+    ap (typed_with types n (d ∷ ds)).at same
+    ∙ (before_all ds (with_type types n d) (n + 1) n (omega arith) ∙ with_type-same types n d)
 from_all (d ∷ ds) types n (suc i) fresh =
     let same : n + suc i ≡ (n + 1) + i = omega arith in
     ap (typed_with types n (d ∷ ds)).at same ∙ from_all ds (with_type types n d) (n + 1) i
@@ -117,7 +123,8 @@ observed_all (d ∷ ds) types n = observed_all ds (with_type types n d) (n + 1)
 abbrev pub no_types : Profile → Types
 no_types profile = record { profile = profile; at = λ x. None }
 
-types_same : (profile : Profile) (ds : List FlatVariable) (x : ℕ) → (typed_with (no_types profile) 0 ds).at x ≡ (types_of profile ds).at x
+types_same : (profile : Profile) (ds : List FlatVariable) (x : ℕ)
+    → (typed_with (no_types profile) 0 ds).at x ≡ (types_of profile ds).at x
 types_same profile ds x =
     let same : x ≡ 0 + x = omega arith in
     ap (typed_with (no_types profile) 0 ds).at same ∙ from_all ds (no_types profile) 0 x (λ y high. refl)
@@ -146,7 +153,8 @@ where_begun profile scope observed none ps new = begins ps scope [] (no_types pr
 
 pub linked_parameters : (profile : Profile) (scope : Scope) → scope.profile ≡ profile → NoVariables scope
     → (ps : List ParameterTree) → AreNew scope ps
-    → Linked (with_parameters scope ps) (numbering.with_parameters [] 0 ps) (types_of profile (all_own ps)) (length ps)
+    → Linked (with_parameters scope ps) (numbering.with_parameters [] 0 ps) (types_of profile (all_own ps))
+    (length ps)
 linked_parameters profile scope observed none ps new =
     let same : 0 + length ps ≡ length ps = omega arith in
     let types = typed_with (no_types profile) 0 (all_own ps) in
@@ -177,13 +185,15 @@ argument_count MutableArray size (Word word) shape = absurd shape
 argument_count MutableArray size (Array words) shape = shape
 
 -- a parameter's number, and that it holds its argument
-record Passed (n : ℕ) (ps : List ParameterTree) (rest : List FlatVariable) (text : List ℕ) (x : Numbered) : Type 0 where
+record Passed (n : ℕ) (ps : List ParameterTree) (rest : List FlatVariable) (text : List ℕ) (x : Numbered) :
+    Type 0 where
   pub index : ℕ
   pub number : x.number ≡ n + index
   pub holds : (args : List Arg) → AreWithin (map param_of ps) args
       → Holds x.declaration (holding ps args text) (given (all_own ps ++ rest) args index)
 
-first_holds : (p : ParameterTree) (ps : List ParameterTree) (rest : List FlatVariable) (args : List Arg) (text : List ℕ)
+first_holds : (p : ParameterTree) (ps : List ParameterTree) (rest : List FlatVariable) (args : List Arg)
+    (text : List ℕ)
     → bytes_eq text p.name ≡ true → AreWithin (map param_of (p ∷ ps)) args
     → Holds (own p) (holding (p ∷ ps) args text) (given (all_own (p ∷ ps) ++ rest) args 0)
 first_holds p ps rest [] text e within = absurd within
@@ -193,9 +203,11 @@ first_holds p ps rest (arg ∷ args) text e within = record {
   count = argument_count p.form p.length arg within.0.shape;
 }
 
-later_holds : (p : ParameterTree) (ps : List ParameterTree) (rest : List FlatVariable) (args : List Arg) (text : List ℕ)
+later_holds : (p : ParameterTree) (ps : List ParameterTree) (rest : List FlatVariable) (args : List Arg)
+    (text : List ℕ)
     (index : ℕ) (d : FlatVariable) → bytes_eq text p.name ≡ false → AreWithin (map param_of (p ∷ ps)) args
-    → ((more : List Arg) → AreWithin (map param_of ps) more → Holds d (holding ps more text) (given (all_own ps ++ rest) more index))
+    → ((more : List Arg) → AreWithin (map param_of ps) more
+    → Holds d (holding ps more text) (given (all_own ps ++ rest) more index))
     → Holds d (holding (p ∷ ps) args text) (given (all_own (p ∷ ps) ++ rest) args (suc index))
 later_holds p ps rest [] text index d e within holds = absurd within
 later_holds p ps rest (arg ∷ args) text index d e within holds =
@@ -217,7 +229,8 @@ passed (p ∷ ps) names n rest text x none is = by_name (bytes_eq text p.name) r
         (found-new names p.name (entry n (own p)) text e new) in
         let same = same_Some (entry n (own p)) x (sym here ∙ is) in
         let zeroth : n ≡ n + 0 = omega arith in
-        subst (Passed n (p ∷ ps) rest text) same (record { index = 0; number = zeroth; holds = λ args. first_holds p ps rest args text e })
+        subst (Passed n (p ∷ ps) rest text) same
+        (record { index = 0; number = zeroth; holds = λ args. first_holds p ps rest args text e })
     by_name false e more =
         let r = more (found-other names p.name (entry n (own p)) text e ∙ none) in
         let i = r.index in
@@ -238,7 +251,8 @@ shows_arguments ps rest args within text x is =
     let i = r.index in
     let e = r.number in
     let same : i ≡ x.number = omega arith in
-    subst (λ y. Holds x.declaration (holding ps args text) (given (all_own ps ++ rest) args y)) same (r.holds args within)
+    subst (λ y. Holds x.declaration (holding ps args text) (given (all_own ps ++ rest) args y)) same
+    (r.holds args within)
 
 -- The `mut` arrays at the end.
 
@@ -252,5 +266,6 @@ pub arrays_same : (ps : List ParameterTree) (names : Numbers) (n : ℕ) (t : Sta
     → Shows names t m → final_arrays t ps ≡ arrays_from n (map param_of ps) m
 arrays_same [] names n t m named shows = refl
 arrays_same (p ∷ ps) names n t m named shows =
-    ap (λ a. a ++ final_arrays t ps) (array_same p.kind p.form p.length (t p.name) (m n) (shows p.name (entry n (own p)) named.0).is)
+    ap (λ a. a ++ final_arrays t ps)
+    (array_same p.kind p.form p.length (t p.name) (m n) (shows p.name (entry n (own p)) named.0).is)
     ∙ ap (λ a. array_of p.form (m n) ++ a) (arrays_same ps names (n + 1) t m named.1 shows)

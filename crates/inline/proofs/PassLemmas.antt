@@ -1,5 +1,6 @@
 -- The arguments of a call, passed one by one.
-use Rattle.std.proofs.Common.{◌≡◌, ℕ, ◌+◌, Bool, true, false, if◌then◌else◌, List, [], ◌∷◌, ◌++◌, length, get_or, drop, map, nat_lt, ◌<◌, ◌≤◌, arith, refl, sym, ap, ap₂, subst, ◌∙◌, length-append}
+use Rattle.std.proofs.Common.{◌≡◌, ℕ, ◌+◌, Bool, true, false, if◌then◌else◌, List, [], ◌∷◌, ◌++◌, length, get_or}
+use Rattle.std.proofs.Common.{drop, map, nat_lt, ◌<◌, ◌≤◌, arith, refl, sym, ap, ap₂, subst, ◌∙◌, length-append}
 use Rattle.std.proofs.lemmas.List.{append_assoc, append-nil, drop_all, drop_more}
 use Rattle.std.proofs.lemmas.Bool.Decides.{nat_tests}
 use Rattle.inline.proofs.BlockLemmas.{behind, chain_nothing}
@@ -16,18 +17,21 @@ use Rattle.language.specs.WellTyped.{labelled}
 same : (n : ℕ) → n ≡ n + 0
 same n = omega arith
 
-module _ (names : Numbers) (n : ℕ) (p : ParameterTree) (ps : List ParameterTree) (e : ExprTree) (es : List ExprTree) where
+module _ (names : Numbers) (n : ℕ) (p : ParameterTree) (ps : List ParameterTree) (e : ExprTree)
+    (es : List ExprTree) where
   -- the variables of the first
   abbrev one : List FlatVariable
   one = passed_variables (p ∷ []) (e ∷ [])
 
-  passed_more : passed names n (p ∷ ps) (e ∷ es) ≡ chain (passed names n (p ∷ []) (e ∷ [])) (passed names (n + length one) ps es)
+  passed_more : passed names n (p ∷ ps) (e ∷ es)
+      ≡ chain (passed names n (p ∷ []) (e ∷ [])) (passed names (n + length one) ps es)
   passed_more = by (is_word p.form)
     where
       by : (word : Bool) →
           (if word then flat.first (flat.declare n (labelled p.kind p.label) false (term names e))
           (passed names (n + 1) ps es) else passed names n ps es)
-          ≡ chain (if word then flat.first (flat.declare n (labelled p.kind p.label) false (term names e)) nothing else nothing)
+          ≡ chain (if word then flat.first (flat.declare n (labelled p.kind p.label) false (term names e)) nothing
+          else nothing)
           (passed names (n + length (if word then own_variable p ∷ [] else [])) ps es)
       by true = refl
       by false = ap (λ k. passed names k ps es) (same n)
@@ -39,7 +43,8 @@ module _ (names : Numbers) (n : ℕ) (p : ParameterTree) (ps : List ParameterTre
       by : (word : Bool) →
           (if word then begun names (naming own p.name n (own_variable p)) (n + 1) ps es else begun names
           (naming own p.name (number_given names e) (own_variable p)) n ps es)
-          ≡ begun names (if word then naming own p.name n (own_variable p) else naming own p.name (number_given names e) (own_variable p))
+          ≡ begun names (if word then naming own p.name n (own_variable p)
+          else naming own p.name (number_given names e) (own_variable p))
           (n + length (if word then own_variable p ∷ [] else [])) ps es
       by true = refl
       by false = ap (λ k. begun names (naming own p.name (number_given names e) (own_variable p)) k ps es) (same n)
@@ -91,10 +96,12 @@ module _ {names : Numbers} {whole : FlatBlock} {names_begun : Numbers} {variable
       let number : length new ≡ length old + length (passed_variables (p ∷ []) (e ∷ [])) = ap length more
       ∙ length-append old (passed_variables (p ∷ []) (e ∷ [])) in
       record {
-        block = behind done between (chain between (passed names (length new) ps es)) _ (passed names (length new) ps es) is refl
+        block = behind done between (chain between (passed names (length new) ps es)) _
+            (passed names (length new) ps es) is refl
             ∙ ap (λ k. chain done (chain (passed names (length old) (p ∷ []) (e ∷ [])) (passed names k ps es))) number
             ∙ ap (chain done) (sym (passed_more names (length old) p ps e es)) ∙ all.block;
-        begins = ap₂ (λ o k. begun names o k ps es) starts number ∙ sym (begun_more names (length old) p ps e es own) ∙ all.begins;
+        begins = ap₂ (λ o k. begun names o k ps es) starts number ∙ sym (begun_more names (length old) p ps e es own)
+            ∙ all.begins;
         declared = ap (λ ds. ds ++ passed_variables ps es) more
             ∙ append_assoc old (passed_variables (p ∷ []) (e ∷ [])) (passed_variables ps es)
             ∙ ap (λ ds. old ++ ds) (sym (variables_more names (length old) p ps e es)) ∙ all.declared;
@@ -104,7 +111,8 @@ module _ {names : Numbers} {whole : FlatBlock} {names_begun : Numbers} {variable
   passes_all : (done : FlatBlock) (own : Numbers) (now : List FlatVariable) (es : List ExprTree)
       → Passes names done own now [] es whole names_begun variables
       → (done ≡ whole) × (own ≡ names_begun) × (now ≡ variables)
-  passes_all done own now es all = (sym (chain_nothing done) ∙ all.block, all.begins, sym (append-nil now) ∙ all.declared)
+  passes_all done own now es all =
+      (sym (chain_nothing done) ∙ all.block, all.begins, sym (append-nil now) ∙ all.declared)
 
   passes_early : (done : FlatBlock) (own : Numbers) (now : List FlatVariable) (ps : List ParameterTree)
       → Passes names done own now ps [] whole names_begun variables
@@ -116,16 +124,20 @@ module _ {names : Numbers} {whole : FlatBlock} {names_begun : Numbers} {variable
   )
 
   -- so it is for lists and an index into them
-  pub passes_next : (done between : FlatBlock) (own next : Numbers) (old new : List FlatVariable) (ps : List Parameter)
+  pub passes_next : (done between : FlatBlock) (own next : Numbers) (old new : List FlatVariable)
+      (ps : List Parameter)
       (es : List Expr) (i : ℕ) (d : Parameter) (e : Expr)
       → i < length ps → i < length es → e ≡ get_or es i e
       → between ≡ chain done (passed names (length old) (parameter_tree (get_or ps i d) ∷ []) (expr_tree e ∷ []))
       → next ≡ begun names own (length old) (parameter_tree (get_or ps i d) ∷ []) (expr_tree e ∷ [])
       → new ≡ old ++ passed_variables (parameter_tree (get_or ps i d) ∷ []) (expr_tree e ∷ [])
-      → Passes names done own old (map parameter_tree (drop i ps)) (map expr_tree (drop i es)) whole names_begun variables
-      → Passes names between next new (map parameter_tree (drop (i + 1) ps)) (map expr_tree (drop (i + 1) es)) whole names_begun variables
+      → Passes names done own old (map parameter_tree (drop i ps)) (map expr_tree (drop i es)) whole
+      names_begun variables
+      → Passes names between next new (map parameter_tree (drop (i + 1) ps)) (map expr_tree (drop (i + 1) es)) whole
+      names_begun variables
   passes_next done between own next old new ps es i d e inside_ps inside_es is_e is starts more all =
-      passes_more done between own next old new (parameter_tree (get_or ps i d)) (map parameter_tree (drop (i + 1) ps))
+      passes_more done between own next old new (parameter_tree (get_or ps i d))
+      (map parameter_tree (drop (i + 1) ps))
       (expr_tree e) (map expr_tree (drop (i + 1) es)) is starts more
       (subst (λ xs. Passes names done own old (map parameter_tree xs) (expr_tree e ∷ map expr_tree (drop (i + 1) es))
       whole names_begun variables) (drop_more ps i d inside_ps)

@@ -1,5 +1,6 @@
 -- What a called body's names hold where it begins: words as evaluated, arrays as the caller's.
-use Rattle.std.proofs.Common.{◌≡◌, ℕ, ◌+◌, ◌<◌, Bool, true, false, if◌then◌else◌, List, [], ◌∷◌, Option, Some, None, refl, sym, ap, ◌∙◌, subst, arith, true≢false}
+use Rattle.std.proofs.Common.{◌≡◌, ℕ, ◌+◌, ◌<◌, Bool, true, false, if◌then◌else◌, List, [], ◌∷◌, Option, Some, None}
+use Rattle.std.proofs.Common.{refl, sym, ap, ◌∙◌, subst, arith, true≢false}
 use Rattle.std.proofs.lemmas.Option.{none-some, same_Some}
 use Rattle.std.specs.Str.{bytes_eq}
 use lib.Pointwise.{bytes_decides}
@@ -15,7 +16,8 @@ use Rattle.language.specs.declared.signature.Form.{Form}
 use Rattle.language.specs.declared.signature.Form.TheVariants.{SingleWord, FixedArray, MutableArray}
 use Rattle.language.specs.declared.typing.WordType.{WordType}
 use Rattle.language.specs.Grammatical.{AreAllSmall}
-use Rattle.language.specs.Meaning.{is_word, EvaluatesAll, none_left, one_more, this_faults, later_faults, word_arguments, argument_held, words_left, array_named, with_some}
+use Rattle.language.specs.Meaning.{is_word, EvaluatesAll, none_left, one_more, this_faults, later_faults}
+use Rattle.language.specs.Meaning.{word_arguments, argument_held, words_left, array_named, with_some}
 use Rattle.language.specs.Meaning as meaning
 use Rattle.language.specs.State.{State, Value, Word, single}
 use Rattle.language.specs.Tree.{ExprTree, ParameterTree}
@@ -51,11 +53,13 @@ pub held_by_name : (s : State) (text other : List ℕ) (v : Option Value) (w : V
     → bytes_eq other text ≡ true → with_some s text v other ≡ Some w
 held_by_name s text other v w is e = ap (λ o. with_some s text o other) is ∙ ap (λ b. if b then Some w else s other) e
 
-pub held_by_other : (s : State) (text other : List ℕ) (v : Option Value) → bytes_eq other text ≡ false → with_some s text v other ≡ s other
+pub held_by_other : (s : State) (text other : List ℕ) (v : Option Value) → bytes_eq other text ≡ false
+    → with_some s text v other ≡ s other
 held_by_other s text other None e = refl
 held_by_other s text other (Some w) e = ap (λ b. if b then Some w else s other) e
 
-array_held : (s : State) (form : Form) (e : ExprTree) (vs : List Word) → is_word form ≡ false → argument_held s form e vs ≡ array_named s e
+array_held : (s : State) (form : Form) (e : ExprTree) (vs : List Word) → is_word form ≡ false
+    → argument_held s form e vs ≡ array_named s e
 array_held s SingleWord e vs off = absurd (true≢false off)
 array_held s FixedArray e vs off = refl
 array_held s MutableArray e vs off = refl
@@ -78,7 +82,8 @@ AreHeld names n ps es s m vs =
 
 module _ (scope : Scope) (names : Numbers) (types : Types) (s : State) where
   -- the first parameter, which is a word or none
-  module _ (p : ParameterTree) (ps : List ParameterTree) (e : ExprTree) (es : List ExprTree) (n : ℕ) (m : Values) where
+  module _ (p : ParameterTree) (ps : List ParameterTree) (e : ExprTree) (es : List ExprTree) (n : ℕ)
+      (m : Values) where
     -- what a word parameter makes of the variables
     abbrev put_there : Values
     put_there = flat_meaning.with_value m n (value_in m (term names e) ∷ [])
@@ -97,7 +102,8 @@ module _ (scope : Scope) (names : Numbers) (types : Types) (s : State) where
     Goal b form =
         Comes (EvaluatesAll s (if b then e ∷ word_arguments ps es else word_arguments ps es))
         (λ vs. Whole b (argument_held s form e vs) (words_left form vs))
-        (first_fault (path_along m (if b then flat.first (flat.declare n (labelled p.kind p.label) false (term names e))
+        (first_fault
+        (path_along m (if b then flat.first (flat.declare n (labelled p.kind p.label) false (term names e))
         (passed names (n + 1) ps es) else passed names n ps es)))
 
     -- with one more name
@@ -106,7 +112,8 @@ module _ (scope : Scope) (names : Numbers) (types : Types) (s : State) where
         → AreHeld names n' ps es s m' left
         → (own : Numbers) (text : List ℕ) (x : Numbered) → found own text ≡ None
         → found (begun names (naming own p.name number (own_variable p)) n' ps es) text ≡ Some x
-        → Holds x.declaration (with_some (meaning.begun s ps es left) p.name value text) (after_all m' (passed names n' ps es) x.number)
+        → Holds x.declaration (with_some (meaning.begun s ps es left) p.name value text)
+        (after_all m' (passed names n' ps es) x.number)
     with_one number n' m' value w left there first rest own text x none is = by_text (bytes_eq text p.name) refl
       where
         by_text : (b : Bool) → bytes_eq text p.name ≡ b → Holds x.declaration
@@ -127,7 +134,8 @@ module _ (scope : Scope) (names : Numbers) (types : Types) (s : State) where
             (rest (naming own p.name number (own_variable p)) text x
             (found-other own p.name (entry number (own_variable p)) text other ∙ none) is)
 
-    word_holds : (w : Word) (v : ℕ) → p.form ≡ SingleWord → w ≡ word_at p.kind v → Holds (own_variable p) (Some (single w)) (v ∷ [])
+    word_holds : (w : Word) (v : ℕ) → p.form ≡ SingleWord → w ≡ word_at p.kind v
+        → Holds (own_variable p) (Some (single w)) (v ∷ [])
     word_holds w v form same = record {
       is = ap (λ u. Some (single u)) same ∙ ap (λ f. Some (held p.kind (elements_by f p.length) (v ∷ []))) (sym form);
       count = ap (λ f. numbers_in (elements_by f p.length)) (sym form);
@@ -154,13 +162,16 @@ module _ (scope : Scope) (names : Numbers) (types : Types) (s : State) where
           count = there.count ∙ ap numbers_in (sym a.elements);
         } in
         with_one (number_given names e) n m (array_named s e) value vs (ap (array_named s) a.named ∙ there.is)
-        (subst (Holds (own_variable p) (Some value)) (sym (ap (after_all m (passed names n ps es)) a.here ∙ kept)) holds) rest
+        (subst (Holds (own_variable p) (Some value)) (sym (ap (after_all m (passed names n ps es)) a.here ∙ kept))
+        holds) rest
 
   -- the words of arguments, from left to right
   pub passed_comes : {ps : List ParameterTree} {es : List ExprTree} → ArePassed scope ps es → AreAllSmall es → (n : ℕ)
       → Linked scope names types n → (m : Values) → Shows names s m
-      → Comes (EvaluatesAll s (word_arguments ps es)) (AreHeld names n ps es s m) (first_fault (path_along m (passed names n ps es)))
-  passed_comes none_passed small n linked m shows = well [] none_left (λ own text x none is. absurd (none-some x (sym none ∙ is)))
+      → Comes (EvaluatesAll s (word_arguments ps es)) (AreHeld names n ps es s m)
+      (first_fault (path_along m (passed names n ps es)))
+  passed_comes none_passed small n linked m shows =
+      well [] none_left (λ own text x none is. absurd (none-some x (sym none ∙ is)))
   passed_comes (one_passed {p = p} {ps = ps} {argument = e} {arguments = es} is shares are) small n linked m shows =
       by_form (is_word p.form) refl (passed_comes are small.1)
     where
@@ -200,7 +211,8 @@ module _ (scope : Scope) (names : Numbers) (types : Types) (s : State) where
           (λ vs all holds. (
             vs,
             all,
-            subst (λ left. Whole p ps e es n m false (argument_held s p.form e vs) left) (sym (no_word_left p.form vs form))
+            subst (λ left. Whole p ps e es n m false (argument_held s p.form e vs) left)
+                (sym (no_word_left p.form vs form))
                 (subst (λ value. Whole p ps e es n m false value vs) (sym (array_held s p.form e vs form))
                 (array_whole p ps e es n m vs shows a holds)),
           ))

@@ -1,5 +1,7 @@
 -- A statement about each procedure that may be called, by induction over the text.
-use Rattle.std.proofs.Common.{◌≡◌, ◌≢◌, ℕ, zero, suc, ◌<◌, Bool, true, false, if◌then◌else◌, List, [], ◌∷◌, ◌++◌, length, Some, None, is_some, refl, sym, ap, ◌∙◌, subst, arith, slice_get, length-append, ◌⊎◌, inl, inr}
+use Rattle.std.proofs.Common.{◌≡◌, ◌≢◌, ℕ, zero, suc, ◌<◌, Bool, true, false, if◌then◌else◌, List, [], ◌∷◌, ◌++◌}
+use Rattle.std.proofs.Common.{length, Some, None, is_some, refl, sym, ap, ◌∙◌, subst, arith, slice_get, length-append}
+use Rattle.std.proofs.Common.{◌⊎◌, inl, inr}
 use Rattle.std.proofs.lemmas.List.{nil_from_length}
 use Rattle.std.proofs.lemmas.Option.{none-some, same_Some}
 use Rattle.std.specs.List.{AllByRecursion}
@@ -13,8 +15,10 @@ use Rattle.language.specs.declared.typing.VariableType.{VariableType}
 use Rattle.language.specs.Meaning.{exported, named}
 use Rattle.language.specs.Tree.{ParameterTree, ProcedureTree, ProgramTree, StatementTree}
 use Rattle.language.specs.Types.{Scope, empty, found, declared}
-use Rattle.language.specs.Typing.{assigns_public, parameter_as, scope_after, violations, with_parameters, with_procedure}
-use Rattle.language.specs.WellTyped.{IsWellTyped, declares, declares_array, assigns, assigns_element, calls, chooses, repeats, IsProcedure, AreProcedures, no_procedure, one_procedure}
+use Rattle.language.specs.Typing.{assigns_public, parameter_as, scope_after, violations, with_parameters}
+use Rattle.language.specs.Typing.{with_procedure}
+use Rattle.language.specs.WellTyped.{IsWellTyped, declares, declares_array, assigns, assigns_element, calls, chooses}
+use Rattle.language.specs.WellTyped.{repeats, IsProcedure, AreProcedures, no_procedure, one_procedure}
 use Rattle.inline.proofs.KnownLemmas.{named-kept, named-missed, named-new}
 use Rattle.inline.proofs.Lookup.{found-new, found-other, found-split}
 use Rattle.inline.proofs.Parameters.{NoVariables}
@@ -32,7 +36,8 @@ no_callee c v e = cc
 
 -- Lists.
 
-get_front : (ps : List ProcedureTree) (p : ProcedureTree) (i : ℕ) → i < length ps → slice_get (ps ++ p ∷ []) i ≡ slice_get ps i
+get_front : (ps : List ProcedureTree) (p : ProcedureTree) (i : ℕ) → i < length ps
+    → slice_get (ps ++ p ∷ []) i ≡ slice_get ps i
 get_front [] p i low = absurd (omega (arith, low))
 get_front (q ∷ ps) p zero low = refl
 get_front (q ∷ ps) p (suc i) low = get_front ps p i (omega (arith, low))
@@ -46,20 +51,23 @@ get_none [] = refl
 get_none (q ∷ ps) = get_none ps
 
 module _ (Extra : ProcedureTree → Type 0) where
-  all_front : (ps : List ProcedureTree) (p : ProcedureTree) → AllByRecursion Extra (ps ++ p ∷ []) → AllByRecursion Extra ps × Extra p
+  all_front : (ps : List ProcedureTree) (p : ProcedureTree) → AllByRecursion Extra (ps ++ p ∷ [])
+      → AllByRecursion Extra ps × Extra p
   all_front [] p all = (tt, all.0)
   all_front (q ∷ ps) p all = let rest = all_front ps p all.1 in ((all.0, rest.0), rest.1)
 
 -- What is true, for the scope's observer, of each procedure that a scope lets call, of these.
 abbrev pub EachCallable : List ProcedureTree → (Profile → List ℕ → Callee → ProcedureTree → Type 0) → Scope → Type 0
-EachCallable earlier Is scope = (text : List ℕ) (c : Callee) (p : ProcedureTree) → found scope text ≡ Some (Procedure c)
+EachCallable earlier Is scope = (text : List ℕ) (c : Callee) (p : ProcedureTree)
+    → found scope text ≡ Some (Procedure c)
     → slice_get earlier c.number ≡ Some p → Is scope.profile text c p
 
 -- In a body it stays true: no declaration adds one.
 module _ (earlier : List ProcedureTree) (Is : Profile → List ℕ → Callee → ProcedureTree → Type 0) where
   pub callable_declared : (scope : Scope) (name : List ℕ) (v : VariableType) → EachCallable earlier Is scope
       → EachCallable earlier Is (declared scope name (Variable v))
-  callable_declared scope name v each text c p is there = by_name (found-split scope.names name (Variable v) text (Procedure c) is)
+  callable_declared scope name v each text c p is there =
+      by_name (found-split scope.names name (Variable v) text (Procedure c) is)
     where
       by_name : (found scope text ≡ Some (Procedure c)) ⊎ ((bytes_eq text name ≡ true) × (Variable v ≡ Procedure c))
           → Is scope.profile text c p
@@ -69,7 +77,8 @@ module _ (earlier : List ProcedureTree) (Is : Profile → List ℕ → Callee �
   pub callable_after : {scope : Scope} {control : Label} {s : StatementTree} → IsWellTyped earlier scope control s
       → EachCallable earlier Is scope → EachCallable earlier Is (scope_after scope s)
   callable_after (declares {scope = scope} {text = text} new has suit flow) each = callable_declared scope text _ each
-  callable_after (declares_array {scope = scope} {text = text} new suit count flow) each = callable_declared scope text _ each
+  callable_after (declares_array {scope = scope} {text = text} new suit count flow) each =
+      callable_declared scope text _ each
   callable_after (assigns is has suit flow) each = each
   callable_after (assigns_element is has value suit flow) each = each
   callable_after (calls is) each = each
@@ -93,7 +102,8 @@ IsWithin earlier at scope = EachCallable earlier (IsAt at) scope
 
 module _ (Good : List ProcedureTree → Scope → ProcedureTree → Type 0) where
   -- what a name stands for that may be called behind these
-  pub record IsCallable (earlier : List ProcedureTree) (profile : Profile) (text : List ℕ) (c : Callee) (p : ProcedureTree) : Type 0 where
+  pub record IsCallable (earlier : List ProcedureTree) (profile : Profile) (text : List ℕ) (c : Callee)
+      (p : ProcedureTree) : Type 0 where
     pub before : List ProcedureTree
     pub at : Scope
     pub observed : at.profile ≡ profile
@@ -130,7 +140,8 @@ module _ (Good : List ProcedureTree → Scope → ProcedureTree → Type 0) wher
     there : (text : List ℕ) → bytes_eq text p.name ≡ false → found after text ≡ found scope text
     there text e = found-other scope.names p.name (Procedure own) text e
 
-    variables_by : (text : List ℕ) (b : Bool) → bytes_eq text p.name ≡ b → (v : VariableType) → found after text ≢ Some (Variable v)
+    variables_by : (text : List ℕ) (b : Bool) → bytes_eq text p.name ≡ b → (v : VariableType)
+        → found after text ≢ Some (Variable v)
     variables_by text true e v is = no_callee own v (sym (here text e) ∙ is)
     variables_by text false e v is = stand.variables text v (sym (there text e) ∙ is)
 
@@ -145,7 +156,8 @@ module _ (Good : List ProcedureTree → Scope → ProcedureTree → Type 0) wher
         by_name : (b : Bool) → bytes_eq text p.name ≡ b → found scope text ≡ Some (Procedure c)
         by_name true e =
             let same = same_callee own c (sym (here text e) ∙ is) in
-            absurd (none-some q (sym (get_none earlier) ∙ (ap (λ (d : Callee). slice_get earlier d.number) same ∙ get)))
+            absurd (none-some q (sym (get_none earlier)
+            ∙ (ap (λ (d : Callee). slice_get earlier d.number) same ∙ get)))
         by_name false e = sym (there text e) ∙ is
 
     -- so what it may call is what stands before it
@@ -163,7 +175,8 @@ module _ (Good : List ProcedureTree → Scope → ProcedureTree → Type 0) wher
         let count = length-append earlier (p ∷ []) in
         omega (arith, low, count)
 
-    new_by : (text : List ℕ) (b : Bool) → bytes_eq text p.name ≡ b → found after text ≡ None → named [] (earlier ++ p ∷ []) text ≡ None
+    new_by : (text : List ℕ) (b : Bool) → bytes_eq text p.name ≡ b → found after text ≡ None
+        → named [] (earlier ++ p ∷ []) text ≡ None
     new_by text true e is = absurd (none-some (Procedure own) (sym is ∙ here text e))
     new_by text false e is = named-missed [] earlier p text (stand.new text (sym (there text e) ∙ is)) e
 
@@ -173,7 +186,8 @@ module _ (Good : List ProcedureTree → Scope → ProcedureTree → Type 0) wher
         → IsCallable (earlier ++ p ∷ []) scope.profile text c q
     callable_by good text c q true e is get =
         let same = same_callee own c (sym (here text e) ∙ is) in
-        let tree = same_Some p q (sym (get_last earlier p) ∙ (ap (λ (d : Callee). slice_get (earlier ++ p ∷ []) d.number) same ∙ get)) in
+        let tree = same_Some p q (sym (get_last earlier p)
+        ∙ (ap (λ (d : Callee). slice_get (earlier ++ p ∷ []) d.number) same ∙ get)) in
         let absent = stand.new text (ap (found scope) ((bytes_decides text p.name).0 e) ∙ new) in
         subst (IsCallable (earlier ++ p ∷ []) scope.profile text c) tree (record {
           before = earlier;

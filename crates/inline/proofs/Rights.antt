@@ -3,7 +3,8 @@ use Rattle.std.proofs.Common.{◌≡◌, ℕ, List, Option, Some, None, refl, sy
 use Rattle.inline.specs.Flat as flat
 use Rattle.inline.specs.Flat.{TermTree, chain}
 use Rattle.inline.specs.FlatMeaning.{Values, value_in, path_in, after_all, path_along, path_of_result}
-use Rattle.inline.specs.Numbering.{Numbers, callables, single, call_block, call_value, call_result, value_given, right_block, right}
+use Rattle.inline.specs.Numbering.{Numbers, callables, single, call_block, call_value, call_result, value_given}
+use Rattle.inline.specs.Numbering.{right_block, right}
 use Rattle.inline.specs.Path.{either, first_fault}
 use Rattle.language.specs.declared.signature.Label.{Label}
 use Rattle.language.specs.declared.typing.ValueType.TheVariants.{Word}
@@ -40,7 +41,8 @@ pub given_word : {m : Values} {given : WordType} {value : Option TermTree} {w : 
     → HasResult m (Some given) value w → word_given w ≡ word_at given.kind (value_in m (value_given value))
 given_word (a_word same) = same
 
-module _ (earlier : List ProcedureTree) (scope : Scope) (names : Numbers) (n : ℕ) (ready : Ready earlier scope names n) where
+module _ (earlier : List ProcedureTree) (scope : Scope) (names : Numbers) (n : ℕ)
+    (ready : Ready earlier scope names n) where
   -- a call that gives a word
   pub call_gives : {control : Label} {c : CallTree} {given : WordType}
       → rules.IsCall earlier scope control c (Word given) → (s : State) (m : Values) → Shows names s m
@@ -63,8 +65,10 @@ module _ (earlier : List ProcedureTree) (scope : Scope) (names : Numbers) (n : �
       (λ r is agrees. (
         r,
         of_call is,
-        record
-            { word = given_word (subst (λ o. HasResult end o value r.word) result agrees.word); shows = agrees.shows },
+        record {
+          word = given_word (subst (λ o. HasResult end o value r.word) result agrees.word);
+          shows = agrees.shows;
+        },
       ))
       (λ at is. of_call is))
 
@@ -76,7 +80,8 @@ module _ (earlier : List ProcedureTree) (scope : Scope) (names : Numbers) (n : �
         let taken = right (callables earlier) names n value in
         Comes (Rights earlier s value) (IsGiven names end given taken)
         (either (first_fault (path_along m tree)) (first_fault (path_in end taken))))
-    pub keeps : (x : ℕ) → Spares names n x → (m : Values) → after_all m (right_block (callables earlier) names n value) x ≡ m x
+    pub keeps : (x : ℕ) → Spares names n x → (m : Values)
+        → after_all m (right_block (callables earlier) names n value) x ≡ m x
 
   pub right_means : {control : Label} {value : RightTree} {given : WordType}
       → rules.Gives earlier scope control value (Word given) → RightMeans value given

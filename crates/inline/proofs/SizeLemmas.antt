@@ -16,4 +16,5 @@ pub no_arguments : (ps : List ParameterTree) (es : List Expr) (n : ℕ) → fals
     → nodes_passed (word_arguments ps (map expr_tree (drop n es))) ≡ 0
 no_arguments ps es n past =
     let end : length es ≤ n = grind (arith, nat_tests) in
-    ap (λ rest. nodes_passed (word_arguments ps (map expr_tree rest))) (drop_all n es end) ∙ ap nodes_passed (no_word_arguments ps)
+    ap (λ rest. nodes_passed (word_arguments ps (map expr_tree rest))) (drop_all n es end)
+    ∙ ap nodes_passed (no_word_arguments ps)

@@ -1,5 +1,6 @@
 -- States of the source beside the values of numbered variables, as declarations and assignments change both.
-use Rattle.std.proofs.Common.{◌≡◌, ℕ, ◌+◌, Bool, true, false, if◌then◌else◌, List, Option, Some, None, refl, sym, ap, ◌∙◌, subst, arith, true≢false, ne_eqb, eq-eqb}
+use Rattle.std.proofs.Common.{◌≡◌, ℕ, ◌+◌, Bool, true, false, if◌then◌else◌, List, Option, Some, None, refl, sym, ap}
+use Rattle.std.proofs.Common.{◌∙◌, subst, arith, true≢false, ne_eqb, eq-eqb}
 use Rattle.std.proofs.lemmas.Option.{same_Some}
 use Rattle.std.specs.Str.{bytes_eq}
 use lib.Pointwise.{bytes_decides}
@@ -12,7 +13,8 @@ use Rattle.inline.specs.FlatTyping.{Types}
 use Rattle.inline.specs.Numbering.{Numbers, Callables, naming, names_after, names_after_all, numbers_taken, right_end}
 use Rattle.names.specs.Scope.{found}
 use Rattle.language.specs.State.{State, Value, with_value}
-use Rattle.language.specs.Tree.{StatementTree, declaration, array, assignment, element_assignment, call, conditional, loop, BlockTree, nothing, first}
+use Rattle.language.specs.Tree.{StatementTree, declaration, array, assignment, element_assignment, call, conditional}
+use Rattle.language.specs.Tree.{loop, BlockTree, nothing, first}
 use Rattle.language.specs.Types.{Scope}
 use Rattle.language.specs.WellTyped.{labelled}
 use Rattle.inline.proofs.Linked.{Linked, entry}
@@ -26,7 +28,8 @@ pub with_value-same : (m : Values) (x : ℕ) (v : List ℕ) → flat.with_value 
 with_value-same m x v = ap (λ b. if b then v else m x) (eq-eqb x x refl)
 
 -- equal parts hold alike
-holds_by : {d e : FlatVariable} {o p : Option Value} {a b : List ℕ} → d ≡ e → o ≡ p → a ≡ b → Holds d o a → Holds e p b
+holds_by : {d e : FlatVariable} {o p : Option Value} {a b : List ℕ} → d ≡ e → o ≡ p → a ≡ b → Holds d o a
+    → Holds e p b
 holds_by {d = d} {e = e} {o = o} {p = p} {a = a} {b = b} same one other holds =
     subst (λ c. Holds c p b) same (subst (λ q. Holds d q b) one (subst (λ ns. Holds d o ns) other holds))
 
@@ -39,7 +42,8 @@ module _ (scope : Scope) (names : Numbers) (types : Types) (n : ℕ) (linked : L
         → found (naming names text n own) other ≡ Some x → Holds x.declaration (with_value s text v other)
         (flat.with_value m n numbers x.number)
     declared_by other x true e is =
-        let same = same_Some (entry n own) x (sym (found-new names text (entry n own) other e (linked.none text new)) ∙ is) in
+        let same = same_Some (entry n own) x (sym (found-new names text (entry n own) other e (linked.none text new))
+        ∙ is) in
         holds_by (ap (λ (y : Numbered). y.declaration) same) (sym (ap (λ b. if b then Some v else s other) e))
         (sym (with_value-same m n numbers) ∙ ap (λ (y : Numbered). flat.with_value m n numbers y.number) same) holds
     declared_by other x false e is =
@@ -56,7 +60,8 @@ module _ (scope : Scope) (names : Numbers) (types : Types) (n : ℕ) (linked : L
     changed_by : (other : List ℕ) (x : Numbered) (b : Bool) → bytes_eq other text ≡ b → found names other ≡ Some x
         → Holds x.declaration (with_value s text v other) (flat.with_value m y numbers x.number)
     changed_by other x true e is =
-        let same = same_Some (entry y own) x (sym known ∙ (ap (found names) (sym ((bytes_decides other text).0 e)) ∙ is)) in
+        let same = same_Some (entry y own) x (sym known
+        ∙ (ap (found names) (sym ((bytes_decides other text).0 e)) ∙ is)) in
         holds_by (ap (λ (z : Numbered). z.declaration) same) (sym (ap (λ b. if b then Some v else s other) e))
         (sym (with_value-same m y numbers) ∙ ap (λ (z : Numbered). flat.with_value m y numbers z.number) same) holds
     changed_by other x false e is =
@@ -72,12 +77,14 @@ module _ (scope : Scope) (names : Numbers) (types : Types) (n : ℕ) (linked : L
 -- What holds of a state where no number of a name has changed.
 pub shows_kept : (names : Numbers) (s : State) (m o : Values) → Shows names s m
     → ((text : List ℕ) (x : Numbered) → found names text ≡ Some x → o x.number ≡ m x.number) → Shows names s o
-shows_kept names s m o shows same text x is = subst (Holds x.declaration (s text)) (sym (same text x is)) (shows text x is)
+shows_kept names s m o shows same text x is =
+    subst (Holds x.declaration (s text)) (sym (same text x is)) (shows text x is)
 
 -- Names outlast statements.
 
 module _ (known : Callables) where
-  kept_number : (s : StatementTree) (names : Numbers) (n : ℕ) (text : List ℕ) (x : Numbered) → found names text ≡ Some x
+  kept_number : (s : StatementTree) (names : Numbers) (n : ℕ) (text : List ℕ) (x : Numbered)
+      → found names text ≡ Some x
       → found (names_after known names n s) text ≡ Some x
   kept_number (declaration place label mutable kind own value) names n text x h =
       found-kept names own (entry (right_end known n value) (word_as (labelled kind label) mutable)) text x h

@@ -1,5 +1,6 @@
 -- A well-typed expression keeps its type, and comes to the same, once its names are numbers.
-use Rattle.std.proofs.Common.{◌≡◌, ℕ, ◌==◌, ◌&&◌, Bool, true, false, not, if◌then◌else◌, nat_lt, List, [], ◌∷◌, length, Option, Some, None, slice_index, refl, sym, ap, ap₂, ◌∙◌, subst}
+use Rattle.std.proofs.Common.{◌≡◌, ℕ, ◌==◌, ◌&&◌, Bool, true, false, not, if◌then◌else◌, nat_lt, List, [], ◌∷◌}
+use Rattle.std.proofs.Common.{length, Option, Some, None, slice_index, refl, sym, ap, ap₂, ◌∙◌, subst}
 use Rattle.word.specs.declared.place.Place.{Place}
 use Rattle.word.specs.declared.profile.Profile.{Profile}
 use Rattle.word.specs.Operators.{rotated_left}
@@ -21,7 +22,9 @@ use Rattle.language.specs.declared.typing.ValueType.TheVariants.{Word}
 use Rattle.language.specs.declared.typing.WordType.{WordType}
 use Rattle.language.specs.ExprTyping.{operation_of, operation_kind}
 use Rattle.language.specs.Grammatical.{AreSmall}
-use Rattle.language.specs.Meaning.{Evaluates, EvaluatesAll, by_operands, operand_faults, none_left, one_more, this_faults, later_faults, gives, faults, word_held, element_held, operands, applied}
+use Rattle.language.specs.Meaning.{Evaluates, EvaluatesAll, by_operands, operand_faults, none_left, one_more}
+use Rattle.language.specs.Meaning.{this_faults, later_faults, gives, faults, word_held, element_held, operands}
+use Rattle.language.specs.Meaning.{applied}
 use Rattle.language.specs.Operators.{divides, multiplies, operated, prefix_value, width_of, binary_word}
 use Rattle.language.specs.State.{State, Value, single, array}
 use Rattle.language.specs.State as state
@@ -48,7 +51,8 @@ pub record Holds (d : FlatVariable) (value : Option Value) (numbers : List ℕ) 
 
 -- each name in scope holds what its variable does
 abbrev pub Shows : Numbers → State → Values → Type 0
-Shows names s m = (text : List ℕ) (x : Numbered) → found names text ≡ Some x → Holds x.declaration (s text) (m x.number)
+Shows names s m = (text : List ℕ) (x : Numbered) → found names text ≡ Some x
+    → Holds x.declaration (s text) (m x.number)
 
 -- Expressions, from left to right.
 
@@ -62,25 +66,30 @@ module _ (s : State) where
       → Comes (EvaluatesAll s (e ∷ es)) (λ ws. ws ≡ v ∷ vs) (either one other)
   more_values {e = e} {es = es} (fails at is) rest = fails at (this_faults is)
   more_values {e = e} {es = es} (well w is same) (fails at later) = fails at (later_faults is later)
-  more_values {e = e} {es = es} (well w is same) (well ws are all) = well (w ∷ ws) (one_more is are) (ap₂ (λ x xs. x ∷ xs) same all)
+  more_values {e = e} {es = es} (well w is same) (well ws are all) =
+      well (w ∷ ws) (one_more is are) (ap₂ (λ x xs. x ∷ xs) same all)
 
   -- a node, once its operands have come to these values
   at_node : (e : ExprTree) (vs : List state.Word) (w : state.Word) (one other : Option Place)
       → Comes (EvaluatesAll s (operands e)) (λ ws. ws ≡ vs) one → applied s e vs ≡ ending_by other w
       → Comes (Evaluates s e) (λ v. v ≡ w) (either one other)
   at_node e vs w _ other (fails at is) makes = fails at (operand_faults is)
-  at_node e vs w _ None (well ws are all) makes = well w (subst (Evaluates s e) (ap (applied s e) all ∙ makes) (by_operands are)) refl
-  at_node e vs w _ (Some at) (well ws are all) makes = fails at (subst (Evaluates s e) (ap (applied s e) all ∙ makes) (by_operands are))
+  at_node e vs w _ None (well ws are all) makes =
+      well w (subst (Evaluates s e) (ap (applied s e) all ∙ makes) (by_operands are)) refl
+  at_node e vs w _ (Some at) (well ws are all) makes =
+      fails at (subst (Evaluates s e) (ap (applied s e) all ∙ makes) (by_operands are))
 
   -- nodes that meet no fault of their own
-  with_none : (e : ExprTree) (w : state.Word) → operands e ≡ [] → applied s e [] ≡ gives w → Comes (Evaluates s e) (λ v. v ≡ w) None
+  with_none : (e : ExprTree) (w : state.Word) → operands e ≡ [] → applied s e [] ≡ gives w
+      → Comes (Evaluates s e) (λ v. v ≡ w) None
   with_none e w are makes = at_node e [] w None None
       (subst (λ es. Comes (EvaluatesAll s es) (λ vs. vs ≡ []) None) (sym are) no_values) makes
 
   with_one : (e a : ExprTree) (v w : state.Word) (f : Option Place) → operands e ≡ a ∷ []
       → Comes (Evaluates s a) (λ u. u ≡ v) f → applied s e (v ∷ []) ≡ gives w → Comes (Evaluates s e) (λ u. u ≡ w) f
   with_one e a v w f are is makes =
-      let all = subst (λ es. Comes (EvaluatesAll s es) (λ vs. vs ≡ v ∷ []) (either f None)) (sym are) (more_values is no_values) in
+      let all = subst (λ es. Comes (EvaluatesAll s es) (λ vs. vs ≡ v ∷ []) (either f None)) (sym are)
+      (more_values is no_values) in
       subst (Comes (Evaluates s e) (λ u. u ≡ w)) (either-none (either f None) ∙ either-none f)
       (at_node e (v ∷ []) w (either f None) None all makes)
 
@@ -136,7 +145,8 @@ made_label (rules.order numeric) = refl
 made_label rules.logic = refl
 
 -- the word that is chosen
-picked : (is_zero : Bool) (k : Kind) (a b : ℕ) → (if not is_zero then word_at k a else word_at k b) ≡ word_at k (if is_zero then b else a)
+picked : (is_zero : Bool) (k : Kind) (a b : ℕ)
+    → (if not is_zero then word_at k a else word_at k b) ≡ word_at k (if is_zero then b else a)
 picked true k a b = refl
 picked false k a b = refl
 
@@ -149,7 +159,8 @@ pub record Means (names : Numbers) (types : Types) (e : ExprTree) (type : WordTy
       (λ v. v ≡ word_at type.kind (value_in m (term names e))) (first_fault (path_in m (term names e)))
 
 module _ (scope : Scope) (names : Numbers) (types : Types) (n : ℕ) (linked : Linked scope names types n) where
-  pub means : {e : ExprTree} {type : WordType} → rules.HasType scope e (Word type) → AreSmall e → Means names types e type
+  pub means : {e : ExprTree} {type : WordType} → rules.HasType scope e (Word type) → AreSmall e
+      → Means names types e type
   means (rules.of_number {place = place} {value = value} {kind = kind} below) small = record {
     kind = refl;
     label = refl;
@@ -173,7 +184,8 @@ module _ (scope : Scope) (names : Numbers) (types : Types) (n : ℕ) (linked : L
             (ap (λ o. gives (word_held o)) (shows text _ k.found).is
             ∙ ap (λ (x : Numbered). gives (word_at word.kind (slice_index (m x.number) 0))) (sym k.here));
       }
-  means (rules.of_prefix {place = place} {operator = operator} {operand = operand} {kind = kind} {label = label} has takes) small =
+  means (rules.of_prefix {place = place} {operator = operator} {operand = operand} {kind = kind} {label =
+      label} has takes) small =
       let a = means has small in
       record {
         kind = a.kind;
@@ -184,7 +196,8 @@ module _ (scope : Scope) (names : Numbers) (types : Types) (n : ℕ) (linked : L
             with_one s (prefix place operator operand) operand (word_at kind x) _ _ refl (a.value s m shows)
             (ap (λ w. gives (word_at kind (prefix_value operator w x))) (ap width_of (sym a.kind)));
       }
-  means (rules.of_binary {place = place} {operator = operator} {left = left} {right = right} {one = one} {other = other}
+  means (rules.of_binary {place = place} {operator = operator} {left = left} {right = right} {one =
+      one} {other = other}
       {whole = whole} has more makes) small =
       let a = means has small.0 in
       let b = means more small.1 in
@@ -215,7 +228,8 @@ module _ (scope : Scope) (names : Numbers) (types : Types) (n : ℕ) (linked : L
             (either (first_fault p) (either (first_fault q) None)) (first_fault own)
             (more_values s (a.value s m shows) (more_values s (b.value s m shows) (no_values s))) makes);
       }
-  means (rules.of_rotation {place = place} {operand = operand} {amount = amount} {kind = kind} {label = label} has numeric low high) small =
+  means (rules.of_rotation {place = place} {operand = operand} {amount = amount} {kind = kind} {label =
+      label} has numeric low high) small =
       let a = means has small.0 in
       record {
         kind = a.kind;
@@ -226,7 +240,8 @@ module _ (scope : Scope) (names : Numbers) (types : Types) (n : ℕ) (linked : L
             with_one s (rotate place operand amount) operand (word_at kind x) _ _ refl (a.value s m shows)
             (ap (λ w. gives (word_at kind (rotated_left w x amount))) (ap width_of (sym a.kind)));
       }
-  means (rules.of_conversion {place = place} {kind = kind} {other = other} {operand = operand} {label = label} has) small =
+  means (rules.of_conversion {place = place} {kind = kind} {other = other} {operand = operand} {label = label} has)
+      small =
       let a = means has small.1 in
       record {
         kind = refl;
@@ -255,7 +270,8 @@ module _ (scope : Scope) (names : Numbers) (types : Types) (n : ℕ) (linked : L
             let w = word_at kind (if z == 0 then y else x) in
             let all = more_values s (c.value s m shows)
             (more_values s (a.value s m shows) (more_values s (b.value s m shows) (no_values s))) in
-            subst (Comes (Evaluates s e) (λ v. v ≡ w)) (chosen (first_fault p) (first_fault q) (first_fault r) ∙ sym (across₃ p q r))
+            subst (Comes (Evaluates s e) (λ v. v ≡ w)) (chosen (first_fault p) (first_fault q) (first_fault r)
+            ∙ sym (across₃ p q r))
             (at_node s e (word_at Boolean z ∷ word_at kind x ∷ word_at kind y ∷ []) w
             (either (first_fault p) (either (first_fault q) (either (first_fault r) None))) None all
             (ap gives (picked (z == 0) kind x y)));
@@ -266,7 +282,8 @@ module _ (scope : Scope) (names : Numbers) (types : Types) (n : ℕ) (linked : L
       chosen None None (Some at) = refl
       chosen None (Some at) h = refl
       chosen (Some at) g h = refl
-  means (rules.of_element {place = place} {target = target} {text = text} {index = index} {array = own} {mutable = mutable} is has) small =
+  means (rules.of_element {place = place} {target = target} {text = text} {index = index} {array = own} {mutable =
+      mutable} is has) small =
       let k = known_array scope names types n linked text own mutable is in
       let i = means has small in
       record {
@@ -298,7 +315,8 @@ pub still_public : {label wanted : Label} → rules.FlowsTo label wanted → wan
 still_public rules.public_flows e = refl
 still_public rules.secret_flows e = e
 
-pub suits_there : {names : Numbers} {types : Types} {e : ExprTree} {given wanted : WordType} → Means names types e given
+pub suits_there : {names : Numbers} {types : Types} {e : ExprTree} {given wanted : WordType}
+    → Means names types e given
     → rules.Suits given wanted → Suits types wanted (term names e)
 suits_there means (rules.suits {kind = kind} {label = label} flow) =
     record { word = labelled kind label; has_type = means.typed; kind = refl; label = still_public flow }

@@ -2,7 +2,8 @@
 use Rattle.std.proofs.Common.{◌≡◌, ℕ, false, List, Some, None, sym, ap, ◌∙◌}
 use Rattle.std.proofs.lemmas.Option.{none-some}
 use Rattle.inline.specs.declared.flat.FlatVariable.{FlatVariable}
-use Rattle.inline.specs.Flat.{FlatTree, declare, array, assign, put, hold, skip, branch, loop, FlatBlock, nothing, first, word_as, array_as}
+use Rattle.inline.specs.Flat.{FlatTree, declare, array, assign, put, hold, skip, branch, loop, FlatBlock, nothing}
+use Rattle.inline.specs.Flat.{first, word_as, array_as}
 use Rattle.inline.specs.FlatTyping.{Types, counter_type, IsTyped, AreTyped, types_after, types_after_all}
 use Rattle.language.specs.declared.signature.Label.{Label}
 use Rattle.inline.proofs.Linked.{with_type-other}

@@ -4,7 +4,9 @@ use Rattle.std.specs.Coded.{Coded, code_by, coded×, coded_ℕ, coded_bool, code
 use base.Stored.{Gv, gnil, gnum, gcons}
 use Rattle.inline.specs.contracts.flat.FlatVariable as flat_variable
 use Rattle.inline.specs.declared.flat.FlatVariable.{FlatVariable}
-use Rattle.inline.specs.Flat.{TermTree, number, truth, variable, prefix, binary, rotate, convert, select, element, FlatTree, declare, array, assign, put, hold, skip, branch, loop, FlatBlock, nothing, first, FlatProgram}
+use Rattle.inline.specs.Flat.{TermTree, number, truth, variable, prefix, binary, rotate, convert, select, element}
+use Rattle.inline.specs.Flat.{FlatTree, declare, array, assign, put, hold, skip, branch, loop, FlatBlock, nothing}
+use Rattle.inline.specs.Flat.{first, FlatProgram}
 use Rattle.language.specs.contracts.signature.Param as param
 use Rattle.language.specs.contracts.signature.Kind as kind
 use Rattle.language.specs.contracts.signature.Label as label
@@ -33,7 +35,8 @@ abbrev pub term_code : TermTree → Gv
 term_code (number n k) = gcons (gnum 0) (gcons (coded_ℕ.code n) (kind.the_row.coded.code k))
 term_code (truth b) = gcons (gnum 1) (coded_bool.code b)
 term_code (variable x) = gcons (gnum 2) (coded_ℕ.code x)
-term_code (prefix o w e) = gcons (gnum 3) (gcons (prefix_operator.the_row.coded.code o) (gcons (width.the_row.coded.code w) (term_code e)))
+term_code (prefix o w e) =
+    gcons (gnum 3) (gcons (prefix_operator.the_row.coded.code o) (gcons (width.the_row.coded.code w) (term_code e)))
 term_code (binary q o w l r) = gcons (gnum 4)
     (gcons (place.the_row.coded.code q)
     (gcons (operator.the_row.coded.code o) (gcons (width.the_row.coded.code w) (gcons (term_code l) (term_code r)))))
@@ -105,7 +108,8 @@ abbrev mutual
       (gcons (coded_ℕ.code x) (gcons (coded_ℕ.code n) (gcons (term_code e) (term_code v)))))
   tree_code (branch l c a b) = gcons (gnum 4)
       (gcons (label.the_row.coded.code l) (gcons (term_code c) (gcons (block_code a) (block_code b))))
-  tree_code (loop x c d b) = gcons (gnum 5) (gcons (coded_ℕ.code x) (gcons (term_code c) (gcons (term_code d) (block_code b))))
+  tree_code (loop x c d b) =
+      gcons (gnum 5) (gcons (coded_ℕ.code x) (gcons (term_code c) (gcons (term_code d) (block_code b))))
   tree_code (hold x q n e) = gcons (gnum 6)
       (gcons (coded_ℕ.code x) (gcons (place.the_row.coded.code q) (gcons (coded_ℕ.code n) (term_code e))))
   tree_code skip = gcons (gnum 7) gnil
@@ -166,10 +170,12 @@ coded_block = record { code = block_code; inj = block_inj }
 -- a program is stored as the tuple of its parts
 abbrev pub coded_program : Coded FlatProgram
 coded_program =
-    code_by (Profile × (Place × (List Param × (Option WordType × (ℕ × (List FlatVariable × (FlatBlock × Option TermTree)))))))
+    code_by (Profile
+    × (Place × (List Param × (Option WordType × (ℕ × (List FlatVariable × (FlatBlock × Option TermTree)))))))
     (coded× profile.the_row.coded (coded× place.the_row.coded
     (coded× (coded_list param.the_row.coded) (coded× (coded_option word.the_row.coded)
-    (coded× coded_ℕ (coded× (coded_list flat_variable.the_row.coded) (coded× coded_block (coded_option coded_term))))))))
+    (coded× coded_ℕ (coded× (coded_list flat_variable.the_row.coded)
+    (coded× coded_block (coded_option coded_term))))))))
     (λ p. (p.profile, (p.place, (p.parameters, (p.returned, (p.nodes, (p.declared, (p.body, p.value))))))))
     (λ t. record {
       profile = t.0;

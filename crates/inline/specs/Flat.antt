@@ -1,8 +1,11 @@
 -- One body with numbered variables, as values, without where it lies in memory.
 use Rattle.std.specs.Prelude.{ℕ, Bool, List, [], ◌∷◌, map, Option, None, Some}
 use Rattle.inline.specs.declared.flat.FlatVariable.{FlatVariable}
-use Rattle.inline.specs.declared.flat.Term.{Term, Number, Truth, Variable, Prefix', Binary', Rotate', Convert', Select', Element'}
-use Rattle.inline.specs.declared.flat.FlatStatement.{FlatStatement, Declare, DeclareArray, Assign, AssignElement, Hold, Skip, Branch', Loop', Row_of-FlatStatement, end_of-FlatStatement, more_of-FlatStatement}
+use Rattle.inline.specs.declared.flat.Term.{Term, Number, Truth, Variable, Prefix', Binary', Rotate', Convert'}
+use Rattle.inline.specs.declared.flat.Term.{Select', Element'}
+use Rattle.inline.specs.declared.flat.FlatStatement.{FlatStatement, Declare, DeclareArray, Assign, AssignElement}
+use Rattle.inline.specs.declared.flat.FlatStatement.{Hold, Skip, Branch', Loop', Row_of-FlatStatement}
+use Rattle.inline.specs.declared.flat.FlatStatement.{end_of-FlatStatement, more_of-FlatStatement}
 use Rattle.language.specs.declared.signature.Form.{Form}
 use Rattle.language.specs.declared.signature.Form.TheVariants.{SingleWord, FixedArray, MutableArray}
 use Rattle.language.specs.declared.signature.Param.{Param}
@@ -100,7 +103,8 @@ pub record FlatProgram : Type 0 where
   pub returned : Option WordType
   -- how many nodes the source has
   pub nodes : ℕ
-  -- its variables, each at its number: the parameters first, in their order, then what is declared, in the order of the text
+  -- its variables, each at its number: the parameters first, in their order, then what is declared, in the order of
+  -- the text
   pub declared : List FlatVariable
   pub body : FlatBlock
   -- the result, where there is one
@@ -111,10 +115,12 @@ term_tree (Number value kind) = number value kind
 term_tree (Truth value) = truth value
 term_tree (Variable n) = variable n
 term_tree (Prefix' operator width p operand) = prefix operator width (term_tree operand)
-term_tree (Binary' place operator width p left q right) = binary place operator width (term_tree left) (term_tree right)
+term_tree (Binary' place operator width p left q right) =
+    binary place operator width (term_tree left) (term_tree right)
 term_tree (Rotate' width p operand amount) = rotate width (term_tree operand) amount
 term_tree (Convert' kind p operand) = convert kind (term_tree operand)
-term_tree (Select' p condition q accepted r otherwise) = select (term_tree condition) (term_tree accepted) (term_tree otherwise)
+term_tree (Select' p condition q accepted r otherwise) =
+    select (term_tree condition) (term_tree accepted) (term_tree otherwise)
 term_tree (Element' place x size p index) = element place x size (term_tree index)
 
 abbrev mutual

@@ -1,10 +1,13 @@
 -- What a body with numbered variables means: from what the variables hold, what they hold in the end, and the path of
 -- the run. Both are total: after a fault they go on with some number, and the path tells that there was one.
-use Rattle.std.specs.Prelude.{ℕ, zero, suc, ◌+◌, ◌-◌, ◌==◌, List, [], ◌∷◌, ◌++◌, map, replicate, drop, Option, None, Some, if◌then◌else◌, slice_index, slice_set}
+use Rattle.std.specs.Prelude.{ℕ, zero, suc, ◌+◌, ◌-◌, ◌==◌, List, [], ◌∷◌, ◌++◌, map, replicate, drop, Option, None}
+use Rattle.std.specs.Prelude.{Some, if◌then◌else◌, slice_index, slice_set}
 use Rattle.std.specs.Option.{option_map}
 use Rattle.arguments.specs.Within.{words_of}
 use Rattle.inline.specs.declared.flat.FlatVariable.{FlatVariable}
-use Rattle.inline.specs.Flat.{TermTree, number, truth, variable, prefix, binary, rotate, convert, select, element, FlatTree, declare, array, assign, put, hold, skip, branch, loop, FlatBlock, nothing, first, FlatProgram, numbers_in}
+use Rattle.inline.specs.Flat.{TermTree, number, truth, variable, prefix, binary, rotate, convert, select, element}
+use Rattle.inline.specs.Flat.{FlatTree, declare, array, assign, put, hold, skip, branch, loop, FlatBlock, nothing}
+use Rattle.inline.specs.Flat.{first, FlatProgram, numbers_in}
 use Rattle.inline.specs.Path.{bounded, indexed, divided, multiplied, Path, first_fault}
 use Rattle.language.specs.Meaning.{Ending, gives, faults}
 use Rattle.language.specs.Operators.{divides, multiplies, operated, prefix_value, width_of}
@@ -35,7 +38,8 @@ value_in m (prefix operator width operand) = prefix_value operator width (value_
 value_in m (binary place operator width left right) = operated operator width (value_in m left) (value_in m right)
 value_in m (rotate width operand amount) = rotated_left width (value_in m operand) amount
 value_in m (convert kind operand) = converted (width_of kind) (value_in m operand)
-value_in m (select condition accepted otherwise) = if value_in m condition == 0 then value_in m otherwise else value_in m accepted
+value_in m (select condition accepted otherwise) = if value_in m condition == 0 then value_in m otherwise
+    else value_in m accepted
 value_in m (element place x size index) = slice_index (m x) (value_in m index)
 
 -- what an operator puts on the path: the operands of a division or a multiplication
@@ -86,7 +90,8 @@ abbrev mutual
   after m (put place x size index value) = with_value m x (slice_set (m x) (value_in m index) (value_in m value))
   after m (hold x place size index) = with_value m x (value_in m index ∷ [])
   after m skip = m
-  after m (branch label condition accepted otherwise) = if value_in m condition == 0 then after_all m otherwise else after_all m accepted
+  after m (branch label condition accepted otherwise) = if value_in m condition == 0 then after_all m otherwise
+      else after_all m accepted
   after m (loop x low high body) =
       turns (value_in m high - value_in m low) (value_in m low) (λ i t. after_all (with_value t x (i ∷ [])) body) m
 
@@ -100,7 +105,8 @@ abbrev mutual
   path_at m (declare x word mutable value) = path_in m value
   path_at m (array x word mutable size values) = path_in_all m values
   path_at m (assign x value) = path_in m value
-  path_at m (put place x size index value) = path_in m index ++ indexed place size (value_in m index) ∷ path_in m value
+  path_at m (put place x size index value) = path_in m index ++ indexed place size (value_in m index)
+      ∷ path_in m value
   path_at m (hold x place size index) = path_in m index ++ indexed place size (value_in m index) ∷ []
   path_at m skip = []
   path_at m (branch label condition accepted otherwise) =
@@ -135,7 +141,10 @@ arrays_from x (p ∷ ps) m = array_of p.form (m x) ++ arrays_from (x + 1) ps m
 
 -- what a result is, once the variables hold these values
 abbrev pub results_of : List Param → Option TermTree → Values → Results
-results_of parameters value m = record { returned = option_map (value_in m) value; arrays = arrays_from 0 parameters m }
+results_of parameters value m = record {
+  returned = option_map (value_in m) value;
+  arrays = arrays_from 0 parameters m;
+}
 
 -- the path of a result, where there is one
 abbrev pub path_of_result : Values → Option TermTree → Path

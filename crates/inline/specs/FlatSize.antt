@@ -2,7 +2,9 @@
 use Rattle.std.specs.Prelude.{◌≡◌, ℕ, ◌+◌, ◌*◌, ◌≤◌, List, [], ◌∷◌, map, Option, None, Some}
 use Rattle.std.specs.List.{AllByRecursion}
 use Rattle.inline.specs.declared.flat.FlatVariable.{FlatVariable}
-use Rattle.inline.specs.Flat.{TermTree, number, truth, variable, prefix, binary, rotate, convert, select, element, FlatTree, declare, array, assign, put, hold, skip, branch, loop, FlatBlock, nothing, first, FlatProgram, declaration_of}
+use Rattle.inline.specs.Flat.{TermTree, number, truth, variable, prefix, binary, rotate, convert, select, element}
+use Rattle.inline.specs.Flat.{FlatTree, declare, array, assign, put, hold, skip, branch, loop, FlatBlock, nothing}
+use Rattle.inline.specs.Flat.{first, FlatProgram, declaration_of}
 pub use Rattle.inline.specs.Limits.{most_variable_bytes}
 use Rattle.language.specs.Limits.{most_nodes, most_declared_bytes, most_elements}
 use Rattle.language.specs.declared.signature.Form.{Form}
@@ -20,7 +22,8 @@ term_nodes (prefix operator width operand) = 1 + term_nodes operand
 term_nodes (binary place operator width left right) = 1 + term_nodes left + term_nodes right
 term_nodes (rotate width operand amount) = 1 + term_nodes operand
 term_nodes (convert kind operand) = 1 + term_nodes operand
-term_nodes (select condition accepted otherwise) = 1 + term_nodes condition + term_nodes accepted + term_nodes otherwise
+term_nodes (select condition accepted otherwise) =
+    1 + term_nodes condition + term_nodes accepted + term_nodes otherwise
 term_nodes (element place x size index) = 1 + term_nodes index
 
 -- of expressions
@@ -37,7 +40,8 @@ abbrev mutual
   tree_nodes (put place x size index value) = 1 + (1 + term_nodes index) + term_nodes value
   tree_nodes (hold x place size index) = 1 + term_nodes index
   tree_nodes skip = 1
-  tree_nodes (branch label condition accepted otherwise) = 1 + term_nodes condition + body_nodes accepted + body_nodes otherwise
+  tree_nodes (branch label condition accepted otherwise) =
+      1 + term_nodes condition + body_nodes accepted + body_nodes otherwise
   tree_nodes (loop x low high body) = 1 + term_nodes low + term_nodes high + body_nodes body
 
   pub body_nodes : FlatBlock → ℕ

@@ -1,8 +1,11 @@
 -- Types of numbered variables: what is known of a well-typed body once its names are gone.
-use Rattle.std.specs.Prelude.{◌≡◌, ℕ, Bool, true, false, ◌^◌, ◌<◌, ◌==◌, ◌+◌, List, [], ◌∷◌, length, map, take, Option, None, Some, if◌then◌else◌, slice_get}
+use Rattle.std.specs.Prelude.{◌≡◌, ℕ, Bool, true, false, ◌^◌, ◌<◌, ◌==◌, ◌+◌, List, [], ◌∷◌, length, map, take}
+use Rattle.std.specs.Prelude.{Option, None, Some, if◌then◌else◌, slice_get}
 use Rattle.inline.specs.declared.flat.FlatVariable.{FlatVariable}
 pub use Rattle.inline.specs.Flat.{counter_type}
-use Rattle.inline.specs.Flat.{TermTree, number, truth, variable, prefix, binary, rotate, convert, select, element, FlatTree, declare, array, assign, put, hold, skip, branch, loop, FlatBlock, nothing, first, FlatProgram, word_as, array_as, declaration_of}
+use Rattle.inline.specs.Flat.{TermTree, number, truth, variable, prefix, binary, rotate, convert, select, element}
+use Rattle.inline.specs.Flat.{FlatTree, declare, array, assign, put, hold, skip, branch, loop, FlatBlock, nothing}
+use Rattle.inline.specs.Flat.{first, FlatProgram, word_as, array_as, declaration_of}
 use Rattle.language.specs.declared.signature.Kind.{Kind}
 use Rattle.language.specs.declared.signature.Kind.TheVariants.{Boolean, Uint32}
 use Rattle.language.specs.declared.signature.Label.{Label}
@@ -26,7 +29,10 @@ pub record Types : Type 0 where
   pub at : ℕ → Option FlatVariable
 
 abbrev pub with_type : Types → ℕ → FlatVariable → Types
-with_type types x declaration = record { profile = types.profile; at = λ y. if y == x then Some declaration else types.at y }
+with_type types x declaration = record {
+  profile = types.profile;
+  at = λ y. if y == x then Some declaration else types.at y;
+}
 
 -- all variables of a list, each at its number
 abbrev pub types_of : Profile → List FlatVariable → Types
@@ -47,7 +53,8 @@ pub data HasType (types : Types) : TermTree → WordType → Type 0 where
       → Takes operator kind
       → width ≡ width_of kind
       → HasType types (prefix operator width operand) (labelled kind label)
-  of_binary : {place : Place} {operator : BinaryOperator} {width : Width} {left right : TermTree} {one other whole : WordType}
+  of_binary : {place : Place} {operator : BinaryOperator} {width : Width} {left right : TermTree}
+      {one other whole : WordType}
       → HasType types left one
       → HasType types right other
       → Makes types.profile (operation_of operator) one other whole
@@ -130,7 +137,8 @@ pub record IsNew (declared : List FlatVariable) (types : Types) (x : ℕ) (decla
 abbrev mutual
   -- a well-typed statement under a control label, where this is the list of all variables
   pub IsTyped : List FlatVariable → Types → Label → FlatTree → Type 0
-  IsTyped declared types control (declare x word mutable value) = IsNew declared types x (word_as word mutable) × Suits types word value
+  IsTyped declared types control (declare x word mutable value) = IsNew declared types x (word_as word mutable)
+      × Suits types word value
   IsTyped declared types control (array x word mutable size values) =
       IsNew declared types x (array_as word mutable size) × AllSuit types word values × HasCount size values
   IsTyped declared types control (assign x value) = IsAssigned types control x value
@@ -140,7 +148,8 @@ abbrev mutual
   IsTyped declared types control skip = Unit {0}
   IsTyped declared types control (branch label condition accepted otherwise) =
       HasType types condition (labelled Boolean label)
-      × AreTyped declared types (joined label control) accepted × AreTyped declared types (joined label control) otherwise
+      × AreTyped declared types (joined label control) accepted
+      × AreTyped declared types (joined label control) otherwise
   IsTyped declared types control (loop x low high body) =
       HasType types low counter_type × HasType types high counter_type
       × IsNew declared types x (word_as counter_type false)
@@ -160,7 +169,8 @@ abbrev mutual
   declarations_in (put place x size index value) = 0
   declarations_in (hold x place size index) = 1
   declarations_in skip = 0
-  declarations_in (branch label condition accepted otherwise) = declarations_in_all accepted + declarations_in_all otherwise
+  declarations_in (branch label condition accepted otherwise) =
+      declarations_in_all accepted + declarations_in_all otherwise
   declarations_in (loop x low high body) = 1 + declarations_in_all body
 
   pub declarations_in_all : FlatBlock → ℕ

@@ -7,7 +7,9 @@ use Rattle.inline.specs.declared.measured.Size.{Size}
 use Rattle.language.specs.Limits.{most_nodes, most_declared_bytes, most_bodies}
 use Rattle.language.specs.declared.rule.Rule.TheVariants.{InlinedSize, DeclaredBytes}
 use Rattle.language.specs.declared.typing.Violation.{Violation}
-use Rattle.language.specs.Size.{Extent, Extents, call_nodes, words_of_called, bodies_of_called, right_nodes, right_words, right_bodies, statement_nodes, statement_words, statement_bodies, block_nodes, block_words, block_bodies, nodes_of, bodies_of}
+use Rattle.language.specs.Size.{Extent, Extents, call_nodes, words_of_called, bodies_of_called, right_nodes}
+use Rattle.language.specs.Size.{right_words, right_bodies, statement_nodes, statement_words, statement_bodies}
+use Rattle.language.specs.Size.{block_nodes, block_words, block_bodies, nodes_of, bodies_of}
 use Rattle.language.specs.Tree.{CallTree, RightTree, StatementTree, BlockTree, ProcedureTree, parameter_tree}
 use Rattle.language.specs.Types.{at, when}
 use Rattle.names.specs.Scope.{found}
@@ -37,7 +39,8 @@ extents_in table text = option_map extent_of_measured (found table text)
 
 -- the size that is counted of a call, of a right side, of a statement, of statements
 abbrev pub call_size : Extents → CallTree → Size
-call_size known c = counted_size (call_nodes known c) (words_of_called (known c.name)) (bodies_of_called (known c.name))
+call_size known c = counted_size (call_nodes known c) (words_of_called (known c.name))
+    (bodies_of_called (known c.name))
 
 abbrev pub right_size : Extents → RightTree → Size
 right_size known r = counted_size (right_nodes known r) (right_words known r) (right_bodies known r)

@@ -1,10 +1,13 @@
--- Names become numbers: each declaration gets the next one, the parameters the first. The body of a called procedure stands
--- where the call stood: its word parameters are declared with the arguments, its array parameters are the caller's arrays.
-use Rattle.std.specs.Prelude.{ℕ, ◌+◌, false, List, [], ◌∷◌, ◌++◌, length, map, Option, None, Some, unwrap_or, if◌then◌else◌}
+-- Names become numbers: each declaration gets the next one, the parameters the first. The body of a called procedure
+-- stands where the call stood: its word parameters are declared with the arguments, its array parameters are the
+-- caller's arrays.
+use Rattle.std.specs.Prelude.{ℕ, ◌+◌, false, List, [], ◌∷◌, ◌++◌, length, map, Option, None, Some, unwrap_or}
+use Rattle.std.specs.Prelude.{if◌then◌else◌}
 use Rattle.std.specs.Option.{option_map}
 use Rattle.names.specs.Scope.{found, declared}
 use Rattle.inline.specs.declared.flat.FlatVariable.{FlatVariable}
-use Rattle.inline.specs.Flat.{TermTree, FlatTree, FlatBlock, FlatProgram, chain, word_as, array_as, declaration_of, numbers_in, counter_type}
+use Rattle.inline.specs.Flat.{TermTree, FlatTree, FlatBlock, FlatProgram, chain, word_as, array_as, declaration_of}
+use Rattle.inline.specs.Flat.{numbers_in, counter_type}
 use Rattle.inline.specs.Flat as flat
 use Rattle.inline.specs.declared.numbering.Numbered.{Numbered}
 use Rattle.language.specs.declared.signature.Kind.{Kind}
@@ -20,7 +23,10 @@ pub use Rattle.language.specs.Signature.{param_of}
 use Rattle.language.specs.Known.{Known, known_of}
 use Rattle.language.specs.Meaning.{is_word}
 use Rattle.language.specs.Size.{nodes_of, extents_of}
-use Rattle.language.specs.Tree.{ExprTree, number, truth, name, prefix, binary, rotate, convert, select, element, RightTree, called, computed, StatementTree, declaration, array, assignment, element_assignment, call, conditional, loop, BlockTree, nothing, first, ParameterTree, ReturnTree, ProcedureTree, written}
+use Rattle.language.specs.Tree.{ExprTree, number, truth, name, prefix, binary, rotate, convert, select, element}
+use Rattle.language.specs.Tree.{RightTree, called, computed, StatementTree, declaration, array, assignment}
+use Rattle.language.specs.Tree.{element_assignment, call, conditional, loop, BlockTree, nothing, first, ParameterTree}
+use Rattle.language.specs.Tree.{ReturnTree, ProcedureTree, written}
 use Rattle.language.specs.Types.{joined}
 use Rattle.language.specs.WellTyped.{labelled}
 
@@ -73,13 +79,16 @@ abbrev pub term : Numbers → ExprTree → TermTree
 term names (number place value kind) = flat.number value kind
 term names (truth place value) = flat.truth value
 term names (name place text) = flat.variable (number_of names text)
-term names (prefix place operator operand) = flat.prefix operator (width_of (kind_in names operand)) (term names operand)
+term names (prefix place operator operand) =
+    flat.prefix operator (width_of (kind_in names operand)) (term names operand)
 term names (binary place operator left right) = flat.binary place operator (width_of (kind_in names left))
     (term names left) (term names right)
 term names (rotate place operand amount) = flat.rotate (width_of (kind_in names operand)) (term names operand) amount
 term names (convert place kind operand) = flat.convert kind (term names operand)
-term names (select place condition accepted otherwise) = flat.select (term names condition) (term names accepted) (term names otherwise)
-term names (element place target text index) = flat.element place (number_of names text) (size_of names text) (term names index)
+term names (select place condition accepted otherwise) =
+    flat.select (term names condition) (term names accepted) (term names otherwise)
+term names (element place target text index) =
+    flat.element place (number_of names text) (size_of names text) (term names index)
 
 -- a name that is declared at a number
 abbrev pub naming : Numbers → List ℕ → ℕ → FlatVariable → Numbers
@@ -91,8 +100,8 @@ single s = flat.first s flat.nothing
 
 -- Calls.
 
--- a procedure that may be called: its parameters and the type of its result, what its body declares, and its body and its
--- result for the numbers of its parameters' names, where the next number is the given one
+-- a procedure that may be called: its parameters and the type of its result, what its body declares, and its body and
+-- its result for the numbers of its parameters' names, where the next number is the given one
 pub record Callable : Type 0 where
   pub parameters : List ParameterTree
   pub result : Option WordType
@@ -111,14 +120,16 @@ own_variable p = declaration_of (param_of p)
 abbrev pub passed_variables : List ParameterTree → List ExprTree → List FlatVariable
 passed_variables [] es = []
 passed_variables (p ∷ ps) [] = []
-passed_variables (p ∷ ps) (e ∷ es) = if is_word p.form then own_variable p ∷ passed_variables ps es else passed_variables ps es
+passed_variables (p ∷ ps) (e ∷ es) = if is_word p.form then own_variable p ∷ passed_variables ps es
+    else passed_variables ps es
 
 -- word arguments, each put into a variable: the first has the number n
 abbrev pub passed : Numbers → ℕ → List ParameterTree → List ExprTree → FlatBlock
 passed names n [] es = flat.nothing
 passed names n (p ∷ ps) [] = flat.nothing
 passed names n (p ∷ ps) (e ∷ es) =
-    if is_word p.form then flat.first (flat.declare n (labelled p.kind p.label) false (term names e)) (passed names (n + 1) ps es)
+    if is_word p.form then flat.first (flat.declare n (labelled p.kind p.label) false (term names e))
+    (passed names (n + 1) ps es)
     else passed names n ps es
 
 -- the number of the array that an argument names
@@ -149,7 +160,8 @@ call_start n c es = n + length (passed_variables c.parameters es)
 -- a call without its own node: the words passed, and the called body
 abbrev pub call_block : Option Callable → Numbers → ℕ → List ExprTree → FlatBlock
 call_block None names n es = flat.nothing
-call_block (Some c) names n es = chain (passed names n c.parameters es) (c.body (call_names names n c es) (call_start n c es))
+call_block (Some c) names n es =
+    chain (passed names n c.parameters es) (c.body (call_names names n c es) (call_start n c es))
 
 -- what it gives, in the names at its end
 abbrev pub call_value : Option Callable → Numbers → ℕ → List ExprTree → Option TermTree
@@ -170,7 +182,8 @@ call_result (Some c) = c.result
 -- what stands before a right side is known: a call's own node, the call, and the node of the called body's `return`
 abbrev pub right_block : Callables → Numbers → ℕ → RightTree → FlatBlock
 right_block known names n (computed e) = flat.nothing
-right_block known names n (called c) = flat.first flat.skip (chain (call_block (known c.name) names n c.arguments) (single flat.skip))
+right_block known names n (called c) =
+    flat.first flat.skip (chain (call_block (known c.name) names n c.arguments) (single flat.skip))
 
 abbrev pub right_variables : Callables → RightTree → List FlatVariable
 right_variables known (computed e) = []
@@ -186,7 +199,8 @@ right_end known n value = n + length (right_variables known value)
 
 -- Statements.
 
--- an assignment to an element: an index is held where a call stands behind it, since the call may change what it was made of.
+-- an assignment to an element: an index is held where a call stands behind it, since the call may change what it was
+-- made of.
 -- The nodes of the call and of the called body's `return` are those of the element that is assigned to then.
 abbrev pub element_block : Callables → Numbers → ℕ → Place → List ℕ → ExprTree → RightTree → FlatBlock
 element_block known names n bracket text index (computed e) =
@@ -215,11 +229,14 @@ abbrev mutual
   pub declared_in : Callables → StatementTree → List FlatVariable
   declared_in known (declaration place label mutable kind text value) =
       right_variables known value ++ word_as (labelled kind label) mutable ∷ []
-  declared_in known (array place label mutable kind size text values) = array_as (labelled kind label) mutable size ∷ []
+  declared_in known (array place label mutable kind size text values) =
+      array_as (labelled kind label) mutable size ∷ []
   declared_in known (assignment place target text value) = right_variables known value
   declared_in known (element_assignment place bracket target text index value) = element_variables known value
-  declared_in known (call c) = call_variables (known c.name) c.arguments ++ dropped_variables (call_result (known c.name))
-  declared_in known (conditional place condition accepted otherwise) = declared_in_all known accepted ++ declared_in_all known otherwise
+  declared_in known (call c) = call_variables (known c.name) c.arguments
+      ++ dropped_variables (call_result (known c.name))
+  declared_in known (conditional place condition accepted otherwise) =
+      declared_in_all known accepted ++ declared_in_all known otherwise
   declared_in known (loop place counter text low high body) = word_as counter_type false ∷ declared_in_all known body
 
   pub declared_in_all : Callables → BlockTree → List FlatVariable
@@ -254,8 +271,10 @@ abbrev mutual
   statement known names n (array place label mutable kind size text values) =
       single (flat.array n (labelled kind label) mutable size (map (term names) (written values)))
   statement known names n (assignment place target text value) =
-      chain (right_block known names n value) (single (flat.assign (number_of names text) (right known names n value)))
-  statement known names n (element_assignment place bracket target text index value) = element_block known names n bracket text index value
+      chain (right_block known names n value)
+      (single (flat.assign (number_of names text) (right known names n value)))
+  statement known names n (element_assignment place bracket target text index value) =
+      element_block known names n bracket text index value
   statement known names n (call c) =
       flat.first flat.skip (chain (call_block (known c.name) names n c.arguments)
       (dropped_block (n + length (call_variables (known c.name) c.arguments)) (call_result (known c.name))
@@ -264,7 +283,8 @@ abbrev mutual
       single (flat.branch (label_in names condition) (term names condition) (block known names n accepted)
       (block known names (n + numbers_taken_all known accepted) otherwise))
   statement known names n (loop place counter text low high body) =
-      single (flat.loop n (term names low) (term names high) (block known (naming names text n (word_as counter_type false)) (n + 1) body))
+      single (flat.loop n (term names low) (term names high)
+      (block known (naming names text n (word_as counter_type false)) (n + 1) body))
 
   pub block : Callables → Numbers → ℕ → BlockTree → FlatBlock
   block known names n nothing = flat.nothing
@@ -274,7 +294,8 @@ abbrev mutual
 -- the names after some statements
 abbrev pub names_after_all : Callables → Numbers → ℕ → BlockTree → Numbers
 names_after_all known names n nothing = names
-names_after_all known names n (first s rest) = names_after_all known (names_after known names n s) (n + numbers_taken known s) rest
+names_after_all known names n (first s rest) =
+    names_after_all known (names_after known names n s) (n + numbers_taken known s) rest
 
 -- Procedures.
 

@@ -1,10 +1,13 @@
 -- The turns that are counted for a program are counted for each of its loops.
-use Rattle.std.proofs.Common.{◌≡◌, ℕ, false, ◌+◌, ◌<◌, ◌≤◌, List, length, slice_set, slice_index, refl, sym, ◌∙◌, arith}
+use Rattle.std.proofs.Common.{◌≡◌, ℕ, false, ◌+◌, ◌<◌, ◌≤◌, List, length, slice_set, slice_index, refl, sym, ◌∙◌}
+use Rattle.std.proofs.Common.{arith}
 use Rattle.std.proofs.lemmas.List.{length-set, get_or-set_same, get_or-set_other}
 use Rattle.std.proofs.lemmas.Option.{slice_get_within}
 use Rattle.inline.specs.declared.flat.FlatVariable.{FlatVariable}
-use Rattle.inline.specs.Flat.{FlatTree, declare, array, assign, put, hold, skip, branch, loop, FlatBlock, nothing, first, word_as}
-use Rattle.inline.specs.FlatTyping.{Types, with_type, counter_type, IsTyped, AreTyped, IsNumbered, AreNumbered, declarations_in, declarations_in_all, types_after}
+use Rattle.inline.specs.Flat.{FlatTree, declare, array, assign, put, hold, skip, branch, loop, FlatBlock, nothing}
+use Rattle.inline.specs.Flat.{first, word_as}
+use Rattle.inline.specs.FlatTyping.{Types, with_type, counter_type, IsTyped, AreTyped, IsNumbered, AreNumbered}
+use Rattle.inline.specs.FlatTyping.{declarations_in, declarations_in_all, types_after}
 use Rattle.intervals.specs.Intervals.{Bounds, interval}
 use Rattle.intervals.specs.Narrowing.{where_true, where_false}
 use Rattle.intervals.specs.Ranges.{bounds_after, counted, counted_all, in_loop, most_turns}
@@ -30,18 +33,23 @@ module _ (declared : List FlatVariable) where
     long (hold x place size index) bounds turns = refl
     long skip bounds turns = refl
     long (branch label condition accepted otherwise) bounds turns =
-        long_all otherwise (where_false declared bounds label condition) (counted_all declared (where_true declared bounds label condition) turns accepted) ∙ long_all accepted (where_true declared bounds label condition) turns
+        long_all otherwise (where_false declared bounds label condition)
+        (counted_all declared (where_true declared bounds label condition) turns accepted)
+        ∙ long_all accepted (where_true declared bounds label condition) turns
     long (loop x low high body) bounds turns =
         let most = most_turns (interval declared bounds low) (interval declared bounds high) in
         long_all body (in_loop declared bounds x low high) (slice_set turns x most) ∙ length-set turns x most
 
-    long_all : (b : FlatBlock) (bounds : Bounds) (turns : List ℕ) → length (counted_all declared bounds turns b) ≡ length turns
+    long_all : (b : FlatBlock) (bounds : Bounds) (turns : List ℕ)
+        → length (counted_all declared bounds turns b) ≡ length turns
     long_all nothing bounds turns = refl
-    long_all (first s rest) bounds turns = long_all rest (bounds_after declared bounds s) (counted declared bounds turns s) ∙ long s bounds turns
+    long_all (first s rest) bounds turns =
+        long_all rest (bounds_after declared bounds s) (counted declared bounds turns s) ∙ long s bounds turns
 
   mutual
     -- and those of the numbers before its own stay
-    stays : (s : FlatTree) (n : ℕ) (bounds : Bounds) (turns : List ℕ) → IsNumbered n s → (y : ℕ) → y < n → slice_index (counted declared bounds turns s) y ≡ slice_index turns y
+    stays : (s : FlatTree) (n : ℕ) (bounds : Bounds) (turns : List ℕ) → IsNumbered n s → (y : ℕ) → y < n
+        → slice_index (counted declared bounds turns s) y ≡ slice_index turns y
     stays (declare x word mutable value) n bounds turns numbered y less = refl
     stays (array x word mutable size values) n bounds turns numbered y less = refl
     stays (assign x value) n bounds turns numbered y less = refl
@@ -49,17 +57,22 @@ module _ (declared : List FlatVariable) where
     stays (hold x place size index) n bounds turns numbered y less = refl
     stays skip n bounds turns numbered y less = refl
     stays (branch label condition accepted otherwise) n bounds turns numbered y less =
-        stay otherwise (n + declarations_in_all accepted) (where_false declared bounds label condition) (counted_all declared (where_true declared bounds label condition) turns accepted) numbered.1 y (omega (arith, less))
+        stay otherwise (n + declarations_in_all accepted) (where_false declared bounds label condition)
+        (counted_all declared (where_true declared bounds label condition) turns accepted) numbered.1 y
+        (omega (arith, less))
         ∙ stay accepted n (where_true declared bounds label condition) turns numbered.0 y less
     stays (loop x low high body) n bounds turns numbered y less =
         let most = most_turns (interval declared bounds low) (interval declared bounds high) in
-        stay body (n + 1) (in_loop declared bounds x low high) (slice_set turns x most) numbered.1 y (omega (arith, less))
+        stay body (n + 1) (in_loop declared bounds x low high) (slice_set turns x most) numbered.1 y
+        (omega (arith, less))
         ∙ set_other turns x most y (λ same. omega (arith, same, numbered.0, less))
 
-    stay : (b : FlatBlock) (n : ℕ) (bounds : Bounds) (turns : List ℕ) → AreNumbered n b → (y : ℕ) → y < n → slice_index (counted_all declared bounds turns b) y ≡ slice_index turns y
+    stay : (b : FlatBlock) (n : ℕ) (bounds : Bounds) (turns : List ℕ) → AreNumbered n b → (y : ℕ) → y < n
+        → slice_index (counted_all declared bounds turns b) y ≡ slice_index turns y
     stay nothing n bounds turns numbered y less = refl
     stay (first s rest) n bounds turns numbered y less =
-        stay rest (n + declarations_in s) (bounds_after declared bounds s) (counted declared bounds turns s) numbered.1 y (omega (arith, less))
+        stay rest (n + declarations_in s) (bounds_after declared bounds s) (counted declared bounds turns s)
+        numbered.1 y (omega (arith, less))
         ∙ stays s n bounds turns numbered.0 y less
 
   -- a list that has what was counted at the numbers of a statement has enough for its loops
@@ -68,7 +81,8 @@ module _ (declared : List FlatVariable) where
 
   module _ (all : List ℕ) where
     mutual
-      enough : (s : FlatTree) (types : Types) (control : Label) (n : ℕ) (bounds : Bounds) (turns : List ℕ) → IsTyped declared types control s → IsNumbered n s → length turns ≡ length declared
+      enough : (s : FlatTree) (types : Types) (control : Label) (n : ℕ) (bounds : Bounds) (turns : List ℕ)
+          → IsTyped declared types control s → IsNumbered n s → length turns ≡ length declared
           → HasOwn all n (declarations_in s) (counted declared bounds turns s) → AreCounted declared all bounds s
       enough (declare x word mutable value) types control n bounds turns typed numbered count own = tt
       enough (array x word mutable size values) types control n bounds turns typed numbered count own = tt
@@ -81,8 +95,10 @@ module _ (declared : List FlatVariable) where
           let other = where_false declared bounds label condition in
           let middle = counted_all declared one turns accepted in (
             enough_all accepted types (joined label control) n one turns typed.1 numbered.0 count
-                (λ y low high. own y low (omega (arith, high)) ∙ stay otherwise (n + declarations_in_all accepted) other middle numbered.1 y high),
-            enough_all otherwise types (joined label control) (n + declarations_in_all accepted) other middle typed.2 numbered.1 (long_all accepted one turns ∙ count)
+                (λ y low high. own y low (omega (arith, high))
+                ∙ stay otherwise (n + declarations_in_all accepted) other middle numbered.1 y high),
+            enough_all otherwise types (joined label control) (n + declarations_in_all accepted) other middle typed.2
+                numbered.1 (long_all accepted one turns ∙ count)
                 (λ y low high. own y (omega (arith, low)) (omega (arith, high))),
           )
       enough (loop x low high body) types control n bounds turns typed numbered count own =
@@ -91,19 +107,26 @@ module _ (declared : List FlatVariable) where
           let set = slice_set turns x most in
           let listed = slice_get_within declared x (word_as counter_type false) typed.2.listed in
           let here : slice_index all x ≡ most =
-          own x (omega (arith, numbered.0)) (omega (arith, numbered.0)) ∙ (stay body (n + 1) inside set numbered.1 x (omega (arith, numbered.0)) ∙ set_here turns x most (omega (arith, listed, count))) in (
+          own x (omega (arith, numbered.0)) (omega (arith, numbered.0))
+          ∙ (stay body (n + 1) inside set numbered.1 x (omega (arith, numbered.0))
+          ∙ set_here turns x most (omega (arith, listed, count))) in (
             sym here,
-            enough_all body (with_type types x (word_as counter_type false)) control (n + 1) inside set typed.3 numbered.1 (length-set turns x most ∙ count)
+            enough_all body (with_type types x (word_as counter_type false)) control (n + 1) inside set typed.3
+                numbered.1 (length-set turns x most ∙ count)
                 (λ y least below. own y (omega (arith, least)) (omega (arith, below))),
           )
 
-      pub enough_all : (b : FlatBlock) (types : Types) (control : Label) (n : ℕ) (bounds : Bounds) (turns : List ℕ) → AreTyped declared types control b → AreNumbered n b → length turns ≡ length declared
-          → HasOwn all n (declarations_in_all b) (counted_all declared bounds turns b) → AllCounted declared all bounds b
+      pub enough_all : (b : FlatBlock) (types : Types) (control : Label) (n : ℕ) (bounds : Bounds) (turns : List ℕ)
+          → AreTyped declared types control b → AreNumbered n b → length turns ≡ length declared
+          → HasOwn all n (declarations_in_all b) (counted_all declared bounds turns b)
+          → AllCounted declared all bounds b
       enough_all nothing types control n bounds turns typed numbered count own = tt
       enough_all (first s rest) types control n bounds turns typed numbered count own =
           let after = counted declared bounds turns s in (
             enough s types control n bounds turns typed.0 numbered.0 count
-                (λ y low high. own y low (omega (arith, high)) ∙ stay rest (n + declarations_in s) (bounds_after declared bounds s) after numbered.1 y high),
-            enough_all rest (types_after types s) control (n + declarations_in s) (bounds_after declared bounds s) after typed.1 numbered.1 (long s bounds turns ∙ count)
+                (λ y low high. own y low (omega (arith, high))
+                ∙ stay rest (n + declarations_in s) (bounds_after declared bounds s) after numbered.1 y high),
+            enough_all rest (types_after types s) control (n + declarations_in s) (bounds_after declared bounds s)
+                after typed.1 numbered.1 (long s bounds turns ∙ count)
                 (λ y low high. own y (omega (arith, low)) (omega (arith, high))),
           )

@@ -1,9 +1,12 @@
 -- A run without a fault that makes no more turns than are counted evaluates no more nodes than its work.
-use Rattle.std.proofs.Common.{ℕ, zero, suc, ◌+◌, ◌-◌, ◌*◌, ◌≤◌, ◌==◌, Bool, true, false, if◌then◌else◌, List, [], ◌∷◌, ◌++◌, arith}
+use Rattle.std.proofs.Common.{ℕ, zero, suc, ◌+◌, ◌-◌, ◌*◌, ◌≤◌, ◌==◌, Bool, true, false, if◌then◌else◌, List, [], ◌∷◌}
+use Rattle.std.proofs.Common.{◌++◌, arith}
 use Rattle.std.proofs.Math.Nat.{mul-le-mul_right}
 use Rattle.arguments.specs.Within.{AreWithin}
-use Rattle.inline.specs.Flat.{FlatTree, declare, array, assign, put, hold, skip, branch, loop, FlatBlock, nothing, first, FlatProgram}
-use Rattle.inline.specs.FlatMeaning.{Values, with_value, value_in, path_in, path_of_turns, after, after_all, path_at, path_along, path_of_result, path_of, given, end_of}
+use Rattle.inline.specs.Flat.{FlatTree, declare, array, assign, put, hold, skip, branch, loop, FlatBlock, nothing}
+use Rattle.inline.specs.Flat.{first, FlatProgram}
+use Rattle.inline.specs.FlatMeaning.{Values, with_value, value_in, path_in, path_of_turns, after, after_all, path_at}
+use Rattle.inline.specs.FlatMeaning.{path_along, path_of_result, path_of, given, end_of}
 use Rattle.inline.specs.FlatSize.{value_nodes}
 use Rattle.inline.specs.Path.{Path, bounded, AreFine}
 use Rattle.intervals.specs.Evaluated.{evaluated, evaluated_all, evaluated_in_turns, evaluated_by}
@@ -24,7 +27,8 @@ module _ (most : List ℕ) where
   -- turns, each of which is within so many nodes where its path is fine
   turns_within : {S : Type 0} (turn : ℕ → S → S) (path : ℕ → S → Path) (count : ℕ → S → ℕ) (share : ℕ)
       → ((i : ℕ) (s : S) → AreFine most (path i s) → count i s ≤ share)
-      → (n i : ℕ) (s : S) → AreFine most (path_of_turns n i turn path s) → evaluated_in_turns n i turn count s ≤ n * (1 + share)
+      → (n i : ℕ) (s : S) → AreFine most (path_of_turns n i turn path s)
+      → evaluated_in_turns n i turn count s ≤ n * (1 + share)
   turns_within turn path count share each zero i s fine = omega arith
   turns_within turn path count share each (suc n) i s fine =
       let rest = path_of_turns n (i + 1) turn path (turn i s) in
@@ -33,7 +37,8 @@ module _ (most : List ℕ) where
       omega (arith, one, more)
 
   -- one of two arms is within both
-  arm_within : (b : Bool) (one other : ℕ) (p q : Path) (a c : ℕ) → (AreFine most p → one ≤ a) → (AreFine most q → other ≤ c)
+  arm_within : (b : Bool) (one other : ℕ) (p q : Path) (a c : ℕ) → (AreFine most p → one ≤ a)
+      → (AreFine most q → other ≤ c)
       → AreFine most (if b then q else p) → (if b then other else one) ≤ a + c
   arm_within true one other p q a c accepted otherwise fine = omega (arith, otherwise fine)
   arm_within false one other p q a c accepted otherwise fine = omega (arith, accepted fine)
@@ -48,8 +53,10 @@ module _ (most : List ℕ) where
     within_work skip m fine = omega arith
     within_work (branch label condition accepted otherwise) m fine =
         let arm = if value_in m condition == 0 then path_along m otherwise else path_along m accepted in
-        let one = arm_within (value_in m condition == 0) (evaluated_all m accepted) (evaluated_all m otherwise) (path_along m accepted) (path_along m otherwise)
-        (body_work most accepted) (body_work most otherwise) (within_work_all accepted m) (within_work_all otherwise m) (back_fine (path_in m condition) arm fine) in
+        let one = arm_within (value_in m condition == 0) (evaluated_all m accepted) (evaluated_all m otherwise)
+        (path_along m accepted) (path_along m otherwise)
+        (body_work most accepted) (body_work most otherwise) (within_work_all accepted m)
+        (within_work_all otherwise m) (back_fine (path_in m condition) arm fine) in
         omega (arith, one)
     within_work (loop x low high body) m fine =
         let a = value_in m low in
@@ -60,11 +67,13 @@ module _ (most : List ℕ) where
         let share = body_work most body in
         let run = path_of_turns (b - a) a turn path m in
         let behind = back_fine (path_in m low ++ path_in m high) (bounded x a b ∷ run) fine in
-        let some = turns_within turn path count share (λ i t h. within_work_all body (with_value t x (i ∷ [])) h) (b - a) a m behind.1 in
+        let some = turns_within turn path count share (λ i t h. within_work_all body (with_value t x (i ∷ [])) h)
+        (b - a) a m behind.1 in
         let few = mul-le-mul_right (1 + share) behind.0 in
         omega (arith, some, few)
 
-    pub within_work_all : (b : FlatBlock) (m : Values) → AreFine most (path_along m b) → evaluated_all m b ≤ body_work most b
+    pub within_work_all : (b : FlatBlock) (m : Values) → AreFine most (path_along m b)
+        → evaluated_all m b ≤ body_work most b
     within_work_all nothing m fine = omega arith
     within_work_all (first s rest) m fine =
         let one = within_work s m (front_fine (path_at m s) (path_along (after m s) rest) fine) in
@@ -72,10 +81,14 @@ module _ (most : List ℕ) where
         omega (arith, one, more)
 
 -- so of a safe program on arguments within its parameter types
-pub safe_runs_are_within_work : (p : FlatProgram) (turns : List ℕ) (args : List Arg) → IsSafe p turns → AreWithin p.parameters args
+pub safe_runs_are_within_work : (p : FlatProgram) (turns : List ℕ) (args : List Arg) → IsSafe p turns
+    → AreWithin p.parameters args
     → evaluated_by p args ≤ body_work turns p.body + value_nodes p.value
 safe_runs_are_within_work p turns args safe within =
     let m = given p.declared args in
     let back = path_of_result (end_of p args) p.value in
-    let body = within_work_all turns p.body m (front_fine turns (path_along m p.body) back (safe args (path_of p args) within (strict_is_loose p args))) in
+    let body =
+    within_work_all turns p.body m
+    (front_fine turns (path_along m p.body) back
+    (safe args (path_of p args) within (strict_is_loose p args))) in
     omega (arith, body)

@@ -1,15 +1,19 @@
 -- Intervals, narrowing, turns and work by small examples: each is computed.
 use Rattle.std.proofs.Common.{◌≡◌, ℕ, List, [], ◌∷◌, length, false, true, None, Some, refl}
 use Rattle.inline.specs.declared.flat.FlatVariable.{FlatVariable}
-use Rattle.inline.specs.Flat.{TermTree, number, truth, variable, binary, rotate, convert, select, element, nothing, first, declare, put, hold, skip, loop, FlatBlock, FlatProgram, word_as, array_as}
+use Rattle.inline.specs.Flat.{TermTree, number, truth, variable, binary, rotate, convert, select, element, nothing}
+use Rattle.inline.specs.Flat.{first, declare, put, hold, skip, loop, FlatBlock, FlatProgram, word_as, array_as}
 use Rattle.intervals.specs.declared.interval.Interval.{Interval}
-use Rattle.intervals.specs.Intervals.{Bounds, between, interval, operated_interval, prefix_interval, converted_interval}
+use Rattle.intervals.specs.Intervals.{Bounds, between, interval, operated_interval, prefix_interval}
+use Rattle.intervals.specs.Intervals.{converted_interval}
 use Rattle.intervals.specs.Narrowing.{where_false, where_true}
 use Rattle.intervals.specs.Ranges.{counter_interval, most_turns, range_violations, turns_of}
 use Rattle.intervals.specs.Work.{work_of, work_violations}
 use Rattle.language.specs.declared.signature.Kind.TheVariants.{Uint8, Uint16, Uint32}
 use Rattle.language.specs.declared.signature.Label.TheVariants.{Public, Secret}
-use Rattle.language.specs.declared.tree.BinaryOperator.TheVariants.{Both, Equal, Less, LessOrEqual, Greater, BitOr, BitXor, BitAnd, ShiftLeft, ShiftRight, Add, Subtract, Multiply, Divide, Remainder}
+use Rattle.language.specs.declared.tree.BinaryOperator.TheVariants.{Both, Equal, Less, LessOrEqual, Greater, BitOr}
+use Rattle.language.specs.declared.tree.BinaryOperator.TheVariants.{BitXor, BitAnd, ShiftLeft, ShiftRight, Add}
+use Rattle.language.specs.declared.tree.BinaryOperator.TheVariants.{Subtract, Multiply, Divide, Remainder}
 use Rattle.language.specs.declared.tree.PrefixOperator.TheVariants.{Complement, Negate}
 use Rattle.language.specs.WellTyped.{labelled}
 use Rattle.word.specs.Places.{origin}
@@ -85,7 +89,8 @@ cut = refl
 
 abbrev variables : List FlatVariable
 variables =
-    word_as (labelled Uint8 Public) false ∷ word_as (labelled Uint32 Public) false ∷ word_as (labelled Uint16 Public) true
+    word_as (labelled Uint8 Public) false ∷ word_as (labelled Uint32 Public) false
+    ∷ word_as (labelled Uint16 Public) true
     ∷ array_as (labelled Uint8 Secret) true 4 ∷ []
 
 abbrev facts : Interval → Bounds
@@ -151,7 +156,8 @@ nothing_below_zero = refl
 parts : where_true variables free Public (both (at_most i (byte 5)) (below i (byte 10))) ≡ facts (between 0 5)
 parts = refl
 
-three_parts : where_true variables free Public (both (both (below i (byte 10)) (truth true)) (equal i (byte 3))) ≡ facts (between 3 3)
+three_parts : where_true variables free Public (both (both (below i (byte 10)) (truth true)) (equal i (byte 3)))
+    ≡ facts (between 3 3)
 three_parts = refl
 
 empty_meet : where_true variables free Public (both (below i (byte 10)) (equal i (byte 20))) ≡ facts (between 0 9)
@@ -231,8 +237,11 @@ reads low high = record {
   parameters = [];
   returned = None;
   nodes = 0;
-  declared = array_as (labelled Uint8 Public) false 4 ∷ word_as (labelled Uint32 Public) false ∷ word_as (labelled Uint8 Public) false ∷ [];
-  body = first (loop 1 (number low Uint32) (number high Uint32) (first (declare 2 (labelled Uint8 Public) false (element origin 0 4 (variable 1))) nothing)) nothing;
+  declared = array_as (labelled Uint8 Public) false 4 ∷ word_as (labelled Uint32 Public) false
+      ∷ word_as (labelled Uint8 Public) false ∷ [];
+  body =
+      first (loop 1 (number low Uint32) (number high Uint32)
+      (first (declare 2 (labelled Uint8 Public) false (element origin 0 4 (variable 1))) nothing)) nothing;
   value = None;
 }
 
@@ -260,7 +269,8 @@ with_calls body = record {
   returned = None;
   nodes = 0;
   declared =
-      array_as (labelled Uint8 Public) true 4 ∷ word_as (labelled Uint32 Public) false ∷ word_as (labelled Uint32 Public) false
+      array_as (labelled Uint8 Public) true 4 ∷ word_as (labelled Uint32 Public) false
+      ∷ word_as (labelled Uint32 Public) false
       ∷ word_as (labelled Uint8 Public) false ∷ [];
   body = body;
   value = None;
@@ -271,7 +281,8 @@ abbrev passes : ℕ → FlatProgram
 passes high =
     with_calls (first (loop 1 (number 0 Uint32) (number high Uint32)
     (first skip (first (declare 2 (labelled Uint32 Public) false (variable 1))
-    (first skip (first (declare 3 (labelled Uint8 Public) false (element origin 0 4 (variable 2))) nothing))))) nothing)
+    (first skip (first (declare 3 (labelled Uint8 Public) false (element origin 0 4 (variable 2))) nothing)))))
+    nothing)
 
 passed_inside : length (range_violations (passes 4)) ≡ 0
 passed_inside = refl
@@ -283,7 +294,8 @@ passed_outside = refl
 abbrev gives_back : ℕ → FlatProgram
 gives_back argument =
     with_calls (first skip (first (declare 1 (labelled Uint32 Public) false (number argument Uint32))
-    (first skip (first (declare 2 (labelled Uint32 Public) false (binary origin Add W32 (variable 1) (number 1 Uint32)))
+    (first skip
+    (first (declare 2 (labelled Uint32 Public) false (binary origin Add W32 (variable 1) (number 1 Uint32)))
     (first (declare 3 (labelled Uint8 Public) false (element origin 0 4 (variable 2))) nothing)))))
 
 given_inside : length (range_violations (gives_back 2)) ≡ 0
@@ -294,7 +306,9 @@ given_outside = refl
 
 -- an index is held until an element is assigned to
 abbrev holds : ℕ → FlatProgram
-holds index = with_calls (first (hold 1 origin 4 (number index Uint32)) (first (put origin 0 4 (variable 1) (number 7 Uint8)) nothing))
+holds index =
+    with_calls (first (hold 1 origin 4 (number index Uint32))
+    (first (put origin 0 4 (variable 1) (number 7 Uint8)) nothing))
 
 held_inside : length (range_violations (holds 3)) ≡ 0
 held_inside = refl

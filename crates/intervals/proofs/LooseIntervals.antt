@@ -1,13 +1,19 @@
 -- What an operator makes of numbers within intervals is within what it makes of the intervals.
-use Rattle.std.proofs.Common.{◌≡◌, ℕ, ◌+◌, ◌-◌, ◌*◌, ◌/◌, ◌%◌, ◌^◌, ◌<◌, ◌≤◌, ◌==◌, ◌&&◌, ◌||◌, min, Bool, true, false, not, nat_lt, nat_le, if◌then◌else◌, bit_and, refl, ap, ◌∙◌, arith, eqb-true}
-use Rattle.std.proofs.Math.Nat.{div-le_self, div-mul-le_self, mod-le, mod-lt, mod-eq_of_lt, mul-le-mul_left, le-max_left, le-max_right, le-min, min-le_left, min-le_right}
+use Rattle.std.proofs.Common.{◌≡◌, ℕ, ◌+◌, ◌-◌, ◌*◌, ◌/◌, ◌%◌, ◌^◌, ◌<◌, ◌≤◌, ◌==◌, ◌&&◌, ◌||◌, min, Bool, true}
+use Rattle.std.proofs.Common.{false, not, nat_lt, nat_le, if◌then◌else◌, bit_and, refl, ap, ◌∙◌, arith, eqb-true}
+use Rattle.std.proofs.Math.Nat.{div-le_self, div-mul-le_self, mod-le, mod-lt, mod-eq_of_lt, mul-le-mul_left}
+use Rattle.std.proofs.Math.Nat.{le-max_left, le-max_right, le-min, min-le_left, min-le_right}
 use Rattle.std.proofs.lemmas.Bool.Decides.{nat_tests}
 use Rattle.std.proofs.lemmas.Nat.{and_le_l, and_le_r, le-div, mul-le, pow_pos}
 use Rattle.intervals.specs.declared.interval.Interval.{Interval}
-use Rattle.intervals.specs.Intervals.{between, either_truth, greatest, full, full_of, fitting, shifted_interval, operated_interval, prefix_interval, converted_interval, hull}
+use Rattle.intervals.specs.Intervals.{between, either_truth, greatest, full, full_of, fitting, shifted_interval}
+use Rattle.intervals.specs.Intervals.{operated_interval, prefix_interval, converted_interval, hull}
 use Rattle.language.specs.Operators.{operated, prefix_value, truth_of, width_of}
 use Rattle.language.specs.declared.tree.BinaryOperator.{BinaryOperator}
-use Rattle.language.specs.declared.tree.BinaryOperator.TheVariants.{Either, Both, Equal, Unequal, Less, LessOrEqual, Greater, GreaterOrEqual, BitOr, BitXor, BitAnd, ShiftLeft, ShiftRight, Add, Subtract, Multiply, Divide, Remainder}
+use Rattle.language.specs.declared.tree.BinaryOperator.TheVariants.{Either, Both, Equal, Unequal, Less, LessOrEqual}
+use Rattle.language.specs.declared.tree.BinaryOperator.TheVariants.{Greater, GreaterOrEqual, BitOr, BitXor, BitAnd}
+use Rattle.language.specs.declared.tree.BinaryOperator.TheVariants.{ShiftLeft, ShiftRight, Add, Subtract, Multiply}
+use Rattle.language.specs.declared.tree.BinaryOperator.TheVariants.{Divide, Remainder}
 use Rattle.intervals.proofs.Below.{complement_fits, number_fits, wrapped_fits}
 use Rattle.inline.specs.Fitting.{IsWithinKind}
 use Rattle.language.specs.Grammatical.{IsNumberKind}
@@ -39,7 +45,8 @@ word_below W16 v h = omega (arith, h)
 word_below W32 v h = omega (arith, h)
 
 -- one of two intervals, by a test that is met
-by_test : (b : Bool) (one other : Interval) (v : ℕ) → (b ≡ true → IsIn one v) → IsIn other v → IsIn (if b then one else other) v
+by_test : (b : Bool) (one other : Interval) (v : ℕ) → (b ≡ true → IsIn one v) → IsIn other v
+    → IsIn (if b then one else other) v
 by_test true one other v h g = h refl
 by_test false one other v h g = g
 
@@ -52,11 +59,20 @@ both true false h = absurd cc
 both false b h = absurd cc
 
 -- what fits is not cut
-fits_in : (w : Width) (low high v : ℕ) → low ≤ v → v ≤ high → IsWord w (v % 2 ^ bits w) → IsIn (fitting w low high) (v % 2 ^ bits w)
+fits_in : (w : Width) (low high v : ℕ) → low ≤ v → v ≤ high → IsWord w (v % 2 ^ bits w)
+    → IsIn (fitting w low high) (v % 2 ^ bits w)
 fits_in w low high v l h word =
     by_test (nat_le low (greatest w) && nat_le high (greatest w)) (between low high) (full w) (v % 2 ^ bits w)
     (λ e.
-    let same : v % 2 ^ bits w ≡ v = mod-eq_of_lt (word_below w v (omega (arith, h, at_most high (greatest w) (both (nat_le low (greatest w)) (nat_le high (greatest w)) e).1))) in
+    let same : v % 2 ^ bits w ≡ v =
+    mod-eq_of_lt
+    (word_below w v
+    (omega (
+      arith,
+      h,
+      at_most high (greatest w)
+          (both (nat_le low (greatest w)) (nat_le high (greatest w)) e).1,
+    ))) in
     (omega (arith, same, l), omega (arith, same, h)))
     (word_in w (v % 2 ^ bits w) word)
 
@@ -92,8 +108,10 @@ module _ (w : Width) (a b : Interval) (x y : ℕ) (one : IsIn a x) (other : IsIn
   quotient_in =
       by_test (nat_le 1 b.low && nat_le 1 b.high) (between (a.low / b.high) (a.high / b.low)) (full w) (x / y)
       (λ e.
-      let some = at_most 1 b.low (both (nat_le 1 b.low) (nat_le 1 b.high) e).0 in
-      (quotients_keep_order a.low x b.high y one.0 other.1 (omega (arith, some, other)), quotients_keep_order x a.high y b.low one.1 other.0 (omega (arith, some))))
+      let some = at_most 1 b.low (both (nat_le 1 b.low) (nat_le 1 b.high) e).0 in (
+        quotients_keep_order a.low x b.high y one.0 other.1 (omega (arith, some, other)),
+        quotients_keep_order x a.high y b.low one.1 other.0 (omega (arith, some)),
+      ))
       (word_in w (x / y) (let less = div-le_self x y in omega (arith, word, less)))
 
   remainder_in : IsIn (operated_interval Remainder w a b) (x % y)
@@ -108,7 +126,8 @@ module _ (w : Width) (a b : Interval) (x y : ℕ) (one : IsIn a x) (other : IsIn
 
   shift_in : IsIn (shifted_interval a b) (shifted_right w x y)
   shift_in =
-      by_test (b.low == b.high) (between (a.low / 2 ^ (b.low % 32)) (a.high / 2 ^ (b.low % 32))) (between 0 a.high) (shifted_right w x y)
+      by_test (b.low == b.high) (between (a.low / 2 ^ (b.low % 32)) (a.high / 2 ^ (b.low % 32))) (between 0 a.high)
+      (shifted_right w x y)
       (λ e.
       let same : y ≡ b.low = omega (arith, eqb-true b.low b.high e, other) in
       let is = shift_is w x y word ∙ ap (λ k. x / 2 ^ (k % 32)) same in
@@ -116,9 +135,11 @@ module _ (w : Width) (a b : Interval) (x y : ℕ) (one : IsIn a x) (other : IsIn
       let low = quotients_keep_order a.low x (2 ^ (b.low % 32)) (2 ^ (b.low % 32)) one.0 (omega arith) some in
       let high = quotients_keep_order x a.high (2 ^ (b.low % 32)) (2 ^ (b.low % 32)) one.1 (omega arith) some in
       (omega (arith, is, low), omega (arith, is, high)))
-      (let is = shift_is w x y word in let less = div-le_self x (2 ^ (y % 32)) in (omega arith, omega (arith, is, less, one)))
+      (let is = shift_is w x y word in let less = div-le_self x (2 ^ (y % 32)) in
+      (omega arith, omega (arith, is, less, one)))
 
-  pub operated_in : (operator : BinaryOperator) → (IsWord w (operated operator w x y)) → IsIn (operated_interval operator w a b) (operated operator w x y)
+  pub operated_in : (operator : BinaryOperator) → (IsWord w (operated operator w x y))
+      → IsIn (operated_interval operator w a b) (operated operator w x y)
   operated_in Either fits = truth_in (truth_of x || truth_of y)
   operated_in Both fits = truth_in (truth_of x && truth_of y)
   operated_in Equal fits = truth_in (x == y)
@@ -129,16 +150,24 @@ module _ (w : Width) (a b : Interval) (x y : ℕ) (one : IsIn a x) (other : IsIn
   operated_in GreaterOrEqual fits = truth_in (nat_le y x)
   operated_in BitOr fits = word_in w _ fits
   operated_in BitXor fits = word_in w _ fits
-  operated_in BitAnd fits = (omega arith, below_both (bit_and x y) a.high b.high (let l = and_le_l x y in omega (arith, l, one)) (let r = and_le_r x y in omega (arith, r, other)))
+  operated_in BitAnd fits = (
+    omega arith,
+    below_both (bit_and x y) a.high b.high (let l = and_le_l x y in
+        omega (arith, l, one)) (let r = and_le_r x y in omega (arith, r, other)),
+  )
   operated_in ShiftLeft fits = word_in w _ fits
   operated_in ShiftRight fits = shift_in
-  operated_in Add fits = fits_in w (a.low + b.low) (a.high + b.high) (x + y) (omega (arith, one, other)) (omega (arith, one, other)) fits
+  operated_in Add fits = fits_in w (a.low + b.low) (a.high + b.high) (x + y) (omega (arith, one, other))
+      (omega (arith, one, other)) fits
   operated_in Subtract fits = difference_in
-  operated_in Multiply fits = fits_in w (a.low * b.low) (a.high * b.high) (x * y) (mul-le a.low b.low x y one.0 other.0) (mul-le x y a.high b.high one.1 other.1) fits
+  operated_in Multiply fits =
+      fits_in w (a.low * b.low) (a.high * b.high) (x * y) (mul-le a.low b.low x y one.0 other.0)
+      (mul-le x y a.high b.high one.1 other.1) fits
   operated_in Divide fits = quotient_in
   operated_in Remainder fits = remainder_in
 
-pub prefix_in : (operator : PrefixOperator) (w : Width) (a : ℕ) → IsIn (prefix_interval operator w) (prefix_value operator w a)
+pub prefix_in : (operator : PrefixOperator) (w : Width) (a : ℕ)
+    → IsIn (prefix_interval operator w) (prefix_value operator w a)
 prefix_in Not w a = truth_in (not (truth_of a))
 prefix_in Complement w a = word_in w _ (complement_fits w a)
 prefix_in Negate w a = word_in w _ (wrapped_fits w _)
@@ -162,7 +191,8 @@ not_cut Uint8 v numeric h = omega (arith, h)
 not_cut Uint16 v numeric h = omega (arith, h)
 not_cut Uint32 v numeric h = omega (arith, h)
 
-pub converted_in : (kind : Kind) (i : Interval) (v : ℕ) → IsNumberKind kind → IsIn i v → IsIn (converted_interval kind i) (converted (width_of kind) v)
+pub converted_in : (kind : Kind) (i : Interval) (v : ℕ) → IsNumberKind kind → IsIn i v
+    → IsIn (converted_interval kind i) (converted (width_of kind) v)
 converted_in kind i v numeric h =
     by_test (nat_le i.high (2 ^ bits_of kind - 1)) i (full_of kind) (converted (width_of kind) v)
     (λ e.

@@ -1,27 +1,37 @@
 -- What a public condition tells holds in a loose run.
-use Rattle.std.proofs.Common.{◌≡◌, ◌≢◌, ◌⊎◌, inl, inr, ℕ, zero, suc, ◌+◌, ◌-◌, ◌<◌, ◌≤◌, ◌==◌, ◌&&◌, min, max, nat_lt, nat_le, Bool, true, false, if◌then◌else◌, List, [], ◌∷◌, ◌++◌, Option, Some, None, slice_index, refl, sym, ap, subst, arith}
+use Rattle.std.proofs.Common.{◌≡◌, ◌≢◌, ◌⊎◌, inl, inr, ℕ, zero, suc, ◌+◌, ◌-◌, ◌<◌, ◌≤◌, ◌==◌, ◌&&◌, min, max, nat_lt}
+use Rattle.std.proofs.Common.{nat_le, Bool, true, false, if◌then◌else◌, List, [], ◌∷◌, ◌++◌, Option, Some, None}
+use Rattle.std.proofs.Common.{slice_index, refl, sym, ap, subst, arith}
 use Rattle.std.specs.Option.{option_to_list}
 use Rattle.std.proofs.Math.Nat.{le-min, max-le}
 use Rattle.std.proofs.lemmas.Bool.Decides.{nat_tests}
 use Rattle.std.proofs.lemmas.Option.{none-some, same_Some}
 use Rattle.inline.specs.declared.flat.FlatVariable.{FlatVariable}
-use Rattle.inline.specs.Flat.{word_as, TermTree, number, truth, variable, prefix, binary, rotate, convert, select, element}
+use Rattle.inline.specs.Flat.{word_as, TermTree, number, truth, variable, prefix, binary, rotate, convert, select}
+use Rattle.inline.specs.Flat.{element}
 use Rattle.inline.specs.FlatMeaning.{Values}
 use Rattle.inline.specs.FlatTyping.{Types, types_of, HasType, of_variable, of_binary}
 use Rattle.inline.specs.Path.{Path}
 use Rattle.intervals.specs.declared.interval.Interval.{Interval}
 use Rattle.intervals.specs.declared.said.Said.{Said}
 use Rattle.intervals.specs.Intervals.{Bounds, known, with_bound, between, full_at, interval}
-use Rattle.intervals.specs.Loose.{Comes, to_number, to_truth, to_variable, to_prefix, to_binary, to_rotation, to_conversion, to_selection, to_element, to_anything}
-use Rattle.intervals.specs.Narrowing.{is_both, meet, met, met_all, met_at, named, said_where_false, said_where_true, says, told_false, told_true, told_where_false, told_where_true, where_false, where_true, with_meet}
+use Rattle.intervals.specs.Loose.{Comes, to_number, to_truth, to_variable, to_prefix, to_binary, to_rotation}
+use Rattle.intervals.specs.Loose.{to_conversion, to_selection, to_element, to_anything}
+use Rattle.intervals.specs.Narrowing.{is_both, meet, met, met_all, met_at, named, said_where_false, said_where_true}
+use Rattle.intervals.specs.Narrowing.{says, told_false, told_true, told_where_false, told_where_true, where_false}
+use Rattle.intervals.specs.Narrowing.{where_true, with_meet}
 use Rattle.intervals.proofs.LooseIntervals.{IsIn}
-use Rattle.intervals.proofs.LooseTerms.{Holds, IsKept, both_public, element_of, full_of_variable, loose_in, secret_is_not}
+use Rattle.intervals.proofs.LooseTerms.{Holds, IsKept, both_public, element_of, full_of_variable, loose_in}
+use Rattle.intervals.proofs.LooseTerms.{secret_is_not}
 use Rattle.intervals.proofs.LooseTypes.{one_type}
 use Rattle.language.specs.Operators.{operated, truth_of}
 use Rattle.language.specs.declared.signature.Label.{Label}
 use Rattle.language.specs.declared.signature.Label.TheVariants.{Public, Secret}
 use Rattle.language.specs.declared.tree.BinaryOperator.{BinaryOperator}
-use Rattle.language.specs.declared.tree.BinaryOperator.TheVariants.{Either, Both, Equal, Unequal, Less, LessOrEqual, Greater, GreaterOrEqual, BitOr, BitXor, BitAnd, ShiftLeft, ShiftRight, Add, Subtract, Multiply, Divide, Remainder}
+use Rattle.language.specs.declared.tree.BinaryOperator.TheVariants.{Either, Both, Equal, Unequal, Less, LessOrEqual}
+use Rattle.language.specs.declared.tree.BinaryOperator.TheVariants.{Greater, GreaterOrEqual, BitOr, BitXor, BitAnd}
+use Rattle.language.specs.declared.tree.BinaryOperator.TheVariants.{ShiftLeft, ShiftRight, Add, Subtract, Multiply}
+use Rattle.language.specs.declared.tree.BinaryOperator.TheVariants.{Divide, Remainder}
 use Rattle.language.specs.declared.typing.WordType.{WordType}
 use Rattle.word.specs.Operators.{word_of}
 use Rattle.word.specs.declared.profile.Profile.{Profile}
@@ -29,7 +39,8 @@ use Rattle.word.specs.declared.profile.Profile.{Profile}
 -- What is known of a variable after something was learned of one.
 
 -- what was put at a number is there, and at no other
-pub at_number : (bounds : Bounds) (x : ℕ) (i : Interval) (y : ℕ) (j : Interval) → known (with_bound bounds x i) y ≡ Some j
+pub at_number : (bounds : Bounds) (x : ℕ) (i : Interval) (y : ℕ) (j : Interval)
+    → known (with_bound bounds x i) y ≡ Some j
     → ((y ≡ x) × (i ≡ j)) ⊎ (known bounds y ≡ Some j)
 at_number [] x i y j h = inr h
 at_number (b ∷ bs) zero i zero j h = inl (refl, same_Some i j h)
@@ -55,7 +66,8 @@ Kept types m bounds = (x : ℕ) (i : Interval) → known bounds x ≡ Some i →
 
 module _ (types : Types) (m : Values) where
   -- a meet of two intervals in which a value lies
-  met_kept : (bounds : Bounds) (x : ℕ) (before i : Interval) → Kept types m bounds → known bounds x ≡ Some before → IsIn i (slice_index (m x) 0) → Kept types m (with_meet bounds x (meet before i))
+  met_kept : (bounds : Bounds) (x : ℕ) (before i : Interval) → Kept types m bounds → known bounds x ≡ Some before
+      → IsIn i (slice_index (m x) 0) → Kept types m (with_meet bounds x (meet before i))
   met_kept bounds x before i kept there so = by (nat_le (max before.low i.low) (min before.high i.high))
     where
       both : Interval
@@ -82,14 +94,17 @@ module _ (types : Types) (m : Values) where
       by true = learned
       by false = kept
 
-  said_kept : (bounds : Bounds) (said : Said) → Kept types m bounds → IsIn said.interval (slice_index (m said.variable) 0) → Kept types m (met bounds said)
+  said_kept : (bounds : Bounds) (said : Said) → Kept types m bounds
+      → IsIn said.interval (slice_index (m said.variable) 0) → Kept types m (met bounds said)
   said_kept bounds said kept so = by (known bounds said.variable) refl
     where
-      by : (o : Option Interval) → known bounds said.variable ≡ o → Kept types m (met_at bounds said.variable o said.interval)
+      by : (o : Option Interval) → known bounds said.variable ≡ o
+          → Kept types m (met_at bounds said.variable o said.interval)
       by None e = kept
       by (Some before) e = met_kept bounds said.variable before said.interval kept e so
 
-  all_kept : (told : List Said) (bounds : Bounds) → Kept types m bounds → AreSo m told → Kept types m (met_all bounds told)
+  all_kept : (told : List Said) (bounds : Bounds) → Kept types m bounds → AreSo m told
+      → Kept types m (met_all bounds told)
   all_kept [] bounds kept so = kept
   all_kept (said ∷ rest) bounds kept so = all_kept rest (met bounds said) (said_kept bounds said kept so.0) so.1
 
@@ -112,7 +127,8 @@ not_zero : (v : ℕ) → truth_of v ≡ true → v ≢ 0
 not_zero v h is = grind (arith, nat_tests)
 
 module _ (m : Values) (x b : ℕ) (e : Interval) (inside : IsIn e b) where
-  true_so : (operator : BinaryOperator) (w : _) → operated operator w (slice_index (m x) 0) b ≢ 0 → AreSo m (option_to_list (said_where_true operator x e))
+  true_so : (operator : BinaryOperator) (w : _) → operated operator w (slice_index (m x) 0) b ≢ 0
+      → AreSo m (option_to_list (said_where_true operator x e))
   true_so Less w h = by (nat_lt 0 e.high) refl
     where
       less : slice_index (m x) 0 < b
@@ -145,7 +161,9 @@ module _ (m : Values) (x b : ℕ) (e : Interval) (inside : IsIn e b) where
   true_so Divide w h = tt
   true_so Remainder w h = tt
 
-  false_so : (operator : BinaryOperator) (w : _) (greatest : ℕ) → slice_index (m x) 0 ≤ greatest → operated operator w (slice_index (m x) 0) b ≡ 0 → AreSo m (option_to_list (said_where_false operator x greatest e))
+  false_so : (operator : BinaryOperator) (w : _) (greatest : ℕ) → slice_index (m x) 0 ≤ greatest
+      → operated operator w (slice_index (m x) 0) b ≡ 0
+      → AreSo m (option_to_list (said_where_false operator x greatest e))
   false_so Less w greatest most h =
       let t = is_false (nat_lt (slice_index (m x) 0) b) h in
       let more : b ≤ slice_index (m x) 0 = grind (arith, nat_tests, t) in
@@ -208,71 +226,104 @@ named_variable (convert k e) x is = absurd (none-some x is)
 named_variable (select c a b) x is = absurd (none-some x is)
 named_variable (element p y n e) x is = absurd (none-some x is)
 
-module _ (declared : List FlatVariable) (types : Types) (bounds : Bounds) (m : Values) (holds : Holds declared types bounds m) where
-  public_value : {profile : Profile} {x v : ℕ} {p : Path} {w : WordType} → Comes (types_of profile declared) m (variable x) v p → HasType types (variable x) w → w.label ≡ Public → v ≡ slice_index (m x) 0
+module _ (declared : List FlatVariable) (types : Types) (bounds : Bounds) (m : Values)
+    (holds : Holds declared types bounds m) where
+  public_value : {profile : Profile} {x v : ℕ} {p : Path} {w : WordType}
+      → Comes (types_of profile declared) m (variable x) v p → HasType types (variable x) w → w.label ≡ Public
+      → v ≡ slice_index (m x) 0
   public_value to_variable t public = refl
-  public_value {w = w} (to_anything {word = word} c t secret within) u public = absurd (secret_is_not w word (one_type declared types holds.listed u t) public secret)
+  public_value {w = w} (to_anything {word = word} c t secret within) u public =
+      absurd (secret_is_not w word (one_type declared types holds.listed u t) public secret)
 
-  named_value : {profile : Profile} {e : TermTree} {v : ℕ} {p : Path} {w : WordType} → Comes (types_of profile declared) m e v p → HasType types e w → w.label ≡ Public → (x : ℕ) → named e ≡ Some x → v ≡ slice_index (m x) 0
+  named_value : {profile : Profile} {e : TermTree} {v : ℕ} {p : Path} {w : WordType}
+      → Comes (types_of profile declared) m e v p → HasType types e w → w.label ≡ Public → (x : ℕ) → named e ≡ Some x
+      → v ≡ slice_index (m x) 0
   named_value {profile = profile} {e = e} {v = v} {p = p} {w = w} c t public x is =
       let same = named_variable e x is in
-      public_value (subst (λ f. Comes (types_of profile declared) m f v p) same c) (subst (λ f. HasType types f w) same t) public
+      public_value (subst (λ f. Comes (types_of profile declared) m f v p) same c)
+      (subst (λ f. HasType types f w) same t) public
 
-  greatest_value : {x : ℕ} {w : WordType} → HasType types (variable x) w → slice_index (m x) 0 ≤ (full_at declared x).high
+  greatest_value : {x : ℕ} {w : WordType} → HasType types (variable x) w
+      → slice_index (m x) 0 ≤ (full_at declared x).high
   greatest_value {x = x} (of_variable {word = word} {mutable = mutable} is) =
-      (full_of_variable declared types bounds m holds x (slice_index (m x) 0) (word_as word mutable) is (element_of declared types bounds m holds x 0 (word_as word mutable) is)).1
+      (full_of_variable declared types bounds m holds x (slice_index (m x) 0) (word_as word mutable) is
+      (element_of declared types bounds m holds x 0 (word_as word mutable) is)).1
 
-  comparison_true : (operator : BinaryOperator) (w : _) (o : Option ℕ) (e : Interval) (a b : ℕ) → ((x : ℕ) → o ≡ Some x → a ≡ slice_index (m x) 0) → IsIn e b
+  comparison_true : (operator : BinaryOperator) (w : _) (o : Option ℕ) (e : Interval) (a b : ℕ)
+      → ((x : ℕ) → o ≡ Some x → a ≡ slice_index (m x) 0) → IsIn e b
       → operated operator w a b ≢ 0 → AreSo m (option_to_list (told_where_true operator o e))
   comparison_true operator w None e a b value inside h = tt
-  comparison_true operator w (Some x) e a b value inside h = true_so m x b e inside operator w (subst (λ v. operated operator w v b ≢ 0) (value x refl) h)
+  comparison_true operator w (Some x) e a b value inside h =
+      true_so m x b e inside operator w (subst (λ v. operated operator w v b ≢ 0) (value x refl) h)
 
-  comparison_false : (operator : BinaryOperator) (w : _) (o : Option ℕ) (e : Interval) (a b : ℕ) → ((x : ℕ) → o ≡ Some x → (a ≡ slice_index (m x) 0) × (slice_index (m x) 0 ≤ (full_at declared x).high)) → IsIn e b
+  comparison_false : (operator : BinaryOperator) (w : _) (o : Option ℕ) (e : Interval) (a b : ℕ)
+      → ((x : ℕ) → o ≡ Some x → (a ≡ slice_index (m x) 0) × (slice_index (m x) 0 ≤ (full_at declared x).high))
+      → IsIn e b
       → operated operator w a b ≡ 0 → AreSo m (option_to_list (told_where_false declared operator o e))
   comparison_false operator w None e a b value inside h = tt
   comparison_false operator w (Some x) e a b value inside h =
-      false_so m x b e inside operator w (full_at declared x).high (value x refl).1 (subst (λ v. operated operator w v b ≡ 0) (value x refl).0 h)
+      false_so m x b e inside operator w (full_at declared x).high (value x refl).1
+      (subst (λ v. operated operator w v b ≡ 0) (value x refl).0 h)
 
-  condition_true : {profile : Profile} {e : TermTree} {v : ℕ} {p : Path} {w : WordType} → Comes (types_of profile declared) m e v p → HasType types e w → w.label ≡ Public → v ≢ 0 → AreSo m (told_true declared bounds e)
+  condition_true : {profile : Profile} {e : TermTree} {v : ℕ} {p : Path} {w : WordType}
+      → Comes (types_of profile declared) m e v p → HasType types e w → w.label ≡ Public → v ≢ 0
+      → AreSo m (told_true declared bounds e)
   condition_true to_number t public h = tt
   condition_true to_truth t public h = tt
   condition_true to_variable t public h = tt
   condition_true (to_prefix c) t public h = tt
-  condition_true (to_binary {operator = operator} {width = width} {left = left} {right = right} {a = a} {b = b} c d) (of_binary t u makes same) public h =
+  condition_true (to_binary {operator = operator} {width = width} {left = left} {right = right} {a = a} {b = b} c d)
+      (of_binary t u makes same) public h =
       let labels = both_public makes public in
-      by (is_both operator) refl (λ some. condition_true c t labels.0 some) (λ some. condition_true d u labels.1 some) (named_value c t labels.0) (loose_in declared types bounds m holds d u labels.1)
+      by (is_both operator) refl (λ some. condition_true c t labels.0 some) (λ some. condition_true d u labels.1 some)
+      (named_value c t labels.0) (loose_in declared types bounds m holds d u labels.1)
     where
-      by : (k : Bool) → is_both operator ≡ k → (a ≢ 0 → AreSo m (told_true declared bounds left)) → (b ≢ 0 → AreSo m (told_true declared bounds right))
+      by : (k : Bool) → is_both operator ≡ k → (a ≢ 0 → AreSo m (told_true declared bounds left))
+          → (b ≢ 0 → AreSo m (told_true declared bounds right))
           → ((x : ℕ) → named left ≡ Some x → a ≡ slice_index (m x) 0) → IsIn (interval declared bounds right) b
-          → AreSo m (if k then told_true declared bounds left ++ told_true declared bounds right else option_to_list (told_where_true operator (named left) (interval declared bounds right)))
+          → AreSo m (if k then told_true declared bounds left ++ told_true declared bounds right
+          else option_to_list (told_where_true operator (named left) (interval declared bounds right)))
       by true is one other value inside =
-          let truths = both_true (truth_of a) (truth_of b) (is_true (truth_of a && truth_of b) (subst (λ f. operated f width a b ≢ 0) (is_both_alone operator is) h)) in
-          so_both m (told_true declared bounds left) (told_true declared bounds right) (one (not_zero a truths.0)) (other (not_zero b truths.1))
-      by false is one other value inside = comparison_true operator width (named left) (interval declared bounds right) a b value inside h
+          let truths = both_true (truth_of a) (truth_of b)
+          (is_true (truth_of a && truth_of b)
+          (subst (λ f. operated f width a b ≢ 0) (is_both_alone operator is) h)) in
+          so_both m (told_true declared bounds left) (told_true declared bounds right) (one (not_zero a truths.0))
+          (other (not_zero b truths.1))
+      by false is one other value inside =
+          comparison_true operator width (named left) (interval declared bounds right) a b value inside h
   condition_true (to_rotation c) t public h = tt
   condition_true (to_conversion c) t public h = tt
   condition_true (to_selection c d e) t public h = tt
   condition_true (to_element c) t public h = tt
-  condition_true {w = w} (to_anything {word = word} c t secret within) u public h = absurd (secret_is_not w word (one_type declared types holds.listed u t) public secret)
+  condition_true {w = w} (to_anything {word = word} c t secret within) u public h =
+      absurd (secret_is_not w word (one_type declared types holds.listed u t) public secret)
 
-  condition_false : {profile : Profile} {e : TermTree} {v : ℕ} {p : Path} {w : WordType} → Comes (types_of profile declared) m e v p → HasType types e w → w.label ≡ Public → v ≡ 0 → AreSo m (option_to_list (told_false declared bounds e))
+  condition_false : {profile : Profile} {e : TermTree} {v : ℕ} {p : Path} {w : WordType}
+      → Comes (types_of profile declared) m e v p → HasType types e w → w.label ≡ Public → v ≡ 0
+      → AreSo m (option_to_list (told_false declared bounds e))
   condition_false to_number t public h = tt
   condition_false to_truth t public h = tt
   condition_false to_variable t public h = tt
   condition_false (to_prefix c) t public h = tt
-  condition_false (to_binary {operator = operator} {width = width} {left = left} {right = right} {a = a} {b = b} c d) (of_binary {one = one} t u makes same) public h =
+  condition_false (to_binary {operator = operator} {width = width} {left = left} {right = right} {a = a} {b = b} c d)
+      (of_binary {one = one} t u makes same) public h =
       let labels = both_public makes public in
       comparison_false operator width (named left) (interval declared bounds right) a b
-      (λ x is. (named_value c t labels.0 x is, greatest_value (subst (λ f. HasType types f one) (named_variable left x is) t)))
+      (λ x is. (
+        named_value c t labels.0 x is,
+        greatest_value (subst (λ f. HasType types f one) (named_variable left x is) t),
+      ))
       (loose_in declared types bounds m holds d u labels.1) h
   condition_false (to_rotation c) t public h = tt
   condition_false (to_conversion c) t public h = tt
   condition_false (to_selection c d e) t public h = tt
   condition_false (to_element c) t public h = tt
-  condition_false {w = w} (to_anything {word = word} c t secret within) u public h = absurd (secret_is_not w word (one_type declared types holds.listed u t) public secret)
+  condition_false {w = w} (to_anything {word = word} c t secret within) u public h =
+      absurd (secret_is_not w word (one_type declared types holds.listed u t) public secret)
 
   -- what is known in an arm holds where a run takes it
-  pub holds_where_true : (label : Label) {profile : Profile} {e : TermTree} {v : ℕ} {p : Path} {w : WordType} → Comes (types_of profile declared) m e v p → HasType types e w → w.label ≡ label → v ≢ 0
+  pub holds_where_true : (label : Label) {profile : Profile} {e : TermTree} {v : ℕ} {p : Path} {w : WordType}
+      → Comes (types_of profile declared) m e v p → HasType types e w → w.label ≡ label → v ≢ 0
       → Holds declared types (where_true declared bounds label e) m
   holds_where_true Public {e = e} c t public h = record {
     fits = holds.fits;
@@ -281,11 +332,13 @@ module _ (declared : List FlatVariable) (types : Types) (bounds : Bounds) (m : V
   }
   holds_where_true Secret c t label h = holds
 
-  pub holds_where_false : (label : Label) {profile : Profile} {e : TermTree} {v : ℕ} {p : Path} {w : WordType} → Comes (types_of profile declared) m e v p → HasType types e w → w.label ≡ label → v ≡ 0
+  pub holds_where_false : (label : Label) {profile : Profile} {e : TermTree} {v : ℕ} {p : Path} {w : WordType}
+      → Comes (types_of profile declared) m e v p → HasType types e w → w.label ≡ label → v ≡ 0
       → Holds declared types (where_false declared bounds label e) m
   holds_where_false Public {e = e} c t public h = record {
     fits = holds.fits;
-    kept = all_kept types m (option_to_list (told_false declared bounds e)) bounds holds.kept (condition_false c t public h);
+    kept = all_kept types m (option_to_list (told_false declared bounds e)) bounds holds.kept
+        (condition_false c t public h);
     listed = holds.listed;
   }
   holds_where_false Secret c t label h = holds

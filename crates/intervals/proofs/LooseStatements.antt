@@ -1,25 +1,35 @@
--- What is known after a statement holds there in a loose run, variables that are not `mut` keep their values, and the path has
--- no fault where the statement has no violation.
-use Rattle.std.proofs.Common.{◌≡◌, ◌≢◌, ◌⊎◌, inl, inr, ℕ, suc, ◌+◌, ◌-◌, ◌<◌, ◌≤◌, ◌==◌, ◌||◌, nat_lt, Bool, true, false, not, if◌then◌else◌, List, [], ◌∷◌, ◌++◌, length, All, Some, slice_get, slice_set, slice_index, refl, sym, ap, ◌∙◌, subst, arith, eqb-true, ne_eqb, eq-eqb, ◌^◌}
+-- What is known after a statement holds there in a loose run, variables that are not `mut` keep their values, and the
+-- path has no fault where the statement has no violation.
+use Rattle.std.proofs.Common.{◌≡◌, ◌≢◌, ◌⊎◌, inl, inr, ℕ, suc, ◌+◌, ◌-◌, ◌<◌, ◌≤◌, ◌==◌, ◌||◌, nat_lt, Bool, true}
+use Rattle.std.proofs.Common.{false, not, if◌then◌else◌, List, [], ◌∷◌, ◌++◌, length, All, Some, slice_get, slice_set}
+use Rattle.std.proofs.Common.{slice_index, refl, sym, ap, ◌∙◌, subst, arith, eqb-true, ne_eqb, eq-eqb, ◌^◌}
 use Rattle.std.proofs.lemmas.Bool.Decides.{nat_tests}
 use Rattle.std.proofs.lemmas.List.{length-set, length-replicate}
 use Rattle.std.proofs.lemmas.List.Elements.{All-nil, All-cons, All-set, All-replicate}
 use Rattle.std.proofs.lemmas.Option.{same_Some}
 use Rattle.inline.specs.declared.flat.FlatVariable.{FlatVariable}
 use Rattle.inline.specs.Fitting.{IsWithinKind, IsHeld}
-use Rattle.inline.specs.Flat.{TermTree, FlatTree, declare, array, assign, put, hold, skip, branch, loop, FlatBlock, nothing, first, word_as, array_as}
+use Rattle.inline.specs.Flat.{TermTree, FlatTree, declare, array, assign, put, hold, skip, branch, loop, FlatBlock}
+use Rattle.inline.specs.Flat.{nothing, first, word_as, array_as}
 use Rattle.inline.specs.FlatMeaning.{Values, with_value}
-use Rattle.inline.specs.FlatTyping.{Types, types_of, with_type, Suits, AllSuit, HasCount, IsNew, IsTyped, AreTyped, counter_type, types_after, types_after_all}
+use Rattle.inline.specs.FlatTyping.{Types, types_of, with_type, Suits, AllSuit, HasCount, IsNew, IsTyped, AreTyped}
+use Rattle.inline.specs.FlatTyping.{counter_type, types_after, types_after_all}
 use Rattle.inline.specs.Path.{Path, AreFine, bounded, indexed}
-use Rattle.intervals.proofs.Below.{some_bit, fits_assigned, fits_declared, one_held, with_type-same, with_type-other, new_number, type_kept, types_kept}
+use Rattle.intervals.proofs.Below.{some_bit, fits_assigned, fits_declared, one_held, with_type-same, with_type-other}
+use Rattle.intervals.proofs.Below.{new_number, type_kept, types_kept}
 use Rattle.intervals.specs.declared.interval.Interval.{Interval}
 use Rattle.intervals.specs.Intervals.{Bounds, known, with_bound, between, interval}
-use Rattle.intervals.specs.Loose.{Comes, ComeAll, none_left, one_more, made, Leads, declares, declares_array, assigns, puts, holds as holding, skips, chooses, repeats, Turns, no_turn, a_turn, LeadAll, ends, goes_on}
+use Rattle.intervals.specs.Loose.{Comes, ComeAll, none_left, one_more, made, Leads, declares, declares_array, assigns}
+use Rattle.intervals.specs.Loose.{puts, holds as holding, skips, chooses, repeats, Turns, no_turn, a_turn, LeadAll}
+use Rattle.intervals.specs.Loose.{ends, goes_on}
 use Rattle.intervals.specs.Narrowing.{where_true, where_false}
-use Rattle.intervals.specs.Ranges.{bounds_after, bounds_after_all, counter_interval, in_loop, index_violations, is_steady, most_turns, term_violations, terms_violations, violations, violations_all}
+use Rattle.intervals.specs.Ranges.{bounds_after, bounds_after_all, counter_interval, in_loop, index_violations}
+use Rattle.intervals.specs.Ranges.{is_steady, most_turns, term_violations, terms_violations, violations}
+use Rattle.intervals.specs.Ranges.{violations_all}
 use Rattle.intervals.proofs.LooseIntervals.{IsIn}
 use Rattle.intervals.proofs.LooseNarrowing.{at_number, holds_where_false, holds_where_true}
-use Rattle.intervals.proofs.LooseTerms.{Holds, IsKept, fine_both, loose_below, loose_fine, loose_fits, loose_in, none_in}
+use Rattle.intervals.proofs.LooseTerms.{Holds, IsKept, fine_both, loose_below, loose_fine, loose_fits, loose_in}
+use Rattle.intervals.proofs.LooseTerms.{none_in}
 use Rattle.intervals.proofs.LooseTypes.{IsListed}
 use Rattle.language.specs.Types.{is_secret, joined}
 use Rattle.language.specs.declared.signature.Label.{Label}
@@ -46,13 +56,15 @@ not_zero : (v : ℕ) → (v == 0) ≡ false → v ≢ 0
 not_zero v h is = grind (arith, nat_tests)
 
 -- a steady variable is public and not `mut`
-steady_parts : (label : Label) (mutable : Bool) → not (is_secret label || mutable) ≡ true → (label ≡ Public) × (mutable ≡ false)
+steady_parts : (label : Label) (mutable : Bool) → not (is_secret label || mutable) ≡ true
+    → (label ≡ Public) × (mutable ≡ false)
 steady_parts Public false h = (refl, refl)
 steady_parts Public true h = absurd cc
 steady_parts Secret mutable h = absurd cc
 
 -- what may be assigned to is none of what keeps its value
-not_mutable : (types : Types) (x y : ℕ) (d : FlatVariable) (word : WordType) → types.at x ≡ Some d → d.mutable ≡ true → types.at y ≡ Some (word_as word false) → y ≡ x → ⊥
+not_mutable : (types : Types) (x y : ℕ) (d : FlatVariable) (word : WordType) → types.at x ≡ Some d → d.mutable ≡ true
+    → types.at y ≡ Some (word_as word false) → y ≡ x → ⊥
 not_mutable types x y d word known may steady same =
     let is = same_Some d (word_as word false) (sym known ∙ (ap types.at (sym same) ∙ steady)) in
     let other = ap (λ (e : FlatVariable). e.mutable) is in absurd cc
@@ -61,7 +73,8 @@ not_mutable types x y d word known may steady same =
 counter_in : (low high : Interval) (i : ℕ) → low.low ≤ i → i < high.high → IsIn (counter_interval low high) i
 counter_in low high i least most = by (nat_lt low.low high.high) refl
   where
-    by : (b : Bool) → nat_lt low.low high.high ≡ b → IsIn (if b then between low.low (high.high - 1) else between low.low low.low) i
+    by : (b : Bool) → nat_lt low.low high.high ≡ b
+        → IsIn (if b then between low.low (high.high - 1) else between low.low low.low) i
     by true e = (least, omega (arith, most))
     by false e = (least, grind (arith, nat_tests, e, least, most))
 
@@ -76,9 +89,11 @@ module _ (declared : List FlatVariable) (turns : List ℕ) where
     AreCounted bounds (hold x place size index) = Unit {0}
     AreCounted bounds skip = Unit {0}
     AreCounted bounds (branch label condition accepted otherwise) =
-        AllCounted (where_true declared bounds label condition) accepted × AllCounted (where_false declared bounds label condition) otherwise
+        AllCounted (where_true declared bounds label condition) accepted
+        × AllCounted (where_false declared bounds label condition) otherwise
     AreCounted bounds (loop x low high body) =
-        (most_turns (interval declared bounds low) (interval declared bounds high) ≡ slice_index turns x) × AllCounted (in_loop declared bounds x low high) body
+        (most_turns (interval declared bounds low) (interval declared bounds high) ≡ slice_index turns x)
+        × AllCounted (in_loop declared bounds x low high) body
 
     pub AllCounted : Bounds → FlatBlock → Type 0
     AllCounted bounds nothing = Unit {0}
@@ -91,7 +106,8 @@ module _ (declared : List FlatVariable) (turns : List ℕ) where
     pub fine : AreFine turns path
 
   -- at the end of an arm or a turn all is known that was known before
-  back : (types after : Types) (before inside bounds : Bounds) (m t : Values) (path : Path) → Holds declared types before m → Done types after bounds m t path
+  back : (types after : Types) (before inside bounds : Bounds) (m t : Values) (path : Path)
+      → Holds declared types before m → Done types after bounds m t path
       → ((x : ℕ) (d : FlatVariable) → types.at x ≡ Some d → after.at x ≡ Some d) → Holds declared types before t
   back types after before inside bounds m t path holds done kept = record {
     fits = λ x d is. done.holds.fits x d (kept x d is);
@@ -108,16 +124,20 @@ module _ (declared : List FlatVariable) (turns : List ℕ) where
 
   module _ (types : Types) (bounds : Bounds) (m : Values) (holds : Holds declared types bounds m) where
     -- what suits is within the kind that is wanted
-    suited : {profile : Profile} {e : TermTree} {v : ℕ} {p : Path} (word : WordType) → Suits types word e → Comes (types_of profile declared) m e v p → IsWithinKind word.kind v
-    suited {v = v} word suits c = subst (λ k. IsWithinKind k v) suits.kind (loose_fits declared types bounds m holds c suits.has_type)
+    suited : {profile : Profile} {e : TermTree} {v : ℕ} {p : Path} (word : WordType) → Suits types word e
+        → Comes (types_of profile declared) m e v p → IsWithinKind word.kind v
+    suited {v = v} word suits c =
+        subst (λ k. IsWithinKind k v) suits.kind (loose_fits declared types bounds m holds c suits.has_type)
 
     -- a new variable
-    module _ (x : ℕ) (d : FlatVariable) (numbers : List ℕ) (new : IsNew declared types x d) (held : IsHeld d numbers) where
+    module _ (x : ℕ) (d : FlatVariable) (numbers : List ℕ) (new : IsNew declared types x d)
+        (held : IsHeld d numbers) where
       apart : (y : ℕ) (e : FlatVariable) → types.at y ≡ Some e → y ≡ x → ⊥
       apart y e is = new_number types x y e new.new is
 
       -- what was known of another one
-      kept_other : (y : ℕ) (i : Interval) → known bounds y ≡ Some i → IsKept (with_type types x d) (with_value m x numbers) y i
+      kept_other : (y : ℕ) (i : Interval) → known bounds y ≡ Some i
+          → IsKept (with_type types x d) (with_value m x numbers) y i
       kept_other y i is =
           let old = holds.kept y i is in
           let other = apart y (word_as old.word false) old.typed in
@@ -136,16 +156,24 @@ module _ (declared : List FlatVariable) (turns : List ℕ) where
           by false same there = holds.listed y e there
 
       new_holds : Holds declared (with_type types x d) bounds (with_value m x numbers)
-      new_holds = record { fits = fits_declared types m x numbers d held holds.fits; kept = kept_other; listed = listed_too }
+      new_holds = record {
+        fits = fits_declared types m x numbers d held holds.fits;
+        kept = kept_other;
+        listed = listed_too;
+      }
 
       new_same : (y : ℕ) (word : WordType) → types.at y ≡ Some (word_as word false) → with_value m x numbers y ≡ m y
       new_same y word is = with_value-other m x y numbers (apart y (word_as word false) is)
 
       -- and its interval is known where it keeps its value
-      known_holds : (word : WordType) (i : Interval) → d ≡ word_as word false → word.label ≡ Public → IsIn i (slice_index numbers 0) → Holds declared (with_type types x d) (with_bound bounds x i) (with_value m x numbers)
-      known_holds word i is public within = record { fits = new_holds.fits; kept = λ y j h. at y j (at_number bounds x i y j h); listed = listed_too }
+      known_holds : (word : WordType) (i : Interval) → d ≡ word_as word false → word.label ≡ Public
+          → IsIn i (slice_index numbers 0)
+          → Holds declared (with_type types x d) (with_bound bounds x i) (with_value m x numbers)
+      known_holds word i is public within =
+          record { fits = new_holds.fits; kept = λ y j h. at y j (at_number bounds x i y j h); listed = listed_too }
         where
-          at : (y : ℕ) (j : Interval) → ((y ≡ x) × (i ≡ j)) ⊎ (known bounds y ≡ Some j) → IsKept (with_type types x d) (with_value m x numbers) y j
+          at : (y : ℕ) (j : Interval) → ((y ≡ x) × (i ≡ j)) ⊎ (known bounds y ≡ Some j)
+              → IsKept (with_type types x d) (with_value m x numbers) y j
           at y j (inr old) = kept_other y j old
           at y j (inl (same, k)) =
               subst (λ z. IsKept (with_type types x d) (with_value m x numbers) z j) (sym same)
@@ -153,12 +181,15 @@ module _ (declared : List FlatVariable) (turns : List ℕ) where
                 word = word;
                 typed = with_type-same types x d ∙ ap Some is;
                 public = public;
-                within = subst (λ l. IsIn l (slice_index (with_value m x numbers x) 0)) k (subst (λ v. IsIn i (slice_index v 0)) (sym (with_value-same m x numbers)) within);
+                within = subst (λ l. IsIn l (slice_index (with_value m x numbers x) 0)) k
+                    (subst (λ v. IsIn i (slice_index v 0)) (sym (with_value-same m x numbers)) within);
               })
 
     -- a variable that may be assigned to
-    module _ (x : ℕ) (d : FlatVariable) (numbers : List ℕ) (there : types.at x ≡ Some d) (may : d.mutable ≡ true) (held : IsHeld d numbers) where
-      assigned_same : (y : ℕ) (word : WordType) → types.at y ≡ Some (word_as word false) → with_value m x numbers y ≡ m y
+    module _ (x : ℕ) (d : FlatVariable) (numbers : List ℕ) (there : types.at x ≡ Some d) (may : d.mutable ≡ true)
+        (held : IsHeld d numbers) where
+      assigned_same : (y : ℕ) (word : WordType) → types.at y ≡ Some (word_as word false)
+          → with_value m x numbers y ≡ m y
       assigned_same y word is = with_value-other m x y numbers (not_mutable types x y d word there may is)
 
       assigned_holds : Holds declared types bounds (with_value m x numbers)
@@ -176,134 +207,200 @@ module _ (declared : List FlatVariable) (turns : List ℕ) where
       }
 
     -- the elements of a new array
-    all_fit : (word : WordType) {profile : Profile} {es : List TermTree} {vs : List ℕ} {p : Path} → ComeAll (types_of profile declared) m es vs p → AllSuit types word es → All (IsWithinKind word.kind) vs
+    all_fit : (word : WordType) {profile : Profile} {es : List TermTree} {vs : List ℕ} {p : Path}
+        → ComeAll (types_of profile declared) m es vs p → AllSuit types word es → All (IsWithinKind word.kind) vs
     all_fit word none_left suit = All-nil (IsWithinKind word.kind)
-    all_fit word (one_more {v = v} {vs = vs} c cs) suit = All-cons (IsWithinKind word.kind) v vs (suited word suit.0 c) (all_fit word cs suit.1)
+    all_fit word (one_more {v = v} {vs = vs} c cs) suit =
+        All-cons (IsWithinKind word.kind) v vs (suited word suit.0 c) (all_fit word cs suit.1)
 
-    as_many : {profile : Profile} {es : List TermTree} {vs : List ℕ} {p : Path} → ComeAll (types_of profile declared) m es vs p → length vs ≡ length es
+    as_many : {profile : Profile} {es : List TermTree} {vs : List ℕ} {p : Path}
+        → ComeAll (types_of profile declared) m es vs p → length vs ≡ length es
     as_many none_left = refl
     as_many (one_more c cs) = ap suc (as_many cs)
 
-    made_held : (word : WordType) (mutable : Bool) (size : ℕ) {profile : Profile} {es : List TermTree} {vs : List ℕ} {p : Path} → ComeAll (types_of profile declared) m es vs p → AllSuit types word es → HasCount size es → IsHeld (array_as word mutable size) (made size vs)
-    made_held word mutable size none_left suit count = record { count = length-replicate size 0; within = All-replicate (IsWithinKind word.kind) size 0 (some_bit word.kind) }
-    made_held word mutable size (one_more c cs) suit count = record { count = as_many (one_more c cs) ∙ count; within = all_fit word (one_more c cs) suit }
+    made_held : (word : WordType) (mutable : Bool) (size : ℕ) {profile : Profile} {es : List TermTree} {vs : List ℕ}
+        {p : Path} → ComeAll (types_of profile declared) m es vs p → AllSuit types word es → HasCount size es
+        → IsHeld (array_as word mutable size) (made size vs)
+    made_held word mutable size none_left suit count =
+        record {
+          count = length-replicate size 0;
+          within =
+              All-replicate (IsWithinKind word.kind) size 0 (some_bit word.kind);
+        }
+    made_held word mutable size (one_more c cs) suit count =
+        record { count = as_many (one_more c cs) ∙ count; within = all_fit word (one_more c cs) suit }
 
-    all_fine : (word : WordType) {profile : Profile} {es : List TermTree} {vs : List ℕ} {p : Path} → ComeAll (types_of profile declared) m es vs p → AllSuit types word es → terms_violations declared bounds es ≡ [] → AreFine turns p
+    all_fine : (word : WordType) {profile : Profile} {es : List TermTree} {vs : List ℕ} {p : Path}
+        → ComeAll (types_of profile declared) m es vs p → AllSuit types word es
+        → terms_violations declared bounds es ≡ [] → AreFine turns p
     all_fine word none_left suit none = tt
     all_fine word (one_more {e = e} {es = es} {p = p} {q = q} c cs) suit none =
         let parts = none_in (term_violations declared bounds e) (terms_violations declared bounds es) none in
-        fine_both turns p q (loose_fine declared types bounds m holds turns c suit.0.has_type parts.0) (all_fine word cs suit.1 parts.1)
+        fine_both turns p q (loose_fine declared types bounds m holds turns c suit.0.has_type parts.0)
+        (all_fine word cs suit.1 parts.1)
 
     -- a declared word
-    declared_done : (x : ℕ) (word : WordType) (mutable : Bool) {profile : Profile} {e : TermTree} {v : ℕ} {p : Path} → IsNew declared types x (word_as word mutable) → Suits types word e → Comes (types_of profile declared) m e v p
+    declared_done : (x : ℕ) (word : WordType) (mutable : Bool) {profile : Profile} {e : TermTree} {v : ℕ} {p : Path}
+        → IsNew declared types x (word_as word mutable) → Suits types word e
+        → Comes (types_of profile declared) m e v p
         → (b : Bool) → is_steady word mutable ≡ b
-        → Holds declared (with_type types x (word_as word mutable)) (if b then with_bound bounds x (interval declared bounds e) else bounds) (with_value m x (v ∷ []))
+        → Holds declared (with_type types x (word_as word mutable)) (if b
+        then with_bound bounds x (interval declared bounds e) else bounds) (with_value m x (v ∷ []))
     declared_done x word mutable {e = e} {v = v} new suits c true steady =
         let parts = steady_parts word.label mutable steady in
-        known_holds x (word_as word mutable) (v ∷ []) new (one_held word mutable v (suited word suits c)) word (interval declared bounds e) (ap (word_as word) parts.1) parts.0
+        known_holds x (word_as word mutable) (v ∷ []) new (one_held word mutable v (suited word suits c)) word
+        (interval declared bounds e) (ap (word_as word) parts.1) parts.0
         (loose_in declared types bounds m holds c suits.has_type (suits.label parts.0))
-    declared_done x word mutable {v = v} new suits c false steady = new_holds x (word_as word mutable) (v ∷ []) new (one_held word mutable v (suited word suits c))
+    declared_done x word mutable {v = v} new suits c false steady =
+        new_holds x (word_as word mutable) (v ∷ []) new (one_held word mutable v (suited word suits c))
 
   -- Runs.
 
   module _ (profile : Profile) where
     mutual
       pub loose_done : {types : Types} {bounds : Bounds} (control : Label) {m t : Values} {s : FlatTree} {path : Path}
-          → Leads (types_of profile declared) m s t path → IsTyped declared types control s → Holds declared types bounds m → violations declared bounds s ≡ [] → AreCounted bounds s
+          → Leads (types_of profile declared) m s t path → IsTyped declared types control s
+          → Holds declared types bounds m → violations declared bounds s ≡ [] → AreCounted bounds s
           → Done types (types_after types s) (bounds_after declared bounds s) m t path
-      loose_done {types = types} {bounds = bounds} control {m = m} (declares {x = x} {word = word} {mutable = mutable} {v = v} c) typed holds none counted = record {
-        holds = declared_done types bounds m holds x word mutable typed.0 typed.1 c (is_steady word mutable) refl;
-        same = new_same types bounds m holds x (word_as word mutable) (v ∷ []) typed.0 (one_held word mutable v (suited types bounds m holds word typed.1 c));
-        fine = loose_fine declared types bounds m holds turns c typed.1.has_type none;
-      }
-      loose_done {types = types} {bounds = bounds} control {m = m} (declares_array {x = x} {size = size} {word = word} {mutable = mutable} {vs = vs} cs) typed holds none counted =
+      loose_done {types = types} {bounds = bounds} control {m =
+          m} (declares {x = x} {word = word} {mutable = mutable} {v = v} c) typed holds none counted = record {
+            holds = declared_done types bounds m holds x word mutable typed.0 typed.1 c (is_steady word mutable) refl;
+            same = new_same types bounds m holds x (word_as word mutable) (v ∷ []) typed.0
+                (one_held word mutable v (suited types bounds m holds word typed.1 c));
+            fine = loose_fine declared types bounds m holds turns c typed.1.has_type none;
+          }
+      loose_done {types = types} {bounds = bounds} control {m =
+          m} (declares_array {x = x} {size = size} {word = word} {mutable = mutable} {vs = vs} cs) typed holds
+          none counted =
           let held = made_held types bounds m holds word mutable size cs typed.1 typed.2 in
           record {
             holds = new_holds types bounds m holds x (array_as word mutable size) (made size vs) typed.0 held;
             same = new_same types bounds m holds x (array_as word mutable size) (made size vs) typed.0 held;
             fine = all_fine types bounds m holds word cs typed.1 none;
           }
-      loose_done {types = types} {bounds = bounds} control {m = m} (assigns {x = x} {v = v} c) typed holds none counted =
+      loose_done {types = types} {bounds = bounds} control {m = m} (assigns {x = x} {v = v} c) typed holds
+          none counted =
           let held = one_held typed.word true v (suited types bounds m holds typed.word typed.suits c) in
           record {
             holds = assigned_holds types bounds m holds x (word_as typed.word true) (v ∷ []) typed.known refl held;
             same = assigned_same types bounds m holds x (word_as typed.word true) (v ∷ []) typed.known refl held;
             fine = loose_fine declared types bounds m holds turns c typed.suits.has_type none;
           }
-      loose_done {types = types} {bounds = bounds} control {m = m} (puts {place = place} {x = x} {size = size} {index = index} {value = value} {i = i} {v = v} {p = p} {q = q} c d) typed holds none counted =
+      loose_done {types = types} {bounds = bounds} control {m =
+          m} (puts {place = place} {x = x} {size = size} {index = index} {value = value} {i = i} {v = v} {p =
+          p} {q = q} c d) typed holds none counted =
           let old = holds.fits x (array_as typed.word true size) typed.known in
           let held : IsHeld (array_as typed.word true size) (slice_set (m x) i v) = record {
             count = length-set (m x) i v ∙ old.count;
-            within = All-set (IsWithinKind typed.word.kind) (m x) i v (suited types bounds m holds typed.word typed.suits d) old.within;
+            within = All-set (IsWithinKind typed.word.kind) (m x) i v
+                (suited types bounds m holds typed.word typed.suits d) old.within;
           } in
-          let parts = none_in (term_violations declared bounds index ++ index_violations place size (interval declared bounds index)) (term_violations declared bounds value) none in
-          let at = none_in (term_violations declared bounds index) (index_violations place size (interval declared bounds index)) parts.0 in
+          let parts = none_in (term_violations declared bounds index
+          ++ index_violations place size (interval declared bounds index))
+          (term_violations declared bounds value) none in
+          let at = none_in (term_violations declared bounds index)
+          (index_violations place size (interval declared bounds index)) parts.0 in
           record {
-            holds = assigned_holds types bounds m holds x (array_as typed.word true size) (slice_set (m x) i v) typed.known refl held;
-            same = assigned_same types bounds m holds x (array_as typed.word true size) (slice_set (m x) i v) typed.known refl held;
-            fine = fine_both turns p (indexed place size i ∷ q) (loose_fine declared types bounds m holds turns c typed.index_type at.0)
-                (loose_below declared types bounds m holds turns place size c typed.index_type at.1, loose_fine declared types bounds m holds turns d typed.suits.has_type parts.1);
+            holds = assigned_holds types bounds m holds x (array_as typed.word true size) (slice_set (m x) i v)
+                typed.known refl held;
+            same = assigned_same types bounds m holds x (array_as typed.word true size) (slice_set (m x) i v)
+                typed.known refl held;
+            fine = fine_both turns p (indexed place size i ∷ q)
+                (loose_fine declared types bounds m holds turns c typed.index_type at.0) (
+                  loose_below declared types bounds m holds turns place size c typed.index_type at.1,
+                  loose_fine declared types bounds m holds turns d typed.suits.has_type parts.1,
+                );
           }
-      loose_done {types = types} {bounds = bounds} control {m = m} (holding {x = x} {place = place} {size = size} {index = index} {i = i} {path = p} c) typed known none counted =
+      loose_done {types = types} {bounds = bounds} control {m =
+          m} (holding {x = x} {place = place} {size = size} {index = index} {i = i} {path = p} c) typed known
+          none counted =
           let held = one_held counter_type false i (loose_fits declared types bounds m known c typed.1) in
-          let parts = none_in (term_violations declared bounds index) (index_violations place size (interval declared bounds index)) none in
+          let parts = none_in (term_violations declared bounds index)
+          (index_violations place size (interval declared bounds index)) none in
           record {
-            holds = known_holds types bounds m known x (word_as counter_type false) (i ∷ []) typed.0 held counter_type (interval declared bounds index) refl refl (loose_in declared types bounds m known c typed.1 refl);
+            holds = known_holds types bounds m known x (word_as counter_type false) (i ∷ []) typed.0 held counter_type
+                (interval declared bounds index) refl refl (loose_in declared types bounds m known c typed.1 refl);
             same = new_same types bounds m known x (word_as counter_type false) (i ∷ []) typed.0 held;
-            fine = fine_both turns p (indexed place size i ∷ []) (loose_fine declared types bounds m known turns c typed.1 parts.0) (loose_below declared types bounds m known turns place size c typed.1 parts.1, tt);
+            fine = fine_both turns p (indexed place size i ∷ [])
+                (loose_fine declared types bounds m known turns c typed.1 parts.0)
+                (loose_below declared types bounds m known turns place size c typed.1 parts.1, tt);
           }
-      loose_done control skips typed known none counted = record { holds = known; same = λ y word is. refl; fine = tt }
-      loose_done {types = types} {bounds = bounds} control {m = m} {t = t} (chooses {label = label} {condition = condition} {accepted = accepted} {otherwise = otherwise} {c = z} {p = p} {q = q} c arm) typed holds none counted =
+      loose_done control skips typed known none counted =
+          record { holds = known; same = λ y word is. refl; fine = tt }
+      loose_done {types = types} {bounds = bounds} control {m = m} {t =
+          t} (chooses {label = label} {condition = condition} {accepted = accepted} {otherwise = otherwise} {c =
+          z} {p = p} {q = q} c arm) typed holds none counted =
           let one = where_true declared bounds label condition in
           let other = where_false declared bounds label condition in
-          let parts = none_in (term_violations declared bounds condition ++ violations_all declared one accepted) (violations_all declared other otherwise) none in
-          let firsts = none_in (term_violations declared bounds condition) (violations_all declared one accepted) parts.0 in
+          let parts = none_in (term_violations declared bounds condition ++ violations_all declared one accepted)
+          (violations_all declared other otherwise) none in
+          let firsts = none_in (term_violations declared bounds condition)
+          (violations_all declared one accepted) parts.0 in
           let b : Bool = z == 0 in
           let block : FlatBlock = if b then otherwise else accepted in
           let under = joined label control in
           let inside : Bounds = if b then other else one in
-          let arm_typed = by_cases (λ k. AreTyped declared types under (if k then otherwise else accepted)) b (λ e. typed.2) (λ e. typed.1) in
+          let arm_typed = by_cases (λ k. AreTyped declared types under (if k then otherwise else accepted)) b
+          (λ e. typed.2) (λ e. typed.1) in
           let arm_holds = by_cases (λ k. Holds declared types (if k then other else one) m) b
           (λ e. holds_where_false declared types bounds m holds label c typed.0 refl (is_zero z e))
           (λ e. holds_where_true declared types bounds m holds label c typed.0 refl (not_zero z e)) in
-          let arm_none = by_cases (λ k. violations_all declared (if k then other else one) (if k then otherwise else accepted) ≡ []) b (λ e. parts.1) (λ e. firsts.1) in
-          let arm_counted = by_cases (λ k. AllCounted (if k then other else one) (if k then otherwise else accepted)) b (λ e. counted.1) (λ e. counted.0) in
+          let arm_none =
+          by_cases (λ k. violations_all declared (if k then other else one) (if k then otherwise else accepted)
+          ≡ []) b (λ e. parts.1) (λ e. firsts.1) in
+          let arm_counted = by_cases (λ k. AllCounted (if k then other else one) (if k then otherwise else accepted))
+          b (λ e. counted.1) (λ e. counted.0) in
           let done = all_done {types = types} {bounds = inside} under arm arm_typed arm_holds arm_none arm_counted in
           record {
-            holds = back types (types_after_all types block) bounds inside (bounds_after_all declared inside block) m t q holds done (types_kept declared types under block arm_typed);
+            holds = back types (types_after_all types block) bounds inside (bounds_after_all declared inside block) m
+                t q holds done (types_kept declared types under block arm_typed);
             same = done.same;
             fine = fine_both turns p q (loose_fine declared types bounds m holds turns c typed.0 firsts.0) done.fine;
           }
-      loose_done {types = types} {bounds = bounds} control {m = m} {t = t} (repeats {x = x} {low = low} {high = high} {body = body} {a = a} {b = b} {p = p} {q = q} {r = r} c d run) typed holds none counted =
-          let parts = none_in (term_violations declared bounds low ++ term_violations declared bounds high) (violations_all declared (in_loop declared bounds x low high) body) none in
+      loose_done {types = types} {bounds = bounds} control {m = m} {t =
+          t} (repeats {x = x} {low = low} {high = high} {body = body} {a = a} {b = b} {p = p} {q = q} {r =
+          r} c d run) typed holds none counted =
+          let parts = none_in (term_violations declared bounds low ++ term_violations declared bounds high)
+          (violations_all declared (in_loop declared bounds x low high) body) none in
           let firsts = none_in (term_violations declared bounds low) (term_violations declared bounds high) parts.0 in
           let least = loose_in declared types bounds m holds c typed.0 refl in
           let most = loose_in declared types bounds m holds d typed.1 refl in
           let below = loose_fits declared types bounds m holds d typed.1 in
-          let done = turns_done {types = types} {bounds = bounds} control low high b below most.1 run (λ some. omega (arith, some)) least.0 typed.2 typed.3 holds parts.1 counted.1 in
+          let done = turns_done {types = types} {bounds = bounds} control low high b below most.1 run
+          (λ some. omega (arith, some)) least.0 typed.2 typed.3 holds parts.1 counted.1 in
           record {
             holds = done.holds;
             same = done.same;
             fine = fine_both turns (p ++ q) (bounded x a b ∷ r)
-                (fine_both turns p q (loose_fine declared types bounds m holds turns c typed.0 firsts.0) (loose_fine declared types bounds m holds turns d typed.1 firsts.1))
+                (fine_both turns p q (loose_fine declared types bounds m holds turns c typed.0 firsts.0)
+                (loose_fine declared types bounds m holds turns d typed.1 firsts.1))
                 (omega (arith, least, most, counted.0), done.fine);
           }
 
-      pub turns_done : {types : Types} {bounds : Bounds} (control : Label) {m t : Values} {x n i : ℕ} {body : FlatBlock} {path : Path} (low high : TermTree) (b : ℕ) → b < 2 ^ 32
+      pub turns_done : {types : Types} {bounds : Bounds} (control : Label) {m t : Values} {x n i : ℕ}
+          {body : FlatBlock} {path : Path} (low high : TermTree) (b : ℕ) → b < 2 ^ 32
           → b ≤ (interval declared bounds high).high
-          → Turns (types_of profile declared) x body n i m t path → (0 < n → i + n ≤ b) → (interval declared bounds low).low ≤ i
-          → IsNew declared types x (word_as counter_type false) → AreTyped declared (with_type types x (word_as counter_type false)) control body
-          → Holds declared types bounds m → violations_all declared (in_loop declared bounds x low high) body ≡ [] → AllCounted (in_loop declared bounds x low high) body
+          → Turns (types_of profile declared) x body n i m t path → (0 < n → i + n ≤ b)
+          → (interval declared bounds low).low ≤ i
+          → IsNew declared types x (word_as counter_type false)
+          → AreTyped declared (with_type types x (word_as counter_type false)) control body
+          → Holds declared types bounds m → violations_all declared (in_loop declared bounds x low high) body ≡ []
+          → AllCounted (in_loop declared bounds x low high) body
           → Done types types bounds m t path
-      turns_done control low high b below most no_turn count least new typed holds none counted = record { holds = holds; same = λ y word is. refl; fine = tt }
-      turns_done {types = types} {bounds = bounds} control {m = m} {t = t} {x = x} {body = body} low high b below most (a_turn {n = n} {i = i} {s = s} {p = p} {q = q} run rest) count least new typed holds none counted =
+      turns_done control low high b below most no_turn count least new typed holds none counted =
+          record { holds = holds; same = λ y word is. refl; fine = tt }
+      turns_done {types = types} {bounds = bounds} control {m = m} {t = t} {x = x} {body = body} low high b below most
+          (a_turn {n = n} {i = i} {s = s} {p = p} {q = q} run rest) count least new typed holds none counted =
           let own = word_as counter_type false in
           let inside = in_loop declared bounds x low high in
           let room : i + suc n ≤ b = count (omega arith) in
           let held = one_held counter_type false i (omega (arith, room, below)) in
-          let here = counter_in (interval declared bounds low) (interval declared bounds high) i least (omega (arith, room, most)) in
-          let start = known_holds types bounds m holds x own (i ∷ []) new held counter_type (counter_interval (interval declared bounds low) (interval declared bounds high)) refl refl here in
-          let done = all_done {types = with_type types x own} {bounds = inside} control run typed start none counted in
+          let here = counter_in (interval declared bounds low) (interval declared bounds high) i least
+          (omega (arith, room, most)) in
+          let start = known_holds types bounds m holds x own (i ∷ []) new held counter_type
+          (counter_interval (interval declared bounds low) (interval declared bounds high)) refl refl here in
+          let done = all_done {types = with_type types x own} {bounds = inside} control run typed start
+          none counted in
           let same = λ (y : ℕ) (word : WordType) (is : types.at y ≡ Some (word_as word false)).
           done.same y word (with_type-other types x y own (new_number types x y (word_as word false) new.new is) ∙ is)
           ∙ new_same types bounds m holds x own (i ∷ []) new held y word is in
@@ -313,10 +410,16 @@ module _ (declared : List FlatVariable) (turns : List ℕ) where
                 done.holds.fits y d (types_kept declared (with_type types x own) control body typed y d there);
             kept = λ y j is.
                 let old = holds.kept y j is in
-                record { word = old.word; typed = old.typed; public = old.public; within = subst (λ v. IsIn j (slice_index v 0)) (sym (same y old.word old.typed)) old.within };
+                record {
+                  word = old.word;
+                  typed = old.typed;
+                  public = old.public;
+                  within = subst (λ v. IsIn j (slice_index v 0)) (sym (same y old.word old.typed)) old.within;
+                };
             listed = holds.listed;
           } in
-          let others = turns_done {types = types} {bounds = bounds} control low high b below most rest (λ some. omega (arith, room)) (omega (arith, least)) new typed after none counted in
+          let others = turns_done {types = types} {bounds = bounds} control low high b below most rest
+          (λ some. omega (arith, room)) (omega (arith, least)) new typed after none counted in
           record {
             holds = others.holds;
             same = λ y word is. others.same y word is ∙ same y word is;
@@ -324,15 +427,20 @@ module _ (declared : List FlatVariable) (turns : List ℕ) where
           }
 
       pub all_done : {types : Types} {bounds : Bounds} (control : Label) {m t : Values} {b : FlatBlock} {path : Path}
-          → LeadAll (types_of profile declared) m b t path → AreTyped declared types control b → Holds declared types bounds m → violations_all declared bounds b ≡ [] → AllCounted bounds b
+          → LeadAll (types_of profile declared) m b t path → AreTyped declared types control b
+          → Holds declared types bounds m → violations_all declared bounds b ≡ [] → AllCounted bounds b
           → Done types (types_after_all types b) (bounds_after_all declared bounds b) m t path
       all_done control ends typed holds none counted = record { holds = holds; same = λ x word is. refl; fine = tt }
-      all_done {types = types} {bounds = bounds} control (goes_on {statement = s} {rest = rest} {p = p} {q = q} run more) typed holds none counted =
-          let parts = none_in (violations declared bounds s) (violations_all declared (bounds_after declared bounds s) rest) none in
+      all_done {types = types} {bounds = bounds} control
+          (goes_on {statement = s} {rest = rest} {p = p} {q = q} run more) typed holds none counted =
+          let parts = none_in (violations declared bounds s)
+          (violations_all declared (bounds_after declared bounds s) rest) none in
           let one = loose_done {types = types} {bounds = bounds} control run typed.0 holds parts.0 counted.0 in
-          let others = all_done {types = types_after types s} {bounds = bounds_after declared bounds s} control more typed.1 one.holds parts.1 counted.1 in
+          let others = all_done {types = types_after types s} {bounds = bounds_after declared bounds s} control more
+          typed.1 one.holds parts.1 counted.1 in
           record {
             holds = others.holds;
-            same = λ x word is. others.same x word (type_kept declared types control s typed.0 x (word_as word false) is) ∙ one.same x word is;
+            same = λ x word is. others.same x word
+                (type_kept declared types control s typed.0 x (word_as word false) is) ∙ one.same x word is;
             fine = fine_both turns p q one.fine others.fine;
           }

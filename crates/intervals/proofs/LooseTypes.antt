@@ -3,20 +3,24 @@ use Rattle.std.proofs.Common.{◌≡◌, ℕ, List, Some, slice_get, refl, sym, 
 use Rattle.std.proofs.lemmas.Option.{same_Some}
 use Rattle.inline.specs.declared.flat.FlatVariable.{FlatVariable}
 use Rattle.inline.specs.Flat.{TermTree, word_as, array_as}
-use Rattle.inline.specs.FlatTyping.{Types, types_of, HasType, of_number, of_truth, of_variable, of_prefix, of_binary, of_rotation, of_conversion, of_selection, of_element}
+use Rattle.inline.specs.FlatTyping.{Types, types_of, HasType, of_number, of_truth, of_variable, of_prefix, of_binary}
+use Rattle.inline.specs.FlatTyping.{of_rotation, of_conversion, of_selection, of_element}
 use Rattle.language.specs.Types.{joined}
 use Rattle.language.specs.declared.signature.Label.{Label}
 use Rattle.language.specs.declared.signature.Label.TheVariants.{Public, Secret}
 use Rattle.language.specs.declared.operation.Operation.{Operation}
 use Rattle.language.specs.declared.typing.WordType.{WordType}
-use Rattle.language.specs.WellTyped.{labelled, Makes, arithmetic, multiplication, division, shift, equality, order, logic}
+use Rattle.language.specs.WellTyped.{labelled, Makes, arithmetic, multiplication, division, shift, equality, order}
+use Rattle.language.specs.WellTyped.{logic}
 use Rattle.language.specs.declared.signature.Kind.TheVariants.{Boolean}
 use Rattle.word.specs.declared.profile.Profile.{Profile}
 
 -- what is made of two words of the same types is of one type
-one_made : {one other : Profile} {operation : Operation} {a b c d e f : WordType} → Makes one operation a b c → Makes other operation d e f → a ≡ d → b ≡ e → c ≡ f
+one_made : {one other : Profile} {operation : Operation} {a b c d e f : WordType} → Makes one operation a b c
+    → Makes other operation d e f → a ≡ d → b ≡ e → c ≡ f
 one_made (arithmetic p) (arithmetic q) s t = ap₂ (λ (x y : WordType). labelled x.kind (joined x.label y.label)) s t
-one_made (multiplication p may) (multiplication q might) s t = ap₂ (λ (x y : WordType). labelled x.kind (joined x.label y.label)) s t
+one_made (multiplication p may) (multiplication q might) s t =
+    ap₂ (λ (x y : WordType). labelled x.kind (joined x.label y.label)) s t
 one_made (division p) (division q) s t = s
 one_made (shift p) (shift q) s t = ap₂ (λ (x y : WordType). labelled x.kind (joined x.label y.label)) s t
 one_made equality equality s t = ap₂ (λ (x y : WordType). labelled Boolean (joined x.label y.label)) s t
@@ -28,22 +32,29 @@ abbrev pub IsListed : List FlatVariable → Types → Type 0
 IsListed declared types = (x : ℕ) (d : FlatVariable) → types.at x ≡ Some d → slice_get declared x ≡ Some d
 
 module _ (declared : List FlatVariable) (types : Types) (listed : IsListed declared types) where
-  pub one_type : {profile : Profile} {e : TermTree} {a b : WordType} → HasType types e a → HasType (types_of profile declared) e b → a ≡ b
+  pub one_type : {profile : Profile} {e : TermTree} {a b : WordType} → HasType types e a
+      → HasType (types_of profile declared) e b → a ≡ b
   one_type (of_number p) (of_number q) = refl
   one_type of_truth of_truth = refl
-  one_type (of_variable {x = x} {word = word} {mutable = mutable} p) (of_variable {word = word'} {mutable = mutable'} q) =
-      ap (λ (d : FlatVariable). d.word) (same_Some (word_as word mutable) (word_as word' mutable') (sym (listed x (word_as word mutable) p) ∙ q))
+  one_type (of_variable {x = x} {word = word} {mutable = mutable} p)
+      (of_variable {word = word'} {mutable = mutable'} q) =
+      ap (λ (d : FlatVariable). d.word)
+      (same_Some (word_as word mutable) (word_as word' mutable') (sym (listed x (word_as word mutable) p) ∙ q))
   one_type (of_prefix p t w) (of_prefix q u v) = one_type p q
   one_type (of_binary p q m w) (of_binary r s n v) = one_made m n (one_type p r) (one_type q s)
   one_type (of_rotation p k l h w) (of_rotation q k' l' h' v) = one_type p q
-  one_type (of_conversion {kind = kind} p k) (of_conversion q k') = ap (λ (t : WordType). labelled kind t.label) (one_type p q)
+  one_type (of_conversion {kind = kind} p k) (of_conversion q k') =
+      ap (λ (t : WordType). labelled kind t.label) (one_type p q)
   one_type (of_selection p q r) (of_selection s t u) =
       let c = one_type p s in
       let a = one_type q t in
       let b = one_type r u in
       λ i. labelled (a i).kind (joined (c i).label (joined (a i).label (b i).label))
-  one_type (of_element {x = x} {size = size} {word = word} {mutable = mutable} p i) (of_element {word = word'} {mutable = mutable'} q j) =
-      ap (λ (d : FlatVariable). d.word) (same_Some (array_as word mutable size) (array_as word' mutable' size) (sym (listed x (array_as word mutable size) p) ∙ q))
+  one_type (of_element {x = x} {size = size} {word = word} {mutable = mutable} p i)
+      (of_element {word = word'} {mutable = mutable'} q j) =
+      ap (λ (d : FlatVariable). d.word)
+      (same_Some (array_as word mutable size) (array_as word' mutable' size)
+      (sym (listed x (array_as word mutable size) p) ∙ q))
 
 -- both operands of what is public are
 pub joined_public : (l m : Label) → joined l m ≡ Public → (l ≡ Public) × (m ≡ Public)

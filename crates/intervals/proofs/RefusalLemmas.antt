@@ -1,5 +1,6 @@
 -- Work that is above the limit is the first of what is violated.
-use Rattle.std.proofs.Common.{◌≡◌, ℕ, ◌<◌, ◌≤◌, inr, Bool, true, false, nat_lt, [], refl, sym, subst, arith, Result, Ok, Err, OnOk, IfErr}
+use Rattle.std.proofs.Common.{◌≡◌, ℕ, ◌<◌, ◌≤◌, inr, Bool, true, false, nat_lt, [], refl, sym, subst, arith, Result}
+use Rattle.std.proofs.Common.{Ok, Err, OnOk, IfErr}
 use Rattle.std.proofs.lemmas.Bool.Decides.{nat_tests}
 use Rattle.std.proofs.lemmas.List.Elements.{All-cons, All-nil}
 use Rattle.inline.specs.Flat.{FlatProgram}
@@ -14,7 +15,11 @@ use Rattle.word.specs.declared.place.Place.{Place}
 alone : (place : Place) → IsFirst (at place (when true TooMuchWork)) (record { place = place; rule = TooMuchWork })
 alone place =
     let named : Violation = record { place = place; rule = TooMuchWork } in
-    record { there = (0, omega arith, refl); least = All-cons (IsNoLaterThan named) named [] (inr (refl, omega arith)) (All-nil (IsNoLaterThan named)) }
+    record {
+      there = (0, omega arith, refl);
+      least =
+          All-cons (IsNoLaterThan named) named [] (inr (refl, omega arith)) (All-nil (IsNoLaterThan named));
+    }
 
 above : (a b : ℕ) → a < b → nat_lt a b ≡ true
 above a b h = grind (arith, nat_tests)
@@ -22,9 +27,11 @@ above a b h = grind (arith, nat_tests)
 not_above : (a b : ℕ) → b ≤ a → nat_lt a b ≡ false
 not_above a b h = grind (arith, nat_tests)
 
-pub above_limit : (p : FlatProgram) → (work_of p ≤ most_work → ⊥) → IsFirst (work_violations p) (record { place = p.place; rule = TooMuchWork })
+pub above_limit : (p : FlatProgram) → (work_of p ≤ most_work → ⊥)
+    → IsFirst (work_violations p) (record { place = p.place; rule = TooMuchWork })
 above_limit p many =
-    subst (λ (b : Bool). IsFirst (at p.place (when b TooMuchWork)) (record { place = p.place; rule = TooMuchWork })) (sym (above most_work (work_of p) (grind (arith, many)))) (alone p.place)
+    subst (λ (b : Bool). IsFirst (at p.place (when b TooMuchWork)) (record { place = p.place; rule = TooMuchWork }))
+    (sym (above most_work (work_of p) (grind (arith, many)))) (alone p.place)
 
 -- what holds anyway holds on success
 pub on_any : {T E P : Type 0} (result : Result T E) → P → OnOk result P
@@ -32,6 +39,7 @@ on_any (Ok value) p = p
 on_any (Err e) p = tt
 
 -- what holds of an error follows from what does
-pub on_error : {T E : Type 0} {P Q : E → Type 0} (result : Result T E) → ((e : E) → P e → Q e) → IfErr result P → IfErr result Q
+pub on_error : {T E : Type 0} {P Q : E → Type 0} (result : Result T E) → ((e : E) → P e → Q e) → IfErr result P
+    → IfErr result Q
 on_error (Ok value) f p = tt
 on_error (Err e) f p = f e p

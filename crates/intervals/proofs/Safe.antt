@@ -1,5 +1,7 @@
 -- What has no violation is safe, and what is safe meets no fault.
-use Rattle.std.proofs.Common.{◌≡◌, ◌<◌, ◌-◌, ℕ, zero, suc, ◌==◌, nat_lt, Bool, true, false, List, [], ◌∷◌, ◌++◌, length, map, take, replicate, Option, Some, None, option_map, slice_get, slice_index, refl, sym, ap, ap₂, ◌∙◌, subst, arith}
+use Rattle.std.proofs.Common.{◌≡◌, ◌<◌, ◌-◌, ℕ, zero, suc, ◌==◌, nat_lt, Bool, true, false, List, [], ◌∷◌, ◌++◌}
+use Rattle.std.proofs.Common.{length, map, take, replicate, Option, Some, None, option_map, slice_get, slice_index}
+use Rattle.std.proofs.Common.{refl, sym, ap, ap₂, ◌∙◌, subst, arith}
 use Rattle.std.proofs.lemmas.Bool.Decides.{nat_tests}
 use Rattle.std.proofs.lemmas.List.{length-replicate}
 use Rattle.std.proofs.lemmas.Option.{none-some, same_Some, slice_get-map}
@@ -9,12 +11,14 @@ use Rattle.inline.specs.Fitting.{Fits}
 use Rattle.inline.specs.Flat.{FlatProgram, TermTree, declaration_of, elements_by}
 use Rattle.inline.specs.FlatMeaning.{Values, ending_by, ending_of, given, outcome_of, path_of}
 use Rattle.inline.specs.FlatTyping.{Types, types_of, IsResult, IsTypedProgram, end_types, parameter_types}
-use Rattle.inline.specs.Path.{Mark, decided, bounded, indexed, divided, multiplied, Path, fault_at, either, first_fault, IsFine, AreFine}
+use Rattle.inline.specs.Path.{Mark, decided, bounded, indexed, divided, multiplied, Path, fault_at, either}
+use Rattle.inline.specs.Path.{first_fault, IsFine, AreFine}
 use Rattle.intervals.proofs.Below.{element_fits, parameters_fit}
 use Rattle.intervals.specs.declared.interval.Interval.{Interval}
 use Rattle.intervals.specs.Intervals.{Bounds, full_of, known}
 use Rattle.intervals.specs.Loose.{IsSafe, Returns, nothing_returned, returned}
-use Rattle.intervals.specs.Ranges.{bound_by, bound_of, bounds_after_all, first_bounds, range_violations, result_violations, turns_of, violations_all}
+use Rattle.intervals.specs.Ranges.{bound_by, bound_of, bounds_after_all, first_bounds, range_violations}
+use Rattle.intervals.specs.Ranges.{result_violations, turns_of, violations_all}
 use Rattle.intervals.proofs.Counting.{enough_all}
 use Rattle.intervals.proofs.LooseIntervals.{IsIn, kind_in}
 use Rattle.intervals.proofs.LooseStatements.{all_done}
@@ -47,12 +51,15 @@ no_fault_at turns (multiplied left right) fine = refl
 
 no_fault : (turns : List ℕ) (path : Path) → AreFine turns path → first_fault path ≡ None
 no_fault turns [] fine = refl
-no_fault turns (mark ∷ rest) fine = ap (λ o. either o (first_fault rest)) (no_fault_at turns mark fine.0) ∙ no_fault turns rest fine.1
+no_fault turns (mark ∷ rest) fine = ap (λ o. either o (first_fault rest)) (no_fault_at turns mark fine.0)
+    ∙ no_fault turns rest fine.1
 
 -- a run of a safe program on arguments within its parameter types ends with its outcome
-pub safe_runs_meet_no_fault : (p : FlatProgram) (turns : List ℕ) (args : List Arg) → IsSafe p turns → AreWithin p.parameters args → ending_of p args ≡ gives (outcome_of p args)
+pub safe_runs_meet_no_fault : (p : FlatProgram) (turns : List ℕ) (args : List Arg) → IsSafe p turns
+    → AreWithin p.parameters args → ending_of p args ≡ gives (outcome_of p args)
 safe_runs_meet_no_fault p turns args safe within =
-    ap (λ fault. ending_by fault (outcome_of p args)) (no_fault turns (path_of p args) (safe args (path_of p args) within (strict_is_loose p args)))
+    ap (λ fault. ending_by fault (outcome_of p args))
+    (no_fault turns (path_of p args) (safe args (path_of p args) within (strict_is_loose p args)))
 
 -- Where a body begins.
 
@@ -68,14 +75,16 @@ known_parameter [] n x i h = absurd (nothing_known n x i h)
 known_parameter (p ∷ ps) n zero i h = (p, refl, h)
 known_parameter (p ∷ ps) n (suc x) i h = known_parameter ps n x i h
 
-bound_parts : (form : Form) (label : Label) (kind : Kind) (length : ℕ) (i : Interval) → bound_by form label kind ≡ Some i
+bound_parts : (form : Form) (label : Label) (kind : Kind) (length : ℕ) (i : Interval)
+    → bound_by form label kind ≡ Some i
     → (is_mutable form ≡ false) × (elements_by form length ≡ None) × (label ≡ Public) × (full_of kind ≡ i)
 bound_parts SingleWord Public kind length i h = (refl, refl, refl, same_Some (full_of kind) i h)
 bound_parts SingleWord Secret kind length i h = absurd (none-some i h)
 bound_parts FixedArray label kind length i h = absurd (none-some i h)
 bound_parts MutableArray label kind length i h = absurd (none-some i h)
 
-get_before : {X : Type 0} (n : ℕ) (xs : List X) (x : ℕ) (y : X) → slice_get (take n xs) x ≡ Some y → slice_get xs x ≡ Some y
+get_before : {X : Type 0} (n : ℕ) (xs : List X) (x : ℕ) (y : X) → slice_get (take n xs) x ≡ Some y
+    → slice_get xs x ≡ Some y
 get_before zero [] x y h = h
 get_before zero (z ∷ xs) x y h = absurd (none-some y h)
 get_before (suc n) [] x y h = h
@@ -98,28 +107,37 @@ module _ (p : FlatProgram) (typed : IsTypedProgram p) (args : List Arg) (within 
       let q = found.0 in
       let parts = bound_parts q.form q.label q.kind q.length i found.2 in
       let word : WordType = record { kind = q.kind; label = q.label } in
-      let there : begun.at x ≡ Some (declaration_of q) = slice_get-map declaration_of p.parameters x ∙ ap (option_map declaration_of) found.1 in
+      let there : begun.at x ≡ Some (declaration_of q) = slice_get-map declaration_of p.parameters x
+      ∙ ap (option_map declaration_of) found.1 in
       record {
         word = word;
-        typed = there ∙ ap₂ (λ (b : Bool) (o : Option ℕ). Some (record { word = word; mutable = b; elements = o })) parts.0 parts.1;
+        typed = there ∙ ap₂ (λ (b : Bool) (o : Option ℕ). Some (record { word = word; mutable = b; elements = o }))
+            parts.0 parts.1;
         public = parts.2;
-        within = subst (λ j. IsIn j (slice_index (m x) 0)) parts.3 (kind_in q.kind (slice_index (m x) 0) (element_fits q.kind (m x) 0 (fits x (declaration_of q) there).within));
+        within = subst (λ j. IsIn j (slice_index (m x) 0)) parts.3
+            (kind_in q.kind (slice_index (m x) 0)
+            (element_fits q.kind (m x) 0 (fits x (declaration_of q) there).within));
       }
 
   pub begins : Holds p.declared begun (first_bounds p) m
   begins = record {
     fits = fits;
     kept = kept_parameter;
-    listed = λ x d is. get_before (length p.parameters) p.declared x d (ap (λ ds. slice_get ds x) typed.parameters ∙ is);
+    listed = λ x d is. get_before (length p.parameters) p.declared x d
+        (ap (λ ds. slice_get ds x) typed.parameters ∙ is);
   }
 
 -- The result.
 
-result_fine : (declared : List FlatVariable) (turns : List ℕ) (types : Types) (bounds : Bounds) (m : Values) → Holds declared types bounds m
-    → {profile : Profile} {value : Option TermTree} {path : Path} → Returns (types_of profile declared) m value path → (returned : Option WordType) → IsResult types returned value → result_violations declared bounds value ≡ [] → AreFine turns path
+result_fine : (declared : List FlatVariable) (turns : List ℕ) (types : Types) (bounds : Bounds) (m : Values)
+    → Holds declared types bounds m
+    → {profile : Profile} {value : Option TermTree} {path : Path} → Returns (types_of profile declared) m value path
+    → (returned : Option WordType) → IsResult types returned value → result_violations declared bounds value ≡ []
+    → AreFine turns path
 result_fine declared turns types bounds m holds nothing_returned word suits none = tt
 result_fine declared turns types bounds m holds (returned c) None suits none = absurd suits
-result_fine declared turns types bounds m holds (returned c) (Some word) suits none = loose_fine declared types bounds m holds turns c suits.has_type none
+result_fine declared turns types bounds m holds (returned c) (Some word) suits none =
+    loose_fine declared types bounds m holds turns c suits.has_type none
 
 empty : {X : Type 0} (xs : List X) → length xs ≡ 0 → xs ≡ []
 empty [] h = refl
@@ -132,8 +150,13 @@ accepted_is_safe p typed in_range args path within run =
     let turns = turns_of p in
     let start = begins p typed args within in
     let last = bounds_after_all p.declared (first_bounds p) p.body in
-    let parts = none_in (violations_all p.declared (first_bounds p) p.body) (result_violations p.declared last p.value) (empty (range_violations p) in_range) in
-    let counted = enough_all p.declared turns p.body types Public (length p.parameters) (first_bounds p) (replicate (length p.declared) 0) typed.body typed.numbered (length-replicate (length p.declared) 0) (λ y low high. refl) in
-    let done = all_done p.declared turns p.profile {types = types} {bounds = first_bounds p} Public run.body typed.body start parts.0 counted in
-    let back = result_fine p.declared turns (end_types p) last run.end done.holds run.result p.returned typed.result parts.1 in
+    let parts = none_in (violations_all p.declared (first_bounds p) p.body)
+    (result_violations p.declared last p.value) (empty (range_violations p) in_range) in
+    let counted = enough_all p.declared turns p.body types Public (length p.parameters) (first_bounds p)
+    (replicate (length p.declared) 0) typed.body typed.numbered (length-replicate (length p.declared) 0)
+    (λ y low high. refl) in
+    let done = all_done p.declared turns p.profile {types = types} {bounds = first_bounds p} Public run.body
+    typed.body start parts.0 counted in
+    let back = result_fine p.declared turns (end_types p) last run.end done.holds run.result p.returned
+    typed.result parts.1 in
     subst (AreFine turns) (sym run.whole) (fine_both turns run.front run.back done.fine back)

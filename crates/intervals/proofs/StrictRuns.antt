@@ -1,9 +1,17 @@
 -- A strict run is a loose run: it comes to what the body means.
-use Rattle.std.proofs.Common.{ℕ, zero, suc, ◌+◌, ◌-◌, ◌==◌, Bool, true, false, if◌then◌else◌, List, [], ◌∷◌, map, Option, Some, None, refl}
-use Rattle.inline.specs.Flat.{TermTree, number, truth, variable, prefix, binary, rotate, convert, select, element, FlatTree, declare, array, assign, put, hold, skip, branch, loop, FlatBlock, nothing, first, FlatProgram}
-use Rattle.inline.specs.FlatMeaning.{Values, with_value, value_in, path_in, path_in_all, turns, path_of_turns, after, after_all, path_at, path_along, path_of_result, path_of, given, end_of}
+use Rattle.std.proofs.Common.{ℕ, zero, suc, ◌+◌, ◌-◌, ◌==◌, Bool, true, false, if◌then◌else◌, List, [], ◌∷◌, map}
+use Rattle.std.proofs.Common.{Option, Some, None, refl}
+use Rattle.inline.specs.Flat.{TermTree, number, truth, variable, prefix, binary, rotate, convert, select, element}
+use Rattle.inline.specs.Flat.{FlatTree, declare, array, assign, put, hold, skip, branch, loop, FlatBlock, nothing}
+use Rattle.inline.specs.Flat.{first, FlatProgram}
+use Rattle.inline.specs.FlatMeaning.{Values, with_value, value_in, path_in, path_in_all, turns, path_of_turns, after}
+use Rattle.inline.specs.FlatMeaning.{after_all, path_at, path_along, path_of_result, path_of, given, end_of}
 use Rattle.inline.specs.FlatTyping.{Types, types_of}
-use Rattle.intervals.specs.Loose.{Comes, to_number, to_truth, to_variable, to_prefix, to_binary, to_rotation, to_conversion, to_selection, to_element, ComeAll, none_left, one_more, Leads, declares, declares_array, assigns, puts, holds, skips, chooses, repeats, Turns, no_turn, a_turn, LeadAll, ends, goes_on, Returns, nothing_returned, returned, IsLooseRun}
+use Rattle.intervals.specs.Loose.{Comes, to_number, to_truth, to_variable, to_prefix, to_binary, to_rotation}
+use Rattle.intervals.specs.Loose.{to_conversion, to_selection, to_element, ComeAll, none_left, one_more, Leads}
+use Rattle.intervals.specs.Loose.{declares, declares_array, assigns, puts, holds, skips, chooses, repeats, Turns}
+use Rattle.intervals.specs.Loose.{no_turn, a_turn, LeadAll, ends, goes_on, Returns, nothing_returned, returned}
+use Rattle.intervals.specs.Loose.{IsLooseRun}
 use Rattle.language.specs.declared.values.Arg.{Arg}
 
 module _ (types : Types) where
@@ -15,7 +23,8 @@ module _ (types : Types) where
   comes m (binary place operator width left right) = to_binary (comes m left) (comes m right)
   comes m (rotate width operand amount) = to_rotation (comes m operand)
   comes m (convert kind operand) = to_conversion (comes m operand)
-  comes m (select condition accepted otherwise) = to_selection (comes m condition) (comes m accepted) (comes m otherwise)
+  comes m (select condition accepted otherwise) =
+      to_selection (comes m condition) (comes m accepted) (comes m otherwise)
   comes m (element place x size index) = to_element (comes m index)
 
   pub come_all : (m : Values) (es : List TermTree) → ComeAll types m es (map (value_in m) es) (path_in_all m es)
@@ -26,17 +35,21 @@ module _ (types : Types) where
   either : (b : Bool) (m : Values) (accepted otherwise : FlatBlock)
       → LeadAll types m accepted (after_all m accepted) (path_along m accepted)
       → LeadAll types m otherwise (after_all m otherwise) (path_along m otherwise)
-      → LeadAll types m (if b then otherwise else accepted) (if b then after_all m otherwise else after_all m accepted) (if b then path_along m otherwise else path_along m accepted)
+      → LeadAll types m (if b then otherwise else accepted) (if b then after_all m otherwise
+      else after_all m accepted) (if b then path_along m otherwise else path_along m accepted)
   either true m accepted otherwise one other = other
   either false m accepted otherwise one other = one
 
   -- the turns of a loop, where each leads on
-  turns_lead : (x : ℕ) (body : FlatBlock) → ((m : Values) → LeadAll types m body (after_all m body) (path_along m body)) → (n i : ℕ) (m : Values)
+  turns_lead : (x : ℕ) (body : FlatBlock)
+      → ((m : Values) → LeadAll types m body (after_all m body) (path_along m body)) → (n i : ℕ) (m : Values)
       → Turns types x body n i m (turns n i (λ j t. after_all (with_value t x (j ∷ [])) body) m)
-      (path_of_turns n i (λ j t. after_all (with_value t x (j ∷ [])) body) (λ j t. path_along (with_value t x (j ∷ [])) body) m)
+      (path_of_turns n i (λ j t. after_all (with_value t x (j ∷ [])) body)
+      (λ j t. path_along (with_value t x (j ∷ [])) body) m)
   turns_lead x body each zero i m = no_turn
   turns_lead x body each (suc n) i m =
-      a_turn (each (with_value m x (i ∷ []))) (turns_lead x body each n (i + 1) (after_all (with_value m x (i ∷ [])) body))
+      a_turn (each (with_value m x (i ∷ [])))
+      (turns_lead x body each n (i + 1) (after_all (with_value m x (i ∷ [])) body))
 
   mutual
     pub leads : (s : FlatTree) (m : Values) → Leads types m s (after m s) (path_at m s)
@@ -48,8 +61,11 @@ module _ (types : Types) where
     leads (hold x place size index) m = holds (comes m index)
     leads skip m = skips
     leads (branch label condition accepted otherwise) m =
-        chooses (comes m condition) (either (value_in m condition == 0) m accepted otherwise (lead_all accepted m) (lead_all otherwise m))
-    leads (loop x low high body) m = repeats (comes m low) (comes m high) (turns_lead x body (λ t. lead_all body t) (value_in m high - value_in m low) (value_in m low) m)
+        chooses (comes m condition) (either (value_in m condition == 0) m accepted otherwise (lead_all accepted m)
+        (lead_all otherwise m))
+    leads (loop x low high body) m =
+        repeats (comes m low) (comes m high)
+        (turns_lead x body (λ t. lead_all body t) (value_in m high - value_in m low) (value_in m low) m)
 
     pub lead_all : (b : FlatBlock) (m : Values) → LeadAll types m b (after_all m b) (path_along m b)
     lead_all nothing m = ends

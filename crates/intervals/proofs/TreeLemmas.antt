@@ -1,7 +1,10 @@
 -- The trees of branches and loops, by the lists of their statements.
 use Rattle.std.proofs.Common.{◌≡◌, ℕ, Vec, Global, refl, ap, ap₂, ◌∙◌}
 use mathlib.Core.Former.{Count}
-use Rattle.inline.specs.declared.flat.FlatStatement.{FlatStatement, Branch, Branch', Loop, Loop', Row_of-FlatStatement, end_of-FlatStatement, more_of-FlatStatement, items-the_row-FlatStatement, items_hidden-the_row-FlatStatement-0}
+use Rattle.inline.specs.declared.flat.FlatStatement.{FlatStatement, Branch, Branch', Loop, Loop'}
+use Rattle.inline.specs.declared.flat.FlatStatement.{Row_of-FlatStatement, end_of-FlatStatement}
+use Rattle.inline.specs.declared.flat.FlatStatement.{more_of-FlatStatement, items-the_row-FlatStatement}
+use Rattle.inline.specs.declared.flat.FlatStatement.{items_hidden-the_row-FlatStatement-0}
 use Rattle.inline.specs.declared.flat.Term.{Term}
 use Rattle.inline.specs.Flat.{term_tree, flat_tree, row_tree, flat_block, branch, loop, first}
 use Rattle.language.specs.declared.signature.Label.{Label}
@@ -16,7 +19,8 @@ arms (Loop' counter low high shape body) = ((_, body), (_, end_of-FlatStatement)
 arms _ = ((_, end_of-FlatStatement), (_, end_of-FlatStatement))
 
 pub branch_tree : (label : Label) (condition : Term) (accepted otherwise : Vec FlatStatement Global) →
-    flat_tree (Branch label condition accepted otherwise) ≡ branch label (term_tree condition) (flat_block accepted.items) (flat_block otherwise.items)
+    flat_tree (Branch label condition accepted otherwise)
+    ≡ branch label (term_tree condition) (flat_block accepted.items) (flat_block otherwise.items)
 branch_tree label condition accepted otherwise =
     let both = arms (Branch label condition accepted otherwise) in
     ap₂ (branch label (term_tree condition))

@@ -1,5 +1,6 @@
 -- Changes that can be taken back: none, one, one after another.
-use Rattle.std.proofs.Common.{◌≡◌, ℕ, zero, suc, List, [], ◌∷◌, ◌++◌, length, take, drop, Option, Some, slice_get, slice_set, refl, sym, ap, ◌∙◌, ◌≤◌, arith}
+use Rattle.std.proofs.Common.{◌≡◌, ℕ, zero, suc, List, [], ◌∷◌, ◌++◌, length, take, drop, Option, Some, slice_get}
+use Rattle.std.proofs.Common.{slice_set, refl, sym, ap, ◌∙◌, ◌≤◌, arith}
 use Rattle.intervals.specs.Intervals.{Bounds}
 use Rattle.intervals.specs.Undoing.{rewound, CameFrom}
 use Rattle.intervals.specs.declared.interval.Interval.{Interval}
@@ -11,12 +12,14 @@ append_assoc [] ys zs = refl
 append_assoc (x ∷ xs) ys zs = ap (λ us. x ∷ us) (append_assoc xs ys zs)
 
 -- two rows of changes are taken back, the second first
-pub rewound_append : (one other : List Change) (bounds : Bounds) → rewound (one ++ other) bounds ≡ rewound one (rewound other bounds)
+pub rewound_append : (one other : List Change) (bounds : Bounds)
+    → rewound (one ++ other) bounds ≡ rewound one (rewound other bounds)
 rewound_append [] other bounds = refl
 rewound_append (c ∷ cs) other bounds = ap (λ b. slice_set b c.variable c.before) (rewound_append cs other bounds)
 
 -- what was there is put back
-pub put_back : (bounds : Bounds) (x : ℕ) (new before : Option Interval) → slice_get bounds x ≡ Some before → slice_set (slice_set bounds x new) x before ≡ bounds
+pub put_back : (bounds : Bounds) (x : ℕ) (new before : Option Interval) → slice_get bounds x ≡ Some before
+    → slice_set (slice_set bounds x new) x before ≡ bounds
 put_back [] x new before h = cc
 put_back (b ∷ bs) zero new before h = cc
 put_back (b ∷ bs) (suc x) new before h = ap (λ cs. b ∷ cs) (put_back bs x new before h)
@@ -34,10 +37,13 @@ drop_front [] (y ∷ ys) = refl
 drop_front (x ∷ xs) ys = drop_front xs ys
 
 -- taken back to a mark, all is as it was at the mark
-pub bounds_at_mark : (a b : Known) → CameFrom a b → rewound (drop (length a.changes.items) b.changes.items) b.bounds.items ≡ a.bounds.items
-bounds_at_mark a b p = ap (λ cs. rewound (drop (length a.changes.items) cs) b.bounds.items) p.kept ∙ ap (λ cs. rewound cs b.bounds.items) (drop_front a.changes.items p.changes) ∙ p.rewound
+pub bounds_at_mark : (a b : Known) → CameFrom a b
+    → rewound (drop (length a.changes.items) b.changes.items) b.bounds.items ≡ a.bounds.items
+bounds_at_mark a b p = ap (λ cs. rewound (drop (length a.changes.items) cs) b.bounds.items) p.kept
+    ∙ ap (λ cs. rewound cs b.bounds.items) (drop_front a.changes.items p.changes) ∙ p.rewound
 
-drop_last : {X : Type 0} (mark : ℕ) (xs : List X) (x : X) → mark ≤ length xs → drop mark (xs ++ x ∷ []) ≡ drop mark xs ++ x ∷ []
+drop_last : {X : Type 0} (mark : ℕ) (xs : List X) (x : X) → mark ≤ length xs
+    → drop mark (xs ++ x ∷ []) ≡ drop mark xs ++ x ∷ []
 drop_last zero [] x few = refl
 drop_last zero (y ∷ ys) x few = refl
 drop_last (suc n) [] x few = absurd (omega arith)
@@ -50,15 +56,19 @@ take_last (suc n) [] x few = absurd (omega arith)
 take_last (suc n) (y ∷ ys) x few = ap (λ us. y ∷ us) (take_last n ys x (omega (arith, few)))
 
 -- the last change is taken back first
-pub one_back : (mark : ℕ) (old rest : List Change) (c : Change) (bounds : Bounds) → old ≡ rest ++ c ∷ [] → mark ≤ length rest
+pub one_back : (mark : ℕ) (old rest : List Change) (c : Change) (bounds : Bounds) → old ≡ rest ++ c ∷ []
+    → mark ≤ length rest
     → rewound (drop mark rest) (slice_set bounds c.variable c.before) ≡ rewound (drop mark old) bounds
 one_back mark old rest c bounds is few =
-    sym (ap (λ cs. rewound (drop mark cs) bounds) is ∙ ap (λ cs. rewound cs bounds) (drop_last mark rest c few) ∙ rewound_append (drop mark rest) (c ∷ []) bounds)
+    sym (ap (λ cs. rewound (drop mark cs) bounds) is ∙ ap (λ cs. rewound cs bounds) (drop_last mark rest c few)
+    ∙ rewound_append (drop mark rest) (c ∷ []) bounds)
 
-pub front_kept : (mark : ℕ) (old rest : List Change) (c : Change) → old ≡ rest ++ c ∷ [] → mark ≤ length rest → take mark rest ≡ take mark old
+pub front_kept : (mark : ℕ) (old rest : List Change) (c : Change) → old ≡ rest ++ c ∷ [] → mark ≤ length rest
+    → take mark rest ≡ take mark old
 front_kept mark old rest c is few = sym (ap (take mark) is ∙ take_last mark rest c few)
 
 -- what two steps came to, taken back to the mark before them
 pub bounds_back : (a b c : Known) (mark : ℕ) → mark ≡ length a.changes.items → CameFrom a b → CameFrom b c
     → rewound (drop mark c.changes.items) c.bounds.items ≡ a.bounds.items
-bounds_back a b c mark at one other = ap (λ n. rewound (drop n c.changes.items) c.bounds.items) at ∙ bounds_at_mark a c (from_before a b c one other)
+bounds_back a b c mark at one other = ap (λ n. rewound (drop n c.changes.items) c.bounds.items) at
+    ∙ bounds_at_mark a c (from_before a b c one other)

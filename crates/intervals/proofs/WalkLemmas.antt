@@ -1,6 +1,7 @@
 -- What branches and loops lead to, by the lists of their statements.
 use Rattle.std.proofs.lemmas.List.Sums.{fold-append}
-use Rattle.std.proofs.Common.{◌≡◌, ℕ, List, Option, Result, Ok, Err, OnOk, ◌++◌, Vec, Global, fold, slice_set, sym, ap, ap₂, ◌∙◌, ◌<◌, ◌+◌, length, drop, get_or, drop-cons, add-one}
+use Rattle.std.proofs.Common.{◌≡◌, ℕ, List, Option, Result, Ok, Err, OnOk, ◌++◌, Vec, Global, fold, slice_set, sym}
+use Rattle.std.proofs.Common.{ap, ap₂, ◌∙◌, ◌<◌, ◌+◌, length, drop, get_or, drop-cons, add-one}
 use Rattle.inline.specs.declared.flat.FlatStatement.{FlatStatement, Branch, Loop}
 use Rattle.inline.specs.declared.flat.FlatVariable.{FlatVariable}
 use Rattle.inline.specs.declared.flat.Term.{Term}
@@ -22,42 +23,65 @@ on_ok (Err e) f p = tt
 
 -- three lists of findings, one after another
 three_parts : (seen one two last : Option Finding) (e f g : List Finding)
-    → one ≡ fold sooner_finding seen e → two ≡ fold sooner_finding one f → last ≡ fold sooner_finding two g → last ≡ fold sooner_finding seen (e ++ f ++ g)
+    → one ≡ fold sooner_finding seen e → two ≡ fold sooner_finding one f → last ≡ fold sooner_finding two g
+    → last ≡ fold sooner_finding seen (e ++ f ++ g)
 three_parts seen one two last e f g a b c =
-    c ∙ (ap (λ s. fold sooner_finding s g) (b ∙ (ap (λ s. fold sooner_finding s f) a ∙ sym (fold-append sooner_finding seen e f))) ∙ sym (fold-append sooner_finding seen (e ++ f) g))
+    c ∙ (ap (λ s. fold sooner_finding s g) (b
+    ∙ (ap (λ s. fold sooner_finding s f) a ∙ sym (fold-append sooner_finding seen e f)))
+    ∙ sym (fold-append sooner_finding seen (e ++ f) g))
 
 module _ (declared : List FlatVariable) (bounds : Bounds) (statement : FlatStatement) where
-  module _ (label : Label) (condition : Term) (accepted otherwise : Vec FlatStatement Global) (is : statement ≡ Branch label condition accepted otherwise)
-      (ones others : List FlatStatement) (one : ones ≡ accepted.items) (other : others ≡ otherwise.items) (between : Bounds) (same : between ≡ bounds) where
-    tree : flat_tree statement ≡ branch label (term_tree condition) (flat_block accepted.items) (flat_block otherwise.items)
+  module _ (label : Label) (condition : Term) (accepted otherwise : Vec FlatStatement Global)
+      (is : statement ≡ Branch label condition accepted otherwise)
+      (ones others : List FlatStatement) (one : ones ≡ accepted.items) (other : others ≡ otherwise.items)
+      (between : Bounds) (same : between ≡ bounds) where
+    tree : flat_tree statement ≡ branch label (term_tree condition) (flat_block accepted.items)
+        (flat_block otherwise.items)
     tree = ap flat_tree is ∙ branch_tree label condition accepted otherwise
 
     pub branch_turns : (turns middle last : List ℕ)
-        → middle ≡ counted_all declared (where_true declared bounds label (term_tree condition)) turns (flat_block ones)
-        → last ≡ counted_all declared (where_false declared between label (term_tree condition)) middle (flat_block others)
+        → middle ≡ counted_all declared (where_true declared bounds label (term_tree condition)) turns
+        (flat_block ones)
+        → last ≡ counted_all declared (where_false declared between label (term_tree condition)) middle
+        (flat_block others)
         → last ≡ counted declared bounds turns (flat_tree statement)
     branch_turns turns middle last a o =
-        let first_arm = a ∙ ap (λ xs. counted_all declared (where_true declared bounds label (term_tree condition)) turns (flat_block xs)) one in
-        o ∙ (ap₂ (λ b xs. counted_all declared (where_false declared b label (term_tree condition)) middle (flat_block xs)) same other
-        ∙ (ap (λ ts. counted_all declared (where_false declared bounds label (term_tree condition)) ts (flat_block otherwise.items)) first_arm
+        let first_arm = a
+        ∙ ap (λ xs. counted_all declared (where_true declared bounds label (term_tree condition)) turns
+        (flat_block xs)) one in
+        o ∙ (ap₂ (λ b xs. counted_all declared (where_false declared b label (term_tree condition)) middle
+        (flat_block xs)) same other
+        ∙ (ap (λ ts. counted_all declared (where_false declared bounds label (term_tree condition)) ts
+        (flat_block otherwise.items)) first_arm
         ∙ sym (ap (counted declared bounds turns) tree)))
 
     pub branch_seen : (seen of_condition of_accepted last : Option Finding)
         → of_condition ≡ fold sooner_finding seen (term_findings declared bounds (term_tree condition))
-        → of_accepted ≡ fold sooner_finding of_condition (findings_all declared (where_true declared bounds label (term_tree condition)) (flat_block ones))
-        → last ≡ fold sooner_finding of_accepted (findings_all declared (where_false declared between label (term_tree condition)) (flat_block others))
+        → of_accepted ≡ fold sooner_finding of_condition
+        (findings_all declared (where_true declared bounds label (term_tree condition)) (flat_block ones))
+        → last ≡ fold sooner_finding of_accepted
+        (findings_all declared (where_false declared between label (term_tree condition)) (flat_block others))
         → last ≡ fold sooner_finding seen (findings declared bounds (flat_tree statement))
     branch_seen seen of_condition of_accepted last c a o =
         three_parts seen of_condition of_accepted last (term_findings declared bounds (term_tree condition))
         (findings_all declared (where_true declared bounds label (term_tree condition)) (flat_block accepted.items))
-        (findings_all declared (where_false declared bounds label (term_tree condition)) (flat_block otherwise.items)) c
-        (a ∙ ap (λ xs. fold sooner_finding of_condition (findings_all declared (where_true declared bounds label (term_tree condition)) (flat_block xs))) one)
-        (o ∙ ap₂ (λ b xs. fold sooner_finding of_accepted (findings_all declared (where_false declared b label (term_tree condition)) (flat_block xs))) same other)
+        (findings_all declared (where_false declared bounds label (term_tree condition)) (flat_block otherwise.items))
+        c
+        (a
+        ∙ ap (λ xs. fold sooner_finding of_condition
+        (findings_all declared (where_true declared bounds label (term_tree condition)) (flat_block xs)))
+        one)
+        (o
+        ∙ ap₂ (λ b xs. fold sooner_finding of_accepted
+        (findings_all declared (where_false declared b label (term_tree condition)) (flat_block xs)))
+        same other)
         ∙ sym (ap (λ s. fold sooner_finding seen (findings declared bounds s)) tree)
 
-  module _ (counter : ℕ) (low high : Term) (body : Vec FlatStatement Global) (is : statement ≡ Loop counter low high body)
+  module _ (counter : ℕ) (low high : Term) (body : Vec FlatStatement Global)
+      (is : statement ≡ Loop counter low high body)
       (ones : List FlatStatement) (one : ones ≡ body.items) (a b numbers : Interval)
-      (at_low : a ≡ interval declared bounds (term_tree low)) (at_high : b ≡ interval declared bounds (term_tree high)) (within : numbers ≡ counter_interval a b) where
+      (at_low : a ≡ interval declared bounds (term_tree low))
+      (at_high : b ≡ interval declared bounds (term_tree high)) (within : numbers ≡ counter_interval a b) where
     whole : flat_tree statement ≡ loop counter (term_tree low) (term_tree high) (flat_block body.items)
     whole = ap flat_tree is ∙ loop_tree counter low high body
 
@@ -72,17 +96,21 @@ module _ (declared : List FlatVariable) (bounds : Bounds) (statement : FlatState
     loop_turns turns counting last most m c l =
         let counted_here = c ∙ ap (slice_set turns counter) (m ∙ ap₂ most_turns at_low at_high) in
         l ∙ (ap₂ (λ bs xs. counted_all declared bs counting (flat_block xs)) inside one
-        ∙ (ap (λ ts. counted_all declared (in_loop declared bounds counter (term_tree low) (term_tree high)) ts (flat_block body.items)) counted_here
+        ∙ (ap (λ ts. counted_all declared (in_loop declared bounds counter (term_tree low) (term_tree high)) ts
+        (flat_block body.items)) counted_here
         ∙ sym (ap (counted declared bounds turns) whole)))
 
     pub loop_seen : (seen of_low of_high last : Option Finding)
         → of_low ≡ fold sooner_finding seen (term_findings declared bounds (term_tree low))
         → of_high ≡ fold sooner_finding of_low (term_findings declared bounds (term_tree high))
-        → last ≡ fold sooner_finding of_high (findings_all declared (with_bound bounds counter numbers) (flat_block ones))
+        → last ≡ fold sooner_finding of_high
+        (findings_all declared (with_bound bounds counter numbers) (flat_block ones))
         → last ≡ fold sooner_finding seen (findings declared bounds (flat_tree statement))
     loop_seen seen of_low of_high last l h t =
-        three_parts seen of_low of_high last (term_findings declared bounds (term_tree low)) (term_findings declared bounds (term_tree high))
-        (findings_all declared (in_loop declared bounds counter (term_tree low) (term_tree high)) (flat_block body.items)) l h
+        three_parts seen of_low of_high last (term_findings declared bounds (term_tree low))
+        (term_findings declared bounds (term_tree high))
+        (findings_all declared (in_loop declared bounds counter (term_tree low) (term_tree high))
+        (flat_block body.items)) l h
         (t ∙ ap₂ (λ bs xs. fold sooner_finding of_high (findings_all declared bs (flat_block xs))) inside one)
         ∙ sym (ap (λ s. fold sooner_finding seen (findings declared bounds s)) whole)
 
@@ -90,9 +118,11 @@ module _ (declared : List FlatVariable) (bounds : Bounds) (statement : FlatState
 pub next_statement : (body : List FlatStatement) (i : ℕ) (d : FlatStatement) → i < length body
     → flat_block (drop i body) ≡ first (flat_tree (get_or body i d)) (flat_block (drop (i + 1) body))
 next_statement body i d within =
-    ap flat_block (drop-cons body i d within) ∙ ap (λ n. first (flat_tree (get_or body i d)) (flat_block (drop n body))) (sym (add-one i))
+    ap flat_block (drop-cons body i d within)
+    ∙ ap (λ n. first (flat_tree (get_or body i d)) (flat_block (drop n body))) (sym (add-one i))
 
 pub next_said : (bounds : Bounds) (told : List Said) (i : ℕ) (d : Said) → i < length told
     → met_all bounds (drop i told) ≡ met_all (met bounds (get_or told i d)) (drop (i + 1) told)
 next_said bounds told i d within =
-    ap (met_all bounds) (drop-cons told i d within) ∙ ap (λ n. met_all (met bounds (get_or told i d)) (drop n told)) (sym (add-one i))
+    ap (met_all bounds) (drop-cons told i d within)
+    ∙ ap (λ n. met_all (met bounds (get_or told i d)) (drop n told)) (sym (add-one i))

@@ -1,12 +1,14 @@
--- How many nodes a run of a body evaluates: of a branch one arm, of a loop the turns that it makes. It is counted where the
--- body is run as it means, without a fault.
+-- How many nodes a run of a body evaluates: of a branch one arm, of a loop the turns that it makes. It is counted
+-- where the body is run as it means, without a fault.
 use Rattle.std.specs.Prelude.{ℕ, zero, suc, ◌+◌, ◌-◌, ◌==◌, [], ◌∷◌, List, if◌then◌else◌}
-use Rattle.inline.specs.Flat.{FlatTree, declare, array, assign, put, hold, skip, branch, loop, FlatBlock, nothing, first, FlatProgram}
+use Rattle.inline.specs.Flat.{FlatTree, declare, array, assign, put, hold, skip, branch, loop, FlatBlock, nothing}
+use Rattle.inline.specs.Flat.{first, FlatProgram}
 use Rattle.inline.specs.FlatMeaning.{Values, with_value, value_in, after, after_all, given}
 use Rattle.inline.specs.FlatSize.{term_nodes, terms_nodes, value_nodes}
 use Rattle.language.specs.declared.values.Arg.{Arg}
 
--- of so many turns, the first at this number: what each makes of a state, and how many nodes each evaluates beside its own
+-- of so many turns, the first at this number: what each makes of a state, and how many nodes each evaluates beside
+-- its own
 abbrev pub evaluated_in_turns : {S : Type 0} → ℕ → ℕ → (ℕ → S → S) → (ℕ → S → ℕ) → S → ℕ
 evaluated_in_turns zero i turn count s = 0
 evaluated_in_turns (suc n) i turn count s = 1 + count i s + evaluated_in_turns n (i + 1) turn count (turn i s)
@@ -20,10 +22,12 @@ abbrev mutual
   evaluated m (hold x place size index) = 1 + term_nodes index
   evaluated m skip = 1
   evaluated m (branch label condition accepted otherwise) =
-      1 + term_nodes condition + (if value_in m condition == 0 then evaluated_all m otherwise else evaluated_all m accepted)
+      1 + term_nodes condition + (if value_in m condition == 0 then evaluated_all m otherwise
+      else evaluated_all m accepted)
   evaluated m (loop x low high body) =
       1 + term_nodes low + term_nodes high
-      + evaluated_in_turns (value_in m high - value_in m low) (value_in m low) (λ i t. after_all (with_value t x (i ∷ [])) body)
+      + evaluated_in_turns (value_in m high - value_in m low) (value_in m low)
+      (λ i t. after_all (with_value t x (i ∷ [])) body)
       (λ i t. evaluated_all (with_value t x (i ∷ [])) body) m
 
   pub evaluated_all : Values → FlatBlock → ℕ

@@ -1,8 +1,10 @@
--- The violations of ranges, each with why it is one: the interval of the index and the length of its array, or the interval of the
--- divisor.
+-- The violations of ranges, each with why it is one: the interval of the index and the length of its array, or the
+-- interval of the divisor.
 use Rattle.std.specs.Prelude.{ℕ, ◌==◌, ◌&&◌, List, [], ◌∷◌, ◌++◌, map, Option, None, Some, if◌then◌else◌}
 use Rattle.inline.specs.declared.flat.FlatVariable.{FlatVariable}
-use Rattle.inline.specs.Flat.{TermTree, number, truth, variable, prefix, binary, rotate, convert, select, element, FlatTree, declare, array, assign, put, hold, skip, branch, loop, FlatBlock, nothing, first, FlatProgram}
+use Rattle.inline.specs.Flat.{TermTree, number, truth, variable, prefix, binary, rotate, convert, select, element}
+use Rattle.inline.specs.Flat.{FlatTree, declare, array, assign, put, hold, skip, branch, loop, FlatBlock, nothing}
+use Rattle.inline.specs.Flat.{first, FlatProgram}
 use Rattle.intervals.specs.declared.found.Cause.{Cause}
 use Rattle.intervals.specs.declared.found.Cause.TheVariants.{Index, Divisor}
 use Rattle.intervals.specs.declared.found.Finding.{Finding}
@@ -48,7 +50,8 @@ term_findings declared bounds (binary place operator width left right) =
 term_findings declared bounds (rotate width operand amount) = term_findings declared bounds operand
 term_findings declared bounds (convert kind operand) = term_findings declared bounds operand
 term_findings declared bounds (select condition accepted otherwise) =
-    term_findings declared bounds condition ++ term_findings declared bounds accepted ++ term_findings declared bounds otherwise
+    term_findings declared bounds condition ++ term_findings declared bounds accepted
+    ++ term_findings declared bounds otherwise
 term_findings declared bounds (element place x size index) =
     term_findings declared bounds index ++ index_findings place size (interval declared bounds index)
 
@@ -74,11 +77,13 @@ module _ (declared : List FlatVariable) where
         ++ findings_all (where_true declared bounds label condition) accepted
         ++ findings_all (where_false declared bounds label condition) otherwise
     findings bounds (loop x low high body) =
-        term_findings declared bounds low ++ term_findings declared bounds high ++ findings_all (in_loop declared bounds x low high) body
+        term_findings declared bounds low ++ term_findings declared bounds high
+        ++ findings_all (in_loop declared bounds x low high) body
 
     pub findings_all : Bounds → FlatBlock → List Finding
     findings_all bounds nothing = []
-    findings_all bounds (first statement rest) = findings bounds statement ++ findings_all (bounds_after declared bounds statement) rest
+    findings_all bounds (first statement rest) = findings bounds statement
+        ++ findings_all (bounds_after declared bounds statement) rest
 
 abbrev pub result_findings : List FlatVariable → Bounds → Option TermTree → List Finding
 result_findings declared bounds None = []

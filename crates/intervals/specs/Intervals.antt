@@ -1,5 +1,6 @@
 -- Intervals: between which numbers the value of an expression lies, whatever run it is.
-use Rattle.std.specs.Prelude.{ℕ, ◌+◌, ◌-◌, ◌*◌, ◌/◌, ◌%◌, ◌^◌, ◌==◌, ◌&&◌, nat_le, min, max, List, Option, None, Some, unwrap_or, if◌then◌else◌, slice_get, slice_set}
+use Rattle.std.specs.Prelude.{ℕ, ◌+◌, ◌-◌, ◌*◌, ◌/◌, ◌%◌, ◌^◌, ◌==◌, ◌&&◌, nat_le, min, max, List, Option, None, Some}
+use Rattle.std.specs.Prelude.{unwrap_or, if◌then◌else◌, slice_get, slice_set}
 use Rattle.std.specs.Option.{option_map}
 use Rattle.inline.specs.declared.flat.FlatVariable.{FlatVariable}
 use Rattle.inline.specs.Flat.{TermTree, number, truth, variable, prefix, binary, rotate, convert, select, element}
@@ -8,7 +9,10 @@ use Rattle.language.specs.Types.{bits_of}
 use Rattle.language.specs.declared.signature.Kind.{Kind}
 use Rattle.language.specs.declared.signature.Kind.TheVariants.{Uint32}
 use Rattle.language.specs.declared.tree.BinaryOperator.{BinaryOperator}
-use Rattle.language.specs.declared.tree.BinaryOperator.TheVariants.{Either, Both, Equal, Unequal, Less, LessOrEqual, Greater, GreaterOrEqual, BitOr, BitXor, BitAnd, ShiftLeft, ShiftRight, Add, Subtract, Multiply, Divide, Remainder}
+use Rattle.language.specs.declared.tree.BinaryOperator.TheVariants.{Either, Both, Equal, Unequal, Less, LessOrEqual}
+use Rattle.language.specs.declared.tree.BinaryOperator.TheVariants.{Greater, GreaterOrEqual, BitOr, BitXor, BitAnd}
+use Rattle.language.specs.declared.tree.BinaryOperator.TheVariants.{ShiftLeft, ShiftRight, Add, Subtract, Multiply}
+use Rattle.language.specs.declared.tree.BinaryOperator.TheVariants.{Divide, Remainder}
 use Rattle.language.specs.declared.tree.PrefixOperator.{PrefixOperator}
 use Rattle.language.specs.declared.tree.PrefixOperator.TheVariants.{Not, Complement, Negate}
 use Rattle.word.specs.Widths.{bits}
@@ -30,8 +34,8 @@ full_of kind = between 0 (2 ^ bits_of kind - 1)
 abbrev pub either_truth : Interval
 either_truth = between 0 1
 
--- What is known of the variables, at their numbers: an interval for each that keeps its value, which is a public word that
--- is not `mut`.
+-- What is known of the variables, at their numbers: an interval for each that keeps its value, which is a public word
+-- that is not `mut`.
 abbrev pub Bounds : Type 0
 Bounds = List (Option Interval)
 
@@ -45,7 +49,8 @@ with_bound bounds x i = slice_set bounds x (Some i)
 
 -- the numbers from one to another, where they fit the width
 abbrev pub fitting : Width → ℕ → ℕ → Interval
-fitting width low high = if nat_le low (greatest width) && nat_le high (greatest width) then between low high else full width
+fitting width low high = if nat_le low (greatest width) && nat_le high (greatest width) then between low high
+    else full width
 
 -- a quotient by a power of two, where the amount is one number
 abbrev pub shifted_interval : Interval → Interval → Interval
@@ -70,7 +75,8 @@ operated_interval ShiftRight w a b = shifted_interval a b
 operated_interval Add w a b = fitting w (a.low + b.low) (a.high + b.high)
 operated_interval Subtract w a b = if nat_le b.high a.low then between (a.low - b.high) (a.high - b.low) else full w
 operated_interval Multiply w a b = fitting w (a.low * b.low) (a.high * b.high)
-operated_interval Divide w a b = if nat_le 1 b.low && nat_le 1 b.high then between (a.low / b.high) (a.high / b.low) else full w
+operated_interval Divide w a b = if nat_le 1 b.low && nat_le 1 b.high then between (a.low / b.high) (a.high / b.low)
+    else full w
 operated_interval Remainder w a b = if nat_le 1 b.low then between 0 (min a.high (b.high - 1)) else full w
 
 abbrev pub prefix_interval : PrefixOperator → Width → Interval
@@ -88,7 +94,8 @@ hull a b = between (min a.low b.low) (max a.high b.high)
 
 -- all that a variable, or an element of an array, may be
 abbrev pub full_at : List FlatVariable → ℕ → Interval
-full_at declared x = unwrap_or (option_map (λ (d : FlatVariable). full_of d.word.kind) (slice_get declared x)) (full_of Uint32)
+full_at declared x = unwrap_or (option_map (λ (d : FlatVariable). full_of d.word.kind) (slice_get declared x))
+    (full_of Uint32)
 
 -- the interval of an expression, where the variables are declared so and this is known of them
 abbrev pub interval : List FlatVariable → Bounds → TermTree → Interval

@@ -1,9 +1,12 @@
--- Loose runs: runs of a body in which a secret expression may have any value of its type. So a conditional on a secret may
--- go either way.
-use Rattle.std.specs.Prelude.{◌≡◌, ℕ, zero, suc, ◌+◌, ◌-◌, ◌==◌, List, [], ◌∷◌, ◌++◌, Option, None, Some, if◌then◌else◌, slice_index, slice_set, replicate, Bool}
+-- Loose runs: runs of a body in which a secret expression may have any value of its type. So a conditional on a
+-- secret may go either way.
+use Rattle.std.specs.Prelude.{◌≡◌, ℕ, zero, suc, ◌+◌, ◌-◌, ◌==◌, List, [], ◌∷◌, ◌++◌, Option, None, Some}
+use Rattle.std.specs.Prelude.{if◌then◌else◌, slice_index, slice_set, replicate, Bool}
 use Rattle.arguments.specs.Within.{AreWithin}
 use Rattle.inline.specs.Fitting.{IsWithinKind}
-use Rattle.inline.specs.Flat.{TermTree, number, truth, variable, prefix, binary, rotate, convert, select, element, FlatTree, declare, array, assign, put, hold, skip, branch, loop, FlatBlock, nothing, first, FlatProgram}
+use Rattle.inline.specs.Flat.{TermTree, number, truth, variable, prefix, binary, rotate, convert, select, element}
+use Rattle.inline.specs.Flat.{FlatTree, declare, array, assign, put, hold, skip, branch, loop, FlatBlock, nothing}
+use Rattle.inline.specs.Flat.{first, FlatProgram}
 use Rattle.inline.specs.FlatMeaning.{Values, with_value, marks_of, given}
 use Rattle.inline.specs.FlatTyping.{Types, types_of, HasType}
 use Rattle.inline.specs.Path.{Path, bounded, indexed, AreFine}
@@ -27,10 +30,12 @@ pub data Comes (types : Types) (m : Values) : TermTree → ℕ → Path → Type
   to_prefix : {operator : PrefixOperator} {width : Width} {operand : TermTree} {a : ℕ} {path : Path}
       → Comes types m operand a path
       → Comes types m (prefix operator width operand) (prefix_value operator width a) path
-  to_binary : {place : Place} {operator : BinaryOperator} {width : Width} {left right : TermTree} {a b : ℕ} {p q : Path}
+  to_binary : {place : Place} {operator : BinaryOperator} {width : Width} {left right : TermTree} {a b : ℕ}
+      {p q : Path}
       → Comes types m left a p
       → Comes types m right b q
-      → Comes types m (binary place operator width left right) (operated operator width a b) (p ++ q ++ marks_of place operator a b)
+      → Comes types m (binary place operator width left right) (operated operator width a b)
+      (p ++ q ++ marks_of place operator a b)
   to_rotation : {width : Width} {operand : TermTree} {amount a : ℕ} {path : Path}
       → Comes types m operand a path
       → Comes types m (rotate width operand amount) (rotated_left width a amount) path
@@ -72,7 +77,8 @@ mutual
     declares : {m : Values} {x : ℕ} {word : WordType} {mutable : Bool} {value : TermTree} {v : ℕ} {path : Path}
         → Comes types m value v path
         → Leads types m (declare x word mutable value) (with_value m x (v ∷ [])) path
-    declares_array : {m : Values} {x size : ℕ} {word : WordType} {mutable : Bool} {values : List TermTree} {vs : List ℕ} {path : Path}
+    declares_array : {m : Values} {x size : ℕ} {word : WordType} {mutable : Bool} {values : List TermTree}
+        {vs : List ℕ} {path : Path}
         → ComeAll types m values vs path
         → Leads types m (array x word mutable size values) (with_value m x (made size vs)) path
     assigns : {m : Values} {x : ℕ} {value : TermTree} {v : ℕ} {path : Path}
@@ -81,12 +87,14 @@ mutual
     puts : {m : Values} {place : Place} {x size : ℕ} {index value : TermTree} {i v : ℕ} {p q : Path}
         → Comes types m index i p
         → Comes types m value v q
-        → Leads types m (put place x size index value) (with_value m x (slice_set (m x) i v)) (p ++ indexed place size i ∷ q)
+        → Leads types m (put place x size index value) (with_value m x (slice_set (m x) i v))
+        (p ++ indexed place size i ∷ q)
     holds : {m : Values} {x : ℕ} {place : Place} {size : ℕ} {index : TermTree} {i : ℕ} {path : Path}
         → Comes types m index i path
         → Leads types m (hold x place size index) (with_value m x (i ∷ [])) (path ++ indexed place size i ∷ [])
     skips : {m : Values} → Leads types m skip m []
-    chooses : {m t : Values} {label : Label} {condition : TermTree} {accepted otherwise : FlatBlock} {c : ℕ} {p q : Path}
+    chooses : {m t : Values} {label : Label} {condition : TermTree} {accepted otherwise : FlatBlock} {c : ℕ}
+        {p q : Path}
         → Comes types m condition c p
         → LeadAll types m (if c == 0 then otherwise else accepted) t q
         → Leads types m (branch label condition accepted otherwise) t (p ++ q)
@@ -128,4 +136,5 @@ pub record IsLooseRun (p : FlatProgram) (args : List Arg) (path : Path) : Type 0
 
 -- no loose run on arguments within the parameter types meets a fault, or makes more turns in a loop than these
 abbrev pub IsSafe : FlatProgram → List ℕ → Type 0
-IsSafe p turns = (args : List Arg) (path : Path) → AreWithin p.parameters args → IsLooseRun p args path → AreFine turns path
+IsSafe p turns = (args : List Arg) (path : Path) → AreWithin p.parameters args → IsLooseRun p args path
+    → AreFine turns path

@@ -1,5 +1,6 @@
 -- What a public condition tells in its arms of names that keep their values.
-use Rattle.std.specs.Prelude.{ℕ, ◌+◌, ◌-◌, Bool, true, false, nat_lt, nat_le, min, max, List, [], ◌∷◌, ◌++◌, Option, None, Some, if◌then◌else◌}
+use Rattle.std.specs.Prelude.{ℕ, ◌+◌, ◌-◌, Bool, true, false, nat_lt, nat_le, min, max, List, [], ◌∷◌, ◌++◌, Option}
+use Rattle.std.specs.Prelude.{None, Some, if◌then◌else◌}
 use Rattle.std.specs.Option.{option_to_list}
 use Rattle.inline.specs.declared.flat.FlatVariable.{FlatVariable}
 use Rattle.inline.specs.Flat.{TermTree, variable, binary, number, truth, prefix, rotate, convert, select, element}
@@ -55,8 +56,8 @@ abbrev pub is_both : BinaryOperator → Bool
 is_both Both = true
 is_both _ = false
 
--- what a condition tells where it is true: it is taken apart at `&&`, from left to right. All parts are read by what is
--- known before any of them
+-- what a condition tells where it is true: it is taken apart at `&&`, from left to right. All parts are read by what
+-- is known before any of them
 abbrev pub told_true : List FlatVariable → Bounds → TermTree → List Said
 told_true declared bounds (number value kind) = []
 told_true declared bounds (truth value) = []
@@ -87,7 +88,8 @@ told_false declared bounds (element place x size index) = None
 
 -- the common part of two intervals, where there is one
 abbrev pub meet : Interval → Interval → Option Interval
-meet a b = if nat_le (max a.low b.low) (min a.high b.high) then Some (between (max a.low b.low) (min a.high b.high)) else None
+meet a b = if nat_le (max a.low b.low) (min a.high b.high)
+    then Some (between (max a.low b.low) (min a.high b.high)) else None
 
 -- an empty meet is passed over
 abbrev pub with_meet : Bounds → ℕ → Option Interval → Bounds

@@ -1,8 +1,11 @@
--- What is checked of ranges: each index is below the size of its array and no divisor may be 0, in all code, whether a run
--- reaches it or not. And how many turns are counted for each loop.
-use Rattle.std.specs.Prelude.{ℕ, ◌-◌, ◌==◌, ◌&&◌, ◌||◌, Bool, not, nat_lt, nat_le, List, [], ◌∷◌, ◌++◌, length, map, replicate, Option, None, Some, if◌then◌else◌, slice_set}
+-- What is checked of ranges: each index is below the size of its array and no divisor may be 0, in all code, whether
+-- a run reaches it or not. And how many turns are counted for each loop.
+use Rattle.std.specs.Prelude.{ℕ, ◌-◌, ◌==◌, ◌&&◌, ◌||◌, Bool, not, nat_lt, nat_le, List, [], ◌∷◌, ◌++◌, length, map}
+use Rattle.std.specs.Prelude.{replicate, Option, None, Some, if◌then◌else◌, slice_set}
 use Rattle.inline.specs.declared.flat.FlatVariable.{FlatVariable}
-use Rattle.inline.specs.Flat.{TermTree, number, truth, variable, prefix, binary, rotate, convert, select, element, FlatTree, declare, array, assign, put, hold, skip, branch, loop, FlatBlock, nothing, first, FlatProgram}
+use Rattle.inline.specs.Flat.{TermTree, number, truth, variable, prefix, binary, rotate, convert, select, element}
+use Rattle.inline.specs.Flat.{FlatTree, declare, array, assign, put, hold, skip, branch, loop, FlatBlock, nothing}
+use Rattle.inline.specs.Flat.{first, FlatProgram}
 use Rattle.intervals.specs.declared.interval.Interval.{Interval}
 use Rattle.intervals.specs.Intervals.{Bounds, with_bound, between, interval, full_of}
 use Rattle.intervals.specs.Narrowing.{where_true, where_false}
@@ -35,7 +38,8 @@ term_violations declared bounds (binary place operator width left right) =
 term_violations declared bounds (rotate width operand amount) = term_violations declared bounds operand
 term_violations declared bounds (convert kind operand) = term_violations declared bounds operand
 term_violations declared bounds (select condition accepted otherwise) =
-    term_violations declared bounds condition ++ term_violations declared bounds accepted ++ term_violations declared bounds otherwise
+    term_violations declared bounds condition ++ term_violations declared bounds accepted
+    ++ term_violations declared bounds otherwise
 term_violations declared bounds (element place x size index) =
     term_violations declared bounds index ++ index_violations place size (interval declared bounds index)
 
@@ -51,9 +55,11 @@ is_steady word mutable = not (is_secret word.label || mutable)
 abbrev pub most_turns : Interval → Interval → ℕ
 most_turns low high = high.high - low.low
 
--- what a counter is: from the low of the first bound up to one below the high of the second; where there is no turn, the low
+-- what a counter is: from the low of the first bound up to one below the high of the second; where there is no turn,
+-- the low
 abbrev pub counter_interval : Interval → Interval → Interval
-counter_interval low high = if nat_lt low.low high.high then between low.low (high.high - 1) else between low.low low.low
+counter_interval low high = if nat_lt low.low high.high then between low.low (high.high - 1)
+    else between low.low low.low
 
 module _ (declared : List FlatVariable) where
   -- what is known after a statement: of what an arm or a loop declares nothing is said outside
@@ -74,7 +80,8 @@ module _ (declared : List FlatVariable) where
 
   -- what is known in the body of a loop
   abbrev pub in_loop : Bounds → ℕ → TermTree → TermTree → Bounds
-  in_loop bounds x low high = with_bound bounds x (counter_interval (interval declared bounds low) (interval declared bounds high))
+  in_loop bounds x low high =
+      with_bound bounds x (counter_interval (interval declared bounds low) (interval declared bounds high))
 
   abbrev mutual
     -- the violations in a statement
@@ -93,11 +100,13 @@ module _ (declared : List FlatVariable) where
         ++ violations_all (where_true declared bounds label condition) accepted
         ++ violations_all (where_false declared bounds label condition) otherwise
     violations bounds (loop x low high body) =
-        term_violations declared bounds low ++ term_violations declared bounds high ++ violations_all (in_loop bounds x low high) body
+        term_violations declared bounds low ++ term_violations declared bounds high
+        ++ violations_all (in_loop bounds x low high) body
 
     pub violations_all : Bounds → FlatBlock → List Violation
     violations_all bounds nothing = []
-    violations_all bounds (first statement rest) = violations bounds statement ++ violations_all (bounds_after bounds statement) rest
+    violations_all bounds (first statement rest) = violations bounds statement
+        ++ violations_all (bounds_after bounds statement) rest
 
   abbrev mutual
     -- the turns counted so far, and those of a statement's loops, each at its counter's number
@@ -117,7 +126,8 @@ module _ (declared : List FlatVariable) where
 
     pub counted_all : Bounds → List ℕ → FlatBlock → List ℕ
     counted_all bounds turns nothing = turns
-    counted_all bounds turns (first statement rest) = counted_all (bounds_after bounds statement) (counted bounds turns statement) rest
+    counted_all bounds turns (first statement rest) =
+        counted_all (bounds_after bounds statement) (counted bounds turns statement) rest
 
 -- what is known of a parameter: a public word is something of its kind
 abbrev pub bound_by : Form → Label → Kind → Option Interval

@@ -1,6 +1,7 @@
 -- Work: how many nodes a run evaluates at most, and the limit on it.
 use Rattle.std.specs.Prelude.{◌≡◌, ◌⊎◌, ℕ, ◌+◌, ◌*◌, nat_lt, List, length, Option, slice_index}
-use Rattle.inline.specs.Flat.{FlatTree, declare, array, assign, put, hold, skip, branch, loop, FlatBlock, nothing, first, FlatProgram}
+use Rattle.inline.specs.Flat.{FlatTree, declare, array, assign, put, hold, skip, branch, loop, FlatBlock, nothing}
+use Rattle.inline.specs.Flat.{first, FlatProgram}
 use Rattle.inline.specs.FlatSize.{term_nodes, terms_nodes, value_nodes}
 use Rattle.intervals.specs.Ranged.{RangedProgram}
 use Rattle.intervals.specs.Ranges.{range_violations, turns_of}
@@ -23,7 +24,8 @@ abbrev mutual
   tree_work turns skip = 1
   tree_work turns (branch label condition accepted otherwise) =
       1 + term_nodes condition + body_work turns accepted + body_work turns otherwise
-  tree_work turns (loop x low high body) = term_nodes low + term_nodes high + (slice_index turns x + 1) * (1 + body_work turns body)
+  tree_work turns (loop x low high body) =
+      term_nodes low + term_nodes high + (slice_index turns x + 1) * (1 + body_work turns body)
 
   pub body_work : List ℕ → FlatBlock → ℕ
   body_work turns nothing = 0

@@ -1,5 +1,6 @@
 -- Names gathered from a call's arguments tell whether one more argument clashes with those before it.
-use Rattle.std.proofs.Common.{◌≡◌, ◌<◌, ◌≤◌, ◌+◌, ℕ, zero, suc, Bool, true, false, ◌&&◌, ◌||◌, cond, None, Some, is_some, List, [], ◌∷◌, ◌++◌, map, take, drop, length, refl, ap, ap₂, sym, ◌∙◌, arith}
+use Rattle.std.proofs.Common.{◌≡◌, ◌<◌, ◌≤◌, ◌+◌, ℕ, zero, suc, Bool, true, false, ◌&&◌, ◌||◌, cond, None, Some}
+use Rattle.std.proofs.Common.{is_some, List, [], ◌∷◌, ◌++◌, map, take, drop, length, refl, ap, ap₂, sym, ◌∙◌, arith}
 use Rattle.std.proofs.Math.ListN.{get_or, get_or-map}
 use Rattle.std.proofs.lemmas.List.{drop_all, drop_more, length-map, take_more}
 use Rattle.std.proofs.lemmas.List.Folds.{list_any-append}
@@ -28,7 +29,8 @@ changes text p = gives text p && is_mutable p.parameter.form
 abbrev pub Gathers : Names → (List ℕ → Passed → Bool) → List Passed → Type 0
 Gathers names test before = (text : List ℕ) → is_some (found names text) ≡ list_any (test text) before
 
-found_last : (names : Names) (text one : List ℕ) → is_some (found (names ++ (one, true) ∷ []) text) ≡ (is_some (found names text) || bytes_eq text one)
+found_last : (names : Names) (text one : List ℕ)
+    → is_some (found (names ++ (one, true) ∷ []) text) ≡ (is_some (found names text) || bytes_eq text one)
 found_last [] text one = by (bytes_eq text one)
   where
     by : (b : Bool) → is_some (cond b (Some true) None) ≡ b
@@ -36,18 +38,23 @@ found_last [] text one = by (bytes_eq text one)
     by false = refl
 found_last (name ∷ names) text one = by (bytes_eq text name.0) (found_last names text one)
   where
-    by : (b : Bool) → is_some (found (names ++ (one, true) ∷ []) text) ≡ (is_some (found names text) || bytes_eq text one) →
-        is_some (cond b (Some name.1) (found (names ++ (one, true) ∷ []) text)) ≡ (is_some (cond b (Some name.1) (found names text)) || bytes_eq text one)
+    by : (b : Bool) → is_some (found (names ++ (one, true) ∷ []) text)
+        ≡ (is_some (found names text) || bytes_eq text one) →
+        is_some (cond b (Some name.1) (found (names ++ (one, true) ∷ []) text))
+        ≡ (is_some (cond b (Some name.1) (found names text)) || bytes_eq text one)
     by true h = refl
     by false h = h
 
-found_taken : (names : Names) (text one : List ℕ) → is_some (found names one) ≡ true → is_some (found names text) ≡ (is_some (found names text) || bytes_eq text one)
+found_taken : (names : Names) (text one : List ℕ) → is_some (found names one) ≡ true
+    → is_some (found names text) ≡ (is_some (found names text) || bytes_eq text one)
 found_taken names text one taken = grind (arith, bytes_eq-Decides text one)
 
-found_declared : (names : Names) (text one : List ℕ) → is_some (found (declared names one true) text) ≡ (is_some (found names text) || bytes_eq text one)
+found_declared : (names : Names) (text one : List ℕ)
+    → is_some (found (declared names one true) text) ≡ (is_some (found names text) || bytes_eq text one)
 found_declared names text one = by (is_some (found names one)) refl
   where
-    by : (b : Bool) → is_some (found names one) ≡ b → is_some (found (declared names one true) text) ≡ (is_some (found names text) || bytes_eq text one)
+    by : (b : Bool) → is_some (found names one) ≡ b
+        → is_some (found (declared names one true) text) ≡ (is_some (found names text) || bytes_eq text one)
     by true is = rw is (found_taken names text one is)
     by false is = rw is (found_last names text one)
 
@@ -56,16 +63,20 @@ or_assoc true b c = refl
 or_assoc false b c = refl
 
 -- one more argument whose array has this name
-gathers_named : (names : Names) (test : List ℕ → Passed → Bool) (before : List Passed) (p : Passed) (one : List ℕ) → Gathers names test before →
+gathers_named : (names : Names) (test : List ℕ → Passed → Bool) (before : List Passed) (p : Passed) (one : List ℕ)
+    → Gathers names test before →
     ((text : List ℕ) → test text p ≡ bytes_eq text one) → Gathers (declared names one true) test (before ++ p ∷ [])
 gathers_named names test before p one h is text =
-    found_declared names text one ∙ ap₂ ◌||◌ (h text) (sym (or-false (test text p) ∙ is text)) ∙ sym (list_any-append (test text) before (p ∷ []))
+    found_declared names text one ∙ ap₂ ◌||◌ (h text) (sym (or-false (test text p) ∙ is text))
+    ∙ sym (list_any-append (test text) before (p ∷ []))
 
 -- one more argument that does not pass the test
-gathers_same : (names : Names) (test : List ℕ → Passed → Bool) (before : List Passed) (p : Passed) → Gathers names test before →
+gathers_same : (names : Names) (test : List ℕ → Passed → Bool) (before : List Passed) (p : Passed)
+    → Gathers names test before →
     ((text : List ℕ) → test text p ≡ false) → Gathers names test (before ++ p ∷ [])
 gathers_same names test before p h is text =
-    h text ∙ sym (list_any-append (test text) before (p ∷ []) ∙ ap (λ b. list_any (test text) before || b) (or-false (test text p) ∙ is text) ∙ or-false _)
+    h text ∙ sym (list_any-append (test text) before (p ∷ [])
+    ∙ ap (λ b. list_any (test text) before || b) (or-false (test text p) ∙ is text) ∙ or-false _)
 
 logic : (s m n c g : Bool) → ((s && (m || n)) || (c || (m && g))) ≡ (((s && n) || c) || (m && (s || g)))
 logic false m n c g = refl
@@ -77,46 +88,63 @@ logic true false false c g = refl
 
 -- an argument clashes with those before that are its array, where one of the two may be changed
 clashes_named : (p : Passed) (one : List ℕ) (before : List Passed) → array_name p.given p.argument ≡ Some one →
-    list_any (clash p) before ≡ (list_any (changes one) before || (is_mutable p.parameter.form && list_any (gives one) before))
+    list_any (clash p) before
+    ≡ (list_any (changes one) before || (is_mutable p.parameter.form && list_any (gives one) before))
 clashes_named p one [] is = sym (and-false (is_mutable p.parameter.form))
 clashes_named p one (q ∷ before) is =
     rw (is, clashes_named p one before is)
-    (logic (same_name (Some one) (array_name q.given q.argument)) (is_mutable p.parameter.form) (is_mutable q.parameter.form) (list_any (changes one) before) (list_any (gives one) before))
+    (logic (same_name (Some one) (array_name q.given q.argument)) (is_mutable p.parameter.form)
+    (is_mutable q.parameter.form) (list_any (changes one) before) (list_any (gives one) before))
 
-clashes_none : (p : Passed) (before : List Passed) → array_name p.given p.argument ≡ None → list_any (clash p) before ≡ false
+clashes_none : (p : Passed) (before : List Passed) → array_name p.given p.argument ≡ None
+    → list_any (clash p) before ≡ false
 clashes_none p [] is = refl
 clashes_none p (q ∷ before) is = rw (is, clashes_none p before is) refl
 
 -- the arguments up to the next one, and from it on
-next_taken : (all : List Passed) (i : ℕ) (q : Passed) → i < length all → get_or all i q ≡ q → take (i + 1) all ≡ take i all ++ q ∷ []
+next_taken : (all : List Passed) (i : ℕ) (q : Passed) → i < length all → get_or all i q ≡ q
+    → take (i + 1) all ≡ take i all ++ q ∷ []
 next_taken all i q h at = take_more all i q h ∙ ap (λ x. take i all ++ x ∷ []) at
 
-next_left : (all : List Passed) (i : ℕ) (q : Passed) → i < length all → get_or all i q ≡ q → drop i all ≡ q ∷ drop (i + 1) all
+next_left : (all : List Passed) (i : ℕ) (q : Passed) → i < length all → get_or all i q ≡ q
+    → drop i all ≡ q ∷ drop (i + 1) all
 next_left all i q h at = drop_more all i q h ∙ ap (λ x. x ∷ drop (i + 1) all) at
 
-pub named_given : (all : List Passed) (i : ℕ) (q : Passed) (names after : Names) (one : List ℕ) → i < length all → get_or all i q ≡ q →
-    Gathers names gives (take i all) → Some one ≡ array_name q.given q.argument → after ≡ declared names one true → Gathers after gives (take (i + 1) all)
+pub named_given : (all : List Passed) (i : ℕ) (q : Passed) (names after : Names) (one : List ℕ) → i < length all
+    → get_or all i q ≡ q →
+    Gathers names gives (take i all) → Some one ≡ array_name q.given q.argument → after ≡ declared names one true
+    → Gathers after gives (take (i + 1) all)
 named_given all i q names after one h at so_far is new =
     rw (new, next_taken all i q h at) (gathers_named names gives (take i all) q one so_far (λ text. rw (← is) refl))
 
-pub named_changed : (all : List Passed) (i : ℕ) (q : Passed) (names after : Names) (one : List ℕ) (mutable : Bool) → i < length all → get_or all i q ≡ q →
-    Gathers names changes (take i all) → Some one ≡ array_name q.given q.argument → mutable ≡ is_mutable q.parameter.form →
+pub named_changed : (all : List Passed) (i : ℕ) (q : Passed) (names after : Names) (one : List ℕ) (mutable : Bool)
+    → i < length all → get_or all i q ≡ q →
+    Gathers names changes (take i all) → Some one ≡ array_name q.given q.argument
+    → mutable ≡ is_mutable q.parameter.form →
     after ≡ cond mutable (declared names one true) names → Gathers after changes (take (i + 1) all)
 named_changed all i q names after one true h at so_far is m new =
-    rw (new, next_taken all i q h at) (gathers_named names changes (take i all) q one so_far (λ text. rw (← is, ← m) (and-true (bytes_eq text one))))
+    rw (new, next_taken all i q h at)
+    (gathers_named names changes (take i all) q one so_far
+    (λ text. rw (← is, ← m) (and-true (bytes_eq text one))))
 named_changed all i q names after one false h at so_far is m new =
-    rw (new, next_taken all i q h at) (gathers_same names changes (take i all) q so_far (λ text. rw (← is, ← m) (and-false (bytes_eq text one))))
+    rw (new, next_taken all i q h at)
+    (gathers_same names changes (take i all) q so_far (λ text. rw (← is, ← m) (and-false (bytes_eq text one))))
 
-pub named_clash : (all : List Passed) (i : ℕ) (q : Passed) (given changed : Names) (one : List ℕ) (mutable clashed clash' final : Bool) → i < length all → get_or all i q ≡ q →
-    Gathers given gives (take i all) → Gathers changed changes (take i all) → Some one ≡ array_name q.given q.argument → mutable ≡ is_mutable q.parameter.form →
-    clash' ≡ (is_some (found changed one) || (mutable && is_some (found given one))) → (clashed || clashes (take i all) (drop i all)) ≡ final →
+pub named_clash : (all : List Passed) (i : ℕ) (q : Passed) (given changed : Names) (one : List ℕ)
+    (mutable clashed clash' final : Bool) → i < length all → get_or all i q ≡ q →
+    Gathers given gives (take i all) → Gathers changed changes (take i all) → Some one ≡ array_name q.given q.argument
+    → mutable ≡ is_mutable q.parameter.form →
+    clash' ≡ (is_some (found changed one) || (mutable && is_some (found given one)))
+    → (clashed || clashes (take i all) (drop i all)) ≡ final →
     ((clashed || clash') || clashes (take (i + 1) all) (drop (i + 1) all)) ≡ final
 named_clash all i q given changed one mutable clashed clash' final h at g k is m new so_far =
     let one_more : clash' ≡ list_any (clash q) (take i all) =
-    new ∙ ap₂ (λ a b. a || (mutable && b)) (k one) (g one) ∙ ap (λ b. list_any (changes one) (take i all) || (b && list_any (gives one) (take i all))) m
+    new ∙ ap₂ (λ a b. a || (mutable && b)) (k one) (g one)
+    ∙ ap (λ b. list_any (changes one) (take i all) || (b && list_any (gives one) (take i all))) m
     ∙ sym (clashes_named q one (take i all) (sym is)) in
     or_assoc clashed clash' (clashes (take (i + 1) all) (drop (i + 1) all))
-    ∙ ap (λ b. clashed || b) (ap₂ (λ b before. b || clashes before (drop (i + 1) all)) one_more (next_taken all i q h at) ∙ sym (ap (clashes (take i all)) (next_left all i q h at)))
+    ∙ ap (λ b. clashed || b) (ap₂ (λ b before. b || clashes before (drop (i + 1) all)) one_more
+    (next_taken all i q h at) ∙ sym (ap (clashes (take i all)) (next_left all i q h at)))
     ∙ so_far
 
 -- one that is no array
@@ -126,27 +154,39 @@ none_given all i q names h at so_far is =
     rw (next_taken all i q h at) (gathers_same names gives (take i all) q so_far (λ text. rw (← is) refl))
 
 pub none_changed : (all : List Passed) (i : ℕ) (q : Passed) (names : Names) → i < length all → get_or all i q ≡ q →
-    Gathers names changes (take i all) → None ≡ array_name q.given q.argument → Gathers names changes (take (i + 1) all)
+    Gathers names changes (take i all) → None ≡ array_name q.given q.argument
+    → Gathers names changes (take (i + 1) all)
 none_changed all i q names h at so_far is =
     rw (next_taken all i q h at) (gathers_same names changes (take i all) q so_far (λ text. rw (← is) refl))
 
-pub none_clash : (all : List Passed) (i : ℕ) (q : Passed) (clashed final : Bool) → i < length all → get_or all i q ≡ q →
+pub none_clash : (all : List Passed) (i : ℕ) (q : Passed) (clashed final : Bool) → i < length all
+    → get_or all i q ≡ q →
     None ≡ array_name q.given q.argument → (clashed || clashes (take i all) (drop i all)) ≡ final →
     (clashed || clashes (take (i + 1) all) (drop (i + 1) all)) ≡ final
 none_clash all i q clashed final h at is so_far =
-    ap (λ b. clashed || b) (ap₂ (λ b before. b || clashes before (drop (i + 1) all)) (sym (clashes_none q (take i all) (sym is))) (next_taken all i q h at) ∙ sym (ap (clashes (take i all)) (next_left all i q h at)))
+    ap (λ b. clashed || b) (ap₂ (λ b before. b || clashes before (drop (i + 1) all))
+    (sym (clashes_none q (take i all) (sym is))) (next_taken all i q h at)
+    ∙ sym (ap (clashes (take i all)) (next_left all i q h at)))
     ∙ so_far
 
 -- the argument at an index, beside its parameter
-pub passed_at : (ps : List ParameterTree) (ts : List ValueType) (es : List ExprTree) (i : ℕ) (p : ParameterTree) (t : ValueType) (e : ExprTree) (q : Passed) →
-    i < length ps → length ts ≡ length ps → length es ≡ length ps → get_or (passed ps ts es) i q ≡ record { parameter = get_or ps i p; given = get_or ts i t; argument = get_or es i e }
+pub passed_at : (ps : List ParameterTree) (ts : List ValueType) (es : List ExprTree) (i : ℕ) (p : ParameterTree)
+    (t : ValueType) (e : ExprTree) (q : Passed) →
+    i < length ps → length ts ≡ length ps → length es ≡ length ps
+    → get_or (passed ps ts es) i q ≡ record {
+      parameter = get_or ps i p;
+      given = get_or ts i t;
+      argument = get_or es i e;
+    }
 passed_at [] ts es i p t e q h same same' = absurd (omega arith)
 passed_at (x ∷ ps) [] es i p t e q h same same' = absurd (omega arith)
 passed_at (x ∷ ps) (y ∷ ts) [] i p t e q h same same' = absurd (omega arith)
 passed_at (x ∷ ps) (y ∷ ts) (z ∷ es) zero p t e q h same same' = refl
-passed_at (x ∷ ps) (y ∷ ts) (z ∷ es) (suc i) p t e q h same same' = passed_at ps ts es i p t e q (omega arith) (omega arith) (omega arith)
+passed_at (x ∷ ps) (y ∷ ts) (z ∷ es) (suc i) p t e q h same same' =
+    passed_at ps ts es i p t e q (omega arith) (omega arith) (omega arith)
 
-pub passed_long : (ps : List ParameterTree) (ts : List ValueType) (es : List ExprTree) → length ts ≡ length ps → length es ≡ length ps → length (passed ps ts es) ≡ length ps
+pub passed_long : (ps : List ParameterTree) (ts : List ValueType) (es : List ExprTree) → length ts ≡ length ps
+    → length es ≡ length ps → length (passed ps ts es) ≡ length ps
 passed_long [] ts es same same' = refl
 passed_long (x ∷ ps) [] es same same' = absurd (omega arith)
 passed_long (x ∷ ps) (y ∷ ts) [] same same' = absurd (omega arith)
@@ -162,41 +202,69 @@ pub record SoFar (all : List Passed) (i : ℕ) (names changeable : Names) (clash
 abbrev pub all_passed : List Parameter → List ValueType → List Expr → List Passed
 all_passed ps ts es = passed (map parameter_tree ps) ts (map expr_tree es)
 
-item_at : (p : Parameter) (t : ValueType) (ps : List Parameter) (ts : List ValueType) (es : List Expr) (e : Expr) (i : ℕ) (q : Passed) →
+item_at : (p : Parameter) (t : ValueType) (ps : List Parameter) (ts : List ValueType) (es : List Expr) (e : Expr)
+    (i : ℕ) (q : Passed) →
     i < length ps → length ts ≡ length ps → length es ≡ length ps → e ≡ get_or es i e →
-    get_or (all_passed ps ts es) i q ≡ record { parameter = parameter_tree (get_or ps i p); given = get_or ts i t; argument = expr_tree e }
+    get_or (all_passed ps ts es) i q ≡ record {
+      parameter = parameter_tree (get_or ps i p);
+      given = get_or ts i t;
+      argument = expr_tree e;
+    }
 item_at p t ps ts es e i q h same same' is =
     passed_at (map parameter_tree ps) ts (map expr_tree es) i (parameter_tree p) t (expr_tree e) q
-    (omega (arith, length-map ps parameter_tree)) (omega (arith, length-map ps parameter_tree)) (omega (arith, length-map ps parameter_tree, length-map es expr_tree))
-    ∙ ap₂ (λ (x : ParameterTree) (y : ExprTree). record { parameter = x; given = get_or ts i t; argument = y }) (get_or-map parameter_tree ps i p) (get_or-map expr_tree es i e ∙ ap expr_tree (sym is))
+    (omega (arith, length-map ps parameter_tree)) (omega (arith, length-map ps parameter_tree))
+    (omega (arith, length-map ps parameter_tree, length-map es expr_tree))
+    ∙ ap₂ (λ (x : ParameterTree) (y : ExprTree). record { parameter = x; given = get_or ts i t; argument = y })
+    (get_or-map parameter_tree ps i p) (get_or-map expr_tree es i e ∙ ap expr_tree (sym is))
 
-item_below : (ps : List Parameter) (ts : List ValueType) (es : List Expr) (i : ℕ) → i < length ps → length ts ≡ length ps → length es ≡ length ps → i < length (all_passed ps ts es)
+item_below : (ps : List Parameter) (ts : List ValueType) (es : List Expr) (i : ℕ) → i < length ps
+    → length ts ≡ length ps → length es ≡ length ps → i < length (all_passed ps ts es)
 item_below ps ts es i h same same' =
-    omega (arith, length-map ps parameter_tree, passed_long (map parameter_tree ps) ts (map expr_tree es) (omega (arith, length-map ps parameter_tree)) (omega (arith, length-map ps parameter_tree, length-map es expr_tree)))
+    omega (
+      arith,
+      length-map ps parameter_tree,
+      passed_long (map parameter_tree ps) ts (map expr_tree es) (omega (arith, length-map ps parameter_tree))
+          (omega (arith, length-map ps parameter_tree, length-map es expr_tree)),
+    )
 
 -- one more argument that is an array
-pub array_more : (p : Parameter) (t : ValueType) (ps : List Parameter) (ts : List ValueType) (es : List Expr) (e : Expr) (i : ℕ) (given changed given' changed' : Names) (one : List ℕ) (mutable clashed clash' final : Bool) →
-    i < length ps → length ts ≡ length ps → length es ≡ length ps → e ≡ get_or es i e → SoFar (all_passed ps ts es) i given changed clashed final →
+pub array_more : (p : Parameter) (t : ValueType) (ps : List Parameter) (ts : List ValueType) (es : List Expr)
+    (e : Expr) (i : ℕ) (given changed given' changed' : Names) (one : List ℕ) (mutable clashed clash' final : Bool)
+    →
+    i < length ps → length ts ≡ length ps → length es ≡ length ps → e ≡ get_or es i e
+    → SoFar (all_passed ps ts es) i given changed clashed final →
     Some one ≡ array_name (get_or ts i t) (expr_tree e) → mutable ≡ is_mutable (get_or ps i p).form →
     given' ≡ declared given one true → changed' ≡ cond mutable (declared changed one true) changed →
     clash' ≡ (is_some (found changed one) || (mutable && is_some (found given one))) →
     SoFar (all_passed ps ts es) (i + 1) given' changed' (clashed || clash') final
-array_more p t ps ts es e i given changed given' changed' one mutable clashed clash' final h same same' here so_far is m g k new =
-    let q : Passed = record { parameter = parameter_tree (get_or ps i p); given = get_or ts i t; argument = expr_tree e } in
+array_more p t ps ts es e i given changed given' changed' one mutable clashed clash' final h same same' here so_far is
+    m g k new =
+    let q : Passed = record {
+      parameter = parameter_tree (get_or ps i p);
+      given = get_or ts i t;
+      argument = expr_tree e;
+    } in
     let below = item_below ps ts es i h same same' in
     let at = item_at p t ps ts es e i q h same same' here in
     record {
       given = named_given (all_passed ps ts es) i q given given' one below at so_far.given is g;
       changed = named_changed (all_passed ps ts es) i q changed changed' one mutable below at so_far.changed is m k;
-      clash = named_clash (all_passed ps ts es) i q given changed one mutable clashed clash' final below at so_far.given so_far.changed is m new so_far.clash;
+      clash = named_clash (all_passed ps ts es) i q given changed one mutable clashed clash' final below at
+          so_far.given so_far.changed is m new so_far.clash;
     }
 
 -- and one that is none
-other_beside : (p : Parameter) (t : ValueType) (ps : List Parameter) (ts : List ValueType) (es : List Expr) (e : Expr) (i : ℕ) (given changed : Names) (clashed final : Bool) →
-    i < length ps → length ts ≡ length ps → length es ≡ length ps → e ≡ get_or es i e → SoFar (all_passed ps ts es) i given changed clashed final →
+other_beside : (p : Parameter) (t : ValueType) (ps : List Parameter) (ts : List ValueType) (es : List Expr) (e : Expr)
+    (i : ℕ) (given changed : Names) (clashed final : Bool) →
+    i < length ps → length ts ≡ length ps → length es ≡ length ps → e ≡ get_or es i e
+    → SoFar (all_passed ps ts es) i given changed clashed final →
     None ≡ array_name (get_or ts i t) (expr_tree e) → SoFar (all_passed ps ts es) (i + 1) given changed clashed final
 other_beside p t ps ts es e i given changed clashed final h same same' here so_far is =
-    let q : Passed = record { parameter = parameter_tree (get_or ps i p); given = get_or ts i t; argument = expr_tree e } in
+    let q : Passed = record {
+      parameter = parameter_tree (get_or ps i p);
+      given = get_or ts i t;
+      argument = expr_tree e;
+    } in
     let below = item_below ps ts es i h same same' in
     let at = item_at p t ps ts es e i q h same same' here in
     record {
@@ -205,24 +273,33 @@ other_beside p t ps ts es e i given changed clashed final h same same' here so_f
       clash = none_clash (all_passed ps ts es) i q clashed final below at is so_far.clash;
     }
 
-pub other_more : (t : ValueType) (ps : List Parameter) (ts : List ValueType) (es : List Expr) (e : Expr) (i : ℕ) (given changed : Names) (clashed final : Bool) →
-    i < length ps → length ts ≡ length ps → length es ≡ length ps → e ≡ get_or es i e → SoFar (all_passed ps ts es) i given changed clashed final →
+pub other_more : (t : ValueType) (ps : List Parameter) (ts : List ValueType) (es : List Expr) (e : Expr) (i : ℕ)
+    (given changed : Names) (clashed final : Bool) →
+    i < length ps → length ts ≡ length ps → length es ≡ length ps → e ≡ get_or es i e
+    → SoFar (all_passed ps ts es) i given changed clashed final →
     None ≡ array_name (get_or ts i t) (expr_tree e) → SoFar (all_passed ps ts es) (i + 1) given changed clashed final
 other_more t [] ts es e i given changed clashed final h same same' here so_far is = absurd (omega arith)
 other_more t (p ∷ ps) ts es e i given changed clashed final h same same' here so_far is =
     other_beside p t (p ∷ ps) ts es e i given changed clashed final h same same' here so_far is
 
 -- no argument is left
-pub clash_last : (ps : List Parameter) (ts : List ValueType) (es : List Expr) (i : ℕ) (clashed final : Bool) → length ps ≤ i → length ts ≡ length ps → length es ≡ length ps →
+pub clash_last : (ps : List Parameter) (ts : List ValueType) (es : List Expr) (i : ℕ) (clashed final : Bool)
+    → length ps ≤ i → length ts ≡ length ps → length es ≡ length ps →
     (clashed || clashes (take i (all_passed ps ts es)) (drop i (all_passed ps ts es))) ≡ final → clashed ≡ final
 clash_last ps ts es i clashed final h same same' is =
     let none : drop i (all_passed ps ts es) ≡ [] =
     drop_all i (all_passed ps ts es)
-    (omega (arith, length-map ps parameter_tree, passed_long (map parameter_tree ps) ts (map expr_tree es) (omega (arith, length-map ps parameter_tree)) (omega (arith, length-map ps parameter_tree, length-map es expr_tree)))) in
+    (omega (
+      arith,
+      length-map ps parameter_tree,
+      passed_long (map parameter_tree ps) ts (map expr_tree es) (omega (arith, length-map ps parameter_tree))
+          (omega (arith, length-map ps parameter_tree, length-map es expr_tree)),
+    )) in
     sym (ap (λ rest. clashed || clashes (take i (all_passed ps ts es)) rest) none ∙ or-false clashed) ∙ is
 
 -- before the first argument
-pub no_arguments : (all : List Passed) (names changeable : Names) → names ≡ [] → changeable ≡ [] → SoFar all 0 names changeable false (clashes [] all)
+pub no_arguments : (all : List Passed) (names changeable : Names) → names ≡ [] → changeable ≡ []
+    → SoFar all 0 names changeable false (clashes [] all)
 no_arguments all names changeable given changed = record {
   given = λ text. rw given refl;
   changed = λ text. rw changed refl;

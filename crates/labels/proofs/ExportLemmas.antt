@@ -1,5 +1,7 @@
 -- The exported procedure: where it stands, and that a program that violates no rule has one.
-use Rattle.std.proofs.Common.{◌≡◌, ℕ, suc, ◌+◌, ◌<◌, Bool, true, false, List, [], ◌∷◌, ◌++◌, length, length-append, append-nil, append_assoc, Option, None, Some, is_some, cond, slice_get, take, get_or, map, fold, refl, ap, ap₂, sym, ◌∙◌, arith, subst}
+use Rattle.std.proofs.Common.{◌≡◌, ℕ, suc, ◌+◌, ◌<◌, Bool, true, false, List, [], ◌∷◌, ◌++◌, length, length-append}
+use Rattle.std.proofs.Common.{append-nil, append_assoc, Option, None, Some, is_some, cond, slice_get, take, get_or}
+use Rattle.std.proofs.Common.{map, fold, refl, ap, ap₂, sym, ◌∙◌, arith, subst}
 use Rattle.std.proofs.ByRecursion.{All-get_or, All-take}
 use Rattle.std.specs.List.{AllByRecursion}
 use Rattle.std.specs.Option.{option_map}
@@ -26,14 +28,18 @@ no_places : (before ps : List ProcedureTree) → exported before ps ≡ None →
 no_places before [] none = refl
 no_places before (p ∷ ps) none = by p.export _ none (no_places (before ++ p ∷ []) ps)
   where
-    by : (place : Option Place) (rest : Export) → cond {A = Export} (is_some place) (Some (before, p)) rest ≡ None → (rest ≡ None → exports ps ≡ []) → export_place place (exports ps) ≡ []
+    by : (place : Option Place) (rest : Export) → cond {A = Export} (is_some place) (Some (before, p)) rest ≡ None
+        → (rest ≡ None → exports ps ≡ []) → export_place place (exports ps) ≡ []
     by None rest is after = after is
     by (Some place) rest is after = cc
 
-pub has_export : (profile : Profile) (program : ProgramTree) → length (violations profile program) ≡ 0 → exported [] program.procedures ≡ None → ⊥
+pub has_export : (profile : Profile) (program : ProgramTree) → length (violations profile program) ≡ 0
+    → exported [] program.procedures ≡ None → ⊥
 has_export profile program typed none =
-    let both = length-append (export_violations (exports program.procedures)) (procedures_violations [] (empty profile) program.procedures) in
-    let missing = ap (λ (places : List Place). length (export_violations places)) (no_places [] program.procedures none) in
+    let both = length-append (export_violations (exports program.procedures))
+    (procedures_violations [] (empty profile) program.procedures) in
+    let missing = ap (λ (places : List Place). length (export_violations places))
+    (no_places [] program.procedures none) in
     absurd (omega (arith, typed, both, missing))
 
 pub no_index : (found : Export) → export_index found ≡ None → found ≡ None
@@ -48,14 +54,23 @@ record Stands (before ps : List ProcedureTree) (found : Export) (index : ℕ) : 
   there : slice_get ps place ≡ Some export
   found_so : found ≡ Some (before ++ take place ps, export)
 
-stands : (before ps : List ProcedureTree) (index : ℕ) → export_index (exported before ps) ≡ Some index → Stands before ps (exported before ps) index
+stands : (before ps : List ProcedureTree) (index : ℕ) → export_index (exported before ps) ≡ Some index
+    → Stands before ps (exported before ps) index
 stands before [] index h = cc
 stands before (p ∷ ps) index h = by (is_some p.export) _ h (stands (before ++ p ∷ []) ps index)
   where
-    by : (marked : Bool) (rest : Export) → export_index (cond {A = Export} marked (Some (before, p)) rest) ≡ Some index → (export_index rest ≡ Some index → Stands (before ++ p ∷ []) ps rest index) → Stands before (p ∷ ps) (cond {A = Export} marked (Some (before, p)) rest) index
+    by : (marked : Bool) (rest : Export) → export_index (cond {A = Export} marked (Some (before, p)) rest)
+        ≡ Some index → (export_index rest ≡ Some index → Stands (before ++ p ∷ []) ps rest index)
+        → Stands before (p ∷ ps) (cond {A = Export} marked (Some (before, p)) rest) index
     by true rest h after =
         let same : length before ≡ index = cc in
-        record { place = 0; export = p; is = omega (arith, same); there = refl; found_so = ap (λ (l : List ProcedureTree). Some (l, p)) (sym (append-nil before)) }
+        record {
+          place = 0;
+          export = p;
+          is = omega (arith, same);
+          there = refl;
+          found_so = ap (λ (l : List ProcedureTree). Some (l, p)) (sym (append-nil before));
+        }
     by false rest h after =
         let later = after h in
         let more = length-append before (p ∷ []) in
@@ -64,11 +79,14 @@ stands before (p ∷ ps) index h = by (is_some p.export) _ h (stands (before ++ 
           export = later.export;
           is = omega (arith, later.is, more);
           there = later.there;
-          found_so = later.found_so ∙ ap (λ (l : List ProcedureTree). Some (l, later.export)) (append_assoc before (p ∷ []) (take later.place ps));
+          found_so = later.found_so
+              ∙ ap (λ (l : List ProcedureTree). Some (l, later.export))
+              (append_assoc before (p ∷ []) (take later.place ps));
         }
 
 -- the index is one of the list's
-pub index_inside : (before ps : List ProcedureTree) (index : ℕ) → export_index (exported before ps) ≡ Some index → index < length before + length ps
+pub index_inside : (before ps : List ProcedureTree) (index : ℕ) → export_index (exported before ps) ≡ Some index
+    → index < length before + length ps
 index_inside before ps index h =
     let it = stands before ps index h in
     let is = it.is in
@@ -76,32 +94,48 @@ index_inside before ps index h =
     omega (arith, is, inside)
 
 -- the procedure at the index is the export
-pub export_at : (ps : List ProcedureTree) (index : ℕ) → export_index (exported [] ps) ≡ Some index → (export : ProcedureTree) × (slice_get ps index ≡ Some export) × (exported [] ps ≡ Some (take index ps, export))
+pub export_at : (ps : List ProcedureTree) (index : ℕ) → export_index (exported [] ps) ≡ Some index
+    → (export : ProcedureTree) × (slice_get ps index ≡ Some export) × (exported [] ps ≡ Some (take index ps, export))
 export_at ps index h =
     let it = stands [] ps index h in
-    let same : it.place ≡ index = let is = it.is in omega (arith, is) in
-    (it.export, ap (slice_get ps) (sym same) ∙ it.there, it.found_so ∙ ap (λ (n : ℕ). Some (take n ps, it.export)) same)
+    let same : it.place ≡ index = let is = it.is in omega (arith, is) in (
+      it.export,
+      ap (slice_get ps) (sym same) ∙ it.there,
+      it.found_so
+          ∙ ap (λ (n : ℕ). Some (take n ps, it.export)) same,
+    )
 
 -- the same, read from the code's list
-pub export_read : (items : List Procedure) (index : ℕ) (p : Procedure) → index < length items → p ≡ get_or items index p → export_index (exported [] (map procedure_tree items)) ≡ Some index → exported [] (map procedure_tree items) ≡ Some (map procedure_tree (take index items), procedure_tree p)
+pub export_read : (items : List Procedure) (index : ℕ) (p : Procedure) → index < length items
+    → p ≡ get_or items index p → export_index (exported [] (map procedure_tree items)) ≡ Some index
+    → exported [] (map procedure_tree items) ≡ Some (map procedure_tree (take index items), procedure_tree p)
 export_read items index p inside is h = by (export_at (map procedure_tree items) index h)
   where
     there : slice_get (map procedure_tree items) index ≡ Some (procedure_tree p)
-    there = slice_get-map procedure_tree items index ∙ ap (option_map procedure_tree) (slice_get_read items (length items) index p refl inside is)
+    there = slice_get-map procedure_tree items index
+        ∙ ap (option_map procedure_tree) (slice_get_read items (length items) index p refl inside is)
 
-    by : (export : ProcedureTree) × (slice_get (map procedure_tree items) index ≡ Some export) × (exported [] (map procedure_tree items) ≡ Some (take index (map procedure_tree items), export)) → exported [] (map procedure_tree items) ≡ Some (map procedure_tree (take index items), procedure_tree p)
+    by : (export : ProcedureTree) × (slice_get (map procedure_tree items) index ≡ Some export)
+        × (exported [] (map procedure_tree items) ≡ Some (take index (map procedure_tree items), export))
+        → exported [] (map procedure_tree items) ≡ Some (map procedure_tree (take index items), procedure_tree p)
     by (export, at, found) =
         let some : Some export ≡ Some (procedure_tree p) = sym at ∙ there in
         let same : export ≡ procedure_tree p = cc in
-        found ∙ ap₂ (λ (l : List ProcedureTree) (q : ProcedureTree). Some (l, q)) (take-map procedure_tree index items) same
+        found ∙ ap₂ (λ (l : List ProcedureTree) (q : ProcedureTree). Some (l, q))
+        (take-map procedure_tree index items) same
 
 -- what holds of all procedures holds of those before the index, and of the one there
-pub parts_of : (P : ProcedureTree → Type 0) (items : List Procedure) (index : ℕ) (p : Procedure) → index < length items → p ≡ get_or items index p → AllByRecursion P (map procedure_tree items) → AllByRecursion P (map procedure_tree (take index items)) × P (procedure_tree p)
+pub parts_of : (P : ProcedureTree → Type 0) (items : List Procedure) (index : ℕ) (p : Procedure)
+    → index < length items → p ≡ get_or items index p → AllByRecursion P (map procedure_tree items)
+    → AllByRecursion P (map procedure_tree (take index items)) × P (procedure_tree p)
 parts_of P items index p inside is all =
     let many = length-map items procedure_tree in
-    let there : get_or (map procedure_tree items) index (procedure_tree p) ≡ procedure_tree p = get_or-map procedure_tree items index p (procedure_tree p) inside ∙ ap procedure_tree (sym is) in (
-      subst (AllByRecursion P) (take-map procedure_tree index items) (All-take P index (map procedure_tree items) all),
-      subst P there (All-get_or P (map procedure_tree items) index (procedure_tree p) (omega (arith, inside, many)) all),
+    let there : get_or (map procedure_tree items) index (procedure_tree p) ≡ procedure_tree p =
+    get_or-map procedure_tree items index p (procedure_tree p) inside ∙ ap procedure_tree (sym is) in (
+      subst (AllByRecursion P) (take-map procedure_tree index items)
+          (All-take P index (map procedure_tree items) all),
+      subst P there (All-get_or P (map procedure_tree items) index (procedure_tree p)
+          (omega (arith, inside, many)) all),
     )
 
 -- ---- what `check` has of a program after both looks at its procedures
@@ -111,21 +145,30 @@ module _ (profile : Profile) (items slice : List Procedure) (same : slice ≡ it
   trees = map procedure_tree items
 
   -- the first violation
-  pub seen_over : (a b : Option Violation) → a ≡ fold sooner None (export_violations (exports (map procedure_tree slice))) → b ≡ fold sooner a (procedures_violations [] (empty profile) (map procedure_tree slice)) → b ≡ fold sooner None (violations profile (record { procedures = trees }))
+  pub seen_over : (a b : Option Violation)
+      → a ≡ fold sooner None (export_violations (exports (map procedure_tree slice)))
+      → b ≡ fold sooner a (procedures_violations [] (empty profile) (map procedure_tree slice))
+      → b ≡ fold sooner None (violations profile (record { procedures = trees }))
   seen_over a b h k =
-      kept_over a b (export_violations (exports (map procedure_tree slice))) (procedures_violations [] (empty profile) (map procedure_tree slice)) h k
-      ∙ ap (λ (l : List Procedure). fold sooner None (violations profile (record { procedures = map procedure_tree l }))) same
+      kept_over a b (export_violations (exports (map procedure_tree slice)))
+      (procedures_violations [] (empty profile) (map procedure_tree slice)) h k
+      ∙ ap (λ (l : List Procedure). fold sooner None
+      (violations profile (record { procedures = map procedure_tree l }))) same
 
-  indexed : (index : Option ℕ) → index ≡ export_index (exported [] (map procedure_tree slice)) → export_index (exported [] trees) ≡ index
+  indexed : (index : Option ℕ) → index ≡ export_index (exported [] (map procedure_tree slice))
+      → export_index (exported [] trees) ≡ index
   indexed index h = sym (h ∙ ap (λ (l : List Procedure). export_index (exported [] (map procedure_tree l))) same)
 
   -- and the export
-  pub index_of : (found : Option ℕ) (index : ℕ) → found ≡ export_index (exported [] (map procedure_tree slice)) → found ≡ Some index → (export_index (exported [] trees) ≡ Some index) × (index < length items)
+  pub index_of : (found : Option ℕ) (index : ℕ) → found ≡ export_index (exported [] (map procedure_tree slice))
+      → found ≡ Some index → (export_index (exported [] trees) ≡ Some index) × (index < length items)
   index_of found index h is =
       let at = indexed found h ∙ is in
       let inside = index_inside [] trees index at in
       let many = length-map items procedure_tree in
       (at, omega (arith, inside, many))
 
-  pub one_exported : (found : Option ℕ) → found ≡ export_index (exported [] (map procedure_tree slice)) → found ≡ None → length (violations profile (record { procedures = trees })) ≡ 0 → ⊥
-  one_exported found h is typed = has_export profile (record { procedures = trees }) typed (no_index (exported [] trees) (indexed found h ∙ is))
+  pub one_exported : (found : Option ℕ) → found ≡ export_index (exported [] (map procedure_tree slice)) → found ≡ None
+      → length (violations profile (record { procedures = trees })) ≡ 0 → ⊥
+  one_exported found h is typed =
+      has_export profile (record { procedures = trees }) typed (no_index (exported [] trees) (indexed found h ∙ is))

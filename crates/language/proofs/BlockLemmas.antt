@@ -4,7 +4,9 @@ use mathlib.Core.Former.{Count}
 use Rattle.word.specs.declared.place.Place.{Place}
 use Rattle.language.specs.declared.tree.Counter.{Counter}
 use Rattle.language.specs.declared.tree.Expr.{Expr}
-use Rattle.language.specs.declared.tree.Statement.{Statement, If, If', For, For', Row_of-Statement, end_of-Statement, more_of-Statement, items-the_row-Statement, items_hidden-the_row-Statement-0}
+use Rattle.language.specs.declared.tree.Statement.{Statement, If, If', For, For', Row_of-Statement, end_of-Statement}
+use Rattle.language.specs.declared.tree.Statement.{more_of-Statement, items-the_row-Statement}
+use Rattle.language.specs.declared.tree.Statement.{items_hidden-the_row-Statement-0}
 use Rattle.language.specs.Blocks.{RowsAreBlocks}
 use Rattle.language.specs.Tree.{conditional, loop, first, expr_tree, statement_tree, row_tree, block_tree}
 
@@ -19,7 +21,8 @@ arms _ = ((_, end_of-Statement), (_, end_of-Statement))
 
 -- the trees of conditionals and loops, by the lists of what they run
 pub conditional_tree : (place : Place) (condition : Expr) (accepted otherwise : Vec Statement Global) →
-    statement_tree (If place condition accepted otherwise) ≡ conditional place (expr_tree condition) (block_tree accepted.items) (block_tree otherwise.items)
+    statement_tree (If place condition accepted otherwise)
+    ≡ conditional place (expr_tree condition) (block_tree accepted.items) (block_tree otherwise.items)
 conditional_tree place condition accepted otherwise =
     let both = arms (If place condition accepted otherwise) in
     ap₂ (conditional place (expr_tree condition))
@@ -27,7 +30,8 @@ conditional_tree place condition accepted otherwise =
     (rows both.1.0 both.1.1 ∙ ap block_tree (items_hidden-the_row-Statement-0 otherwise))
 
 pub loop_tree : (place : Place) (counter : Counter) (low high : Expr) (body : Vec Statement Global) →
-    statement_tree (For place counter low high body) ≡ loop place counter.place counter.name.now (expr_tree low) (expr_tree high) (block_tree body.items)
+    statement_tree (For place counter low high body)
+    ≡ loop place counter.place counter.name.now (expr_tree low) (expr_tree high) (block_tree body.items)
 loop_tree place counter low high body =
     let both = arms (For place counter low high body) in
     ap (loop place counter.place counter.name.now (expr_tree low) (expr_tree high))

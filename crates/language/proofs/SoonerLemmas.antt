@@ -1,5 +1,7 @@
 -- The first violation kept as they come is the first of all.
-use Rattle.std.proofs.Common.{◌≡◌, ◌≢◌, ◌<◌, ◌≤◌, ◌⊎◌, inl, inr, ℕ, suc, zero, Bool, true, false, ◌==◌, ◌&&◌, ◌||◌, nat_lt, List, [], ◌∷◌, ◌++◌, length, Option, None, Some, cond, fold, Contains, refl, ap, sym, ◌∙◌, subst, arith}
+use Rattle.std.proofs.Common.{◌≡◌, ◌≢◌, ◌<◌, ◌≤◌, ◌⊎◌, inl, inr, ℕ, suc, zero, Bool, true, false, ◌==◌, ◌&&◌, ◌||◌}
+use Rattle.std.proofs.Common.{nat_lt, List, [], ◌∷◌, ◌++◌, length, Option, None, Some, cond, fold, Contains, refl, ap}
+use Rattle.std.proofs.Common.{sym, ◌∙◌, subst, arith}
 use Rattle.std.proofs.lemmas.Bool.Decides.{nat_tests}
 use Rattle.std.proofs.lemmas.List.Sums.{fold-append}
 use Rattle.std.proofs.lemmas.List.Elements.{All-cons, All-nil, All-head, All-tail, Contains-append_right}
@@ -14,11 +16,13 @@ earlier a b c d h = grind (arith, nat_tests)
 not_earlier : (a b c d : ℕ) → (nat_lt a b || ((a == b) && nat_lt c d)) ≡ false → (b < a) ⊎ ((b ≡ a) × (d ≤ c))
 not_earlier a b c d h = grind (arith, nat_tests)
 
-through : (a b c k l m : ℕ) → (a < b) ⊎ ((a ≡ b) × (k ≤ l)) → (b < c) ⊎ ((b ≡ c) × (l ≤ m)) → (a < c) ⊎ ((a ≡ c) × (k ≤ m))
+through : (a b c k l m : ℕ) → (a < b) ⊎ ((a ≡ b) × (k ≤ l)) → (b < c) ⊎ ((b ≡ c) × (l ≤ m))
+    → (a < c) ⊎ ((a ≡ c) × (k ≤ m))
 through a b c k l m p q = grind arith
 
 later : (u v w : Violation) → IsNoLaterThan u v → IsNoLaterThan v w → IsNoLaterThan u w
-later u v w p q = through u.place.offset v.place.offset w.place.offset (rank_of u.rule) (rank_of v.rule) (rank_of w.rule) p q
+later u v w p q = through u.place.offset v.place.offset w.place.offset (rank_of u.rule) (rank_of v.rule)
+    (rank_of w.rule) p q
 
 itself : (v : Violation) → IsNoLaterThan v v
 itself v = inr (refl, omega arith)
@@ -27,7 +31,8 @@ itself v = inr (refl, omega arith)
 behind : (w v u : Violation) (vs : List Violation) → IsFirst (v ∷ vs) u → IsNoLaterThan v w → IsFirst (w ∷ v ∷ vs) u
 behind w v u vs first h = record {
   there = Contains-append_right (w ∷ []) (v ∷ vs) u first.there;
-  least = All-cons (IsNoLaterThan u) w (v ∷ vs) (later u v w (All-head (IsNoLaterThan u) v vs first.least) h) first.least;
+  least = All-cons (IsNoLaterThan u) w (v ∷ vs) (later u v w (All-head (IsNoLaterThan u) v vs first.least) h)
+      first.least;
 }
 
 -- and one more behind the one kept so far
@@ -35,7 +40,8 @@ after : (w v u : Violation) (vs : List Violation) → IsFirst (w ∷ vs) u → I
 after w v u vs first h = record {
   there = put w v u vs first.there;
   least = All-cons (IsNoLaterThan u) w (v ∷ vs) (All-head (IsNoLaterThan u) w vs first.least)
-      (All-cons (IsNoLaterThan u) v vs (later u w v (All-head (IsNoLaterThan u) w vs first.least) h) (All-tail (IsNoLaterThan u) w vs first.least));
+      (All-cons (IsNoLaterThan u) v vs (later u w v (All-head (IsNoLaterThan u) w vs first.least) h)
+      (All-tail (IsNoLaterThan u) w vs first.least));
 }
   where
     -- an element of the longer list
@@ -44,15 +50,23 @@ after w v u vs first h = record {
     put w v u vs (suc k, below, is) = (suc (suc k), omega arith, is)
 
 -- what is kept over a list is its first
-pub kept_first : (w : Violation) (vs : List Violation) (u : Violation) → fold sooner (Some w) vs ≡ Some u → IsFirst (w ∷ vs) u
+pub kept_first : (w : Violation) (vs : List Violation) (u : Violation) → fold sooner (Some w) vs ≡ Some u
+    → IsFirst (w ∷ vs) u
 kept_first w [] u h =
     let same : w ≡ u = cc in
-    subst (IsFirst (w ∷ [])) same (record { there = (0, omega arith, refl); least = All-cons (IsNoLaterThan w) w [] (itself w) (All-nil (IsNoLaterThan w)) })
+    subst (IsFirst (w ∷ [])) same (record {
+      there = (0, omega arith, refl);
+      least = All-cons (IsNoLaterThan w) w [] (itself w) (All-nil (IsNoLaterThan w));
+    })
 kept_first w (v ∷ vs) u h = by (comes_before v w) refl h (kept_first v vs u) (kept_first w vs u)
   where
-    by : (b : Bool) → comes_before v w ≡ b → fold sooner (cond b (Some v) (Some w)) vs ≡ Some u → (fold sooner (Some v) vs ≡ Some u → IsFirst (v ∷ vs) u) → (fold sooner (Some w) vs ≡ Some u → IsFirst (w ∷ vs) u) → IsFirst (w ∷ v ∷ vs) u
-    by true p k new old = behind w v u vs (new k) (earlier v.place.offset w.place.offset (rank_of v.rule) (rank_of w.rule) p)
-    by false p k new old = after w v u vs (old k) (not_earlier v.place.offset w.place.offset (rank_of v.rule) (rank_of w.rule) p)
+    by : (b : Bool) → comes_before v w ≡ b → fold sooner (cond b (Some v) (Some w)) vs ≡ Some u
+        → (fold sooner (Some v) vs ≡ Some u → IsFirst (v ∷ vs) u)
+        → (fold sooner (Some w) vs ≡ Some u → IsFirst (w ∷ vs) u) → IsFirst (w ∷ v ∷ vs) u
+    by true p k new old =
+        behind w v u vs (new k) (earlier v.place.offset w.place.offset (rank_of v.rule) (rank_of w.rule) p)
+    by false p k new old =
+        after w v u vs (old k) (not_earlier v.place.offset w.place.offset (rank_of v.rule) (rank_of w.rule) p)
 
 -- the first violation that was found is the first
 pub found_first : (vs : List Violation) (u : Violation) → fold sooner None vs ≡ Some u → IsFirst vs u
@@ -64,7 +78,8 @@ kept_some : (w : Violation) (vs : List Violation) → fold sooner (Some w) vs �
 kept_some w [] h = cc
 kept_some w (v ∷ vs) h = by (comes_before v w) h (kept_some v vs) (kept_some w vs)
   where
-    by : (b : Bool) → fold sooner (cond b (Some v) (Some w)) vs ≡ None → fold sooner (Some v) vs ≢ None → fold sooner (Some w) vs ≢ None → ⊥
+    by : (b : Bool) → fold sooner (cond b (Some v) (Some w)) vs ≡ None → fold sooner (Some v) vs ≢ None
+        → fold sooner (Some w) vs ≢ None → ⊥
     by true k new old = new k
     by false k new old = old k
 
@@ -74,13 +89,16 @@ found_none [] h = refl
 found_none (v ∷ vs) h = absurd (kept_some v vs h)
 
 -- what is kept over two lists, one after the other
-pub kept_over : (a b : Option Violation) (us vs : List Violation) → a ≡ fold sooner None us → b ≡ fold sooner a vs → b ≡ fold sooner None (us ++ vs)
-kept_over a b us vs h k = k ∙ ap (λ (seen : Option Violation). fold sooner seen vs) h ∙ sym (fold-append sooner None us vs)
+pub kept_over : (a b : Option Violation) (us vs : List Violation) → a ≡ fold sooner None us → b ≡ fold sooner a vs
+    → b ≡ fold sooner None (us ++ vs)
+kept_over a b us vs h k = k ∙ ap (λ (seen : Option Violation). fold sooner seen vs) h
+    ∙ sym (fold-append sooner None us vs)
 
 -- violations have a first, where there is one
 pub first_of : (all : List Violation) → (length all ≡ 0) ⊎ ((v : Violation) × IsFirst all v)
 first_of all = by (fold sooner None all) refl
   where
-    by : (found : Option Violation) → fold sooner None all ≡ found → (length all ≡ 0) ⊎ ((v : Violation) × IsFirst all v)
+    by : (found : Option Violation) → fold sooner None all ≡ found
+        → (length all ≡ 0) ⊎ ((v : Violation) × IsFirst all v)
     by None is = inl (found_none all is)
     by (Some v) is = inr (v, found_first all v is)

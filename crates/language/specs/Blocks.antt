@@ -9,5 +9,9 @@ use Rattle.language.specs.Tree.{expr_tree, statement_tree, block_tree, condition
 
 -- the tree of a conditional, by the lists of its arms, and the tree of a loop, by the list of its body
 pub record RowsAreBlocks : Type 0 where
-  pub arms : (place : Place) (condition : Expr) (accepted otherwise : Vec Statement) → statement_tree (If place condition accepted otherwise) ≡ conditional place (expr_tree condition) (block_tree accepted.items) (block_tree otherwise.items)
-  pub bodies : (place : Place) (counter : Counter) (low high : Expr) (body : Vec Statement) → statement_tree (For place counter low high body) ≡ loop place counter.place counter.name.now (expr_tree low) (expr_tree high) (block_tree body.items)
+  pub arms : (place : Place) (condition : Expr) (accepted otherwise : Vec Statement)
+      → statement_tree (If place condition accepted otherwise)
+      ≡ conditional place (expr_tree condition) (block_tree accepted.items) (block_tree otherwise.items)
+  pub bodies : (place : Place) (counter : Counter) (low high : Expr) (body : Vec Statement)
+      → statement_tree (For place counter low high body)
+      ≡ loop place counter.place counter.name.now (expr_tree low) (expr_tree high) (block_tree body.items)

@@ -1,16 +1,21 @@
--- What expressions, statements, calls and a program mean, worked out: a function beside the rules of the meaning, which
--- also counts the nodes that are evaluated and the bodies that are open.
+-- What expressions, statements, calls and a program mean, worked out: a function beside the rules of the meaning,
+-- which also counts the nodes that are evaluated and the bodies that are open.
 use Rattle.std.specs.Prelude.{ℕ, zero, suc, ◌+◌, ◌-◌, max, List, [], ◌∷◌, Option, Some, None, if◌then◌else◌}
 use Rattle.std.specs.Option.{option_map}
 use Rattle.word.specs.declared.place.Place.{Place}
 use Rattle.language.specs.declared.signature.Kind.{Kind}
 use Rattle.language.specs.declared.values.Arg.{Arg}
-use Rattle.language.specs.Meaning.{Ending, gives, faults, applied, element_held, word_arguments, begun, copied_out, Returned, made_array, written, with_element, with_some, word_given, counting, exported, holding, final_arrays}
+use Rattle.language.specs.Meaning.{Ending, gives, faults, applied, element_held, word_arguments, begun, copied_out}
+use Rattle.language.specs.Meaning.{Returned, made_array, written, with_element, with_some, word_given, counting}
+use Rattle.language.specs.Meaning.{exported, holding, final_arrays}
 use Rattle.language.specs.Known.{Known, known_of}
 use Rattle.language.specs.Operators.{truth_of}
 use Rattle.language.specs.Results.{Results}
 use Rattle.language.specs.State.{State, Word, single, with_value}
-use Rattle.language.specs.Tree.{ExprTree, number, truth, name, prefix, binary, rotate, convert, select, element, CallTree, RightTree, called, computed, StatementTree, declaration, array, assignment, element_assignment, call, conditional, loop, BlockTree, nothing, first, ReturnTree, ProcedureTree, ProgramTree}
+use Rattle.language.specs.Tree.{ExprTree, number, truth, name, prefix, binary, rotate, convert, select, element}
+use Rattle.language.specs.Tree.{CallTree, RightTree, called, computed, StatementTree, declaration, array, assignment}
+use Rattle.language.specs.Tree.{element_assignment, call, conditional, loop, BlockTree, nothing, first, ReturnTree}
+use Rattle.language.specs.Tree.{ProcedureTree, ProgramTree}
 
 -- Runs.
 
@@ -62,7 +67,8 @@ value s (rotate place operand amount) = tick (andthen (value s operand) (λ a.
     ended (applied s (rotate place operand amount) (a ∷ []))))
 value s (convert place kind operand) = tick (andthen (value s operand) (λ a.
     ended (applied s (convert place kind operand) (a ∷ []))))
-value s (select place condition accepted otherwise) = tick (andthen (value s condition) (λ c. andthen (value s accepted) (λ a. andthen (value s otherwise) (λ b.
+value s (select place condition accepted otherwise) =
+    tick (andthen (value s condition) (λ c. andthen (value s accepted) (λ a. andthen (value s otherwise) (λ b.
     ended (applied s (select place condition accepted otherwise) (c ∷ a ∷ b ∷ []))))))
 value s (element place target text index) = tick (andthen (value s index) (λ i.
     ended (applied s (element place target text index) (i ∷ []))))
@@ -110,7 +116,8 @@ turns (suc n) i turn s = tick (andthen (turn i s) (λ t. turns n (i + 1) turn t)
 
 -- a name is set to a right side's word
 abbrev pub set_run : Runnables → State → List ℕ → RightTree → Run State
-set_run known s text right = tick (andthen (right_run known s right) (λ r. given (with_value r.state text (single (word_given r.word)))))
+set_run known s text right =
+    tick (andthen (right_run known s right) (λ r. given (with_value r.state text (single (word_given r.word)))))
 
 -- an element is set: it is evaluated first, so its index is tested before the right side
 abbrev pub element_run : Runnables → State → Place → List ℕ → ExprTree → RightTree → Run State
@@ -120,15 +127,18 @@ element_run known s bracket text index right = tick (tick (andthen (value s inde
 
 -- a name is set to an array
 abbrev pub array_run : State → List ℕ → Kind → ℕ → Option (List ExprTree) → Run State
-array_run s text kind size initial = tick (andthen (values s (written initial)) (λ vs. given (with_value s text (made_array kind size vs))))
+array_run s text kind size initial =
+    tick (andthen (values s (written initial)) (λ vs. given (with_value s text (made_array kind size vs))))
 
 -- one of two runs, by a condition
 abbrev pub branch_run : State → ExprTree → Run State → Run State → Run State
-branch_run s condition accepted otherwise = tick (andthen (value s condition) (λ c. if truth_of c.value then accepted else otherwise))
+branch_run s condition accepted otherwise =
+    tick (andthen (value s condition) (λ c. if truth_of c.value then accepted else otherwise))
 
 -- the turns between two bounds, each evaluated once
 abbrev pub loop_run : State → ExprTree → ExprTree → (ℕ → State → Run State) → Run State
-loop_run s low high turn = tick (andthen (value s low) (λ a. andthen (value s high) (λ b. turns (b.value - a.value) a.value turn s)))
+loop_run s low high turn =
+    tick (andthen (value s low) (λ a. andthen (value s high) (λ b. turns (b.value - a.value) a.value turn s)))
 
 abbrev mutual
   -- a statement
@@ -136,10 +146,13 @@ abbrev mutual
   run known s (declaration place label mutable kind text right) = set_run known s text right
   run known s (array place label mutable kind size text initial) = array_run s text kind size initial
   run known s (assignment place target text right) = set_run known s text right
-  run known s (element_assignment place bracket target text index right) = element_run known s bracket text index right
+  run known s (element_assignment place bracket target text index right) =
+      element_run known s bracket text index right
   run known s (call c) = andthen (call_run (known c.name) s c) (λ r. given r.state)
-  run known s (conditional place condition accepted otherwise) = branch_run s condition (run_all known s accepted) (run_all known s otherwise)
-  run known s (loop place counter text low high body) = loop_run s low high (λ i t. run_all known (counting t text i) body)
+  run known s (conditional place condition accepted otherwise) =
+      branch_run s condition (run_all known s accepted) (run_all known s otherwise)
+  run known s (loop place counter text low high body) =
+      loop_run s low high (λ i t. run_all known (counting t text i) body)
 
   -- statements in their order
   pub run_all : Runnables → State → BlockTree → Run State
@@ -167,11 +180,15 @@ runnables before = known_of runnable before
 
 -- the outcome of an export, from the end of its body
 abbrev pub results : ProcedureTree → Returned → Results
-results p r = record { returned = option_map (λ (v : Word). v.value) r.word; arrays = final_arrays r.state p.parameters }
+results p r = record {
+  returned = option_map (λ (v : Word). v.value) r.word;
+  arrays = final_arrays r.state p.parameters;
+}
 
 -- an export on arguments, after the earlier procedures
 abbrev pub export_run : List ProcedureTree → ProcedureTree → List Arg → Run Results
-export_run before p args = andthen (inside (body_run (runnables before) p (holding p.parameters args))) (λ r. given (results p r))
+export_run before p args = andthen (inside (body_run (runnables before) p (holding p.parameters args)))
+    (λ r. given (results p r))
 
 -- a program on arguments; without an export nothing is run
 abbrev pub found_run : Option (List ProcedureTree × ProcedureTree) → List Arg → Run Results

@@ -1,25 +1,34 @@
 -- The rules that the nodes of an expression have to meet, and its type. A rule is asked of a node only where the
 -- node's own parts are well typed; a node has a type only where it violates no rule.
-use Rattle.std.specs.Prelude.{ℕ, Bool, false, not, ◌&&◌, ◌||◌, ◌^◌, nat_lt, List, [], ◌∷◌, ◌++◌, Option, None, Some, is_some}
+use Rattle.std.specs.Prelude.{ℕ, Bool, false, not, ◌&&◌, ◌||◌, ◌^◌, nat_lt, List, [], ◌∷◌, ◌++◌, Option, None, Some}
+use Rattle.std.specs.Prelude.{is_some}
 use Rattle.std.specs.Option.{option_map}
 use Rattle.language.specs.declared.rule.Rule.{Rule}
-use Rattle.language.specs.declared.rule.Rule.TheVariants.{UndeclaredName, WidthsDiffer, WrongKind, LiteralOutOfRange, SecretIndex, SecretDivisionOperand, SecretMultiplicationOperand}
+use Rattle.language.specs.declared.rule.Rule.TheVariants.{UndeclaredName, WidthsDiffer, WrongKind, LiteralOutOfRange}
+use Rattle.language.specs.declared.rule.Rule.TheVariants.{SecretIndex, SecretDivisionOperand}
+use Rattle.language.specs.declared.rule.Rule.TheVariants.{SecretMultiplicationOperand}
 use Rattle.language.specs.declared.signature.Kind.{Kind}
 use Rattle.language.specs.declared.signature.Kind.TheVariants.{Boolean}
 use Rattle.language.specs.declared.signature.Label.TheVariants.{Public}
 use Rattle.language.specs.declared.tree.BinaryOperator.{BinaryOperator}
-use Rattle.language.specs.declared.tree.BinaryOperator.TheVariants.{Either, Both, Equal, Unequal, Less, LessOrEqual, Greater, GreaterOrEqual, BitOr, BitXor, BitAnd, ShiftLeft, ShiftRight, Add, Subtract, Multiply, Divide, Remainder}
+use Rattle.language.specs.declared.tree.BinaryOperator.TheVariants.{Either, Both, Equal, Unequal, Less, LessOrEqual}
+use Rattle.language.specs.declared.tree.BinaryOperator.TheVariants.{Greater, GreaterOrEqual, BitOr, BitXor, BitAnd}
+use Rattle.language.specs.declared.tree.BinaryOperator.TheVariants.{ShiftLeft, ShiftRight, Add, Subtract, Multiply}
+use Rattle.language.specs.declared.tree.BinaryOperator.TheVariants.{Divide, Remainder}
 use Rattle.language.specs.declared.tree.PrefixOperator.{PrefixOperator}
 use Rattle.language.specs.declared.tree.PrefixOperator.TheVariants.{Not, Complement, Negate}
 use Rattle.language.specs.declared.operation.Operation.{Operation}
-use Rattle.language.specs.declared.operation.Operation.TheVariants.{Arithmetic, Multiplication, Division, Shift, Equality, Order, Logic}
+use Rattle.language.specs.declared.operation.Operation.TheVariants.{Arithmetic, Multiplication, Division, Shift}
+use Rattle.language.specs.declared.operation.Operation.TheVariants.{Equality, Order, Logic}
 use Rattle.language.specs.declared.typing.ValueType.{ValueType}
 use Rattle.language.specs.declared.typing.VariableType.{VariableType}
 use Rattle.language.specs.declared.typing.Violation.{Violation}
 use Rattle.word.specs.declared.profile.Profile.{Profile}
 use Rattle.word.specs.declared.profile.Profile.TheVariants.{P1, P2}
 use Rattle.language.specs.Tree.{ExprTree, number, truth, name, prefix, binary, rotate, convert, select, element}
-use Rattle.language.specs.Types.{Scope, found, variable, bits_of, word, joined, is_numeric, is_bool, is_array, is_narrow, is_hidden, kind_of, label_of, widths_differ, are_alike, when, at, unless, of_one, of_two, of_three, with_type}
+use Rattle.language.specs.Types.{Scope, found, variable, bits_of, word, joined, is_numeric, is_bool, is_array}
+use Rattle.language.specs.Types.{is_narrow, is_hidden, kind_of, label_of, widths_differ, are_alike, when, at, unless}
+use Rattle.language.specs.Types.{of_one, of_two, of_three, with_type}
 
 -- what an operator makes of its operands
 abbrev pub operation_of : BinaryOperator → Operation
@@ -106,7 +115,8 @@ binary_rules profile operator a b = operation_rules profile (operation_of operat
 
 abbrev pub binary_type : Profile → BinaryOperator → ValueType → ValueType → Option ValueType
 binary_type profile operator a b =
-    unless (binary_rules profile operator a b) (word (operation_kind (operation_of operator) (kind_of a)) (joined (label_of a) (label_of b)))
+    unless (binary_rules profile operator a b)
+    (word (operation_kind (operation_of operator) (kind_of a)) (joined (label_of a) (label_of b)))
 
 -- `!` wants a bool, `~` and `-` want a number
 abbrev pub prefix_rules : PrefixOperator → ValueType → List Rule
@@ -208,7 +218,8 @@ expr_violations scope (convert place kind operand) =
     expr_violations scope operand ++ at place (of_one [] convert_rules (type_of scope operand))
 expr_violations scope (select place condition accepted otherwise) =
     expr_violations scope condition ++ expr_violations scope accepted ++ expr_violations scope otherwise
-    ++ at place (of_three [] select_rules (type_of scope condition) (type_of scope accepted) (type_of scope otherwise))
+    ++ at place (of_three [] select_rules (type_of scope condition) (type_of scope accepted)
+    (type_of scope otherwise))
 expr_violations scope (element place array text index) =
     at array (name_rules scope text) ++ expr_violations scope index
     ++ at place (of_two [] element_rules (name_type scope text) (type_of scope index))

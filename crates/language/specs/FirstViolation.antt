@@ -19,4 +19,5 @@ pub record IsFirst (all : List Violation) (first : Violation) : Type 0 where
 -- the refusal says out of memory, and has no place, or its rule and place are those of the first of the violations
 abbrev pub IsRefusedFor : List Violation → Rule → Option Place → Type 0
 IsRefusedFor all rule place =
-    IsWantOfMemory rule place ⊎ ((first : Violation) × IsFirst all first × (rule ≡ first.rule) × (place ≡ Some first.place))
+    IsWantOfMemory rule place ⊎ ((first : Violation) × IsFirst all first × (rule ≡ first.rule)
+    × (place ≡ Some first.place))

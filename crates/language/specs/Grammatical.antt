@@ -6,7 +6,10 @@ use Rattle.language.specs.declared.signature.Form.{Form}
 use Rattle.language.specs.declared.signature.Form.TheVariants.{SingleWord, FixedArray, MutableArray}
 use Rattle.language.specs.declared.signature.Kind.{Kind}
 use Rattle.language.specs.declared.signature.Kind.TheVariants.{Boolean, Uint8, Uint16, Uint32}
-use Rattle.language.specs.Tree.{ExprTree, number, truth, name, prefix, binary, rotate, convert, select, element, RightTree, called, computed, StatementTree, declaration, array, assignment, element_assignment, call, conditional, loop, BlockTree, nothing, first, ParameterTree, ReturnTree, ProcedureTree}
+use Rattle.language.specs.Tree.{ExprTree, number, truth, name, prefix, binary, rotate, convert, select, element}
+use Rattle.language.specs.Tree.{RightTree, called, computed, StatementTree, declaration, array, assignment}
+use Rattle.language.specs.Tree.{element_assignment, call, conditional, loop, BlockTree, nothing, first, ParameterTree}
+use Rattle.language.specs.Tree.{ReturnTree, ProcedureTree}
 
 -- the kinds of numbers
 abbrev pub IsNumberKind : Kind → Type 0
@@ -52,7 +55,8 @@ abbrev mutual
   IsPlain (assignment place target text right) = IsSmallRight right
   IsPlain (element_assignment place bracket target text index right) = AreSmall index × IsSmallRight right
   IsPlain (call c) = AreAllSmall c.arguments
-  IsPlain (conditional place condition accepted otherwise) = AreSmall condition × ArePlain accepted × ArePlain otherwise
+  IsPlain (conditional place condition accepted otherwise) = AreSmall condition × ArePlain accepted
+      × ArePlain otherwise
   IsPlain (loop place counter text low high body) = AreSmall low × AreSmall high × ArePlain body
 
   pub ArePlain : BlockTree → Type 0

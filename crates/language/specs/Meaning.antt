@@ -1,7 +1,8 @@
--- What expressions, statements, calls and a program mean: what a reader of the text works out, with real branches, loops
--- and calls. Each part comes to a result or meets a fault at a node: an index not below the length, or a divisor 0. The
--- premises of a rule stand one a line, its conclusion last.
-use Rattle.std.specs.Prelude.{◌≡◌, ℕ, ◌+◌, ◌<◌, ◌≤◌, ◌==◌, ◌&&◌, Bool, true, false, nat_lt, List, [], ◌∷◌, ◌++◌, length, map, Option, Some, None, slice_index, slice_set, replicate, if◌then◌else◌}
+-- What expressions, statements, calls and a program mean: what a reader of the text works out, with real branches,
+-- loops and calls. Each part comes to a result or meets a fault at a node: an index not below the length, or a
+-- divisor 0. The premises of a rule stand one a line, its conclusion last.
+use Rattle.std.specs.Prelude.{◌≡◌, ℕ, ◌+◌, ◌<◌, ◌≤◌, ◌==◌, ◌&&◌, Bool, true, false, nat_lt, List, [], ◌∷◌, ◌++◌}
+use Rattle.std.specs.Prelude.{length, map, Option, Some, None, slice_index, slice_set, replicate, if◌then◌else◌}
 use Rattle.std.specs.Option.{option_map}
 use Rattle.std.specs.Str.{bytes_eq}
 use Rattle.word.specs.Operators.{word_of}
@@ -12,12 +13,16 @@ use Rattle.language.specs.declared.signature.Kind.{Kind}
 use Rattle.language.specs.declared.signature.Kind.TheVariants.{Boolean, Uint32}
 use Rattle.language.specs.declared.values.Arg.{Arg}
 use Rattle.language.specs.declared.values.Arg.TheVariants as arg
-use Rattle.language.specs.Operators.{divides, truth_of, binary_word, prefix_word, rotated_word, converted_word, selected_word}
+use Rattle.language.specs.Operators.{divides, truth_of, binary_word, prefix_word, rotated_word, converted_word}
+use Rattle.language.specs.Operators.{selected_word}
 use Rattle.language.specs.Results.{Results}
 pub use Rattle.language.specs.Signature.{exported}
 use Rattle.language.specs.State.{State, Value, Word, single, array, empty, with_value}
 pub use Rattle.language.specs.Tree.{written}
-use Rattle.language.specs.Tree.{ExprTree, number, truth, name, prefix, binary, rotate, convert, select, element, CallTree, RightTree, called, computed, StatementTree, declaration, array as array_declaration, assignment, element_assignment, call, conditional, loop, BlockTree, nothing, first, ParameterTree, ReturnTree, ProcedureTree, ProgramTree}
+use Rattle.language.specs.Tree.{ExprTree, number, truth, name, prefix, binary, rotate, convert, select, element}
+use Rattle.language.specs.Tree.{CallTree, RightTree, called, computed, StatementTree, declaration}
+use Rattle.language.specs.Tree.{array as array_declaration, assignment, element_assignment, call, conditional, loop}
+use Rattle.language.specs.Tree.{BlockTree, nothing, first, ParameterTree, ReturnTree, ProcedureTree, ProgramTree}
 
 -- what a part comes to
 pub data Ending (A : Type 0) : Type 0 where
@@ -46,7 +51,8 @@ word_held None = record { kind = Boolean; value = 0 }
 
 -- the element of an array that a name holds
 abbrev pub element_held : Place → Option Value → ℕ → Ending Word
-element_held place (Some (array kind words)) i = if nat_lt i (length words) then gives (record { kind = kind; value = slice_index words i }) else faults place
+element_held place (Some (array kind words)) i = if nat_lt i (length words)
+    then gives (record { kind = kind; value = slice_index words i }) else faults place
 element_held place (Some (single w)) i = faults place
 element_held place None i = faults place
 
@@ -56,7 +62,8 @@ applied s (number place value kind) vs = gives (record { kind = kind; value = va
 applied s (truth place value) vs = gives (record { kind = Boolean; value = word_of value })
 applied s (name place text) vs = gives (word_held (s text))
 applied s (prefix place operator operand) (a ∷ []) = gives (prefix_word operator a)
-applied s (binary place operator left right) (a ∷ b ∷ []) = if divides operator && (b.value == 0) then faults place else gives (binary_word operator a b)
+applied s (binary place operator left right) (a ∷ b ∷ []) = if divides operator && (b.value == 0) then faults place
+    else gives (binary_word operator a b)
 applied s (rotate place operand amount) (a ∷ []) = gives (rotated_word amount a)
 applied s (convert place kind operand) (a ∷ []) = gives (converted_word kind a)
 applied s (select place condition accepted otherwise) (c ∷ a ∷ b ∷ []) = gives (selected_word c a b)
@@ -225,19 +232,22 @@ mutual
   pub data Runs : List ProcedureTree → State → StatementTree → Ending State → Type 0 where
     declares : {ps s place label mutable kind text right : _} {r : Returned}
         → Rights ps s right (gives r)
-        → Runs ps s (declaration place label mutable kind text right) (gives (with_value r.state text (single (word_given r.word))))
+        → Runs ps s (declaration place label mutable kind text right)
+        (gives (with_value r.state text (single (word_given r.word))))
     declaration_faults : {ps s place at label mutable kind text right : _}
         → Rights ps s right (faults at)
         → Runs ps s (declaration place label mutable kind text right) (faults at)
     declares_array : {ps s place label mutable kind size text values vs : _}
         → EvaluatesAll s (written values) (gives vs)
-        → Runs ps s (array_declaration place label mutable kind size text values) (gives (with_value s text (made_array kind size vs)))
+        → Runs ps s (array_declaration place label mutable kind size text values)
+        (gives (with_value s text (made_array kind size vs)))
     first_value_faults : {ps s place at label mutable kind size text values : _}
         → EvaluatesAll s (written values) (faults at)
         → Runs ps s (array_declaration place label mutable kind size text values) (faults at)
     assigns : {ps s place target text right : _} {r : Returned}
         → Rights ps s right (gives r)
-        → Runs ps s (assignment place target text right) (gives (with_value r.state text (single (word_given r.word))))
+        → Runs ps s (assignment place target text right)
+        (gives (with_value r.state text (single (word_given r.word))))
     assignment_faults : {ps s place target at text right : _}
         → Rights ps s right (faults at)
         → Runs ps s (assignment place target text right) (faults at)
@@ -253,7 +263,8 @@ mutual
         → Evaluates s (element bracket target text index) (gives old)
         → Evaluates s index (gives i)
         → Rights ps s right (gives r)
-        → Runs ps s (element_assignment place bracket target text index right) (gives (with_some r.state text (with_element (r.state text) i.value (word_given r.word))))
+        → Runs ps s (element_assignment place bracket target text index right)
+        (gives (with_some r.state text (with_element (r.state text) i.value (word_given r.word))))
     calls : {ps s c : _} {r : Returned}
         → Calls ps s c (gives r)
         → Runs ps s (call c) (gives r.state)
@@ -341,7 +352,8 @@ pub data Gives (program : ProgramTree) (args : List Arg) : Ending Results → Ty
   ends_well : {before w t : _} {p : ProcedureTree}
       → exported [] program.procedures ≡ Some (before, p)
       → Bodies before p (holding p.parameters args) (gives (record { word = w; state = t }))
-      → Gives program args (gives (record { returned = option_map (λ (v : Word). v.value) w; arrays = final_arrays t p.parameters }))
+      → Gives program args
+      (gives (record { returned = option_map (λ (v : Word). v.value) w; arrays = final_arrays t p.parameters }))
   meets_fault : {before at : _} {p : ProcedureTree}
       → exported [] program.procedures ≡ Some (before, p)
       → Bodies before p (holding p.parameters args) (faults at)

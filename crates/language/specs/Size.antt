@@ -1,6 +1,7 @@
--- How large a program is, and the limits on it. What is counted is the exported procedure, with every call replaced by the
--- called body.
-use Rattle.std.specs.Prelude.{ℕ, ◌+◌, ◌*◌, ◌/◌, ◌||◌, max, List, [], ◌∷◌, ◌++◌, Option, None, Some, nat_lt, if◌then◌else◌}
+-- How large a program is, and the limits on it. What is counted is the exported procedure, with every call replaced
+-- by the called body.
+use Rattle.std.specs.Prelude.{ℕ, ◌+◌, ◌*◌, ◌/◌, ◌||◌, max, List, [], ◌∷◌, ◌++◌, Option, None, Some, nat_lt}
+use Rattle.std.specs.Prelude.{if◌then◌else◌}
 pub use Rattle.language.specs.Limits.{most_nodes, most_declared_bytes, most_bodies}
 use Rattle.language.specs.declared.rule.Rule.TheVariants.{InlinedSize, DeclaredBytes}
 use Rattle.language.specs.declared.signature.Form.{Form}
@@ -10,7 +11,10 @@ use Rattle.language.specs.declared.signature.Kind.TheVariants.{Boolean, Uint8, U
 use Rattle.language.specs.declared.typing.Violation.{Violation}
 use Rattle.language.specs.Known.{Known, known_of}
 use Rattle.language.specs.Meaning.{is_word, word_arguments}
-use Rattle.language.specs.Tree.{ExprTree, number, truth, name, prefix, binary, rotate, convert, select, element, CallTree, RightTree, called, computed, StatementTree, declaration, array, assignment, element_assignment, call, conditional, loop, BlockTree, nothing, first, ParameterTree, ReturnTree, ProcedureTree, written}
+use Rattle.language.specs.Tree.{ExprTree, number, truth, name, prefix, binary, rotate, convert, select, element}
+use Rattle.language.specs.Tree.{CallTree, RightTree, called, computed, StatementTree, declaration, array, assignment}
+use Rattle.language.specs.Tree.{element_assignment, call, conditional, loop, BlockTree, nothing, first, ParameterTree}
+use Rattle.language.specs.Tree.{ReturnTree, ProcedureTree, written}
 use Rattle.language.specs.Types.{at, when}
 
 -- how large a procedure is where it is called
@@ -66,11 +70,13 @@ abbrev mutual
   statement_nodes extents (declaration place label mutable kind text right) = 1 + right_nodes extents right
   statement_nodes extents (array place label mutable kind length text values) = 1 + nodes_in_all (written values)
   statement_nodes extents (assignment place target text right) = 1 + right_nodes extents right
-  statement_nodes extents (element_assignment place bracket target text index right) = 1 + (1 + nodes_in index) + right_nodes extents right
+  statement_nodes extents (element_assignment place bracket target text index right) =
+      1 + (1 + nodes_in index) + right_nodes extents right
   statement_nodes extents (call c) = call_nodes extents c
   statement_nodes extents (conditional place condition accepted otherwise) =
       1 + nodes_in condition + block_nodes extents accepted + block_nodes extents otherwise
-  statement_nodes extents (loop place counter text low high body) = 1 + nodes_in low + nodes_in high + block_nodes extents body
+  statement_nodes extents (loop place counter text low high body) =
+      1 + nodes_in low + nodes_in high + block_nodes extents body
 
   pub block_nodes : Extents → BlockTree → ℕ
   block_nodes extents nothing = 0
@@ -113,7 +119,8 @@ abbrev mutual
   statement_words extents (assignment place target text right) = right_words extents right
   statement_words extents (element_assignment place bracket target text index right) = right_words extents right
   statement_words extents (call c) = words_of_called (extents c.name)
-  statement_words extents (conditional place condition accepted otherwise) = block_words extents accepted + block_words extents otherwise
+  statement_words extents (conditional place condition accepted otherwise) =
+      block_words extents accepted + block_words extents otherwise
   statement_words extents (loop place counter text low high body) = 1 + block_words extents body
 
   pub block_words : Extents → BlockTree → ℕ
@@ -156,7 +163,8 @@ abbrev mutual
   statement_bodies extents (assignment place target text right) = right_bodies extents right
   statement_bodies extents (element_assignment place bracket target text index right) = right_bodies extents right
   statement_bodies extents (call c) = bodies_of_called (extents c.name)
-  statement_bodies extents (conditional place condition accepted otherwise) = max (block_bodies extents accepted) (block_bodies extents otherwise)
+  statement_bodies extents (conditional place condition accepted otherwise) =
+      max (block_bodies extents accepted) (block_bodies extents otherwise)
   statement_bodies extents (loop place counter text low high body) = block_bodies extents body
 
   pub block_bodies : Extents → BlockTree → ℕ
@@ -183,5 +191,6 @@ extents_of before = known_of extent_of before
 -- the limits that a procedure passes behind the earlier ones, at its name
 abbrev pub size_violations : List ProcedureTree → ProcedureTree → List Violation
 size_violations before p =
-    at p.place (when (nat_lt most_nodes (nodes_of (extents_of before) p) || nat_lt most_bodies (bodies_of (extents_of before) p)) InlinedSize
+    at p.place (when (nat_lt most_nodes (nodes_of (extents_of before) p)
+    || nat_lt most_bodies (bodies_of (extents_of before) p)) InlinedSize
     ++ when (nat_lt most_declared_bytes (declared_bytes (extents_of before) p)) DeclaredBytes)

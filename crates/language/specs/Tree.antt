@@ -8,13 +8,16 @@ use Rattle.language.specs.declared.signature.Label.{Label}
 use Rattle.language.specs.declared.typing.WordType.{WordType}
 use Rattle.language.specs.declared.tree.BinaryOperator.{BinaryOperator}
 use Rattle.language.specs.declared.tree.PrefixOperator.{PrefixOperator}
-use Rattle.language.specs.declared.tree.Expr.{Expr, Number, Truth, Name, Prefix', Binary', Rotate', Convert', Select', Element'}
+use Rattle.language.specs.declared.tree.Expr.{Expr, Number, Truth, Name, Prefix', Binary', Rotate', Convert', Select'}
+use Rattle.language.specs.declared.tree.Expr.{Element'}
 use Rattle.language.specs.declared.tree.Call.{Call}
 use Rattle.language.specs.declared.tree.RightSide.{RightSide}
 use Rattle.language.specs.declared.tree.RightSide.TheVariants.{Value, Call as OfCall}
 use Rattle.language.specs.declared.tree.Parameter.{Parameter}
 use Rattle.language.specs.declared.tree.Return.{Return}
-use Rattle.language.specs.declared.tree.Statement.{Statement, Declare, DeclareArray, Assign, AssignElement, Call as CallStatement, If', For', Row_of-Statement, end_of-Statement, more_of-Statement}
+use Rattle.language.specs.declared.tree.Statement.{Statement, Declare, DeclareArray, Assign, AssignElement}
+use Rattle.language.specs.declared.tree.Statement.{Call as CallStatement, If', For', Row_of-Statement}
+use Rattle.language.specs.declared.tree.Statement.{end_of-Statement, more_of-Statement}
 use Rattle.language.specs.declared.tree.Procedure.{Procedure}
 
 -- an expression; each has the place of its head token
@@ -45,11 +48,14 @@ mutual
   -- a statement: a declaration has the place of its name, an assignment that of `=`, a call that of the procedure's
   -- name, a conditional that of `if`, a loop that of `for`
   pub data StatementTree : Type 0 where
-    declaration : (place : Place) (label : Label) (mutable : Bool) (kind : Kind) (text : List ℕ) (right : RightTree) → StatementTree
-    array : (place : Place) (label : Label) (mutable : Bool) (kind : Kind) (length : ℕ) (text : List ℕ) (values : Option (List ExprTree)) → StatementTree
+    declaration : (place : Place) (label : Label) (mutable : Bool) (kind : Kind) (text : List ℕ) (right : RightTree)
+        → StatementTree
+    array : (place : Place) (label : Label) (mutable : Bool) (kind : Kind) (length : ℕ) (text : List ℕ)
+        (values : Option (List ExprTree)) → StatementTree
     assignment : (place target : Place) (text : List ℕ) (right : RightTree) → StatementTree
     -- the place of `=`, that of `[`, and the array's name and its place
-    element_assignment : (place bracket target : Place) (text : List ℕ) (index : ExprTree) (right : RightTree) → StatementTree
+    element_assignment : (place bracket target : Place) (text : List ℕ) (index : ExprTree) (right : RightTree)
+        → StatementTree
     call : (call : CallTree) → StatementTree
     conditional : (place : Place) (condition : ExprTree) (accepted otherwise : BlockTree) → StatementTree
     -- a loop: its counter's place and name, the first number that the counter is, and the first that it is no longer
@@ -99,7 +105,8 @@ expr_tree (Prefix' place operator p operand) = prefix place operator (expr_tree 
 expr_tree (Binary' place operator p left q right) = binary place operator (expr_tree left) (expr_tree right)
 expr_tree (Rotate' place p operand amount) = rotate place (expr_tree operand) amount
 expr_tree (Convert' place kind p operand) = convert place kind (expr_tree operand)
-expr_tree (Select' place p condition q accepted r otherwise) = select place (expr_tree condition) (expr_tree accepted) (expr_tree otherwise)
+expr_tree (Select' place p condition q accepted r otherwise) =
+    select place (expr_tree condition) (expr_tree accepted) (expr_tree otherwise)
 expr_tree (Element' place target text p index) = element place target text.now (expr_tree index)
 
 abbrev pub call_tree : Call → CallTree
@@ -112,12 +119,17 @@ right_tree (Value e) = computed (expr_tree e)
 abbrev mutual
   pub statement_tree : Statement → StatementTree
   statement_tree (Declare d) = declaration d.place d.label d.mutable d.kind d.name.now (right_tree d.value)
-  statement_tree (DeclareArray d) = array d.place d.label d.mutable d.kind d.length d.name.now (option_map (λ values. map expr_tree values.items) d.values)
+  statement_tree (DeclareArray d) =
+      array d.place d.label d.mutable d.kind d.length d.name.now
+      (option_map (λ values. map expr_tree values.items) d.values)
   statement_tree (Assign a) = assignment a.place a.target a.name.now (right_tree a.value)
-  statement_tree (AssignElement a) = element_assignment a.place a.bracket a.target a.name.now (expr_tree a.index) (right_tree a.value)
+  statement_tree (AssignElement a) =
+      element_assignment a.place a.bracket a.target a.name.now (expr_tree a.index) (right_tree a.value)
   statement_tree (CallStatement c) = call (call_tree c)
-  statement_tree (If' place condition shape accepted shape' otherwise) = conditional place (expr_tree condition) (row_tree accepted) (row_tree otherwise)
-  statement_tree (For' place counter low high shape body) = loop place counter.place counter.name.now (expr_tree low) (expr_tree high) (row_tree body)
+  statement_tree (If' place condition shape accepted shape' otherwise) =
+      conditional place (expr_tree condition) (row_tree accepted) (row_tree otherwise)
+  statement_tree (For' place counter low high shape body) =
+      loop place counter.place counter.name.now (expr_tree low) (expr_tree high) (row_tree body)
 
   -- the statements of an arm or a loop
   pub row_tree : {m : _} → Row_of-Statement m → BlockTree
@@ -130,7 +142,14 @@ block_tree [] = nothing
 block_tree (statement ∷ rest) = first (statement_tree statement) (block_tree rest)
 
 abbrev pub parameter_tree : Parameter → ParameterTree
-parameter_tree p = record { label = p.label; kind = p.kind; form = p.form; length = p.length; place = p.place; name = p.name.now }
+parameter_tree p = record {
+  label = p.label;
+  kind = p.kind;
+  form = p.form;
+  length = p.length;
+  place = p.place;
+  name = p.name.now;
+}
 
 abbrev pub return_tree : Return → ReturnTree
 return_tree r = record { place = r.place; value = expr_tree r.value }

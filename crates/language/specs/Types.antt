@@ -1,5 +1,6 @@
 -- Types, labels and scopes: what the rules of the language speak of.
-use Rattle.std.specs.Prelude.{ℕ, Bool, true, false, not, ◌&&◌, ◌||◌, ◌==◌, List, [], ◌∷◌, ◌++◌, Option, None, Some, is_some, map, if◌then◌else◌}
+use Rattle.std.specs.Prelude.{ℕ, Bool, true, false, not, ◌&&◌, ◌||◌, ◌==◌, List, [], ◌∷◌, ◌++◌, Option, None, Some}
+use Rattle.std.specs.Prelude.{is_some, map, if◌then◌else◌}
 use Rattle.std.specs.Str.{bytes_eq}
 use Rattle.std.specs.Map.{lookup}
 use Rattle.word.specs.declared.place.Place.{Place}
@@ -165,7 +166,8 @@ of_two none f (Some a) (Some b) = f a b
 of_two none f (Some a) None = none
 of_two none f None b = none
 
-abbrev pub of_three : {B : Type 0} → B → (ValueType → ValueType → ValueType → B) → Option ValueType → Option ValueType → Option ValueType → B
+abbrev pub of_three : {B : Type 0} → B → (ValueType → ValueType → ValueType → B) → Option ValueType → Option ValueType
+    → Option ValueType → B
 of_three none f (Some a) (Some b) (Some c) = f a b c
 of_three none f (Some a) (Some b) None = none
 of_three none f (Some a) None c = none

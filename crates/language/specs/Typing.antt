@@ -1,12 +1,18 @@
 -- The rules that calls, statements, procedures and a program have to meet.
-use Rattle.std.specs.Prelude.{ℕ, Bool, true, false, not, ◌&&◌, ◌||◌, ◌==◌, List, [], ◌∷◌, ◌++◌, length, Option, None, Some, is_some, if◌then◌else◌}
+use Rattle.std.specs.Prelude.{ℕ, Bool, true, false, not, ◌&&◌, ◌||◌, ◌==◌, List, [], ◌∷◌, ◌++◌, length, Option, None}
+use Rattle.std.specs.Prelude.{Some, is_some, if◌then◌else◌}
 use Rattle.std.specs.List.{list_any, slice_get}
 use Rattle.std.specs.Str.{bytes_eq}
 use Rattle.word.specs.declared.place.Place.{Place}
 use Rattle.word.specs.declared.profile.Profile.{Profile}
 use Rattle.word.specs.Places.{origin}
 use Rattle.language.specs.declared.rule.Rule.{Rule}
-use Rattle.language.specs.declared.rule.Rule.TheVariants.{NameDeclaredTwice, ProcedureNotDeclaredEarlier, NotExactlyOneExport, WidthsDiffer, WrongKind, ArgumentCount, ArrayShapeOrLabel, NotMutable, ReturnMismatch, ArrayPassedTwice, InitialiserCount, SecretToPublic, PublicAssignedUnderSecretControl, SecretBound, CallAssignsPublicUnderSecretControl}
+use Rattle.language.specs.declared.rule.Rule.TheVariants.{NameDeclaredTwice, ProcedureNotDeclaredEarlier}
+use Rattle.language.specs.declared.rule.Rule.TheVariants.{NotExactlyOneExport, WidthsDiffer, WrongKind, ArgumentCount}
+use Rattle.language.specs.declared.rule.Rule.TheVariants.{ArrayShapeOrLabel, NotMutable, ReturnMismatch}
+use Rattle.language.specs.declared.rule.Rule.TheVariants.{ArrayPassedTwice, InitialiserCount, SecretToPublic}
+use Rattle.language.specs.declared.rule.Rule.TheVariants.{PublicAssignedUnderSecretControl, SecretBound}
+use Rattle.language.specs.declared.rule.Rule.TheVariants.{CallAssignsPublicUnderSecretControl}
 use Rattle.language.specs.declared.signature.Form.{Form}
 use Rattle.language.specs.declared.signature.Form.TheVariants.{SingleWord, FixedArray, MutableArray}
 use Rattle.language.specs.declared.signature.Kind.{Kind}
@@ -22,9 +28,14 @@ use Rattle.language.specs.declared.typing.ValueType.TheVariants.{Word, Array, No
 use Rattle.language.specs.declared.typing.VariableType.{VariableType}
 use Rattle.language.specs.declared.typing.Violation.{Violation}
 use Rattle.language.specs.declared.typing.WordType.{WordType}
-use Rattle.language.specs.ExprTyping.{name_type, name_rules, type_of, types_of, expr_violations, exprs_violations, element_rules, element_type}
-use Rattle.language.specs.Tree.{ExprTree, name, CallTree, RightTree, called, computed, StatementTree, declaration, array, assignment, element_assignment, call, conditional, loop, BlockTree, nothing, first, ParameterTree, ReturnTree, ProcedureTree, ProgramTree, written}
-use Rattle.language.specs.Types.{Scope, empty, found, declared, variable, callee, same_kind, same_label, is_secret, joined, word, is_numeric, is_bool, is_array, is_narrow, is_hidden, kind_of, label_of, widths_differ, are_alike, when, at, unless, of_one, of_two, of_all}
+use Rattle.language.specs.ExprTyping.{name_type, name_rules, type_of, types_of, expr_violations, exprs_violations}
+use Rattle.language.specs.ExprTyping.{element_rules, element_type}
+use Rattle.language.specs.Tree.{ExprTree, name, CallTree, RightTree, called, computed, StatementTree, declaration}
+use Rattle.language.specs.Tree.{array, assignment, element_assignment, call, conditional, loop, BlockTree, nothing}
+use Rattle.language.specs.Tree.{first, ParameterTree, ReturnTree, ProcedureTree, ProgramTree, written}
+use Rattle.language.specs.Types.{Scope, empty, found, declared, variable, callee, same_kind, same_label, is_secret}
+use Rattle.language.specs.Types.{joined, word, is_numeric, is_bool, is_array, is_narrow, is_hidden, kind_of, label_of}
+use Rattle.language.specs.Types.{widths_differ, are_alike, when, at, unless, of_one, of_two, of_all}
 
 -- Values put where a type is wanted.
 
@@ -48,8 +59,10 @@ change_rules control mutable label = when (not mutable) NotMutable ++ control_ru
 -- what a parameter is: a word is immutable, an array as it says
 abbrev pub parameter_value : ParameterTree → Form → ValueType
 parameter_value p SingleWord = word p.kind p.label
-parameter_value p FixedArray = Array (record { element = record { kind = p.kind; label = p.label }; length = p.length })
-parameter_value p MutableArray = Array (record { element = record { kind = p.kind; label = p.label }; length = p.length })
+parameter_value p FixedArray =
+    Array (record { element = record { kind = p.kind; label = p.label }; length = p.length })
+parameter_value p MutableArray =
+    Array (record { element = record { kind = p.kind; label = p.label }; length = p.length })
 
 -- an array parameter that the procedure may change
 abbrev pub is_mutable : Form → Bool
@@ -63,7 +76,8 @@ parameter_as p = Variable (record { value = parameter_value p p.form; mutable = 
 
 -- two arrays of one shape and label
 abbrev pub same_array : ArrayType → ArrayType → Bool
-same_array a b = same_kind a.element.kind b.element.kind && (a.length == b.length) && same_label a.element.label b.element.label
+same_array a b = same_kind a.element.kind b.element.kind && (a.length == b.length)
+    && same_label a.element.label b.element.label
 
 -- an array argument is of the parameter's shape and label
 abbrev pub shape_rules : ArrayType → ValueType → List Rule
@@ -144,12 +158,14 @@ called_one earlier None = None
 abbrev pub arguments_rules : Scope → List ParameterTree → List ValueType → List ExprTree → List Rule
 arguments_rules scope parameters types arguments =
     if length arguments == length parameters
-    then all_passed_rules scope (passed parameters types arguments) ++ when (clashes [] (passed parameters types arguments)) ArrayPassedTwice
+    then all_passed_rules scope (passed parameters types arguments)
+    ++ when (clashes [] (passed parameters types arguments)) ArrayPassedTwice
     else ArgumentCount ∷ []
 
 -- the rules of a call with well-typed arguments: it is of an earlier procedure, the arguments fit, and nothing
 -- public is assigned to under secret control
-abbrev pub known_call_rules : Scope → Label → List ExprTree → Option (Callee × ProcedureTree) → List ValueType → List Rule
+abbrev pub known_call_rules : Scope → Label → List ExprTree → Option (Callee × ProcedureTree) → List ValueType
+    → List Rule
 known_call_rules scope control arguments (Some (c, p)) types =
     arguments_rules scope p.parameters types arguments
     ++ when (is_secret control && c.assigns_public) CallAssignsPublicUnderSecretControl
@@ -157,7 +173,8 @@ known_call_rules scope control arguments None types = ProcedureNotDeclaredEarlie
 
 abbrev pub call_rules : List ProcedureTree → Scope → Label → CallTree → List Rule
 call_rules earlier scope control c =
-    of_all [] (known_call_rules scope control c.arguments (called_one earlier (callee (found scope c.name)))) (types_of scope c.arguments)
+    of_all [] (known_call_rules scope control c.arguments (called_one earlier (callee (found scope c.name))))
+    (types_of scope c.arguments)
 
 -- what a procedure gives
 abbrev pub result_value : Option WordType → ValueType
@@ -165,14 +182,16 @@ result_value (Some result) = Word result
 result_value None = Nothing
 
 -- what a call gives, whose arguments are well typed
-abbrev pub known_call_type : Scope → Label → List ExprTree → Option (Callee × ProcedureTree) → List ValueType → Option ValueType
+abbrev pub known_call_type : Scope → Label → List ExprTree → Option (Callee × ProcedureTree) → List ValueType
+    → Option ValueType
 known_call_type scope control arguments (Some (c, p)) types =
     unless (known_call_rules scope control arguments (Some (c, p)) types) (result_value p.result)
 known_call_type scope control arguments None types = None
 
 abbrev pub call_type : List ProcedureTree → Scope → Label → CallTree → Option ValueType
 call_type earlier scope control c =
-    of_all None (known_call_type scope control c.arguments (called_one earlier (callee (found scope c.name)))) (types_of scope c.arguments)
+    of_all None (known_call_type scope control c.arguments (called_one earlier (callee (found scope c.name))))
+    (types_of scope c.arguments)
 
 abbrev pub call_violations : List ProcedureTree → Scope → Label → CallTree → List Violation
 call_violations earlier scope control c =
@@ -196,7 +215,10 @@ declared_as label mutable kind = Variable (record { value = word kind label; mut
 
 abbrev pub declared_array : Label → Bool → Kind → ℕ → Declared
 declared_array label mutable kind size =
-    Variable (record { value = Array (record { element = record { kind = kind; label = label }; length = size }); mutable = mutable })
+    Variable (record {
+      value = Array (record { element = record { kind = kind; label = label }; length = size });
+      mutable = mutable;
+    })
 
 -- a counter: a public number that may not be assigned to
 abbrev pub counter_as : Declared
@@ -267,8 +289,10 @@ bounds_rules low high =
 
 -- the scope after a statement: the names of arms and loops are their own
 abbrev pub scope_after : Scope → StatementTree → Scope
-scope_after scope (declaration place label mutable kind text right) = declared scope text (declared_as label mutable kind)
-scope_after scope (array place label mutable kind size text values) = declared scope text (declared_array label mutable kind size)
+scope_after scope (declaration place label mutable kind text right) =
+    declared scope text (declared_as label mutable kind)
+scope_after scope (array place label mutable kind size text values) =
+    declared scope text (declared_array label mutable kind size)
 scope_after scope (assignment place target text right) = scope
 scope_after scope (element_assignment place bracket target text index right) = scope
 scope_after scope (call c) = scope
@@ -280,10 +304,12 @@ abbrev mutual
   pub statement_violations : List ProcedureTree → Scope → Label → StatementTree → List Violation
   statement_violations earlier scope control (declaration place label mutable kind text right) =
       right_violations earlier scope control right
-      ++ at place (of_one [] (declaration_rules control (is_some (found scope text)) label mutable kind) (right_type earlier scope control right))
+      ++ at place (of_one [] (declaration_rules control (is_some (found scope text)) label mutable kind)
+      (right_type earlier scope control right))
   statement_violations earlier scope control (array place label mutable kind size text values) =
       exprs_violations scope (written values)
-      ++ at place (of_all [] (array_rules control (is_some (found scope text)) label mutable kind size values) (types_of scope (written values)))
+      ++ at place (of_all [] (array_rules control (is_some (found scope text)) label mutable kind size values)
+      (types_of scope (written values)))
   statement_violations earlier scope control (assignment place target text right) =
       at target (name_rules scope text) ++ right_violations earlier scope control right
       ++ at place (assignment_rules control (variable (found scope text)) (right_type earlier scope control right))
@@ -291,7 +317,9 @@ abbrev mutual
       at target (name_rules scope text) ++ expr_violations scope index
       ++ at bracket (of_two [] element_rules (name_type scope text) (type_of scope index))
       ++ right_violations earlier scope control right
-      ++ at place (element_assignment_rules control (variable (found scope text)) (of_two None element_type (name_type scope text) (type_of scope index)) (right_type earlier scope control right))
+      ++ at place (element_assignment_rules control (variable (found scope text))
+      (of_two None element_type (name_type scope text) (type_of scope index))
+      (right_type earlier scope control right))
   statement_violations earlier scope control (call c) = call_violations earlier scope control c
   statement_violations earlier scope control (conditional place condition accepted otherwise) =
       expr_violations scope condition
@@ -307,7 +335,8 @@ abbrev mutual
   pub block_violations : List ProcedureTree → Scope → Label → BlockTree → List Violation
   block_violations earlier scope control nothing = []
   block_violations earlier scope control (first statement rest) =
-      statement_violations earlier scope control statement ++ block_violations earlier (scope_after scope statement) control rest
+      statement_violations earlier scope control statement
+      ++ block_violations earlier (scope_after scope statement) control rest
 
 -- the scope after some statements
 abbrev pub scope_after_all : Scope → BlockTree → Scope
@@ -335,12 +364,14 @@ is_public_mutable label mutable = mutable && not (is_secret label)
 abbrev mutual
   -- a public name is declared with `mut`, or such a procedure is called; the scope has the earlier procedures
   pub statement_assigns : Scope → StatementTree → Bool
-  statement_assigns scope (declaration place label mutable kind text right) = is_public_mutable label mutable || right_assigns scope right
+  statement_assigns scope (declaration place label mutable kind text right) =
+      is_public_mutable label mutable || right_assigns scope right
   statement_assigns scope (array place label mutable kind size text values) = is_public_mutable label mutable
   statement_assigns scope (assignment place target text right) = right_assigns scope right
   statement_assigns scope (element_assignment place bracket target text index right) = right_assigns scope right
   statement_assigns scope (call c) = calls_one scope c
-  statement_assigns scope (conditional place condition accepted otherwise) = block_assigns scope accepted || block_assigns scope otherwise
+  statement_assigns scope (conditional place condition accepted otherwise) =
+      block_assigns scope accepted || block_assigns scope otherwise
   statement_assigns scope (loop place counter text low high body) = block_assigns scope body
 
   pub block_assigns : Scope → BlockTree → Bool
@@ -372,7 +403,8 @@ parameter_violations scope (p ∷ ps) =
 
 -- the scope after a procedure: its name, and whether it may assign to something public
 abbrev pub with_procedure : Scope → ℕ → ProcedureTree → Scope
-with_procedure scope number p = declared scope p.name (Procedure (record { number = number; assigns_public = assigns_public scope p }))
+with_procedure scope number p =
+    declared scope p.name (Procedure (record { number = number; assigns_public = assigns_public scope p }))
 
 -- a `return` whose value is well typed
 abbrev pub return_rules : Option WordType → ValueType → List Rule
@@ -381,11 +413,13 @@ return_rules (Some wanted) given = value_rules wanted given
 
 abbrev pub return_violations : Scope → Option WordType → Option ReturnTree → List Violation
 return_violations scope result None = []
-return_violations scope result (Some r) = expr_violations scope r.value ++ at r.place (of_one [] (return_rules result) (type_of scope r.value))
+return_violations scope result (Some r) = expr_violations scope r.value
+    ++ at r.place (of_one [] (return_rules result) (type_of scope r.value))
 
 -- a procedure at its name: it is taken, or there is a result and no `return`
 abbrev pub procedure_rules : Bool → Option WordType → Option ReturnTree → List Rule
-procedure_rules taken result returned = when taken NameDeclaredTwice ++ when (is_some result && not (is_some returned)) ReturnMismatch
+procedure_rules taken result returned = when taken NameDeclaredTwice
+    ++ when (is_some result && not (is_some returned)) ReturnMismatch
 
 -- where a procedure's body begins
 abbrev pub body_scope : Scope → ℕ → ProcedureTree → Scope

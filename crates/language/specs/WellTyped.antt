@@ -1,6 +1,7 @@
--- Well-typed expressions, statements, procedures and programs, by rules of inference: the premises of a rule one a line,
--- its conclusion last.
-use Rattle.std.specs.Prelude.{◌≡◌, ℕ, ◌^◌, ◌<◌, ◌&&◌, ◌||◌, Bool, true, false, List, [], ◌∷◌, ◌++◌, length, Option, Some, None}
+-- Well-typed expressions, statements, procedures and programs, by rules of inference: the premises of a rule one a
+-- line, its conclusion last.
+use Rattle.std.specs.Prelude.{◌≡◌, ℕ, ◌^◌, ◌<◌, ◌&&◌, ◌||◌, Bool, true, false, List, [], ◌∷◌, ◌++◌, length, Option}
+use Rattle.std.specs.Prelude.{Some, None}
 use Rattle.std.specs.List.{slice_get}
 use Rattle.word.specs.declared.place.Place.{Place}
 use Rattle.word.specs.declared.profile.Profile.{Profile}
@@ -18,15 +19,20 @@ use Rattle.language.specs.declared.typing.ArrayType.{ArrayType}
 use Rattle.language.specs.declared.typing.Callee.{Callee}
 use Rattle.language.specs.declared.typing.Declared.TheVariants.{Procedure, Variable}
 use Rattle.language.specs.declared.operation.Operation.{Operation}
-use Rattle.language.specs.declared.operation.Operation.TheVariants.{Arithmetic, Multiplication, Division, Shift, Equality, Order, Logic}
+use Rattle.language.specs.declared.operation.Operation.TheVariants.{Arithmetic, Multiplication, Division, Shift}
+use Rattle.language.specs.declared.operation.Operation.TheVariants.{Equality, Order, Logic}
 use Rattle.language.specs.declared.typing.ValueType.{ValueType}
 use Rattle.language.specs.declared.typing.ValueType.TheVariants.{Word, Array}
 use Rattle.language.specs.declared.typing.WordType.{WordType}
 use Rattle.language.specs.ExprTyping.{operation_of}
 use Rattle.language.specs.Grammatical.{IsNumberKind}
-use Rattle.language.specs.Tree.{ExprTree, number, truth, name, prefix, binary, rotate, convert, select, element, CallTree, RightTree, called, computed, StatementTree, declaration, array, assignment, element_assignment, call, conditional, loop, BlockTree, nothing, first, ParameterTree, ReturnTree, ProcedureTree, ProgramTree, written}
+use Rattle.language.specs.Tree.{ExprTree, number, truth, name, prefix, binary, rotate, convert, select, element}
+use Rattle.language.specs.Tree.{CallTree, RightTree, called, computed, StatementTree, declaration, array, assignment}
+use Rattle.language.specs.Tree.{element_assignment, call, conditional, loop, BlockTree, nothing, first, ParameterTree}
+use Rattle.language.specs.Tree.{ReturnTree, ProcedureTree, ProgramTree, written}
 use Rattle.language.specs.Types.{Scope, empty, found, declared, bits_of, joined, word}
-use Rattle.language.specs.Typing.{same_name, is_mutable, result_value, counter_as, parameter_as, scope_after, scope_after_all, with_procedure, body_scope, exports}
+use Rattle.language.specs.Typing.{same_name, is_mutable, result_value, counter_as, parameter_as, scope_after}
+use Rattle.language.specs.Typing.{scope_after_all, with_procedure, body_scope, exports}
 
 -- Types.
 
@@ -155,7 +161,8 @@ array_given form argument = None
 
 -- two arguments are one array, which one of the two parameters may change
 abbrev pub is_shared : ParameterTree → ExprTree → ParameterTree → ExprTree → Bool
-is_shared p a q b = same_name (array_given p.form a) (array_given q.form b) && (is_mutable p.form || is_mutable q.form)
+is_shared p a q b = same_name (array_given p.form a) (array_given q.form b)
+    && (is_mutable p.form || is_mutable q.form)
 
 -- no argument behind this one shares an array with it
 abbrev pub SharesNone : ParameterTree → ExprTree → List ParameterTree → List ExprTree → Type 0
@@ -211,25 +218,29 @@ pub data HasCount (size : ℕ) : Option (List ExprTree) → Type 0 where
 mutual
   -- a statement is well typed under this control label
   pub data IsWellTyped (earlier : List ProcedureTree) : Scope → Label → StatementTree → Type 0 where
-    declares : {scope : Scope} {control : Label} {place : Place} {label : Label} {mutable : Bool} {kind : Kind} {text : List ℕ} {right : RightTree} {given : WordType}
+    declares : {scope : Scope} {control : Label} {place : Place} {label : Label} {mutable : Bool} {kind : Kind}
+        {text : List ℕ} {right : RightTree} {given : WordType}
         → found scope text ≡ None
         → Gives earlier scope control right (Word given)
         → Suits given (labelled kind label)
         → (mutable ≡ true → FlowsTo control label)
         → IsWellTyped earlier scope control (declaration place label mutable kind text right)
-    declares_array : {scope : Scope} {control : Label} {place : Place} {label : Label} {mutable : Bool} {kind : Kind} {size : ℕ} {text : List ℕ} {values : Option (List ExprTree)}
+    declares_array : {scope : Scope} {control : Label} {place : Place} {label : Label} {mutable : Bool} {kind : Kind}
+        {size : ℕ} {text : List ℕ} {values : Option (List ExprTree)}
         → found scope text ≡ None
         → AllSuit scope (labelled kind label) (written values)
         → HasCount size values
         → (mutable ≡ true → FlowsTo control label)
         → IsWellTyped earlier scope control (array place label mutable kind size text values)
-    assigns : {scope : Scope} {control : Label} {place target : Place} {text : List ℕ} {right : RightTree} {given wanted : WordType}
+    assigns : {scope : Scope} {control : Label} {place target : Place} {text : List ℕ} {right : RightTree}
+        {given wanted : WordType}
         → IsVariable scope text (Word wanted) true
         → Gives earlier scope control right (Word given)
         → Suits given wanted
         → FlowsTo control wanted.label
         → IsWellTyped earlier scope control (assignment place target text right)
-    assigns_element : {scope : Scope} {control : Label} {place bracket target : Place} {text : List ℕ} {index : ExprTree} {right : RightTree} {given : WordType} {array : ArrayType}
+    assigns_element : {scope : Scope} {control : Label} {place bracket target : Place} {text : List ℕ}
+        {index : ExprTree} {right : RightTree} {given : WordType} {array : ArrayType}
         → IsVariable scope text (Array array) true
         → HasType scope index (word Uint32 Public)
         → Gives earlier scope control right (Word given)
@@ -239,12 +250,14 @@ mutual
     calls : {scope : Scope} {control : Label} {c : CallTree} {type : ValueType}
         → IsCall earlier scope control c type
         → IsWellTyped earlier scope control (call c)
-    chooses : {scope : Scope} {control : Label} {place : Place} {condition : ExprTree} {accepted otherwise : BlockTree} {label : Label}
+    chooses : {scope : Scope} {control : Label} {place : Place} {condition : ExprTree}
+        {accepted otherwise : BlockTree} {label : Label}
         → HasType scope condition (word Boolean label)
         → AreWellTyped earlier scope (joined label control) accepted
         → AreWellTyped earlier scope (joined label control) otherwise
         → IsWellTyped earlier scope control (conditional place condition accepted otherwise)
-    repeats : {scope : Scope} {control : Label} {place counter : Place} {text : List ℕ} {low high : ExprTree} {body : BlockTree}
+    repeats : {scope : Scope} {control : Label} {place counter : Place} {text : List ℕ} {low high : ExprTree}
+        {body : BlockTree}
         → HasType scope low (word Uint32 Public)
         → HasType scope high (word Uint32 Public)
         → found scope text ≡ None

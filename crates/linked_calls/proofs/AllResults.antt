@@ -1,7 +1,8 @@
 -- All arrays that may be changed, handed back one after another: each is read from its slot, since only the caller's
 -- arrays are written, which lie beside the room and the arguments.
 use Rattle.std.specs.Prelude.{unwrap_or}
-use Rattle.std.proofs.Common.{◌≡◌, ℕ, zero, suc, ◌+◌, ◌*◌, ◌<◌, ◌≤◌, List, [], ◌∷◌, ◌++◌, length, Option, Some, inl, inr, refl, sym, ap, ap₂, ◌∙◌, subst, arith}
+use Rattle.std.proofs.Common.{◌≡◌, ℕ, zero, suc, ◌+◌, ◌*◌, ◌<◌, ◌≤◌, List, [], ◌∷◌, ◌++◌, length, Option, Some, inl}
+use Rattle.std.proofs.Common.{inr, refl, sym, ap, ap₂, ◌∙◌, subst, arith}
 use Rattle.codegen.specs.Loaded.{with_numbers, numbers_at, array_in, arrays_in}
 use Rattle.image_fields.specs.Fields.{Fields}
 use Rattle.image_fields.specs.declared.slot.Slot.{Slot}
@@ -131,7 +132,8 @@ module _ (z : Setting) (image : Fields) (site : Site) (frame high : ℕ) where
   -- Only arrays change.
 
   outcome_count : (bytes : ByteMap) (slot : Slot) → length (outcome_at bytes slot) ≡ slot.param.length
-  outcome_count bytes slot = numbers_count bytes (element_bytes slot.param.kind) (frame + slot.offset) slot.param.length
+  outcome_count bytes slot =
+      numbers_count bytes (element_bytes slot.param.kind) (frame + slot.offset) slot.param.length
 
   array_apart : (bytes : ByteMap) (i : ℕ) (slot : Slot) (x : ℕ)
       → IsBesides (site.pointers i) (array_bytes slot) frame high → frame ≤ x → x < high
@@ -271,5 +273,8 @@ module _ (z : Setting) (image : Fields) (site : Site) (frame high : ℕ) where
       (Takes (λ s. with_arrays site s.bytes i slots (arrays_in frame s.bytes slots)))
   results_runs i slots known =
       weaken_runs z (results_code image i slots) (λ s begins. begins)
-      (λ s t begins takes. record { bytes = takes.bytes ∙ all_handed_are s.bytes i slots known; others = takes.others })
+      (λ s t begins takes. record {
+        bytes = takes.bytes ∙ all_handed_are s.bytes i slots known;
+        others = takes.others;
+      })
       (handed_runs i slots known)

@@ -16,7 +16,8 @@ abbrev pub call_setting : Fields → Code → Site → Setting
 call_setting image code site = record { code = code; allowed = IsOfCall image site; silent = tt }
 
 -- an element lies in a stretch
-pub element_lies : (kind : Kind) (low high x : ℕ) → low ≤ x → x + element_bytes kind ≤ high → LiesIn low high x (element_size kind)
+pub element_lies : (kind : Kind) (low high x : ℕ) → low ≤ x → x + element_bytes kind ≤ high
+    → LiesIn low high x (element_size kind)
 element_lies Boolean low high x from to = (from, to)
 element_lies Uint8 low high x from to = (from, to)
 element_lies Uint16 low high x from to = (from, to)
@@ -28,12 +29,18 @@ module _ (image : Fields) (code : Code) (site : Site) (low high : ℕ) (from : r
   may_store_words to x above below = inl (omega (arith, from, above), omega (arith, to, below))
 
   -- and elements
-  pub may_store_elements : (kind : Kind) → high ≤ site.stack → MayStore (call_setting image code site) (element_bytes kind) (element_size kind) low high
-  may_store_elements kind to x above below = inl (element_lies kind (room_base image site) site.stack x (omega (arith, from, above)) (omega (arith, to, below)))
+  pub may_store_elements : (kind : Kind) → high ≤ site.stack
+      → MayStore (call_setting image code site) (element_bytes kind) (element_size kind) low high
+  may_store_elements kind to x above below =
+      inl (element_lies kind (room_base image site) site.stack x (omega (arith, from, above))
+      (omega (arith, to, below)))
 
   -- words of the room and of the arguments behind it may be loaded
   pub may_load_words : high ≤ arguments_end image site → MayLoad (call_setting image code site) 4 Word low high
   may_load_words to x above below = inl (omega (arith, from, above), omega (arith, to, below))
 
-  pub may_load_elements : (kind : Kind) → high ≤ arguments_end image site → MayLoad (call_setting image code site) (element_bytes kind) (element_size kind) low high
-  may_load_elements kind to x above below = inl (element_lies kind (room_base image site) (arguments_end image site) x (omega (arith, from, above)) (omega (arith, to, below)))
+  pub may_load_elements : (kind : Kind) → high ≤ arguments_end image site
+      → MayLoad (call_setting image code site) (element_bytes kind) (element_size kind) low high
+  may_load_elements kind to x above below =
+      inl (element_lies kind (room_base image site) (arguments_end image site) x (omega (arith, from, above))
+      (omega (arith, to, below)))

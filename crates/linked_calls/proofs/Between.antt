@@ -1,7 +1,8 @@
--- What the code before the body hands to it, and what the code behind it takes over: the two halves of a call, so that they
--- can be proved apart from each other and from the body.
+-- What the code before the body hands to it, and what the code behind it takes over: the two halves of a call, so
+-- that they can be proved apart from each other and from the body.
 use Rattle.std.specs.Prelude.{◌⊎◌, sum}
-use Rattle.std.proofs.Common.{◌≡◌, ℕ, suc, ◌+◌, ◌-◌, ◌*◌, ◌%◌, ◌^◌, ◌<◌, ◌≤◌, List, [], ◌∷◌, length, map, All, Some, None}
+use Rattle.std.proofs.Common.{◌≡◌, ℕ, suc, ◌+◌, ◌-◌, ◌*◌, ◌%◌, ◌^◌, ◌<◌, ◌≤◌, List, [], ◌∷◌, length, map, All, Some}
+use Rattle.std.proofs.Common.{None}
 use Rattle.codegen.specs.Anywhere.{IsLoaded, IsUntouched, body_words}
 use Rattle.codegen.specs.Loaded.{results_in}
 use Rattle.image_fields.specs.Fields.{Fields, IsImage}
@@ -44,12 +45,15 @@ saved_at image site = room_base image site + frame_room image
 -- each array's pointer stands at its argument's place
 abbrev pub PointerStands : Fields → Site → ByteMap → ℕ → Form → Type 0
 PointerStands image site bytes i SingleWord = Unit {0}
-PointerStands image site bytes i FixedArray = number_at bytes 4 (room_base image site + argument_offset image i) ≡ Some (site.pointers i)
-PointerStands image site bytes i MutableArray = number_at bytes 4 (room_base image site + argument_offset image i) ≡ Some (site.pointers i)
+PointerStands image site bytes i FixedArray = number_at bytes 4 (room_base image site + argument_offset image i)
+    ≡ Some (site.pointers i)
+PointerStands image site bytes i MutableArray = number_at bytes 4 (room_base image site + argument_offset image i)
+    ≡ Some (site.pointers i)
 
 abbrev pub PointersStand : Fields → Site → ByteMap → ℕ → List Slot → Type 0
 PointersStand image site bytes i [] = Unit {0}
-PointersStand image site bytes i (slot ∷ slots) = PointerStands image site bytes i slot.param.form × PointersStand image site bytes (i + 1) slots
+PointersStand image site bytes i (slot ∷ slots) = PointerStands image site bytes i slot.param.form
+    × PointersStand image site bytes (i + 1) slots
 
 -- an address before the room of the call or behind it
 abbrev pub IsOutsideRoom : Fields → Site → ℕ → Type 0
@@ -67,7 +71,8 @@ pub record IsEntered (image : Fields) (site : Site) (s t : State) : Type 0 where
   pub outside : (x : ℕ) → IsOutsideRoom image site x → t.bytes x ≡ s.bytes x
   pub there : AreData (room_base image site) site.stack t.bytes
 
-pub record EntersFrom (image : Fields) (code : Code) (site : Site) (list : List Observation) (s : State) : Type 0 where
+pub record EntersFrom (image : Fields) (code : Code) (site : Site) (list : List Observation) (s : State) :
+    Type 0 where
   pub end : State
   pub leads : Leads code (enter_turns image) s list end
   pub entered : IsEntered image site s end
@@ -78,7 +83,8 @@ pub record Enters (image : Fields) (code : Code) (site : Site) : Type 0 where
   pub runs : (s : State) → IsCalled image site s → EntersFrom image code site shown s
 
 abbrev pub EnteringLeads : Type 0
-EnteringLeads = (image : Fields) (code : Code) (site : Site) → IsImage image → IsSite image code site → Enters image code site
+EnteringLeads = (image : Fields) (code : Code) (site : Site) → IsImage image → IsSite image code site
+    → Enters image code site
 
 -- Behind the body.
 
@@ -90,7 +96,8 @@ IsWritableData site bytes i slot MutableArray = AreData (site.pointers i) (site.
 
 abbrev pub AreWritableData : Site → ByteMap → ℕ → List Slot → Type 0
 AreWritableData site bytes i [] = Unit {0}
-AreWritableData site bytes i (slot ∷ slots) = IsWritableData site bytes i slot slot.param.form × AreWritableData site bytes (i + 1) slots
+AreWritableData site bytes i (slot ∷ slots) = IsWritableData site bytes i slot slot.param.form
+    × AreWritableData site bytes (i + 1) slots
 
 -- the body is done, of a call whose caller had these registers
 pub record CanLeave (image : Fields) (site : Site) (regs : ℕ → ℕ) (s : State) : Type 0 where
@@ -104,7 +111,8 @@ pub record CanLeave (image : Fields) (site : Site) (regs : ℕ → ℕ) (s : Sta
   pub there : AreData (room_base image site) (arguments_end image site) s.bytes
   pub arrays : AreWritableData site s.bytes 0 image.slots
 
-pub record LeavesFrom (image : Fields) (code : Code) (site : Site) (list : List Observation) (regs : ℕ → ℕ) (s : State) : Type 0 where
+pub record LeavesFrom (image : Fields) (code : Code) (site : Site) (list : List Observation) (regs : ℕ
+    → ℕ) (s : State) : Type 0 where
   pub turns : ℕ
   pub counted : suc turns ≡ leave_turns image
   pub end : State
@@ -119,4 +127,5 @@ pub record Leaves (image : Fields) (code : Code) (site : Site) : Type 0 where
   pub runs : (regs : ℕ → ℕ) (s : State) → CanLeave image site regs s → LeavesFrom image code site shown regs s
 
 abbrev pub LeavesEverywhere : Type 0
-LeavesEverywhere = (image : Fields) (code : Code) (site : Site) → IsImage image → IsSite image code site → Leaves image code site
+LeavesEverywhere = (image : Fields) (code : Code) (site : Site) → IsImage image → IsSite image code site
+    → Leaves image code site

@@ -1,12 +1,16 @@
 -- Bytes: data that stays data, numbers put one after another, and stretches of zeros.
 use Rattle.std.specs.Prelude.{◌⊎◌, is_some, unwrap_or}
-use Rattle.std.proofs.Common.{◌≡◌, ◌≢◌, ℕ, zero, suc, ◌+◌, ◌*◌, ◌/◌, ◌%◌, ◌^◌, ◌<◌, ◌≤◌, true, ◌&&◌, cond, nat_le, nat_lt, List, [], ◌∷◌, length, Option, Some, None, inl, inr, ⊎_elim, refl, sym, ap, ap₂, ◌∙◌, subst, arith}
+use Rattle.std.proofs.Common.{◌≡◌, ◌≢◌, ℕ, zero, suc, ◌+◌, ◌*◌, ◌/◌, ◌%◌, ◌^◌, ◌<◌, ◌≤◌, true, ◌&&◌, cond, nat_le}
+use Rattle.std.proofs.Common.{nat_lt, List, [], ◌∷◌, length, Option, Some, None, inl, inr, ⊎_elim, refl, sym, ap, ap₂}
+use Rattle.std.proofs.Common.{◌∙◌, subst, arith}
 use Rattle.std.proofs.Math.Arith.{mod-mul}
 use Rattle.std.proofs.Math.Nat.{pow-suc}
 use Rattle.std.proofs.lemmas.Bool.{cases_eq, cases_lt, false≢true}
 use Rattle.std.proofs.lemmas.Bool.Decides.{nat_tests}
 use Rattle.rv_machine.specs.Bytes.{ByteMap, joined, number_at, with_byte, with_number, zeros}
-use Rattle.linked_calls.proofs.Below.{number_at-zero, number_at-suc, number_at_same, with_number-zero, with_number-suc, with_number_below, with_number_above, with_byte_same, with_byte_other, is_some-with_number}
+use Rattle.linked_calls.proofs.Below.{number_at-zero, number_at-suc, number_at_same, with_number-zero}
+use Rattle.linked_calls.proofs.Below.{with_number-suc, with_number_below, with_number_above, with_byte_same}
+use Rattle.linked_calls.proofs.Below.{with_byte_other, is_some-with_number}
 pub use Rattle.linked_calls.specs.Stretches.{AreData, AreZeroed}
 use Rattle.codegen.specs.Loaded.{with_numbers, numbers_at}
 
@@ -20,21 +24,30 @@ pub number_there : (bytes : ByteMap) (n a : ℕ) → AreData a (a + n) bytes →
 number_there bytes zero a there = ap is_some (number_at-zero bytes a)
 number_there bytes (suc n) a there =
     let rest = number_there bytes n (a + 1) (λ x low high. there x (omega arith) (omega arith)) in
-    ap is_some (number_at-suc bytes n a) ∙ (is_some-joined (bytes a) (number_at bytes n (a + 1)) ∙ ap₂ (λ x y. x && y) (there a (omega arith) (omega arith)) rest)
+    ap is_some (number_at-suc bytes n a)
+    ∙ (is_some-joined (bytes a) (number_at bytes n (a + 1))
+    ∙ ap₂ (λ x y. x && y) (there a (omega arith) (omega arith)) rest)
 
 -- a store keeps what is data
-pub stays_data : (bytes : ByteMap) (n a v low high : ℕ) → is_some (number_at bytes n a) ≡ true → AreData low high bytes → AreData low high (with_number bytes n a v)
-stays_data bytes n a v low high there data_there x above below = is_some-with_number bytes n a v x there ∙ data_there x above below
+pub stays_data : (bytes : ByteMap) (n a v low high : ℕ) → is_some (number_at bytes n a) ≡ true
+    → AreData low high bytes → AreData low high (with_number bytes n a v)
+stays_data bytes n a v low high there data_there x above below = is_some-with_number bytes n a v x there
+    ∙ data_there x above below
 
 -- a store of equal numbers where two maps agree
-pub with_number_agree : (one other : ByteMap) (n a v x : ℕ) → one x ≡ other x → with_number one n a v x ≡ with_number other n a v x
+pub with_number_agree : (one other : ByteMap) (n a v x : ℕ) → one x ≡ other x
+    → with_number one n a v x ≡ with_number other n a v x
 with_number_agree one other zero a v x same =
-    ap (λ (m : ByteMap). m x) (with_number-zero one a v) ∙ same ∙ sym (ap (λ (m : ByteMap). m x) (with_number-zero other a v))
+    ap (λ (m : ByteMap). m x) (with_number-zero one a v) ∙ same
+    ∙ sym (ap (λ (m : ByteMap). m x) (with_number-zero other a v))
 with_number_agree one other (suc n) a v x same =
     ap (λ (m : ByteMap). m x) (with_number-suc one n a v)
     ∙ ⊎_elim
-    (λ (e : x ≡ a). with_byte_same (with_number one n (a + 1) (v / 256)) a (v % 256) x e ∙ sym (with_byte_same (with_number other n (a + 1) (v / 256)) a (v % 256) x e))
-    (λ (e : x ≢ a). with_byte_other (with_number one n (a + 1) (v / 256)) a (v % 256) x e ∙ with_number_agree one other n (a + 1) (v / 256) x same ∙ sym (with_byte_other (with_number other n (a + 1) (v / 256)) a (v % 256) x e))
+    (λ (e : x ≡ a). with_byte_same (with_number one n (a + 1) (v / 256)) a (v % 256) x e
+    ∙ sym (with_byte_same (with_number other n (a + 1) (v / 256)) a (v % 256) x e))
+    (λ (e : x ≢ a). with_byte_other (with_number one n (a + 1) (v / 256)) a (v % 256) x e
+    ∙ with_number_agree one other n (a + 1) (v / 256) x same
+    ∙ sym (with_byte_other (with_number other n (a + 1) (v / 256)) a (v % 256) x e))
     (cases_eq x a)
     ∙ sym (ap (λ (m : ByteMap). m x) (with_number-suc other n a v))
 
@@ -61,25 +74,32 @@ with_number_cut bytes (suc n) a v =
     let w = v % 256 ^ suc n in
     let high = v / 256 % 256 ^ n in
     with_number-suc bytes n a w
-    ∙ ap₂ (λ (m : ByteMap) b. with_byte m a b) (ap (λ x. with_number bytes n (a + 1) x) (others v w high e) ∙ with_number_cut bytes n (a + 1) (v / 256)) (lowest v w high e)
+    ∙ ap₂ (λ (m : ByteMap) b. with_byte m a b) (ap (λ x. with_number bytes n (a + 1) x) (others v w high e)
+    ∙ with_number_cut bytes n (a + 1) (v / 256)) (lowest v w high e)
     ∙ sym (with_number-suc bytes n a v)
 
 -- Numbers put one after another.
 
-pub numbers_below : (bytes : ByteMap) (size at : ℕ) (vs : List ℕ) (x : ℕ) → x < at → with_numbers bytes size at vs x ≡ bytes x
+pub numbers_below : (bytes : ByteMap) (size at : ℕ) (vs : List ℕ) (x : ℕ) → x < at
+    → with_numbers bytes size at vs x ≡ bytes x
 numbers_below bytes size at [] x below = refl
 numbers_below bytes size at (v ∷ vs) x below =
-    numbers_below (with_number bytes size at v) size (at + size) vs x (omega (arith, below)) ∙ with_number_below bytes size at v x below
+    numbers_below (with_number bytes size at v) size (at + size) vs x (omega (arith, below))
+    ∙ with_number_below bytes size at v x below
 
-pub numbers_above : (bytes : ByteMap) (size at : ℕ) (vs : List ℕ) (x : ℕ) → at + size * length vs ≤ x → with_numbers bytes size at vs x ≡ bytes x
+pub numbers_above : (bytes : ByteMap) (size at : ℕ) (vs : List ℕ) (x : ℕ) → at + size * length vs ≤ x
+    → with_numbers bytes size at vs x ≡ bytes x
 numbers_above bytes size at [] x above = refl
 numbers_above bytes size at (v ∷ vs) x above =
-    numbers_above (with_number bytes size at v) size (at + size) vs x (omega (arith, above)) ∙ with_number_above bytes size at v x (omega (arith, above))
+    numbers_above (with_number bytes size at v) size (at + size) vs x (omega (arith, above))
+    ∙ with_number_above bytes size at v x (omega (arith, above))
 
-pub numbers_agree : (one other : ByteMap) (size at : ℕ) (vs : List ℕ) (x : ℕ) → one x ≡ other x → with_numbers one size at vs x ≡ with_numbers other size at vs x
+pub numbers_agree : (one other : ByteMap) (size at : ℕ) (vs : List ℕ) (x : ℕ) → one x ≡ other x
+    → with_numbers one size at vs x ≡ with_numbers other size at vs x
 numbers_agree one other size at [] x same = same
 numbers_agree one other size at (v ∷ vs) x same =
-    numbers_agree (with_number one size at v) (with_number other size at v) size (at + size) vs x (with_number_agree one other size at v x same)
+    numbers_agree (with_number one size at v) (with_number other size at v) size (at + size) vs x
+    (with_number_agree one other size at v x same)
 
 -- these numbers are there, one after another
 abbrev pub Holds : ByteMap → ℕ → ℕ → List ℕ → Type 0
@@ -91,7 +111,8 @@ some_is (Some v) h = refl
 some_is None h = absurd (false≢true h)
 
 -- the numbers of a stretch of data are there
-pub numbers_hold : (bytes : ByteMap) (n a k : ℕ) → AreData a (a + n * k) bytes → Holds bytes n a (numbers_at bytes n a k)
+pub numbers_hold : (bytes : ByteMap) (n a k : ℕ) → AreData a (a + n * k) bytes
+    → Holds bytes n a (numbers_at bytes n a k)
 numbers_hold bytes n a zero there = tt
 numbers_hold bytes n a (suc k) there = (
   some_is (number_at bytes n a) (number_there bytes n a (λ x low high. there x low (omega (arith, high)))),
@@ -103,7 +124,8 @@ numbers_count bytes n a zero = refl
 numbers_count bytes n a (suc k) = ap suc (numbers_count bytes n (a + n) k)
 
 -- they are there in a map that agrees
-pub holds_same : (old new : ByteMap) (n a : ℕ) (vs : List ℕ) → ((x : ℕ) → a ≤ x → x < a + n * length vs → new x ≡ old x) → Holds old n a vs → Holds new n a vs
+pub holds_same : (old new : ByteMap) (n a : ℕ) (vs : List ℕ)
+    → ((x : ℕ) → a ≤ x → x < a + n * length vs → new x ≡ old x) → Holds old n a vs → Holds new n a vs
 holds_same old new n a [] same h = tt
 holds_same old new n a (v ∷ vs) same h = (
   number_at_same old new n a (λ x low high. same x low (omega (arith, high))) ∙ h.0,
@@ -111,9 +133,11 @@ holds_same old new n a (v ∷ vs) same h = (
 )
 
 -- and are what is read there
-pub held_numbers : (bytes : ByteMap) (n a : ℕ) (vs : List ℕ) → Holds bytes n a vs → numbers_at bytes n a (length vs) ≡ vs
+pub held_numbers : (bytes : ByteMap) (n a : ℕ) (vs : List ℕ) → Holds bytes n a vs
+    → numbers_at bytes n a (length vs) ≡ vs
 held_numbers bytes n a [] h = refl
-held_numbers bytes n a (v ∷ vs) h = ap₂ (λ x (xs : List ℕ). x ∷ xs) (ap (λ o. unwrap_or o 0) h.0) (held_numbers bytes n (a + n) vs h.1)
+held_numbers bytes n a (v ∷ vs) h =
+    ap₂ (λ x (xs : List ℕ). x ∷ xs) (ap (λ o. unwrap_or o 0) h.0) (held_numbers bytes n (a + n) vs h.1)
 
 -- Zeros.
 
@@ -132,7 +156,8 @@ zero_inside bytes (suc n) a x low high =
     ap (λ (m : ByteMap). m x) (with_number-suc bytes n a 0)
     ∙ ⊎_elim
     (λ (e : x ≡ a). with_byte_same (with_number bytes n (a + 1) 0) a 0 x e)
-    (λ (e : x ≢ a). with_byte_other (with_number bytes n (a + 1) 0) a 0 x e ∙ zero_inside bytes n (a + 1) x (omega arith) (omega arith))
+    (λ (e : x ≢ a). with_byte_other (with_number bytes n (a + 1) 0) a 0 x e
+    ∙ zero_inside bytes n (a + 1) x (omega arith) (omega arith))
     (cases_eq x a)
 
 zero_outside : (bytes : ByteMap) (n a x : ℕ) → (x < a) ⊎ (a + n ≤ x) → with_number bytes n a 0 x ≡ bytes x
@@ -151,21 +176,27 @@ above_too low mid x high a b (inl l) = inl (omega arith)
 above_too low mid x high a b (inr h) = inr h
 
 -- the upper stretch, and then the lower one
-pub zeros_down : (low mid high : ℕ) (one two three : ByteMap) → low ≤ mid → mid ≤ high → AreZeroed mid high one two → AreZeroed low mid two three → AreZeroed low high one three
+pub zeros_down : (low mid high : ℕ) (one two three : ByteMap) → low ≤ mid → mid ≤ high → AreZeroed mid high one two
+    → AreZeroed low mid two three → AreZeroed low high one three
 zeros_down low mid high one two three a b up down = record {
-  inside = λ x l h. ⊎_elim (λ (e : x < mid). down.inside x l e) (λ (e : mid ≤ x). down.outside x (inr e) ∙ up.inside x e h) (cases_lt x mid);
+  inside = λ x l h. ⊎_elim (λ (e : x < mid). down.inside x l e) (λ (e : mid ≤ x). down.outside x (inr e)
+      ∙ up.inside x e h) (cases_lt x mid);
   outside = λ x w. down.outside x (below_too low mid x high a b w) ∙ up.outside x (above_too low mid x high a b w);
 }
 
 -- the lower one, and then the upper one
-pub zeros_up : (low mid high : ℕ) (one two three : ByteMap) → low ≤ mid → mid ≤ high → AreZeroed low mid one two → AreZeroed mid high two three → AreZeroed low high one three
+pub zeros_up : (low mid high : ℕ) (one two three : ByteMap) → low ≤ mid → mid ≤ high → AreZeroed low mid one two
+    → AreZeroed mid high two three → AreZeroed low high one three
 zeros_up low mid high one two three a b down up = record {
-  inside = λ x l h. ⊎_elim (λ (e : x < mid). up.outside x (inl e) ∙ down.inside x l e) (λ (e : mid ≤ x). up.inside x e h) (cases_lt x mid);
+  inside = λ x l h. ⊎_elim (λ (e : x < mid). up.outside x (inl e) ∙ down.inside x l e)
+      (λ (e : mid ≤ x). up.inside x e h) (cases_lt x mid);
   outside = λ x w. up.outside x (above_too low mid x high a b w) ∙ down.outside x (below_too low mid x high a b w);
 }
 
 -- a block of four words
-pub block_zeroed : (bytes : ByteMap) (a : ℕ) → AreZeroed a (a + 16) bytes (with_number (with_number (with_number (with_number bytes 4 a 0) 4 (a + 4) 0) 4 (a + 8) 0) 4 (a + 12) 0)
+pub block_zeroed : (bytes : ByteMap) (a : ℕ)
+    → AreZeroed a (a + 16) bytes
+    (with_number (with_number (with_number (with_number bytes 4 a 0) 4 (a + 4) 0) 4 (a + 8) 0) 4 (a + 12) 0)
 block_zeroed bytes a =
     let one = with_number bytes 4 a 0 in
     let two = with_number one 4 (a + 4) 0 in
@@ -175,6 +206,8 @@ block_zeroed bytes a =
     let f : a + 8 + 4 ≡ a + 12 = omega arith in
     let g : a + 12 + 4 ≡ a + 16 = omega arith in
     zeros_up a (a + 4) (a + 16) bytes one four (omega arith) (omega arith) (zero_number bytes 4 a)
-    (zeros_up (a + 4) (a + 8) (a + 16) one two four (omega arith) (omega arith) (subst (λ x. AreZeroed (a + 4) x one two) e (zero_number one 4 (a + 4)))
-    (zeros_up (a + 8) (a + 12) (a + 16) two three four (omega arith) (omega arith) (subst (λ x. AreZeroed (a + 8) x two three) f (zero_number two 4 (a + 8)))
+    (zeros_up (a + 4) (a + 8) (a + 16) one two four (omega arith) (omega arith)
+    (subst (λ x. AreZeroed (a + 4) x one two) e (zero_number one 4 (a + 4)))
+    (zeros_up (a + 8) (a + 12) (a + 16) two three four (omega arith) (omega arith)
+    (subst (λ x. AreZeroed (a + 8) x two three) f (zero_number two 4 (a + 8)))
     (subst (λ x. AreZeroed (a + 12) x three four) g (zero_number three 4 (a + 12)))))

@@ -1,6 +1,7 @@
 -- The whole call: the code before the body, the body, and the code behind it, one after another.
 use Rattle.std.specs.Prelude.{sum, is_some}
-use Rattle.std.proofs.Common.{◌≡◌, ℕ, suc, ◌+◌, ◌-◌, ◌%◌, ◌<◌, ◌≤◌, true, List, ◌++◌, map, Option, Some, None, inl, inr, ⊎_elim, ap, ◌∙◌, subst, arith}
+use Rattle.std.proofs.Common.{◌≡◌, ℕ, suc, ◌+◌, ◌-◌, ◌%◌, ◌<◌, ◌≤◌, true, List, ◌++◌, map, Option, Some, None, inl}
+use Rattle.std.proofs.Common.{inr, ⊎_elim, ap, ◌∙◌, subst, arith}
 use Rattle.std.proofs.lemmas.Bool.{cases_lt}
 use Rattle.std.proofs.lemmas.List.{map-append}
 use Rattle.std.proofs.lemmas.List.Elements.{All-append}
@@ -20,7 +21,8 @@ use Rattle.linked_calls.specs.Convention.{saved_registers}
 use Rattle.linked_calls.specs.FunctionCode.{frame_room}
 use Rattle.linked_calls.specs.Sections.{enter_sections, leave_sections, section_turns, around_turns}
 use Rattle.linked_calls.specs.Stretches.{AreData}
-use Rattle.linked_calls.proofs.Between.{IsOutsideRoom, body_at, saved_at, enter_turns, leave_turns, Enters, EntersFrom, EnteringLeads, CanLeave, Leaves, LeavesFrom, LeavesEverywhere}
+use Rattle.linked_calls.proofs.Between.{IsOutsideRoom, body_at, saved_at, enter_turns, leave_turns, Enters}
+use Rattle.linked_calls.proofs.Between.{EntersFrom, EnteringLeads, CanLeave, Leaves, LeavesFrom, LeavesEverywhere}
 use Rattle.linked_calls.proofs.Standing.{body_stands}
 use Rattle.linked_calls.proofs.Staying.{AreSameFrom, saved_stay, pointers_stay, arrays_stay, arrays_agree}
 use Rattle.linked_calls.proofs.WithinParameters.{arguments_within}
@@ -39,12 +41,14 @@ base_aligned image code site is =
     omega (arith, aligned, room)
 
 -- the frame lies in the room
-frame_below : (image : Fields) (code : Code) (site : Site) → IsSite image code site → room_base image site + image.frame_bytes ≤ site.stack
+frame_below : (image : Fields) (code : Code) (site : Site) → IsSite image code site
+    → room_base image site + image.frame_bytes ≤ site.stack
 frame_below image code site is =
     let room = is.room in
     omega (arith, room)
 
-is_placed : (image : Fields) (code : Code) (site : Site) → IsSite image code site → IsPlaced image code (body_at image site) (room_base image site)
+is_placed : (image : Fields) (code : Code) (site : Site) → IsSite image code site
+    → IsPlaced image code (body_at image site) (room_base image site)
 is_placed image code site is =
     let below = frame_below image code site is in
     let ends = is.stack_ends in
@@ -76,16 +80,20 @@ inside_is_of_call image code site is (Some (Mul a b)) inside = tt
 turns_around : (image : Fields) → around_turns image ≡ enter_turns image + leave_turns image
 turns_around image =
     ap sum (map-append (section_turns image) (enter_sections image) (leave_sections image))
-    ∙ sum_by-append (λ x. x) (map (section_turns image) (enter_sections image)) (map (section_turns image) (leave_sections image))
+    ∙ sum_by-append (λ x. x) (map (section_turns image) (enter_sections image))
+    (map (section_turns image) (leave_sections image))
 
-turns_counted : (enter body leave around : ℕ) (rest : ℕ) → around ≡ enter + leave → suc rest ≡ leave → suc (enter + (body + rest)) ≡ around + body
+turns_counted : (enter body leave around : ℕ) (rest : ℕ) → around ≡ enter + leave → suc rest ≡ leave
+    → suc (enter + (body + rest)) ≡ around + body
 turns_counted enter body leave around rest e counted = omega (arith, e, counted)
 
 -- The body, between the two.
 
-module _ (image : Fields) (code : Code) (site : Site) (is : IsSite image code site) (s : State) (called : IsCalled image site s)
+module _ (image : Fields) (code : Code) (site : Site) (is : IsSite image code site) (s : State)
+    (called : IsCalled image site s)
     (before : List Observation) (entered : EntersFrom image code site before s)
-    (list : List Observation) (run : BodyRun image code (body_at image site) (room_base image site) entered.end list) where
+    (list : List Observation) (run : BodyRun image code (body_at image site) (room_base image site) entered.end
+    list) where
   beside_above : (x : ℕ) → room_base image site + frame_room image ≤ x → IsBeside image (room_base image site) x
   beside_above x above = inr (omega (arith, above))
 
@@ -108,8 +116,10 @@ module _ (image : Fields) (code : Code) (site : Site) (is : IsSite image code si
       ⊎_elim
       (λ (inside : x < room_base image site + image.frame_bytes).
       let e : room_base image site + (x - room_base image site) ≡ x = omega (arith, low) in
-      subst (λ a. is_some (run.end.bytes a) ≡ true) e (run.frame_there (x - room_base image site) (omega (arith, low, inside))))
-      (λ (above : room_base image site + image.frame_bytes ≤ x). ap is_some (run.beside x (inr above)) ∙ entered.entered.there x low high)
+      subst (λ a. is_some (run.end.bytes a) ≡ true) e
+      (run.frame_there (x - room_base image site) (omega (arith, low, inside))))
+      (λ (above : room_base image site + image.frame_bytes ≤ x). ap is_some (run.beside x (inr above))
+      ∙ entered.entered.there x low high)
       (cases_lt x (room_base image site + image.frame_bytes))
 
   all_there : AreData (room_base image site) (arguments_end image site) run.end.bytes
@@ -126,34 +136,43 @@ module _ (image : Fields) (code : Code) (site : Site) (is : IsSite image code si
     stack = called.stack;
     untouched = λ r which. run.untouched r which ∙ entered.entered.untouched r which;
     words = called.words;
-    saved = saved_stay (room_base image site + frame_room image) (saved_at image site) entered.end.bytes run.end.bytes s.regs saved_registers same_above (omega arith) entered.entered.saved;
-    pointers = pointers_stay image site entered.end.bytes run.end.bytes same_above 0 image.slots entered.entered.pointers;
+    saved = saved_stay (room_base image site + frame_room image) (saved_at image site) entered.end.bytes run.end.bytes
+        s.regs saved_registers same_above (omega arith) entered.entered.saved;
+    pointers = pointers_stay image site entered.end.bytes run.end.bytes same_above 0 image.slots
+        entered.entered.pointers;
     there = all_there;
     arrays = arrays_stay image site s run.end.bytes same_outside 0 image.slots is.arrays called.arguments;
   }
 
   -- so what is left of the bytes behind the body is left of those at the call
-  is_left : (results : Results) (t : State) → IsLeft image site s.regs run.end.bytes results t → IsLeft image site s.regs s.bytes results t
+  is_left : (results : Results) (t : State) → IsLeft image site s.regs run.end.bytes results t
+      → IsLeft image site s.regs s.bytes results t
   is_left results t left = record {
     result = left.result;
     kept = left.kept;
     cleared = left.cleared;
     memory = record {
       inside = left.memory.inside;
-      outside = λ x out. left.memory.outside x out ∙ arrays_agree site x run.end.bytes s.bytes 0 image.slots results.arrays (same_outside x out);
+      outside = λ x out. left.memory.outside x out
+          ∙ arrays_agree site x run.end.bytes s.bytes 0 image.slots results.arrays (same_outside x out);
     };
   }
 
 -- The call.
 
-module _ (program : ProgramTree) (p : ProcedureTree) (image : Fields) (code : Code) (site : Site) (is : IsSite image code site)
-    (enters : Enters image code site) (linked : IsLinked program p image code (body_at image site) (room_base image site)) (leaves : Leaves image code site) where
+module _ (program : ProgramTree) (p : ProcedureTree) (image : Fields) (code : Code) (site : Site)
+    (is : IsSite image code site)
+    (enters : Enters image code site)
+    (linked : IsLinked program p image code (body_at image site) (room_base image site))
+    (leaves : Leaves image code site) where
   abbrev shown_on : List Arg → List Observation
   shown_on args = enters.shown ++ (linked.shown args ++ leaves.shown)
 
   returns_by : (s : State) (called : IsCalled image site s) (entered : EntersFrom image code site enters.shown s)
-      (body : RunsLinked program image code (body_at image site) (room_base image site) (arguments_of image site s) entered.end (linked.shown (arguments_of image site s)))
-      → LeavesFrom image code site leaves.shown s.regs body.run.end → Returns program image code site s (shown_on (arguments_of image site s))
+      (body : RunsLinked program image code (body_at image site) (room_base image site) (arguments_of image site s)
+      entered.end (linked.shown (arguments_of image site s)))
+      → LeavesFrom image code site leaves.shown s.regs body.run.end
+      → Returns program image code site s (shown_on (arguments_of image site s))
   returns_by s called entered body left =
       let args = arguments_of image site s in
       let run = body.run in
@@ -166,27 +185,33 @@ module _ (program : ProgramTree) (p : ProcedureTree) (image : Fields) (code : Co
         leads = Leads-append entered.leads (Leads-append run.leads left.leads);
         body_turns = run.turns;
         within_steps = run.within_steps;
-        counted = turns_counted (enter_turns image) run.turns (leave_turns image) (around_turns image) left.turns (turns_around image) left.counted;
+        counted = turns_counted (enter_turns image) run.turns (leave_turns image) (around_turns image) left.turns
+            (turns_around image) left.counted;
         within = All-append allowed enters.shown (linked.shown args ++ leaves.shown) enters.within
-            (All-append allowed (linked.shown args) leaves.shown (λ k o below. inside_is_of_call image code site is _ (run.within_frame k o below)) leaves.within);
+            (All-append allowed (linked.shown args) leaves.shown
+            (λ k o below. inside_is_of_call image code site is _ (run.within_frame k o below)) leaves.within);
         at_last = left.at_last;
         left = is_left image code site is s called enters.shown entered (linked.shown args) run _ left.end left.left;
         goes_back = left.goes_back;
       }
 
-  returns : (s : State) → IsCalled image site s → Returns program image code site s (shown_on (arguments_of image site s))
+  returns : (s : State) → IsCalled image site s
+      → Returns program image code site s (shown_on (arguments_of image site s))
   returns s called =
       let args = arguments_of image site s in
       let entered = enters.runs s called in
-      let body = linked.runs args entered.end entered.entered.at_body entered.entered.loaded (arguments_within image site s) in
+      let body = linked.runs args entered.end entered.entered.at_body entered.entered.loaded
+      (arguments_within image site s) in
       returns_by s called entered body
-      (leaves.runs s.regs body.run.end (can_leave image code site is s called enters.shown entered (linked.shown args) body.run))
+      (leaves.runs s.regs body.run.end
+      (can_leave image code site is s called enters.shown entered (linked.shown args) body.run))
 
   is_callable : IsCallable program p image code site
   is_callable = record {
     shown = shown_on;
     runs = returns;
-    equal_leakage = λ args args' agree. ap (λ (body : List Observation). enters.shown ++ (body ++ leaves.shown)) (linked.equal_leakage args args' agree);
+    equal_leakage = λ args args' agree. ap (λ (body : List Observation). enters.shown ++ (body ++ leaves.shown))
+        (linked.equal_leakage args args' agree);
     public_results = linked.public_results;
   }
 

@@ -42,17 +42,27 @@ module _ (z : Setting) where
   kept_zero r q s t sets h =
       ⊎_elim (λ (e : q ≡ r). ap (λ x. t.regs x) e ∙ sets.there) (λ (e : q ≢ r). sets.others q e ∙ h) (cases_eq q r)
 
-  all_cleared : (rs : List ℕ) → AreRegisters rs → Runs z (length rs) (clear_registers_code rs) (λ s. Unit {0}) (Clears rs)
+  all_cleared : (rs : List ℕ) → AreRegisters rs
+      → Runs z (length rs) (clear_registers_code rs) (λ s. Unit {0}) (Clears rs)
   all_cleared [] h p there =
       straight_runs z {P = λ s. Unit {0}} {R = Clears []} [] tt
-      (λ s u. record { fit = tt; done = record { cleared = record { zero = All-none (λ r. s.regs r ≡ 0); others = λ q all. refl; bytes = refl }; kept = λ q e. e } }) p there
+      (λ s u. record {
+        fit = tt;
+        done =
+            record {
+              cleared = record { zero = All-none (λ r. s.regs r ≡ 0); others = λ q all. refl; bytes = refl };
+              kept = λ q e. e;
+            };
+      }) p there
   all_cleared (r ∷ rs) h p there =
-      part_to z refl (omega arith) (then_runs z {P = λ s. Unit {0}} {S = Clears (r ∷ rs)} (Immediate Addi r 0 0 ∷ []) (clear_registers_code rs) (one_cleared r h.0 h.1) (all_cleared rs h.2)
+      part_to z refl (omega arith) (then_runs z {P = λ s. Unit {0}} {S = Clears (r ∷ rs)} (Immediate Addi r 0 0 ∷ [])
+      (clear_registers_code rs) (one_cleared r h.0 h.1) (all_cleared rs h.2)
       (λ s t given sets. tt)
       (λ s t u given sets rest. record {
         cleared = record {
           zero = All-cons (λ q. u.regs q ≡ 0) r rs (rest.kept r sets.there) rest.cleared.zero;
-          others = λ q all. rest.cleared.others q (All-rest (λ x. q ≢ x) r rs all) ∙ sets.others q (All-first (λ x. q ≢ x) r rs all);
+          others = λ q all. rest.cleared.others q (All-rest (λ x. q ≢ x) r rs all)
+              ∙ sets.others q (All-first (λ x. q ≢ x) r rs all);
           bytes = rest.cleared.bytes ∙ sets.same;
         };
         kept = λ q e. rest.kept q (kept_zero r q s t sets e);
@@ -110,6 +120,7 @@ registers_are_cleared code start there =
         ),
       ),
     ) in
-    does z (clear_registers_code scratch_registers) {P = λ s. Unit {0}} {Before = λ s. Unit {0}} {R = Clears scratch_registers} {After = AreCleared scratch_registers}
+    does z (clear_registers_code scratch_registers) {P = λ s. Unit {0}} {Before = λ s. Unit {0}} {R =
+    Clears scratch_registers} {After = AreCleared scratch_registers}
     (all_cleared z scratch_registers are start (placed code start (clear_registers_code scratch_registers) there))
     (λ s u. u) (λ s t u clears. clears.cleared)

@@ -1,8 +1,9 @@
--- What is known of the arguments of a call before any state: their slots lie in the frame, their words in the room or on the
--- stack, and arrays apart from the room.
+-- What is known of the arguments of a call before any state: their slots lie in the frame, their words in the room or
+-- on the stack, and arrays apart from the room.
 use Rattle.std.specs.Prelude.{◌⊎◌}
 use Rattle.std.specs.List.{AllByRecursion}
-use Rattle.std.proofs.Common.{◌≡◌, ℕ, zero, suc, ◌+◌, ◌*◌, ◌%◌, ◌^◌, ◌<◌, ◌≤◌, nat_le, true, ◌&&◌, List, [], ◌∷◌, length, Some, inl, inr, refl, ap, sym, subst, arith}
+use Rattle.std.proofs.Common.{◌≡◌, ℕ, zero, suc, ◌+◌, ◌*◌, ◌%◌, ◌^◌, ◌<◌, ◌≤◌, nat_le, true, ◌&&◌, List, [], ◌∷◌}
+use Rattle.std.proofs.Common.{length, Some, inl, inr, refl, ap, sym, subst, arith}
 use Rattle.std.proofs.lemmas.Bool.{false≢true}
 use Rattle.image_fields.specs.Fields.{Fields, IsImage, AreSlots, is_length, slot_bytes, slot_end}
 use Rattle.image_fields.specs.declared.slot.Slot.{Slot}
@@ -15,11 +16,13 @@ use Rattle.language.specs.declared.signature.Kind.TheVariants.{Boolean, Uint8, U
 use Rattle.linked_calls.specs.Called.{ReadsArray, ReadsAnArray}
 use Rattle.linked_calls.specs.Calls.{Site, IsSite, IsReadable, IsBesides, LiesWell, LieWell, room_base, arguments_end}
 use Rattle.linked_calls.specs.FunctionCode.{frame_room, argument_offset, array_bytes}
-use Rattle.linked_calls.proofs.Allowed.{call_setting, element_lies, may_load_words, may_store_words, may_store_elements}
+use Rattle.linked_calls.proofs.Allowed.{call_setting, element_lies, may_load_words, may_store_words}
+use Rattle.linked_calls.proofs.Allowed.{may_store_elements}
 use Rattle.linked_calls.proofs.AllArguments.{KnownWord, KnownArray, IsKnown, AreKnown}
 use Rattle.linked_calls.proofs.Copying.{CanCopy}
 use Rattle.linked_calls.proofs.Pieces.{Setting}
-use Rattle.linked_calls.proofs.Rooms.{frame_fits, room_limit, room_ends, base_aligned, stack_below, place_aligned, place_ends, place_below}
+use Rattle.linked_calls.proofs.Rooms.{frame_fits, room_limit, room_ends, base_aligned, stack_below, place_aligned}
+use Rattle.linked_calls.proofs.Rooms.{place_ends, place_below}
 use Rattle.rv_machine.specs.Machine.{Code}
 use Rattle.rv_machine.specs.declared.memory.Size.{Size}
 use Rattle.rv_machine.specs.declared.memory.Size.TheVariants.{Word}
@@ -77,7 +80,8 @@ module _ (image : Fields) (code : Code) (site : Site) (is : IsImage image) (ther
     place_may : z.allowed (Some (event.Load (frame + argument_offset image i) Word))
     place_may =
         let place = frame + argument_offset image i in
-        may_load_words image code site place (arguments_end image site) (omega arith) (omega arith) place (omega arith) (place_ends image code site there i few)
+        may_load_words image code site place (arguments_end image site) (omega arith) (omega arith) place
+        (omega arith) (place_ends image code site there i few)
 
     word_known : slot.offset + 4 ≤ image.frame_bytes → KnownWord z image frame room site.pointers i slot
     word_known ends =
@@ -90,12 +94,14 @@ module _ (image : Fields) (code : Code) (site : Site) (is : IsImage image) (ther
           may = place_may;
           slot_even = slot_aligned;
           slot_below = omega (arith, ends, fits, top, below);
-          slot_may = may_store_words image code site frame site.stack (omega arith) (omega arith) (frame + slot.offset) (omega arith) (omega (arith, ends, fits, top));
+          slot_may = may_store_words image code site frame site.stack (omega arith) (omega arith)
+              (frame + slot.offset) (omega arith) (omega (arith, ends, fits, top));
           inside = omega (arith, ends, fits);
         }
 
     module _ (ends : slot.offset + array_bytes slot ≤ image.frame_bytes) (readable : IsReadable image site i slot)
-        (reads : (a : ℕ) (size : Size) → ReadsArray site i slot FixedArray a size → ReadsAnArray site 0 image.slots a size) where
+        (reads : (a : ℕ) (size : Size) → ReadsArray site i slot FixedArray a size
+        → ReadsAnArray site 0 image.slots a size) where
       slot_in_frame : frame + slot.offset + array_bytes slot ≤ frame + room
       slot_in_frame =
           let fits = frame_fits image in
@@ -113,13 +119,15 @@ module _ (image : Fields) (code : Code) (site : Site) (is : IsImage image) (ther
             pointer_ends = readable.ends;
             slot_ends = omega (arith, inside, top, below);
             few = omega (arith, inside, top, below);
-            apart = beside (site.pointers i) (array_bytes slot) frame site.stack (frame + slot.offset) (omega arith) (omega (arith, inside, top)) readable.beside_room;
+            apart = beside (site.pointers i) (array_bytes slot) frame site.stack (frame + slot.offset) (omega arith)
+                (omega (arith, inside, top)) readable.beside_room;
           }
 
       array_known : IsMore slot.param.length → KnownArray z image frame room site.pointers i slot
       array_known more =
           let kind = slot.param.kind in
-          let bytes : element_bytes kind * suc more.fewer ≡ array_bytes slot = ap (λ n. element_bytes kind * n) more.is in
+          let bytes : element_bytes kind * suc more.fewer ≡ array_bytes slot =
+          ap (λ n. element_bytes kind * n) more.is in
           let inside = slot_in_frame in
           let fits = frame_fits image in
           let top = room_ends image code site there in
@@ -133,32 +141,48 @@ module _ (image : Fields) (code : Code) (site : Site) (is : IsImage image) (ther
             count_is = more.is;
             slot_below = omega (arith, inside, top, below);
             few = subst (λ b. b < 2 ^ 32) (sym bytes) can.few;
-            can = subst (λ n. CanCopy (element_bytes kind) n (site.pointers i) (frame + slot.offset)) (sym more.is) can;
-            loads = λ x low high. inr (reads x _ (element_lies kind (site.pointers i) (site.pointers i + array_bytes slot) x low (subst (λ b. x + element_bytes kind ≤ site.pointers i + b) bytes high)));
-            stores = λ x low high. may_store_elements image code site (frame + slot.offset) site.stack (omega arith) kind (omega arith) x low (omega (arith, high, bytes, inside, top));
+            can = subst (λ n. CanCopy (element_bytes kind) n (site.pointers i) (frame + slot.offset))
+                (sym more.is) can;
+            loads =
+                λ x low high.
+                inr
+                (reads x _ (element_lies kind (site.pointers i) (site.pointers i + array_bytes slot) x low
+                (subst (λ b. x + element_bytes kind ≤ site.pointers i + b) bytes high)));
+            stores = λ x low high. may_store_elements image code site (frame + slot.offset) site.stack (omega arith)
+                kind (omega arith) x low (omega (arith, high, bytes, inside, top));
             inside = omega (arith, ends, fits);
-            apart = apart (site.pointers i) (array_bytes slot) frame (frame + room) site.stack (omega (arith, top)) readable.beside_room;
+            apart = apart (site.pointers i) (array_bytes slot) frame (frame + room) site.stack (omega (arith, top))
+                readable.beside_room;
           }
 
-    array_ends : slot.offset + 4 * array_words slot.param.kind slot.param.length ≤ image.frame_bytes → slot.offset + array_bytes slot ≤ image.frame_bytes
+    array_ends : slot.offset + 4 * array_words slot.param.kind slot.param.length ≤ image.frame_bytes
+        → slot.offset + array_bytes slot ≤ image.frame_bytes
     array_ends ends =
         let fits = array_fits slot.param.kind slot.param.length in
         omega (arith, ends, fits)
 
-    known : (form : Form) → is_length form slot.param.length ≡ true → slot.offset + slot_bytes form slot.param.kind slot.param.length ≤ image.frame_bytes
-        → LiesWell image site i slot form → ((a : ℕ) (size : Size) → ReadsArray site i slot form a size → ReadsAnArray site 0 image.slots a size)
+    known : (form : Form) → is_length form slot.param.length ≡ true
+        → slot.offset + slot_bytes form slot.param.kind slot.param.length ≤ image.frame_bytes
+        → LiesWell image site i slot form
+        → ((a : ℕ) (size : Size) → ReadsArray site i slot form a size → ReadsAnArray site 0 image.slots a size)
         → IsKnown z image frame room site.pointers i slot form
     known SingleWord long ends lies reads = word_known ends
-    known FixedArray long ends lies reads = array_known (array_ends ends) lies reads (some_elements slot.param.length long)
-    known MutableArray long ends lies reads = array_known (array_ends ends) lies.readable reads (some_elements slot.param.length long)
+    known FixedArray long ends lies reads =
+        array_known (array_ends ends) lies reads (some_elements slot.param.length long)
+    known MutableArray long ends lies reads =
+        array_known (array_ends ends) lies.readable reads (some_elements slot.param.length long)
 
-  known_from : (i low : ℕ) (slots : List Slot) → i + length slots ≡ length image.slots → AreSlots low slots → AllByRecursion (λ slot. slot_end slot ≤ image.frame_bytes) slots
-      → LieWell image site i slots → ((a : ℕ) (size : Size) → ReadsAnArray site i slots a size → ReadsAnArray site 0 image.slots a size)
+  known_from : (i low : ℕ) (slots : List Slot) → i + length slots ≡ length image.slots → AreSlots low slots
+      → AllByRecursion (λ slot. slot_end slot ≤ image.frame_bytes) slots
+      → LieWell image site i slots
+      → ((a : ℕ) (size : Size) → ReadsAnArray site i slots a size → ReadsAnArray site 0 image.slots a size)
       → AreKnown z image frame room site.pointers i slots
   known_from i low [] count are ends lie reads = tt
   known_from i low (slot ∷ slots) count are ends lie reads = (
-    known i (omega (arith, count)) slot are.0.aligned slot.param.form are.0.length ends.0 lie.0 (λ a size h. reads a size (inl h)),
-    known_from (i + 1) (slot_end slot) slots (omega (arith, count)) are.1 ends.1 lie.1 (λ a size h. reads a size (inr h)),
+    known i (omega (arith, count)) slot are.0.aligned slot.param.form are.0.length ends.0 lie.0
+        (λ a size h. reads a size (inl h)),
+    known_from (i + 1) (slot_end slot) slots (omega (arith, count)) are.1 ends.1 lie.1
+        (λ a size h. reads a size (inr h)),
   )
 
   -- all of them

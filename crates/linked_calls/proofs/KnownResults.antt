@@ -1,7 +1,8 @@
 -- What is known of the arrays of a call before any state: they can be handed back, by accesses that are the call's.
 use Rattle.std.specs.Prelude.{nat_le, ◌&&◌}
 use Rattle.std.specs.List.{AllByRecursion}
-use Rattle.std.proofs.Common.{◌≡◌, ℕ, ◌+◌, ◌*◌, ◌%◌, ◌<◌, ◌≤◌, true, List, [], ◌∷◌, length, Option, Some, None, inl, inr, arith}
+use Rattle.std.proofs.Common.{◌≡◌, ℕ, ◌+◌, ◌*◌, ◌%◌, ◌<◌, ◌≤◌, true, List, [], ◌∷◌, length, Option, Some, None, inl}
+use Rattle.std.proofs.Common.{inr, arith}
 use Rattle.std.proofs.lemmas.Bool.Decides.{nat_tests}
 use Rattle.image_fields.specs.Fields.{Fields, AreSlots, is_length, slot_bytes, slot_end}
 use Rattle.image_fields.specs.declared.slot.Slot.{Slot}
@@ -23,7 +24,8 @@ use Rattle.linked_calls.specs.Calls.{Site, IsBesides, IsWritable, LiesWell, LieW
 use Rattle.linked_calls.specs.Copies.{AreApart, IsCopying}
 use Rattle.linked_calls.specs.FunctionCode.{frame_room, argument_offset, array_bytes}
 use Rattle.linked_calls.specs.Stretches.{LiesIn}
-use Rattle.linked_calls.proofs.AllResults.{KnownOutput, IsKnownOutput, AreKnownOutputs, IsReadyOutput, AreReadyOutputs}
+use Rattle.linked_calls.proofs.AllResults.{KnownOutput, IsKnownOutput, AreKnownOutputs, IsReadyOutput}
+use Rattle.linked_calls.proofs.AllResults.{AreReadyOutputs}
 use Rattle.linked_calls.proofs.Between.{PointerStands, PointersStand, IsWritableData, AreWritableData}
 use Rattle.linked_calls.proofs.Pieces.{Setting}
 use Rattle.linked_calls.proofs.RoomNumbers.{RoomNumbers, place_inside}
@@ -129,7 +131,8 @@ module _ (image : Fields) (code : Code) (site : Site) (numbers : RoomNumbers ima
         };
         may = copy_allowed i slot embeds few (omega (arith, within, arguments));
         beside = both_beside (site.pointers i) (array_bytes slot) base site.stack end
-            (some_bytes slot.param.kind slot.param.length some) writable.readable.beside_room writable.beside_arguments;
+            (some_bytes slot.param.kind slot.param.length some) writable.readable.beside_room
+            writable.beside_arguments;
         place_inside = place;
         slot_inside = omega (arith, within, arguments);
       }

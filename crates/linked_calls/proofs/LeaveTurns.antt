@@ -10,9 +10,11 @@ use Rattle.language.specs.declared.signature.Form.TheVariants.{SingleWord, Fixed
 use Rattle.rv_code.specs.declared.instructions.Instr.TheVariants.{Register}
 use Rattle.rv_code.specs.declared.operations.RegisterOperation.TheVariants.{Add}
 use Rattle.linked_calls.specs.FunctionCode.{frame_room, room_of, result_code}
-use Rattle.linked_calls.specs.Sections.{array_section, array_sections, leave_sections, section_turns, array_turns, block_turns}
+use Rattle.linked_calls.specs.Sections.{array_section, array_sections, leave_sections, section_turns, array_turns}
+use Rattle.linked_calls.specs.Sections.{block_turns}
 use Rattle.linked_calls.specs.declared.section.Section.{Section}
-use Rattle.linked_calls.specs.declared.section.Section.TheVariants.{ResultOut, FrameTop, RestoredRegisters, CallersStack, WipedRoom, ClearedRegisters, Return}
+use Rattle.linked_calls.specs.declared.section.Section.TheVariants.{ResultOut, FrameTop, RestoredRegisters}
+use Rattle.linked_calls.specs.declared.section.Section.TheVariants.{CallersStack, WipedRoom, ClearedRegisters, Return}
 use Rattle.linked_calls.proofs.Between.{leave_turns}
 
 -- of an array that is handed back

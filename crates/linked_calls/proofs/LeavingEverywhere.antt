@@ -2,7 +2,8 @@
 -- instruction, which goes back.
 use Rattle.std.specs.Prelude.{unwrap_or, is_some, IfSome}
 use Rattle.std.specs.Option.{option_map}
-use Rattle.std.proofs.Common.{◌≡◌, ◌≢◌, ℕ, suc, ◌+◌, ◌-◌, ◌*◌, ◌<◌, ◌≤◌, List, [], ◌∷◌, ◌++◌, length, map, Option, Some, None, inl, inr, refl, sym, ap, ◌∙◌, subst, arith, length-append, append_assoc}
+use Rattle.std.proofs.Common.{◌≡◌, ◌≢◌, ℕ, suc, ◌+◌, ◌-◌, ◌*◌, ◌<◌, ◌≤◌, List, [], ◌∷◌, ◌++◌, length, map, Option}
+use Rattle.std.proofs.Common.{Some, None, inl, inr, refl, sym, ap, ◌∙◌, subst, arith, length-append, append_assoc}
 use Rattle.std.proofs.lemmas.List.{length-map}
 use Rattle.codegen.specs.Anywhere.{Stand, body_words}
 use Rattle.codegen.specs.Loaded.{word_in, arrays_in, results_in}
@@ -22,11 +23,13 @@ use Rattle.linked_calls.proofs.Below.{number_at_same}
 use Rattle.linked_calls.specs.Called.{IsOfCall, IsLeft, with_arrays, kept_registers, cleared_registers}
 use Rattle.linked_calls.specs.Calls.{Site, IsSite, room_base, arguments_end}
 use Rattle.linked_calls.specs.Convention.{saved_registers, scratch_registers}
-use Rattle.linked_calls.specs.FunctionCode.{enter_code, leave_code, function_words, frame_room, result_code, results_code, restore_code, wipe_code, clear_registers_code}
+use Rattle.linked_calls.specs.FunctionCode.{enter_code, leave_code, function_words, frame_room, result_code}
+use Rattle.linked_calls.specs.FunctionCode.{results_code, restore_code, wipe_code, clear_registers_code}
 use Rattle.linked_calls.specs.Sections.{block_turns}
 use Rattle.linked_calls.specs.Words.{HasResult, IsReturned, IsLoadOf}
 use Rattle.linked_calls.specs.Zeros.{IsStoreIn}
-use Rattle.linked_calls.proofs.AllResults.{AreKnownOutputs, AreReadyOutputs, BeginsHanding, results_runs, all_handed_apart, all_handed_are}
+use Rattle.linked_calls.proofs.AllResults.{AreKnownOutputs, AreReadyOutputs, BeginsHanding, results_runs}
+use Rattle.linked_calls.proofs.AllResults.{all_handed_apart, all_handed_are}
 use Rattle.linked_calls.proofs.Between.{AreSaved, LeavesEverywhere, Leaves, CanLeave, leave_at, leave_turns, saved_at}
 use Rattle.linked_calls.proofs.Bytes.{AreData, AreZeroed}
 use Rattle.linked_calls.proofs.GoingBack.{goes_back}
@@ -155,7 +158,8 @@ module _ (image : Fields) (code : Code) (site : Site) (is : IsImage image) (at_s
   result_runs : (returned : Option ResultSlot) (low : ℕ)
       → IfSome returned (λ (slot : ResultSlot). IsResultSlot low slot)
       → IfSome returned (λ (slot : ResultSlot). result_end slot ≤ image.frame_bytes)
-      → Runs z (length (result_code returned)) (result_code returned) Begins (Sets 10 (λ s. result_of s.bytes returned))
+      → Runs z (length (result_code returned)) (result_code returned) Begins
+      (Sets 10 (λ s. result_of s.bytes returned))
   result_runs None low slot inside =
       straight_runs z {P = Begins} {R = Sets 10 (λ s. 0)} (plain (Immediate Addi 10 0 0) ∷ []) (tt, tt)
       (λ s begins. record {

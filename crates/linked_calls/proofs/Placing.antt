@@ -12,7 +12,8 @@ placed code p [] h = tt
 placed code p (i ∷ is) h = (h.0, h.1, h.2, placed code (p + 4) is h.3)
 
 -- a part, between other facts
-pub does : (z : Setting) {p n : ℕ} (is : List Instr) {P Before : Data → Type 0} {R After : Data → Data → Type 0} → Part z p (p + 4 * length is) n P R
+pub does : (z : Setting) {p n : ℕ} (is : List Instr) {P Before : Data → Type 0} {R After : Data → Data → Type 0}
+    → Part z p (p + 4 * length is) n P R
     → ((s : Data) → Before s → P s) → ((s t : Data) → Before s → R s t → After s t)
     → Does z.code p is n z.allowed Before After
 does z is one before behind = record {

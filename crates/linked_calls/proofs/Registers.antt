@@ -1,5 +1,6 @@
 -- Registers after writes, and numbers in registers.
-use Rattle.std.proofs.Common.{◌≡◌, ◌≢◌, ℕ, ◌+◌, ◌*◌, ◌^◌, ◌<◌, ◌≤◌, Bool, true, false, cond, ◌&&◌, nat_lt, nat_eq, refl, ap, ◌∙◌, arith, eq-eqb, ne_eqb}
+use Rattle.std.proofs.Common.{◌≡◌, ◌≢◌, ℕ, ◌+◌, ◌*◌, ◌^◌, ◌<◌, ◌≤◌, Bool, true, false, cond, ◌&&◌, nat_lt, nat_eq}
+use Rattle.std.proofs.Common.{refl, ap, ◌∙◌, arith, eq-eqb, ne_eqb}
 use Rattle.std.proofs.lemmas.Bool.Decides.{nat_tests}
 use Rattle.rv_machine.specs.Effects.{sum_of, sign_extended}
 use Rattle.rv_machine.specs.Registers.{register, with_register}
@@ -31,10 +32,12 @@ large f h = grind (arith, nat_tests)
 parts_low : (n k : ℕ) → n < 2 ^ 32 → k ≡ lower_part n → k < 2048 → sum_of (upper_part n * 2 ^ 12) k ≡ n
 parts_low n k below e h = omega arith
 
-parts_high : (n k : ℕ) → n < 2 ^ 32 → k ≡ lower_part n → 2048 ≤ k → sum_of (upper_part n * 2 ^ 12) (k + 4294963200) ≡ n
+parts_high : (n k : ℕ) → n < 2 ^ 32 → k ≡ lower_part n → 2048 ≤ k
+    → sum_of (upper_part n * 2 ^ 12) (k + 4294963200) ≡ n
 parts_high n k below e h = omega arith
 
-split : (n k : ℕ) → n < 2 ^ 32 → k ≡ lower_part n → (b : Bool) → nat_lt k 2048 ≡ b → sum_of (upper_part n * 2 ^ 12) (sign_extended 12 k) ≡ n
+split : (n k : ℕ) → n < 2 ^ 32 → k ≡ lower_part n → (b : Bool) → nat_lt k 2048 ≡ b
+    → sum_of (upper_part n * 2 ^ 12) (sign_extended 12 k) ≡ n
 split n k below e true h =
     let l : k < 2048 = grind (arith, nat_tests) in
     ap (λ x. sum_of (upper_part n * 2 ^ 12) x) (small k l) ∙ parts_low n k below e l
@@ -50,8 +53,10 @@ sums : (u f l n : ℕ) → sum_of u l ≡ n → f + n < 2 ^ 32 → sum_of (sum_o
 sums u f l n e below = omega arith
 
 -- and with a base added between them an address
-pub far_address : (frame n : ℕ) → frame + n < 2 ^ 32 → sum_of (sum_of (upper_part n * 2 ^ 12) frame) (sign_extended 12 (lower_part n)) ≡ frame + n
-far_address frame n below = sums (upper_part n * 2 ^ 12) frame (sign_extended 12 (lower_part n)) n (parts n (omega arith)) below
+pub far_address : (frame n : ℕ) → frame + n < 2 ^ 32
+    → sum_of (sum_of (upper_part n * 2 ^ 12) frame) (sign_extended 12 (lower_part n)) ≡ frame + n
+far_address frame n below =
+    sums (upper_part n * 2 ^ 12) frame (sign_extended 12 (lower_part n)) n (parts n (omega arith)) below
 
 pub near_address : (frame n : ℕ) → n < 2048 → frame + n < 2 ^ 32 → sum_of frame (sign_extended 12 n) ≡ frame + n
 near_address frame n near below = ap (λ x. sum_of frame x) (small n near) ∙ (omega arith)

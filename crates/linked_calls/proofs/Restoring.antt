@@ -1,6 +1,7 @@
 -- The last of a call: the caller's registers restored, all the room wiped, and the other registers cleared.
 use Rattle.std.specs.Prelude.{is_some, unwrap_or}
-use Rattle.std.proofs.Common.{◌≡◌, ℕ, zero, suc, ◌+◌, ◌%◌, ◌^◌, ◌<◌, List, [], ◌∷◌, ◌++◌, length, map, Option, Some, refl, sym, ap, ap₂, ◌∙◌, subst, arith, append_assoc}
+use Rattle.std.proofs.Common.{◌≡◌, ℕ, zero, suc, ◌+◌, ◌%◌, ◌^◌, ◌<◌, List, [], ◌∷◌, ◌++◌, length, map, Option, Some}
+use Rattle.std.proofs.Common.{refl, sym, ap, ap₂, ◌∙◌, subst, arith, append_assoc}
 use Rattle.expression_code.specs.TermCode.{constant_code}
 use Rattle.rv_code.specs.declared.instructions.Instr.TheVariants.{Register}
 use Rattle.rv_code.specs.declared.operations.RegisterOperation.TheVariants.{Add}

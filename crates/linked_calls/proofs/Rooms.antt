@@ -36,10 +36,12 @@ base_whole base room stack is a b = omega (arith, is, a, b)
 four_of : (base room i : ℕ) → base % 16 ≡ 0 → room % 16 ≡ 0 → (base + (room + 48 + 4 * i)) % 4 ≡ 0
 four_of base room i a b = omega (arith, a, b)
 
-place_ends_by : (base room stack i n : ℕ) → base + room + 80 ≡ stack → i < n → base + (room + 48 + 4 * i) + 4 ≤ stack + 4 * (n - 8)
+place_ends_by : (base room stack i n : ℕ) → base + room + 80 ≡ stack → i < n
+    → base + (room + 48 + 4 * i) + 4 ≤ stack + 4 * (n - 8)
 place_ends_by base room stack i n is few = omega (arith, is, few)
 
-place_stacked_by : (base room stack i : ℕ) → base + room + 80 ≡ stack → 8 ≤ i → base + (room + 48 + 4 * i) ≡ stack + 4 * (i - 8)
+place_stacked_by : (base room stack i : ℕ) → base + room + 80 ≡ stack → 8 ≤ i
+    → base + (room + 48 + 4 * i) ≡ stack + 4 * (i - 8)
 place_stacked_by base room stack i is many = omega (arith, is, many)
 
 module _ (image : Fields) (code : Code) (site : Site) (is : IsSite image code site) where
@@ -49,7 +51,8 @@ module _ (image : Fields) (code : Code) (site : Site) (is : IsSite image code si
 
   -- the frame's base is a multiple of 16, and so is its end
   pub base_aligned : room_base image site % 16 ≡ 0
-  base_aligned = base_whole (room_base image site) (frame_room image) site.stack room_ends is.stack_aligned (room_whole image)
+  base_aligned = base_whole (room_base image site) (frame_room image) site.stack room_ends is.stack_aligned
+      (room_whole image)
 
   pub saved_aligned : saved_at image site % 16 ≡ 0
   saved_aligned =
@@ -66,8 +69,10 @@ module _ (image : Fields) (code : Code) (site : Site) (is : IsSite image code si
   pub place_aligned : (i : ℕ) → (room_base image site + argument_offset image i) % 4 ≡ 0
   place_aligned i = four_of (room_base image site) (frame_room image) i base_aligned (room_whole image)
 
-  pub place_ends : (i : ℕ) → i < length image.slots → room_base image site + argument_offset image i + 4 ≤ arguments_end image site
-  place_ends i few = place_ends_by (room_base image site) (frame_room image) site.stack i (length image.slots) room_ends few
+  pub place_ends : (i : ℕ) → i < length image.slots
+      → room_base image site + argument_offset image i + 4 ≤ arguments_end image site
+  place_ends i few = place_ends_by (room_base image site) (frame_room image) site.stack i (length image.slots)
+      room_ends few
 
   pub place_below : (i : ℕ) → i < length image.slots → room_base image site + argument_offset image i < 2 ^ 32
   place_below i few =
@@ -80,7 +85,8 @@ module _ (image : Fields) (code : Code) (site : Site) (is : IsSite image code si
   place_stacked i many = place_stacked_by (room_base image site) (frame_room image) site.stack i room_ends many
 
   -- what lies outside the room lies outside the frame, and outside what is stored at the entry
-  pub outside_frame : (x : ℕ) → IsOutsideRoom image site x → IsOutside (room_base image site) (room_base image site + frame_room image) x
+  pub outside_frame : (x : ℕ) → IsOutsideRoom image site x
+      → IsOutside (room_base image site) (room_base image site + frame_room image) x
   outside_frame x (inl low) = inl low
   outside_frame x (inr high) =
       let e = room_ends in

@@ -1,5 +1,6 @@
 -- Registers that were stored into words, one after another.
-use Rattle.std.proofs.Common.{◌≡◌, ℕ, zero, suc, ◌+◌, ◌*◌, ◌%◌, ◌^◌, ◌<◌, ◌≤◌, List, [], ◌∷◌, length, map, Some, ap, ◌∙◌, arith}
+use Rattle.std.proofs.Common.{◌≡◌, ℕ, zero, suc, ◌+◌, ◌*◌, ◌%◌, ◌^◌, ◌<◌, ◌≤◌, List, [], ◌∷◌, length, map, Some, ap}
+use Rattle.std.proofs.Common.{◌∙◌, arith}
 use Rattle.codegen.specs.Loaded.{with_numbers}
 use Rattle.linked_calls.proofs.Between.{AreSaved}
 use Rattle.linked_calls.proofs.Bytes.{numbers_below}
@@ -10,16 +11,20 @@ word_whole : (v : ℕ) → v < 2 ^ 32 → v % 256 ^ 4 ≡ v
 word_whole v below = omega (arith, below)
 
 -- words that are stored stand there
-pub stored_are_saved : (bytes : ByteMap) (regs : ℕ → ℕ) (a : ℕ) (rs : List ℕ) → ((r : ℕ) → regs r < 2 ^ 32) → AreSaved (with_numbers bytes 4 a (map regs rs)) regs a rs
+pub stored_are_saved : (bytes : ByteMap) (regs : ℕ → ℕ) (a : ℕ) (rs : List ℕ) → ((r : ℕ) → regs r < 2 ^ 32)
+    → AreSaved (with_numbers bytes 4 a (map regs rs)) regs a rs
 stored_are_saved bytes regs a [] words = tt
 stored_are_saved bytes regs a (r ∷ rs) words =
     let one = with_number bytes 4 a (regs r) in (
-      number_at_same one (with_numbers one 4 (a + 4) (map regs rs)) 4 a (λ x low high. numbers_below one 4 (a + 4) (map regs rs) x high) ∙ number_at-with_number bytes 4 a (regs r) ∙ ap Some (word_whole (regs r) (words r)),
+      number_at_same one (with_numbers one 4 (a + 4) (map regs rs)) 4 a
+          (λ x low high. numbers_below one 4 (a + 4) (map regs rs) x high)
+          ∙ number_at-with_number bytes 4 a (regs r) ∙ ap Some (word_whole (regs r) (words r)),
       stored_are_saved one regs (a + 4) rs words,
     )
 
 -- and stay there as long as nothing else is stored
-pub saved_same : (old new : ByteMap) (regs : ℕ → ℕ) (a : ℕ) (rs : List ℕ) → ((x : ℕ) → a ≤ x → x < a + 4 * length rs → new x ≡ old x) → AreSaved old regs a rs → AreSaved new regs a rs
+pub saved_same : (old new : ByteMap) (regs : ℕ → ℕ) (a : ℕ) (rs : List ℕ)
+    → ((x : ℕ) → a ≤ x → x < a + 4 * length rs → new x ≡ old x) → AreSaved old regs a rs → AreSaved new regs a rs
 saved_same old new regs a [] same saved = tt
 saved_same old new regs a (r ∷ rs) same saved = (
   number_at_same old new 4 a (λ x low high. same x low (omega (arith, high))) ∙ saved.0,
@@ -32,7 +37,8 @@ registers_from r zero = []
 registers_from r (suc n) = r ∷ registers_from (r + 1) n
 
 -- one of them
-pub saved_one : (bytes : ByteMap) (regs : ℕ → ℕ) (a r n i : ℕ) → i < n → AreSaved bytes regs a (registers_from r n) → number_at bytes 4 (a + 4 * i) ≡ Some (regs (r + i))
+pub saved_one : (bytes : ByteMap) (regs : ℕ → ℕ) (a r n i : ℕ) → i < n → AreSaved bytes regs a (registers_from r n)
+    → number_at bytes 4 (a + 4 * i) ≡ Some (regs (r + i))
 saved_one bytes regs a r zero i few saved = absurd (omega (arith, few))
 saved_one bytes regs a r (suc n) zero few saved =
     let e : a + 4 * 0 ≡ a = omega arith in
@@ -41,4 +47,5 @@ saved_one bytes regs a r (suc n) zero few saved =
 saved_one bytes regs a r (suc n) (suc i) few saved =
     let e : a + 4 * suc i ≡ a + 4 + 4 * i = omega arith in
     let f : r + 1 + i ≡ r + suc i = omega arith in
-    ap (λ x. number_at bytes 4 x) e ∙ saved_one bytes regs (a + 4) (r + 1) n i (omega (arith, few)) saved.1 ∙ ap (λ q. Some (regs q)) f
+    ap (λ x. number_at bytes 4 x) e ∙ saved_one bytes regs (a + 4) (r + 1) n i (omega (arith, few)) saved.1
+    ∙ ap (λ q. Some (regs q)) f

@@ -1,13 +1,20 @@
 -- The sections' code, one after another, is the code before the body and that behind it.
-use Rattle.std.proofs.Common.{◌≡◌, ℕ, ◌+◌, ◌-◌, ◌==◌, Bool, true, false, List, [], ◌∷◌, ◌++◌, map, refl, sym, ap, ◌∙◌, if◌then◌else◌}
+use Rattle.std.proofs.Common.{◌≡◌, ℕ, ◌+◌, ◌-◌, ◌==◌, Bool, true, false, List, [], ◌∷◌, ◌++◌, map, refl, sym, ap, ◌∙◌}
+use Rattle.std.proofs.Common.{if◌then◌else◌}
 use Rattle.std.proofs.lemmas.List.{append_assoc, append-nil}
 use Rattle.codegen.specs.Anywhere.{body_words}
 use Rattle.expression_code.specs.TermCode.{constant_code}
 use Rattle.linked_calls.specs.Convention.{stack_register, link_register, saved_registers, scratch_registers}
-use Rattle.linked_calls.specs.FunctionCode.{above_frame, frame_room, frame_code, entry_code, argument_code, arguments_code, enter_code, result_code, results_code, restore_code, wipe_code, clear_registers_code, leave_code, copy_out_code, function_words, until_equal, added, zeros_code, loads_code}
-use Rattle.linked_calls.specs.Sections.{frame_sections, argument_sections, enter_sections, array_section, array_sections, leave_sections, section_code, code_of}
+use Rattle.linked_calls.specs.FunctionCode.{above_frame, frame_room, frame_code, entry_code, argument_code}
+use Rattle.linked_calls.specs.FunctionCode.{arguments_code, enter_code, result_code, results_code, restore_code}
+use Rattle.linked_calls.specs.FunctionCode.{wipe_code, clear_registers_code, leave_code, copy_out_code}
+use Rattle.linked_calls.specs.FunctionCode.{function_words, until_equal, added, zeros_code, loads_code}
+use Rattle.linked_calls.specs.Sections.{frame_sections, argument_sections, enter_sections, array_section}
+use Rattle.linked_calls.specs.Sections.{array_sections, leave_sections, section_code, code_of}
 use Rattle.linked_calls.specs.declared.section.Section.{Section}
-use Rattle.linked_calls.specs.declared.section.Section.TheVariants.{FrameBase, ClearedFrame, FrameTop, RestoredRegisters, CallersStack, WipedRoom, ClearedRegisters, Return}
+use Rattle.linked_calls.specs.declared.section.Section.TheVariants.{FrameBase, ClearedFrame, FrameTop}
+use Rattle.linked_calls.specs.declared.section.Section.TheVariants.{RestoredRegisters, CallersStack, WipedRoom}
+use Rattle.linked_calls.specs.declared.section.Section.TheVariants.{ClearedRegisters, Return}
 use Rattle.image_fields.specs.Fields.{Fields}
 use Rattle.image_fields.specs.declared.slot.Slot.{Slot}
 use Rattle.language.specs.declared.signature.Form.{Form}
@@ -17,7 +24,8 @@ use Rattle.rv_code.specs.declared.instructions.Instr.{Instr}
 use Rattle.rv_code.specs.declared.instructions.Instr.TheVariants.{Register, JumpRegister}
 use Rattle.rv_code.specs.declared.operations.RegisterOperation.TheVariants.{Add, Sub}
 
-code_of_both : (image : Fields) (one other : List Section) → code_of image (one ++ other) ≡ code_of image one ++ code_of image other
+code_of_both : (image : Fields) (one other : List Section)
+    → code_of image (one ++ other) ≡ code_of image one ++ code_of image other
 code_of_both image [] other = refl
 code_of_both image (section ∷ one) other =
     ap (λ (rest : List Instr). section_code image section ++ rest) (code_of_both image one other)
@@ -37,10 +45,12 @@ frame_code_of : (image : Fields) (empty : Bool)
 frame_code_of image true = refl
 frame_code_of image false = append_assoc (constant_code 5 (frame_room image)) (base ∷ []) cleared
 
-arguments_code_of : (image : Fields) (i : ℕ) (slots : List Slot) → code_of image (argument_sections i slots) ≡ arguments_code image i slots
+arguments_code_of : (image : Fields) (i : ℕ) (slots : List Slot)
+    → code_of image (argument_sections i slots) ≡ arguments_code image i slots
 arguments_code_of image i [] = refl
 arguments_code_of image i (slot ∷ slots) =
-    ap (λ (rest : List Instr). argument_code image i slot slot.param.form ++ rest) (arguments_code_of image (i + 1) slots)
+    ap (λ (rest : List Instr). argument_code image i slot slot.param.form ++ rest)
+    (arguments_code_of image (i + 1) slots)
 
 pub enter_code_of : (image : Fields) → code_of image (enter_sections image) ≡ enter_code image
 enter_code_of image =
@@ -60,12 +70,15 @@ array_code_of image i slot FixedArray is = refl
 array_code_of image i slot MutableArray is =
     append-nil (copy_out_code image i slot slot.param.form) ∙ ap (copy_out_code image i slot) is
 
-arrays_code_of : (image : Fields) (i : ℕ) (slots : List Slot) → code_of image (array_sections i slots) ≡ results_code image i slots
+arrays_code_of : (image : Fields) (i : ℕ) (slots : List Slot)
+    → code_of image (array_sections i slots) ≡ results_code image i slots
 arrays_code_of image i [] = refl
 arrays_code_of image i (slot ∷ slots) =
     code_of_both image (array_section i slot slot.param.form) (array_sections (i + 1) slots)
-    ∙ ap (λ (code : List Instr). code ++ code_of image (array_sections (i + 1) slots)) (array_code_of image i slot slot.param.form refl)
-    ∙ ap (λ (rest : List Instr). copy_out_code image i slot slot.param.form ++ rest) (arrays_code_of image (i + 1) slots)
+    ∙ ap (λ (code : List Instr). code ++ code_of image (array_sections (i + 1) slots))
+    (array_code_of image i slot slot.param.form refl)
+    ∙ ap (λ (rest : List Instr). copy_out_code image i slot slot.param.form ++ rest)
+    (arrays_code_of image (i + 1) slots)
 
 abbrev tail : List Section
 tail = FrameTop ∷ RestoredRegisters ∷ CallersStack ∷ WipedRoom ∷ ClearedRegisters ∷ Return ∷ []
@@ -79,8 +92,10 @@ wiped = wipe_code ++ (clear_registers_code scratch_registers ++ JumpRegister 0 l
 tail_code_of : (image : Fields) → code_of image tail ≡ restore_code (frame_room image) ++ wiped
 tail_code_of image =
     let room = constant_code 5 (frame_room image) in
-    append_assoc room (Register Add 5 5 stack_register ∷ []) (loads_code 5 0 saved_registers ++ (added 5 above_frame ∷ wiped))
-    ∙ sym (append_assoc (room ++ loaded) (added 5 above_frame ∷ []) wiped ∙ append_assoc room loaded (added 5 above_frame ∷ wiped))
+    append_assoc room (Register Add 5 5 stack_register ∷ [])
+    (loads_code 5 0 saved_registers ++ (added 5 above_frame ∷ wiped))
+    ∙ sym (append_assoc (room ++ loaded) (added 5 above_frame ∷ []) wiped
+    ∙ append_assoc room loaded (added 5 above_frame ∷ wiped))
 
 five : (a b c d e : List Instr) → a ++ b ++ c ++ d ++ e ≡ a ++ (b ++ (c ++ (d ++ e)))
 five a b c d e = append_assoc (a ++ b ++ c) d e ∙ append_assoc (a ++ b) c (d ++ e) ∙ append_assoc a b (c ++ (d ++ e))
@@ -93,14 +108,18 @@ leave_code_of image =
     ∙ sym (append_assoc result (code_of image arrays) (code_of image tail))
     ∙ ap (λ (code : List Instr). result ++ code ++ code_of image tail) (arrays_code_of image 0 image.slots)
     ∙ ap (λ (code : List Instr). result ++ results_code image 0 image.slots ++ code) (tail_code_of image)
-    ∙ sym (five (result ++ results_code image 0 image.slots) (restore_code (frame_room image)) wipe_code (clear_registers_code scratch_registers) (JumpRegister 0 link_register 0 ∷ []))
+    ∙ sym (five (result ++ results_code image 0 image.slots) (restore_code (frame_room image)) wipe_code
+    (clear_registers_code scratch_registers) (JumpRegister 0 link_register 0 ∷ []))
 
 -- The function.
 
 pub words_of_sections : (image : Fields)
-    → map word_of (code_of image (enter_sections image)) ++ body_words image.words ++ map word_of (code_of image (leave_sections image))
+    → map word_of (code_of image (enter_sections image)) ++ body_words image.words
+    ++ map word_of (code_of image (leave_sections image))
     ≡ function_words image
 unfolding function_words
 words_of_sections image =
-    ap (λ (code : List Instr). map word_of code ++ body_words image.words ++ map word_of (code_of image (leave_sections image))) (enter_code_of image)
-    ∙ ap (λ (code : List Instr). map word_of (enter_code image) ++ body_words image.words ++ map word_of code) (leave_code_of image)
+    ap (λ (code : List Instr). map word_of code ++ body_words image.words
+    ++ map word_of (code_of image (leave_sections image))) (enter_code_of image)
+    ∙ ap (λ (code : List Instr). map word_of (enter_code image) ++ body_words image.words ++ map word_of code)
+    (leave_code_of image)

@@ -1,5 +1,7 @@
--- Where the parts of a function's words stand in code: the instructions before the body, the body, and those behind it.
-use Rattle.std.proofs.Common.{◌≡◌, ℕ, suc, ◌+◌, ◌*◌, List, [], ◌∷◌, ◌++◌, length, map, refl, ap, ap₂, ◌∙◌, subst, arith, length-append}
+-- Where the parts of a function's words stand in code: the instructions before the body, the body, and those behind
+-- it.
+use Rattle.std.proofs.Common.{◌≡◌, ℕ, suc, ◌+◌, ◌*◌, List, [], ◌∷◌, ◌++◌, length, map, refl, ap, ap₂, ◌∙◌, subst}
+use Rattle.std.proofs.Common.{arith, length-append}
 use Rattle.std.proofs.lemmas.List.{length-map}
 use Rattle.codegen.specs.Anywhere.{Stand, body_words}
 use Rattle.image_fields.specs.Fields.{Fields}
@@ -38,21 +40,26 @@ unfolding function_words
 words_are image = refl
 
 -- how many words it has
-pub function_length : (image : Fields) → length (function_words image) ≡ length (enter_code image) + length (body_words image.words) + length (leave_code image)
+pub function_length : (image : Fields) → length (function_words image)
+    ≡ length (enter_code image) + length (body_words image.words) + length (leave_code image)
 function_length image =
     ap length (words_are image)
     ∙ length-append (enter_words image ++ body_words image.words) (leave_words image)
-    ∙ ap₂ (λ a b. a + b) (length-append (enter_words image) (body_words image.words) ∙ ap (λ a. a + length (body_words image.words)) (length-map (enter_code image) word_of)) (length-map (leave_code image) word_of)
+    ∙ ap₂ (λ a b. a + b) (length-append (enter_words image) (body_words image.words)
+    ∙ ap (λ a. a + length (body_words image.words)) (length-map (enter_code image) word_of))
+    (length-map (leave_code image) word_of)
 
 module _ (image : Fields) (code : Code) (site : Site) (is : IsSite image code site) where
   all_stand : Stand code site.entry (enter_words image ++ body_words image.words ++ leave_words image)
   all_stand = subst (λ words. Stand code site.entry words) (words_are image) is.words
 
   entered_stands : Stand code site.entry (enter_words image ++ body_words image.words)
-  entered_stands = stand_first code site.entry (enter_words image ++ body_words image.words) (leave_words image) all_stand
+  entered_stands = stand_first code site.entry (enter_words image ++ body_words image.words)
+      (leave_words image) all_stand
 
   pub enter_placed : Placed code site.entry (enter_code image)
-  enter_placed = placed code site.entry (enter_code image) (stand_first code site.entry (enter_words image) (body_words image.words) entered_stands)
+  enter_placed = placed code site.entry (enter_code image)
+      (stand_first code site.entry (enter_words image) (body_words image.words) entered_stands)
 
   pub body_stands : Stand code (body_at image site) (body_words image.words)
   body_stands =
@@ -66,4 +73,5 @@ module _ (image : Fields) (code : Code) (site : Site) (is : IsSite image code si
       let b = length-map (enter_code image) word_of in
       let e : site.entry + 4 * length (enter_words image ++ words) ≡ leave_at image site = omega (arith, a, b) in
       placed code (leave_at image site) (leave_code image)
-      (subst (λ q. Stand code q (leave_words image)) e (stand_then code site.entry (enter_words image ++ words) (leave_words image) all_stand))
+      (subst (λ q. Stand code q (leave_words image)) e
+      (stand_then code site.entry (enter_words image ++ words) (leave_words image) all_stand))

@@ -29,30 +29,37 @@ meant_within Uint16 raw = omega arith
 meant_within Uint32 raw = omega arith
 
 all_meant : (kind : Kind) (raws : List ℕ) → All (λ word. word ≤ greatest_of kind) (map (meant kind) raws)
-all_meant kind raws = All-map (λ word. word ≤ greatest_of kind) (meant kind) raws (λ k d below. meant_within kind (slice_index_or raws k d))
+all_meant kind raws = All-map (λ word. word ≤ greatest_of kind) (meant kind) raws
+    (λ k d below. meant_within kind (slice_index_or raws k d))
 
 module _ (site : Site) (s : State) where
   abbrev elements : ℕ → Slot → List ℕ
   elements i slot = numbers_at s.bytes (element_bytes slot.param.kind) (site.pointers i) slot.param.length
 
-  values_within : (i : ℕ) (slot : Slot) (form : Form) → All (λ word. word ≤ greatest_of slot.param.kind) (words_of (argument_of site s i slot form))
+  values_within : (i : ℕ) (slot : Slot) (form : Form)
+      → All (λ word. word ≤ greatest_of slot.param.kind) (words_of (argument_of site s i slot form))
   values_within i slot SingleWord = all_meant slot.param.kind (raw_argument site s i ∷ [])
   values_within i slot FixedArray = all_meant slot.param.kind (elements i slot)
   values_within i slot MutableArray = all_meant slot.param.kind (elements i slot)
 
-  shape_within : (i : ℕ) (slot : Slot) (form : Form) → HasShape form slot.param.length (argument_of site s i slot form)
+  shape_within : (i : ℕ) (slot : Slot) (form : Form)
+      → HasShape form slot.param.length (argument_of site s i slot form)
   shape_within i slot SingleWord = tt
   shape_within i slot FixedArray =
-      length-map (elements i slot) (meant slot.param.kind) ∙ numbers_count s.bytes (element_bytes slot.param.kind) (site.pointers i) slot.param.length
+      length-map (elements i slot) (meant slot.param.kind)
+      ∙ numbers_count s.bytes (element_bytes slot.param.kind) (site.pointers i) slot.param.length
   shape_within i slot MutableArray =
-      length-map (elements i slot) (meant slot.param.kind) ∙ numbers_count s.bytes (element_bytes slot.param.kind) (site.pointers i) slot.param.length
+      length-map (elements i slot) (meant slot.param.kind)
+      ∙ numbers_count s.bytes (element_bytes slot.param.kind) (site.pointers i) slot.param.length
 
-  all_within : (i : ℕ) (slots : List Slot) → AreWithin (map (λ slot. slot.param) slots) (arguments_from site s i slots)
+  all_within : (i : ℕ) (slots : List Slot)
+      → AreWithin (map (λ slot. slot.param) slots) (arguments_from site s i slots)
   all_within i [] = tt
   all_within i (slot ∷ slots) = (
     record { shape = shape_within i slot slot.param.form; values = values_within i slot slot.param.form },
     all_within (i + 1) slots,
   )
 
-pub arguments_within : (image : Fields) (site : Site) (s : State) → AreWithin (params_of image) (arguments_of image site s)
+pub arguments_within : (image : Fields) (site : Site) (s : State)
+    → AreWithin (params_of image) (arguments_of image site s)
 arguments_within image site s = all_within site s 0 image.slots

@@ -1,4 +1,5 @@
--- The function that adds one to its argument, as it is worked out by hand: 72 words, and 98 turns around the 4 of its body.
+-- The function that adds one to its argument, as it is worked out by hand: 72 words, and 98 turns around the 4 of its
+-- body.
 use Rattle.std.proofs.Common.{◌≡◌, [], ◌∷◌, length, Some, refl}
 use Rattle.linked_calls.specs.FunctionCode.{function_words, room_of}
 use Rattle.linked_calls.specs.Sections.{around_turns}

@@ -1,6 +1,7 @@
 -- The two loops that put zeros: over the frame, downward, and over all the room, upward.
 use Rattle.std.specs.Prelude.{is_some}
-use Rattle.std.proofs.Common.{◌≡◌, ◌≢◌, ℕ, suc, ◌+◌, ◌-◌, ◌*◌, ◌%◌, ◌^◌, ◌<◌, ◌≤◌, true, List, [], ◌∷◌, ◌++◌, Some, refl, sym, ap, ◌∙◌, subst, arith}
+use Rattle.std.proofs.Common.{◌≡◌, ◌≢◌, ℕ, suc, ◌+◌, ◌-◌, ◌*◌, ◌%◌, ◌^◌, ◌<◌, ◌≤◌, true, List, [], ◌∷◌, ◌++◌, Some}
+use Rattle.std.proofs.Common.{refl, sym, ap, ◌∙◌, subst, arith}
 use Rattle.rv_code.specs.declared.instructions.Instr.TheVariants.{Store, Branch}
 use Rattle.rv_code.specs.declared.operations.BranchTest.TheVariants.{Bne}
 use Rattle.rv_code.specs.declared.operations.StoreOperation.TheVariants.{Sw}
@@ -8,7 +9,8 @@ use Rattle.rv_machine.specs.declared.observation.Event.TheVariants as event
 use Rattle.rv_machine.specs.declared.memory.Size.TheVariants.{Word}
 use Rattle.rv_machine.specs.Bytes.{ByteMap, number_at, with_number}
 use Rattle.rv_machine.specs.Effects.{sum_of, sign_extended}
-use Rattle.linked_calls.proofs.Bytes.{AreData, number_there, stays_data, AreZeroed, no_zeros, block_zeroed, zeros_up, zeros_down}
+use Rattle.linked_calls.proofs.Bytes.{AreData, number_there, stays_data, AreZeroed, no_zeros, block_zeroed, zeros_up}
+use Rattle.linked_calls.proofs.Bytes.{zeros_down}
 use Rattle.linked_calls.proofs.Parts.{Part, part}
 use Rattle.linked_calls.proofs.Pieces.{Setting, Piece, block, weaken, loop, Placed-left, Placed-right}
 use Rattle.linked_calls.proofs.Registers.{unwritten, near_address}
@@ -17,28 +19,36 @@ use Rattle.linked_calls.specs.FunctionCode.{until_equal, added, zeros_code}
 
 -- the four stores of a block
 abbrev pub zeros_steps : ℕ → List Step → List Step
-zeros_steps a rest = access (Store Sw 0 2 0) a ∷ access (Store Sw 0 2 4) (a + 4) ∷ access (Store Sw 0 2 8) (a + 8) ∷ access (Store Sw 0 2 12) (a + 12) ∷ rest
+zeros_steps a rest = access (Store Sw 0 2 0) a ∷ access (Store Sw 0 2 4) (a + 4) ∷ access (Store Sw 0 2 8) (a + 8)
+    ∷ access (Store Sw 0 2 12) (a + 12) ∷ rest
 
 abbrev pub zeroed_bytes : ByteMap → ℕ → ByteMap
-zeroed_bytes bytes a = with_number (with_number (with_number (with_number bytes 4 a 0) 4 (a + 4) 0) 4 (a + 8) 0) 4 (a + 12) 0
+zeroed_bytes bytes a = with_number (with_number (with_number (with_number bytes 4 a 0) 4 (a + 4) 0) 4 (a + 8) 0)
+    4 (a + 12) 0
 
 abbrev pub zeroed_data : Data → ℕ → Data
 zeroed_data d a = record { regs = d.regs; bytes = zeroed_bytes d.bytes a }
 
 -- x2 is the address of a block of data, in which four words are zeroed; then what follows is fit
-module _ (a : ℕ) (d : Data) (below : a + 16 ≤ 2 ^ 32) (even : a % 16 ≡ 0) (low high : ℕ) (from : low ≤ a) (to : a + 16 ≤ high) (stack : d.regs 2 ≡ a) (there : AreData low high d.bytes) where
-  word_there : (bytes : ByteMap) (k : ℕ) → k + 4 ≤ 16 → AreData low high bytes → is_some (number_at bytes 4 (a + k)) ≡ true
-  word_there bytes k small data_there = number_there bytes 4 (a + k) (λ x l h. data_there x (omega arith) (omega arith))
+module _ (a : ℕ) (d : Data) (below : a + 16 ≤ 2 ^ 32) (even : a % 16 ≡ 0) (low high : ℕ) (from : low ≤ a)
+    (to : a + 16 ≤ high) (stack : d.regs 2 ≡ a) (there : AreData low high d.bytes) where
+  word_there : (bytes : ByteMap) (k : ℕ) → k + 4 ≤ 16 → AreData low high bytes
+      → is_some (number_at bytes 4 (a + k)) ≡ true
+  word_there bytes k small data_there =
+      number_there bytes 4 (a + k) (λ x l h. data_there x (omega arith) (omega arith))
 
-  reach : (bytes : ByteMap) (k : ℕ) → k + 4 ≤ 16 → k % 4 ≡ 0 → AreData low high bytes → Reaches (record { regs = d.regs; bytes = bytes }) 2 k (a + k) 4
+  reach : (bytes : ByteMap) (k : ℕ) → k + 4 ≤ 16 → k % 4 ≡ 0 → AreData low high bytes
+      → Reaches (record { regs = d.regs; bytes = bytes }) 2 k (a + k) 4
   reach bytes k small whole data_there = record {
     address = ap (λ x. sum_of x (sign_extended 12 k)) stack ∙ near_address a k (omega arith) (omega arith);
     even = omega arith;
     there = word_there bytes k small data_there;
   }
 
-  stays : (bytes : ByteMap) (k : ℕ) → k + 4 ≤ 16 → AreData low high bytes → AreData low high (with_number bytes 4 (a + k) 0)
-  stays bytes k small data_there = stays_data bytes 4 (a + k) 0 low high (word_there bytes k small data_there) data_there
+  stays : (bytes : ByteMap) (k : ℕ) → k + 4 ≤ 16 → AreData low high bytes
+      → AreData low high (with_number bytes 4 (a + k) 0)
+  stays bytes k small data_there =
+      stays_data bytes 4 (a + k) 0 low high (word_there bytes k small data_there) data_there
 
   reach_first : Reaches d 2 0 a 4
   reach_first =
@@ -57,8 +67,15 @@ module _ (a : ℕ) (d : Data) (below : a + 16 ≤ 2 ^ 32) (even : a % 16 ≡ 0) 
       let b3 = with_number b2 4 (a + 8) 0 in
       let d1 = stays_first in
       let d2 = stays b1 4 (omega arith) d1 in
-      let d3 = stays b2 8 (omega arith) d2 in
-      (refl, reach_first, (refl, reach b1 4 (omega arith) refl d1, (refl, reach b2 8 (omega arith) refl d2, (refl, reach b3 12 (omega arith) refl d3, fit))))
+      let d3 = stays b2 8 (omega arith) d2 in (
+        refl,
+        reach_first,
+        (
+          refl,
+          reach b1 4 (omega arith) refl d1,
+          (refl, reach b2 8 (omega arith) refl d2, (refl, reach b3 12 (omega arith) refl d3, fit)),
+        ),
+      )
 
   pub zeros_data : AreData low high (zeroed_bytes d.bytes a)
   zeros_data =
@@ -67,7 +84,8 @@ module _ (a : ℕ) (d : Data) (below : a + 16 ≤ 2 ^ 32) (even : a % 16 ≡ 0) 
       let b3 = with_number b2 4 (a + 8) 0 in
       stays b3 12 (omega arith) (stays b2 8 (omega arith) (stays b1 4 (omega arith) stays_first))
 
-module _ (z : Setting) (bottom top : ℕ) (even : bottom % 16 ≡ 0) (below : top < 2 ^ 32) (allowed : (x : ℕ) → bottom ≤ x → x + 4 ≤ top → z.allowed (Some (event.Store x Word))) where
+module _ (z : Setting) (bottom top : ℕ) (even : bottom % 16 ≡ 0) (below : top < 2 ^ 32) (allowed : (x : ℕ)
+    → bottom ≤ x → x + 4 ≤ top → z.allowed (Some (event.Store x Word))) where
   -- Downward, over the frame.
 
   record KnownDown (j a : ℕ) : Type 0 where
@@ -95,7 +113,8 @@ module _ (z : Setting) (bottom top : ℕ) (even : bottom % 16 ≡ 0) (below : to
     pub there : AreData bottom top t.bytes
     pub others : (q : ℕ) → q ≢ 2 → t.regs q ≡ s.regs q
 
-  round_down : (p j a : ℕ) → Placed z.code p (added 2 (4096 - 16) ∷ zeros_code) → KnownDown (suc j) a → Piece z Data p (p + 20) 5 (Down (suc j) a) (Down j (a - 16))
+  round_down : (p j a : ℕ) → Placed z.code p (added 2 (4096 - 16) ∷ zeros_code) → KnownDown (suc j) a
+      → Piece z Data p (p + 20) 5 (Down (suc j) a) (Down j (a - 16))
   round_down p j a placed known =
       let left = known.left in
       let within = known.within in
@@ -111,19 +130,26 @@ module _ (z : Setting) (bottom top : ℕ) (even : bottom % 16 ≡ 0) (below : to
       let d' = computed d 2 w in
       let ends : v + 16 ≡ a = omega arith in
       record {
-        fit = (refl, tt, zeros_fit v d' (omega arith) (omega arith) bottom top (omega arith) (omega arith) is held.there [] tt);
+        fit = (
+          refl,
+          tt,
+          zeros_fit v d' (omega arith) (omega arith) bottom top (omega arith) (omega arith) is
+              held.there [] tt,
+        );
         done = record {
           left = omega arith;
           stack = is;
           stop = held.stop;
-          zeroed = zeros_down v a top s.bytes d.bytes (zeroed_bytes d.bytes v) (omega arith) within held.zeroed (subst (λ x. AreZeroed v x d.bytes (zeroed_bytes d.bytes v)) ends (block_zeroed d.bytes v));
+          zeroed = zeros_down v a top s.bytes d.bytes (zeroed_bytes d.bytes v) (omega arith) within held.zeroed
+              (subst (λ x. AreZeroed v x d.bytes (zeroed_bytes d.bytes v)) ends (block_zeroed d.bytes v));
           there = zeros_data v d' (omega arith) (omega arith) bottom top (omega arith) (omega arith) is held.there;
           others = λ q h. unwritten d.regs 2 w q h ∙ held.others q h;
         };
       })
 
   -- so many blocks more than one
-  pub zero_down : (p k : ℕ) → p % 4 ≡ 0 → Placed z.code p (until_equal 2 5 (added 2 (4096 - 16) ∷ zeros_code)) → bottom + 16 * suc k ≡ top
+  pub zero_down : (p k : ℕ) → p % 4 ≡ 0 → Placed z.code p (until_equal 2 5 (added 2 (4096 - 16) ∷ zeros_code))
+      → bottom + 16 * suc k ≡ top
       → Part z p (p + 20 + 4) (suc k * 6) BeginsDown EndsDown
   zero_down p k whole placed room =
       part z
@@ -140,12 +166,17 @@ module _ (z : Setting) (bottom top : ℕ) (even : bottom % 16 ≡ 0) (below : to
         others = λ q h. ap (λ (x : Data). x.regs q) same;
       })
       (λ s d ends. ends)
-      (loop z 2 5 (omega arith, omega arith) ℕ (λ a. a - 16) KnownDown Down EndsDown p 5 5 (omega arith) (omega arith) whole
+      (loop z 2 5 (omega arith, omega arith) ℕ (λ a. a - 16) KnownDown Down EndsDown p 5 5 (omega arith)
+      (omega arith) whole
       (Placed-right z.code p (added 2 (4096 - 16) ∷ zeros_code) (Branch Bne 2 5 (2 ^ 12 - 2 * 5) ∷ []) placed)
-      (λ j a known. let left = known.left in let within = known.within in record { left = omega arith; within = omega arith })
-      (λ j a known. round_down p j a (Placed-left z.code p (added 2 (4096 - 16) ∷ zeros_code) (Branch Bne 2 5 (2 ^ 12 - 2 * 5) ∷ []) placed) known)
+      (λ j a known. let left = known.left in let within = known.within in
+      record { left = omega arith; within = omega arith })
+      (λ j a known. round_down p j a
+      (Placed-left z.code p (added 2 (4096 - 16) ∷ zeros_code) (Branch Bne 2 5 (2 ^ 12 - 2 * 5) ∷ []) placed)
+      known)
       (λ a s d held. let left = held.left in let stack = held.stack in let stop = held.stop in omega arith)
-      (λ j a s d known held same. let left = held.left in let stack = held.stack in let stop = held.stop in omega arith)
+      (λ j a s d known held same. let left = held.left in let stack = held.stack in let stop = held.stop in
+      omega arith)
       (λ a s d held.
       let left = held.left in
       let e : a ≡ bottom = omega arith in
@@ -185,7 +216,8 @@ module _ (z : Setting) (bottom top : ℕ) (even : bottom % 16 ≡ 0) (below : to
     pub zeroed : AreZeroed bottom top s.bytes t.bytes
     pub others : (q : ℕ) → q ≢ 2 → t.regs q ≡ s.regs q
 
-  round_up : (p j a : ℕ) → Placed z.code p (zeros_code ++ added 2 16 ∷ []) → KnownUp (suc j) a → Piece z Data p (p + 20) 5 (Up (suc j) a) (Up j (a + 16))
+  round_up : (p j a : ℕ) → Placed z.code p (zeros_code ++ added 2 16 ∷ []) → KnownUp (suc j) a
+      → Piece z Data p (p + 20) 5 (Up (suc j) a) (Up j (a + 16))
   round_up p j a placed known =
       let left = known.left in
       let within = known.within in
@@ -198,20 +230,23 @@ module _ (z : Setting) (bottom top : ℕ) (even : bottom % 16 ≡ 0) (below : to
       let w = sum_of (d.regs 2) 16 in
       let is : w ≡ a + 16 = omega arith in
       record {
-        fit = zeros_fit a d (omega arith) known.whole bottom top within (omega arith) stack held.there (plain (added 2 16) ∷ []) (refl, tt, tt);
+        fit = zeros_fit a d (omega arith) known.whole bottom top within (omega arith) stack held.there
+            (plain (added 2 16) ∷ []) (refl, tt, tt);
         done = record {
           left = omega arith;
           within = omega arith;
           stack = is;
           stop = held.stop;
-          zeroed = zeros_up bottom a (a + 16) s.bytes d.bytes (zeroed_bytes d.bytes a) within (omega arith) held.zeroed (block_zeroed d.bytes a);
+          zeroed = zeros_up bottom a (a + 16) s.bytes d.bytes (zeroed_bytes d.bytes a) within (omega arith)
+              held.zeroed (block_zeroed d.bytes a);
           there = zeros_data a d (omega arith) known.whole bottom top within (omega arith) stack held.there;
           others = λ q h. unwritten d.regs 2 w q h ∙ held.others q h;
         };
       })
 
   -- so many blocks more than one
-  pub zero_up : (p k : ℕ) → p % 4 ≡ 0 → Placed z.code p (until_equal 2 5 (zeros_code ++ added 2 16 ∷ [])) → bottom + 16 * suc k ≡ top
+  pub zero_up : (p k : ℕ) → p % 4 ≡ 0 → Placed z.code p (until_equal 2 5 (zeros_code ++ added 2 16 ∷ []))
+      → bottom + 16 * suc k ≡ top
       → Part z p (p + 20 + 4) (suc k * 6) BeginsUp EndsUp
   zero_up p k whole placed room =
       part z
@@ -231,10 +266,14 @@ module _ (z : Setting) (bottom top : ℕ) (even : bottom % 16 ≡ 0) (below : to
       (λ s d ends. ends)
       (loop z 2 5 (omega arith, omega arith) ℕ (λ a. a + 16) KnownUp Up EndsUp p 5 5 (omega arith) (omega arith) whole
       (Placed-right z.code p (zeros_code ++ added 2 16 ∷ []) (Branch Bne 2 5 (2 ^ 12 - 2 * 5) ∷ []) placed)
-      (λ j a known. let left = known.left in let within = known.within in let w = known.whole in record { left = omega arith; within = omega arith; whole = omega arith })
-      (λ j a known. round_up p j a (Placed-left z.code p (zeros_code ++ added 2 16 ∷ []) (Branch Bne 2 5 (2 ^ 12 - 2 * 5) ∷ []) placed) known)
+      (λ j a known. let left = known.left in let within = known.within in let w = known.whole in
+      record { left = omega arith; within = omega arith; whole = omega arith })
+      (λ j a known.
+      round_up p j a (Placed-left z.code p (zeros_code ++ added 2 16 ∷ [])
+      (Branch Bne 2 5 (2 ^ 12 - 2 * 5) ∷ []) placed) known)
       (λ a s d held. let left = held.left in let stack = held.stack in let stop = held.stop in omega arith)
-      (λ j a s d known held same. let left = held.left in let stack = held.stack in let stop = held.stop in omega arith)
+      (λ j a s d known held same. let left = held.left in let stack = held.stack in let stop = held.stop in
+      omega arith)
       (λ a s d held.
       let left = held.left in
       let e : a ≡ top = omega arith in

@@ -1,5 +1,5 @@
--- The linked call: a caller that keeps the calling convention gets what the source means, in an exact number of turns around
--- those of the body, and its secrets make no difference to what an observer sees.
+-- The linked call: a caller that keeps the calling convention gets what the source means, in an exact number of turns
+-- around those of the body, and its secrets make no difference to what an observer sees.
 use Rattle.std.specs.Prelude.{◌≡◌, ℕ, suc, ◌+◌, ◌-◌, ◌*◌, ◌%◌, ◌<◌, List, length, All, None}
 use Rattle.arguments.specs.Agreement.{Agree}
 use Rattle.arguments.specs.PublicResults.{AgreeInPublic}
@@ -19,7 +19,8 @@ use Rattle.rv_machine.specs.Machine.{State, Code, Turn, goes_on, observed, moved
 use Rattle.rv_machine.specs.declared.observation.Observation.{Observation}
 
 -- a call from this state: all its turns but the last, which jumps back, and that one. What it shows is this list
-pub record Returns (program : ProgramTree) (image : Fields) (code : Code) (site : Site) (s : State) (list : List Observation) : Type 0 where
+pub record Returns (program : ProgramTree) (image : Fields) (code : Code) (site : Site) (s : State)
+    (list : List Observation) : Type 0 where
   pub results : Results
   pub means : Means program (arguments_of image site s) results
   pub turns : ℕ
@@ -36,16 +37,19 @@ pub record Returns (program : ProgramTree) (image : Fields) (code : Code) (site 
   pub goes_back : s.regs 1 % 4 ≡ 0 → Turn code end (goes_on (observed end None) (moved_to end (s.regs 1)))
 
 -- the function of an image can be called from where it stands
-pub record IsCallable (program : ProgramTree) (p : ProcedureTree) (image : Fields) (code : Code) (site : Site) : Type 0 where
+pub record IsCallable (program : ProgramTree) (p : ProcedureTree) (image : Fields) (code : Code) (site : Site) :
+    Type 0 where
   -- one list for each list of arguments, whatever the rest of the state
   pub shown : List Arg → List Observation
   -- results: from every state in which it is called, whatever words it is given
-  pub runs : (s : State) → IsCalled image site s → Returns program image code site s (shown (arguments_of image site s))
+  pub runs : (s : State) → IsCalled image site s
+      → Returns program image code site s (shown (arguments_of image site s))
   -- equal leakage: on arguments that agree it is one list
   pub equal_leakage : (args args' : List Arg) → Agree (params_of image) args args' → shown args ≡ shown args'
   -- and what is left is one result and one list of `mut` arrays, where these are public
   pub public_results : (args args' : List Arg) (results results' : Results) → Agree (params_of image) args args'
-      → Means program args results → Means program args' results' → AgreeInPublic (params_of image) p.result results results'
+      → Means program args results → Means program args' results'
+      → AgreeInPublic (params_of image) p.result results results'
 
 -- the function of each compiled procedure can be called, from wherever it stands
 abbrev pub CallsAreLinked : Type 0

@@ -27,7 +27,8 @@ ReadsArray site i slot MutableArray a size = LiesIn (site.pointers i) (site.poin
 
 abbrev pub ReadsAnArray : Site → ℕ → List Slot → ℕ → Size → Type 0
 ReadsAnArray site i [] a size = ⊥
-ReadsAnArray site i (slot ∷ slots) a size = ReadsArray site i slot slot.param.form a size ⊎ ReadsAnArray site (i + 1) slots a size
+ReadsAnArray site i (slot ∷ slots) a size = ReadsArray site i slot slot.param.form a size
+    ⊎ ReadsAnArray site (i + 1) slots a size
 
 -- a store to one, which only an array that may be changed has
 abbrev pub WritesArray : Site → ℕ → Slot → Form → ℕ → Size → Type 0
@@ -37,13 +38,17 @@ WritesArray site i slot MutableArray a size = LiesIn (site.pointers i) (site.poi
 
 abbrev pub WritesAnArray : Site → ℕ → List Slot → ℕ → Size → Type 0
 WritesAnArray site i [] a size = ⊥
-WritesAnArray site i (slot ∷ slots) a size = WritesArray site i slot slot.param.form a size ⊎ WritesAnArray site (i + 1) slots a size
+WritesAnArray site i (slot ∷ slots) a size = WritesArray site i slot slot.param.form a size
+    ⊎ WritesAnArray site (i + 1) slots a size
 
--- loads lie in the room, the arguments on the stack or the arrays, stores in the room or the arrays that may be changed
+-- loads lie in the room, the arguments on the stack or the arrays, stores in the room or the arrays that may be
+-- changed
 abbrev pub IsOfCall : Fields → Site → Option Event → Type 0
 IsOfCall image site None = Unit {0}
-IsOfCall image site (Some (Load a size)) = LiesIn (room_base image site) (arguments_end image site) a size ⊎ ReadsAnArray site 0 image.slots a size
-IsOfCall image site (Some (Store a size)) = LiesIn (room_base image site) site.stack a size ⊎ WritesAnArray site 0 image.slots a size
+IsOfCall image site (Some (Load a size)) = LiesIn (room_base image site) (arguments_end image site) a size
+    ⊎ ReadsAnArray site 0 image.slots a size
+IsOfCall image site (Some (Store a size)) = LiesIn (room_base image site) site.stack a size
+    ⊎ WritesAnArray site 0 image.slots a size
 IsOfCall image site (Some (Div a b)) = Unit {0}
 IsOfCall image site (Some (Mul a b)) = Unit {0}
 
@@ -54,7 +59,8 @@ abbrev pub with_array : Site → ByteMap → ℕ → Slot → Form → List (Lis
 with_array site bytes i slot SingleWord arrays = bytes
 with_array site bytes i slot FixedArray arrays = bytes
 with_array site bytes i slot MutableArray [] = bytes
-with_array site bytes i slot MutableArray (array ∷ arrays) = with_numbers bytes (element_bytes slot.param.kind) (site.pointers i) array
+with_array site bytes i slot MutableArray (array ∷ arrays) =
+    with_numbers bytes (element_bytes slot.param.kind) (site.pointers i) array
 
 -- the outcomes that are left behind an argument
 abbrev pub arrays_behind : Form → List (List ℕ) → List (List ℕ)
@@ -62,11 +68,13 @@ arrays_behind SingleWord arrays = arrays
 arrays_behind FixedArray arrays = arrays
 arrays_behind MutableArray arrays = drop 1 arrays
 
--- the bytes with the outcome of each array that may be changed where its argument points, in the order of the parameters
+-- the bytes with the outcome of each array that may be changed where its argument points, in the order of the
+-- parameters
 abbrev pub with_arrays : Site → ByteMap → ℕ → List Slot → List (List ℕ) → ByteMap
 with_arrays site bytes i [] arrays = bytes
 with_arrays site bytes i (slot ∷ slots) arrays =
-    with_arrays site (with_array site bytes i slot slot.param.form arrays) (i + 1) slots (arrays_behind slot.param.form arrays)
+    with_arrays site (with_array site bytes i slot slot.param.form arrays) (i + 1) slots
+    (arrays_behind slot.param.form arrays)
 
 -- ra, sp, gp, tp and s0 to s11
 abbrev pub kept_registers : List ℕ
@@ -76,10 +84,12 @@ kept_registers = 1 ∷ 2 ∷ 3 ∷ 4 ∷ 8 ∷ 9 ∷ 18 ∷ 19 ∷ 20 ∷ 21 ∷
 abbrev pub cleared_registers : List ℕ
 cleared_registers = 5 ∷ 6 ∷ 7 ∷ 11 ∷ 12 ∷ 13 ∷ 14 ∷ 15 ∷ 16 ∷ 17 ∷ 28 ∷ 29 ∷ 30 ∷ 31 ∷ []
 
--- of a call in a state with these registers and bytes: the result in a0, which is 0 where there is none; the arrays that may be
--- changed hold their outcomes, all the room is zeros, and nothing else has changed
-pub record IsLeft (image : Fields) (site : Site) (regs : ℕ → ℕ) (bytes : ByteMap) (results : Results) (t : State) : Type 0 where
+-- of a call in a state with these registers and bytes: the result in a0, which is 0 where there is none; the arrays
+-- that may be changed hold their outcomes, all the room is zeros, and nothing else has changed
+pub record IsLeft (image : Fields) (site : Site) (regs : ℕ
+    → ℕ) (bytes : ByteMap) (results : Results) (t : State) : Type 0 where
   pub result : t.regs 10 ≡ unwrap_or results.returned 0
   pub kept : All (λ r. t.regs r ≡ regs r) kept_registers
   pub cleared : All (λ r. t.regs r ≡ 0) cleared_registers
-  pub memory : AreZeroed (room_base image site) site.stack (with_arrays site bytes 0 image.slots results.arrays) t.bytes
+  pub memory : AreZeroed (room_base image site) site.stack
+      (with_arrays site bytes 0 image.slots results.arrays) t.bytes

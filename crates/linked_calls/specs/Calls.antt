@@ -1,7 +1,8 @@
--- What a caller has to set up for a call of a function, by the standard calling convention: RISC-V ABIs Specification,
--- sections "Integer Register Convention" and "Integer Calling Convention" (ilp32). The numbers of the registers and the
--- distances are written out here, since what they are is promised to C.
-use Rattle.std.specs.Prelude.{◌≡◌, ◌⊎◌, ℕ, ◌+◌, ◌-◌, ◌*◌, ◌%◌, ◌^◌, ◌<◌, ◌≤◌, nat_lt, List, [], ◌∷◌, length, map, if◌then◌else◌}
+-- What a caller has to set up for a call of a function, by the standard calling convention: RISC-V ABIs
+-- Specification, sections "Integer Register Convention" and "Integer Calling Convention" (ilp32). The numbers of the
+-- registers and the distances are written out here, since what they are is promised to C.
+use Rattle.std.specs.Prelude.{◌≡◌, ◌⊎◌, ℕ, ◌+◌, ◌-◌, ◌*◌, ◌%◌, ◌^◌, ◌<◌, ◌≤◌, nat_lt, List, [], ◌∷◌, length, map}
+use Rattle.std.specs.Prelude.{if◌then◌else◌}
 use Rattle.codegen.specs.Anywhere.{Stand}
 use Rattle.codegen.specs.Loaded.{word_in, numbers_at}
 use Rattle.image_fields.specs.Fields.{Fields}
@@ -16,7 +17,8 @@ use Rattle.linked_calls.specs.Meant.{meant}
 use Rattle.linked_calls.specs.Stretches.{AreData}
 use Rattle.rv_machine.specs.Machine.{State, Code}
 
--- where a function's words begin, where the stack pointer is at the call, and where the i-th argument points if it is an array
+-- where a function's words begin, where the stack pointer is at the call, and where the i-th argument points if it is
+-- an array
 pub record Site : Type 0 where
   pub entry : ℕ
   pub stack : ℕ
@@ -57,7 +59,8 @@ abbrev pub LieWell : Fields → Site → ℕ → List Slot → Type 0
 LieWell image site i [] = Unit {0}
 LieWell image site i (slot ∷ slots) = LiesWell image site i slot slot.param.form × LieWell image site (i + 1) slots
 
--- the function's words stand in the code, which the image's observer observes; the stack has room, and the arrays lie well.
+-- the function's words stand in the code, which the image's observer observes; the stack has room, and the arrays lie
+-- well.
 -- Two `mut` arrays may be one
 pub record IsSite (image : Fields) (code : Code) (site : Site) : Type 0 where
   pub observed : code.profile ≡ image.profile
@@ -88,7 +91,8 @@ abbrev pub ArePassed : Site → State → ℕ → List Slot → Type 0
 ArePassed site s i [] = Unit {0}
 ArePassed site s i (slot ∷ slots) = IsPassed site s i slot slot.param.form × ArePassed site s (i + 1) slots
 
--- the function is called: the registers hold words, room and arguments on the stack are data, among whatever other data
+-- the function is called: the registers hold words, room and arguments on the stack are data, among whatever other
+-- data
 pub record IsCalled (image : Fields) (site : Site) (s : State) : Type 0 where
   pub at_entry : s.pc ≡ site.entry
   pub stack : s.regs 2 ≡ site.stack
@@ -100,12 +104,19 @@ pub record IsCalled (image : Fields) (site : Site) (s : State) : Type 0 where
 
 abbrev pub argument_of : Site → State → ℕ → Slot → Form → Arg
 argument_of site s i slot SingleWord = Word (meant slot.param.kind (raw_argument site s i))
-argument_of site s i slot FixedArray = Array (map (meant slot.param.kind) (numbers_at s.bytes (element_bytes slot.param.kind) (site.pointers i) slot.param.length))
-argument_of site s i slot MutableArray = Array (map (meant slot.param.kind) (numbers_at s.bytes (element_bytes slot.param.kind) (site.pointers i) slot.param.length))
+argument_of site s i slot FixedArray =
+    Array
+    (map (meant slot.param.kind)
+    (numbers_at s.bytes (element_bytes slot.param.kind) (site.pointers i) slot.param.length))
+argument_of site s i slot MutableArray =
+    Array
+    (map (meant slot.param.kind)
+    (numbers_at s.bytes (element_bytes slot.param.kind) (site.pointers i) slot.param.length))
 
 abbrev pub arguments_from : Site → State → ℕ → List Slot → List Arg
 arguments_from site s i [] = []
-arguments_from site s i (slot ∷ slots) = argument_of site s i slot slot.param.form ∷ arguments_from site s (i + 1) slots
+arguments_from site s i (slot ∷ slots) = argument_of site s i slot slot.param.form
+    ∷ arguments_from site s (i + 1) slots
 
 -- the arguments of the call, as they stand at its entry
 abbrev pub arguments_of : Fields → Site → State → List Arg

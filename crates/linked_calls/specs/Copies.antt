@@ -71,7 +71,8 @@ IsCopying place n from to (Some (Mul a b)) = ⊥
 
 -- the slot holds the elements of the array, each as it is meant
 pub record IsTaken (slot : Slot) (spot : Pointed) (s t : Data) : Type 0 where
-  pub bytes : t.bytes ≡ with_argument spot.frame s.bytes slot (Array (map (meant slot.param.kind) (elements_at slot s.bytes spot.pointer)))
+  pub bytes : t.bytes ≡ with_argument spot.frame s.bytes slot
+      (Array (map (meant slot.param.kind) (elements_at slot s.bytes spot.pointer)))
   pub others : OthersAsBefore s t
 
 -- the code that takes an array does so, whether it may be changed or not
@@ -80,12 +81,15 @@ ArrayIsTaken =
     (code : Code) (start : ℕ) (image : Fields) (slot : Slot) (spot : Pointed)
     → AreThere code start (argument_code image spot.index slot FixedArray)
     → CanBeCopied image slot spot
-    → Does code start (argument_code image spot.index slot FixedArray) (argument_turns image spot.index slot FixedArray)
-    (IsCopying (place_of image spot) (array_bytes slot) spot.pointer (slot_of slot spot)) (HasArray image slot spot) (IsTaken slot spot)
+    → Does code start (argument_code image spot.index slot FixedArray)
+    (argument_turns image spot.index slot FixedArray)
+    (IsCopying (place_of image spot) (array_bytes slot) spot.pointer (slot_of slot spot)) (HasArray image slot spot)
+    (IsTaken slot spot)
 
 -- the array holds what the slot holds
 pub record IsHandedBack (slot : Slot) (spot : Pointed) (s t : Data) : Type 0 where
-  pub bytes : t.bytes ≡ with_numbers s.bytes (element_bytes slot.param.kind) spot.pointer (elements_at slot s.bytes (slot_of slot spot))
+  pub bytes : t.bytes ≡ with_numbers s.bytes (element_bytes slot.param.kind) spot.pointer
+      (elements_at slot s.bytes (slot_of slot spot))
   pub others : OthersAsBefore s t
 
 -- the code that hands an array back does so
@@ -95,4 +99,5 @@ ArrayIsHandedBack =
     → AreThere code start (copy_out_code image spot.index slot MutableArray)
     → CanBeCopied image slot spot
     → Does code start (copy_out_code image spot.index slot MutableArray) (array_turns image spot.index slot)
-    (IsCopying (place_of image spot) (array_bytes slot) (slot_of slot spot) spot.pointer) (HasArray image slot spot) (IsHandedBack slot spot)
+    (IsCopying (place_of image spot) (array_bytes slot) (slot_of slot spot) spot.pointer) (HasArray image slot spot)
+    (IsHandedBack slot spot)

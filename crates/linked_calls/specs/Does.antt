@@ -1,5 +1,5 @@
--- What a piece of code does wherever it stands: from every state of some kind it leads to behind its instructions in an
--- exact number of turns. What it shows is one list, given before the state, so all such states show the same.
+-- What a piece of code does wherever it stands: from every state of some kind it leads to behind its instructions in
+-- an exact number of turns. What it shows is one list, given before the state, so all such states show the same.
 use Rattle.std.specs.Prelude.{ℕ, ◌+◌, ◌*◌, List, length, map, All, Option}
 use Rattle.codegen.specs.Anywhere.{Stand}
 use Rattle.rv_code.specs.declared.instructions.Instr.{Instr}
@@ -20,13 +20,15 @@ abbrev pub at : ℕ → Data → State
 at p d = record { pc = p; regs = d.regs; bytes = d.bytes }
 
 -- a run that shows this list, from the first of the instructions to behind the last
-pub record RunOf (code : Code) (start : ℕ) (is : List Instr) (turns : ℕ) (list : List Observation) (After : Data → Data → Type 0) (s : Data) : Type 0 where
+pub record RunOf (code : Code) (start : ℕ) (is : List Instr) (turns : ℕ) (list : List Observation) (After : Data
+    → Data → Type 0) (s : Data) : Type 0 where
   pub end : Data
   pub leads : Leads code turns (at start s) list (at (start + 4 * length is) end)
   pub done : After s end
 
 -- instructions from an address on: turns, the accesses that they make, what they begin in and what they make of it
-pub record Does (code : Code) (start : ℕ) (is : List Instr) (turns : ℕ) (Allowed : Option Event → Type 0) (Before : Data → Type 0) (After : Data → Data → Type 0) : Type 0 where
+pub record Does (code : Code) (start : ℕ) (is : List Instr) (turns : ℕ) (Allowed : Option Event
+    → Type 0) (Before : Data → Type 0) (After : Data → Data → Type 0) : Type 0 where
   pub shown : List Observation
   pub within : All (λ (o : Observation). Allowed o.event) shown
   pub runs : (s : Data) → Before s → RunOf code start is turns shown After s

@@ -1,12 +1,15 @@
--- The words of a function for C: the code of an image, between code that takes arguments as C passes them and code that
--- hands results back and goes back to the caller. They may stand anywhere.
+-- The words of a function for C: the code of an image, between code that takes arguments as C passes them and code
+-- that hands results back and goes back to the caller. They may stand anywhere.
 --
--- The room of a call lies below the caller's sp: the image's frame at its lower end, in whole blocks of 16 bytes, then the
--- caller's s0 to s11, then a0 to a7, so that argument i stands in the i-th word from there on, also where C passes it on the stack.
-use Rattle.std.specs.Prelude.{ℕ, ◌+◌, ◌-◌, ◌*◌, ◌^◌, ◌==◌, List, [], ◌∷◌, ◌++◌, length, map, Option, Some, None, if◌then◌else◌}
+-- The room of a call lies below the caller's sp: the image's frame at its lower end, in whole blocks of 16 bytes,
+-- then the caller's s0 to s11, then a0 to a7, so that argument i stands in the i-th word from there on, also where C
+-- passes it on the stack.
+use Rattle.std.specs.Prelude.{ℕ, ◌+◌, ◌-◌, ◌*◌, ◌^◌, ◌==◌, List, [], ◌∷◌, ◌++◌, length, map, Option, Some, None}
+use Rattle.std.specs.Prelude.{if◌then◌else◌}
 use Rattle.codegen.specs.Anywhere.{body_words}
 use Rattle.expression_code.specs.TermCode.{load_code, store_code, constant_code, cut_code, is_not_zero_code, load_by}
-use Rattle.linked_calls.specs.Convention.{link_register, stack_register, saved_registers, argument_registers, result_register, scratch_registers, whole_blocks}
+use Rattle.linked_calls.specs.Convention.{link_register, stack_register, saved_registers, argument_registers}
+use Rattle.linked_calls.specs.Convention.{result_register, scratch_registers, whole_blocks}
 use Rattle.image_fields.specs.Fields.{Fields}
 use Rattle.image_fields.specs.declared.slot.ResultSlot.{ResultSlot}
 use Rattle.image_fields.specs.declared.slot.Slot.{Slot}
@@ -18,7 +21,8 @@ use Rattle.language.specs.declared.signature.Kind.{Kind}
 use Rattle.language.specs.declared.signature.Kind.TheVariants.{Boolean, Uint8, Uint16, Uint32}
 use Rattle.rv_code.specs.Words.{word_of}
 use Rattle.rv_code.specs.declared.instructions.Instr.{Instr}
-use Rattle.rv_code.specs.declared.instructions.Instr.TheVariants.{Immediate, Register, Branch, JumpRegister, Load, Store}
+use Rattle.rv_code.specs.declared.instructions.Instr.TheVariants.{Immediate, Register, Branch, JumpRegister, Load}
+use Rattle.rv_code.specs.declared.instructions.Instr.TheVariants.{Store}
 use Rattle.rv_code.specs.declared.operations.BranchTest.TheVariants.{Bne}
 use Rattle.rv_code.specs.declared.operations.ImmediateOperation.TheVariants.{Addi}
 use Rattle.rv_code.specs.declared.operations.LoadOperation.TheVariants.{Lw}
@@ -72,13 +76,15 @@ zeros_code = stores_code stack_register 0 (0 ∷ 0 ∷ 0 ∷ 0 ∷ [])
 -- room above the frame: what the caller has in s0 to s11, and the arguments in a0 to a7
 abbrev pub entry_code : List Instr
 entry_code =
-    added stack_register (4096 - above_frame) ∷ stores_code stack_register 0 saved_registers ++ stores_code stack_register 48 argument_registers
+    added stack_register (4096 - above_frame) ∷ stores_code stack_register 0 saved_registers
+    ++ stores_code stack_register 48 argument_registers
 
 -- the frame, zeroed block by block downward, so that nothing live ever lies below x2
 abbrev pub frame_code : ℕ → List Instr
 frame_code room =
     if room == 0 then [] else
-    constant_code 5 room ++ Register Sub 5 stack_register 5 ∷ until_equal stack_register 5 (added stack_register (4096 - 16) ∷ zeros_code)
+    constant_code 5 room ++ Register Sub 5 stack_register 5
+    ∷ until_equal stack_register 5 (added stack_register (4096 - 16) ∷ zeros_code)
 
 -- what a raw word means by its kind: a bool is whether it is not 0, a number its low bits
 abbrev pub meant_code : ℕ → Kind → List Instr
@@ -89,7 +95,8 @@ meant_code r Uint32 = []
 
 -- an argument that is a word into its slot
 abbrev pub word_code : Fields → ℕ → Slot → List Instr
-word_code image i slot = load_code 5 (argument_offset image i) ++ meant_code 5 slot.param.kind ++ store_code 5 slot.offset
+word_code image i slot = load_code 5 (argument_offset image i) ++ meant_code 5 slot.param.kind
+    ++ store_code 5 slot.offset
 
 -- how many bytes the array of a slot has
 abbrev pub array_bytes : Slot → ℕ
@@ -140,7 +147,8 @@ argument_code image i slot MutableArray = copy_in_code image i slot
 -- all arguments from the i-th on
 abbrev pub arguments_code : Fields → ℕ → List Slot → List Instr
 arguments_code image i [] = []
-arguments_code image i (slot ∷ slots) = argument_code image i slot slot.param.form ++ arguments_code image (i + 1) slots
+arguments_code image i (slot ∷ slots) = argument_code image i slot slot.param.form
+    ++ arguments_code image (i + 1) slots
 
 abbrev pub enter_code : Fields → List Instr
 enter_code image = entry_code ++ frame_code (frame_room image) ++ arguments_code image 0 image.slots

@@ -1,11 +1,19 @@
--- The code of a function in sections, each with one purpose: what its text says of them, and how many turns they make.
+-- The code of a function in sections, each with one purpose: what its text says of them, and how many turns they
+-- make.
 use Rattle.std.specs.Prelude.{ℕ, ◌+◌, ◌-◌, ◌*◌, ◌/◌, ◌==◌, List, [], ◌∷◌, ◌++◌, length, map, sum, if◌then◌else◌}
 use Rattle.std.specs.List.{flat_map}
 use Rattle.expression_code.specs.TermCode.{constant_code}
-use Rattle.linked_calls.specs.Convention.{link_register, stack_register, saved_registers, argument_registers, scratch_registers}
-use Rattle.linked_calls.specs.FunctionCode.{above_frame, frame_room, room_of, stores_code, loads_code, until_equal, added, zeros_code, argument_code, bounds_code, copied_in_code, copied_out_code, result_code, copy_out_code, wipe_code, clear_registers_code}
+use Rattle.linked_calls.specs.Convention.{link_register, stack_register, saved_registers, argument_registers}
+use Rattle.linked_calls.specs.Convention.{scratch_registers}
+use Rattle.linked_calls.specs.FunctionCode.{above_frame, frame_room, room_of, stores_code, loads_code, until_equal}
+use Rattle.linked_calls.specs.FunctionCode.{added, zeros_code, argument_code, bounds_code, copied_in_code}
+use Rattle.linked_calls.specs.FunctionCode.{copied_out_code, result_code, copy_out_code, wipe_code}
+use Rattle.linked_calls.specs.FunctionCode.{clear_registers_code}
 use Rattle.linked_calls.specs.declared.section.Section.{Section}
-use Rattle.linked_calls.specs.declared.section.Section.TheVariants.{RoomAboveFrame, SavedRegisters, ArgumentRegisters, FrameBase, ClearedFrame, ArgumentIn, ResultOut, ArrayOut, FrameTop, RestoredRegisters, CallersStack, WipedRoom, ClearedRegisters, Return}
+use Rattle.linked_calls.specs.declared.section.Section.TheVariants.{RoomAboveFrame, SavedRegisters, ArgumentRegisters}
+use Rattle.linked_calls.specs.declared.section.Section.TheVariants.{FrameBase, ClearedFrame, ArgumentIn, ResultOut}
+use Rattle.linked_calls.specs.declared.section.Section.TheVariants.{ArrayOut, FrameTop, RestoredRegisters}
+use Rattle.linked_calls.specs.declared.section.Section.TheVariants.{CallersStack, WipedRoom, ClearedRegisters, Return}
 use Rattle.image_fields.specs.Fields.{Fields}
 use Rattle.image_fields.specs.declared.slot.Slot.{Slot}
 use Rattle.language.specs.declared.signature.Form.{Form}
@@ -26,7 +34,8 @@ argument_sections i (slot ∷ slots) = ArgumentIn i slot ∷ argument_sections (
 -- before the body
 abbrev pub enter_sections : Fields → List Section
 enter_sections image =
-    RoomAboveFrame ∷ SavedRegisters ∷ ArgumentRegisters ∷ frame_sections (frame_room image) ++ argument_sections 0 image.slots
+    RoomAboveFrame ∷ SavedRegisters ∷ ArgumentRegisters ∷ frame_sections (frame_room image)
+    ++ argument_sections 0 image.slots
 
 -- only an array that may be changed goes back
 abbrev pub array_section : ℕ → Slot → Form → List Section

@@ -54,7 +54,8 @@ WordIsTaken =
     → AreThere code start (argument_code image i slot SingleWord)
     → CanBePut image slot frame i
     → Does code start (argument_code image i slot SingleWord) (argument_turns image i slot SingleWord)
-    (IsPutting (frame + argument_offset image i) (frame + slot.offset)) (HasWordArgument image slot frame i) (IsPut image slot frame i)
+    (IsPutting (frame + argument_offset image i) (frame + slot.offset)) (HasWordArgument image slot frame i)
+    (IsPut image slot frame i)
 
 -- The result, which a call hands back in a0.
 

@@ -15,15 +15,22 @@ use Rattle.listing.specs.Leaked.{Leaks, refused, out_of_memory, ran}
 use Rattle.listing.specs.Listings.{Ends}
 
 -- out of memory, where there is no fault
-pub memory_leaks : (image : Fields) (args : List Arg) (r : Result Stop LeakFault) → fault_of (params_of image) args ≡ None → r ≡ Err Memory → Leaks image args r
-memory_leaks image args r none is = subst (λ (x : Result Stop LeakFault). Leaks image args x) (sym is) (out_of_memory none)
+pub memory_leaks : (image : Fields) (args : List Arg) (r : Result Stop LeakFault)
+    → fault_of (params_of image) args ≡ None → r ≡ Err Memory → Leaks image args r
+memory_leaks image args r none is =
+    subst (λ (x : Result Stop LeakFault). Leaks image args x) (sym is) (out_of_memory none)
 
 -- the first fault
-pub refused_leaks : (image : Fields) (args : List Arg) (fault : ArgumentFault) (e : LeakFault) → e ≡ Argument fault.rule fault.index → fault_of (params_of image) args ≡ Some fault → Leaks image args (Err e)
-refused_leaks image args fault e is first = subst (λ (x : LeakFault). Leaks image args (Err x)) (sym is) (refused first)
+pub refused_leaks : (image : Fields) (args : List Arg) (fault : ArgumentFault) (e : LeakFault)
+    → e ≡ Argument fault.rule fault.index → fault_of (params_of image) args ≡ Some fault → Leaks image args (Err e)
+refused_leaks image args fault e is first =
+    subst (λ (x : LeakFault). Leaks image args (Err x)) (sym is) (refused first)
 
 -- a run
-pub ran_leaks : (image : Fields) (args : List Arg) (code : Code) (steps : ℕ) (s : State) (seen : List Observation) (stop : Stop) → fault_of (params_of image) args ≡ None → code ≡ code_at code_base image → steps ≡ image.max_steps → s ≡ loaded_at code_base frame_base image args → Ends code steps s seen stop → Leaks image args (Ok stop)
+pub ran_leaks : (image : Fields) (args : List Arg) (code : Code) (steps : ℕ) (s : State) (seen : List Observation)
+    (stop : Stop) → fault_of (params_of image) args ≡ None → code ≡ code_at code_base image
+    → steps ≡ image.max_steps → s ≡ loaded_at code_base frame_base image args → Ends code steps s seen stop
+    → Leaks image args (Ok stop)
 ran_leaks image args code steps s seen stop none code_is steps_is s_is ends =
     ran none
     (subst (λ (x : State). Ends (code_at code_base image) image.max_steps x seen stop) s_is

@@ -1,5 +1,6 @@
 -- Bytes put one after another.
-use Rattle.std.proofs.Common.{◌≡◌, ℕ, ◌+◌, List, ◌++◌, length, take, length-append, append_assoc, sym, ◌∙◌, ap, arith, Result, Ok, Err, OnOk}
+use Rattle.std.proofs.Common.{◌≡◌, ℕ, ◌+◌, List, ◌++◌, length, take, length-append, append_assoc, sym, ◌∙◌, ap, arith}
+use Rattle.std.proofs.Common.{Result, Ok, Err, OnOk}
 use Rattle.std.specs.Prelude.{if◌then◌else◌}
 use Rattle.std.specs.Result.{is_ok}
 use Rattle.std.proofs.Math.Seq.{take-append-add}
@@ -7,12 +8,14 @@ use Rattle.std.proofs.lemmas.List.{take-append-le}
 use Rattle.streams.specs.Streams.{GainsPart}
 
 -- one piece after others
-pub put-more : (begun before after pieces piece : List ℕ) → before ≡ begun ++ pieces → after ≡ before ++ piece → after ≡ begun ++ (pieces ++ piece)
+pub put-more : (begun before after pieces piece : List ℕ) → before ≡ begun ++ pieces → after ≡ before ++ piece
+    → after ≡ begun ++ (pieces ++ piece)
 put-more begun before after pieces piece so_far last =
     last ∙ ap (λ l. l ++ piece) so_far ∙ append_assoc begun pieces piece
 
 -- a part of what comes after these bytes
-pub part-at_end : (before now after written piece : List ℕ) → now ≡ before ++ written → GainsPart now after piece → GainsPart before after (written ++ piece)
+pub part-at_end : (before now after written piece : List ℕ) → now ≡ before ++ written → GainsPart now after piece
+    → GainsPart before after (written ++ piece)
 part-at_end before now after written piece so_far part = record {
   count = length written + part.count;
   some_left = omega (arith, length-append written piece, part.some_left);
@@ -22,19 +25,23 @@ part-at_end before now after written piece so_far part = record {
 }
 
 -- a part of some bytes is one of more bytes
-pub part-of_more : (before after piece rest : List ℕ) → GainsPart before after piece → GainsPart before after (piece ++ rest)
+pub part-of_more : (before after piece rest : List ℕ) → GainsPart before after piece
+    → GainsPart before after (piece ++ rest)
 part-of_more before after piece rest part = record {
   count = part.count;
   some_left = omega (arith, length-append piece rest, part.some_left);
-  added = part.added ∙ ap (λ l. before ++ l) (sym (take-append-le part.count piece rest (omega (arith, part.some_left))));
+  added = part.added
+      ∙ ap (λ l. before ++ l) (sym (take-append-le part.count piece rest (omega (arith, part.some_left))));
 }
 
 -- a part of what comes after these bytes and before others
-pub part-inside : (before now after written piece rest : List ℕ) → now ≡ before ++ written → GainsPart now after piece → GainsPart before after ((written ++ piece) ++ rest)
+pub part-inside : (before now after written piece rest : List ℕ) → now ≡ before ++ written → GainsPart now after piece
+    → GainsPart before after ((written ++ piece) ++ rest)
 part-inside before now after written piece rest so_far part =
     part-of_more before after (written ++ piece) rest (part-at_end before now after written piece so_far part)
 
 -- the bytes after a call that puts more of them or fails, where it did not fail
-pub where_ok : {T E : Type 0} (r : Result T E) (after more before : List ℕ) → after ≡ (if is_ok r then more else before) → OnOk r (after ≡ more)
+pub where_ok : {T E : Type 0} (r : Result T E) (after more before : List ℕ)
+    → after ≡ (if is_ok r then more else before) → OnOk r (after ≡ more)
 where_ok (Ok x) after more before is = is
 where_ok (Err e) after more before is = tt

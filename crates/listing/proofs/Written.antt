@@ -1,5 +1,7 @@
 -- A run, a turn at a time, and what is written of it.
-use Rattle.std.proofs.Common.{◌≡◌, ◌≢◌, ℕ, suc, ◌+◌, ◌-◌, ◌<◌, ◌≤◌, List, [], ◌∷◌, ◌++◌, Option, Some, None, Result, Ok, Err, IfOk, OnOk, OnErr, length, refl, sym, ap, ◌∙◌, subst, append_assoc, append-nil, arith}
+use Rattle.std.proofs.Common.{◌≡◌, ◌≢◌, ℕ, suc, ◌+◌, ◌-◌, ◌<◌, ◌≤◌, List, [], ◌∷◌, ◌++◌, Option, Some, None, Result}
+use Rattle.std.proofs.Common.{Ok, Err, IfOk, OnOk, OnErr, length, refl, sym, ap, ◌∙◌, subst, append_assoc, append-nil}
+use Rattle.std.proofs.Common.{arith}
 use Rattle.std.specs.Prelude.{slice_get}
 use Rattle.std.proofs.lemmas.Option.{same_Some}
 use Rattle.streams.specs.Streams.{GainsPart, Writes, WritesPart}
@@ -22,7 +24,9 @@ first_alone (o ∷ []) few = refl
 first_alone (o ∷ p ∷ seen) few = absurd (omega arith)
 
 -- the turn that a step made, of which a recorder took what it shows
-pub turn_made : (code : Code) (s t : State) (ending : Ending) (answer : Option Stop) (seen : List Observation) → Turn code s ending → Done s ending answer t seen → answer ≢ Some RecorderRefused → Turned code s (slice_get seen 0) answer t
+pub turn_made : (code : Code) (s t : State) (ending : Ending) (answer : Option Stop) (seen : List Observation)
+    → Turn code s ending → Done s ending answer t seen → answer ≢ Some RecorderRefused
+    → Turned code s (slice_get seen 0) answer t
 turn_made code s t ending answer seen turn went_on calm = turned.went_on turn
 turn_made code s t ending answer seen turn (stopped {stop = stop}) calm =
     let brief = turn_stops code s seen stop turn in
@@ -30,41 +34,50 @@ turn_made code s t ending answer seen turn (stopped {stop = stop}) calm =
 turn_made code s t ending answer seen turn (refused shows) calm = absurd (calm refl)
 
 -- what a turn is that stops, and what one is that goes on
-pub stopped_at : (code : Code) (t u : State) (last : Option Observation) (answer : Option Stop) (stop : Stop) → Turned code t last answer u → answer ≡ Some stop → Turn code t (stops (listed last) stop)
+pub stopped_at : (code : Code) (t u : State) (last : Option Observation) (answer : Option Stop) (stop : Stop)
+    → Turned code t last answer u → answer ≡ Some stop → Turn code t (stops (listed last) stop)
 stopped_at code t u last answer stop (turned.went_on turn) is = cc
 stopped_at code t u last answer stop (turned.stopped {stop = other} turn) is =
     subst (λ x. Turn code t (stops (listed last) x)) (same_Some other stop is) turn
 
-pub went_to : (code : Code) (t u : State) (last : Option Observation) (answer : Option Stop) → Turned code t last answer u → answer ≡ None → (o : Observation) × (listed last ≡ o ∷ []) × Turn code t (goes_on o u)
+pub went_to : (code : Code) (t u : State) (last : Option Observation) (answer : Option Stop)
+    → Turned code t last answer u → answer ≡ None → (o : Observation) × (listed last ≡ o ∷ [])
+    × Turn code t (goes_on o u)
 went_to code t u last answer (turned.went_on {o = o} turn) is = (o, refl, turn)
 went_to code t u last answer (turned.stopped turn) is = cc
 
 -- turns, and then a run
-Runs-after : {code : Code} {k n : ℕ} {s t u : State} {seen more : List Observation} {stop : Stop} → Leads code k s seen t → Runs code n t more stop u → Runs code (k + n) s (seen ++ more) stop u
+Runs-after : {code : Code} {k n : ℕ} {s t u : State} {seen more : List Observation} {stop : Stop}
+    → Leads code k s seen t → Runs code n t more stop u → Runs code (k + n) s (seen ++ more) stop u
 Runs-after {code} {n = n} {u = u} {more = more} {stop = stop} (stays {s = s}) run =
     let e : n ≡ 0 + n = omega arith in
     subst (λ k. Runs code k s more stop u) e run
-Runs-after {code} {n = n} {u = u} {more = more} {stop = stop} (turns {n = k} {o = o} {seen = seen} {s = s} first rest) run =
+Runs-after {code} {n = n} {u = u} {more = more} {stop =
+    stop} (turns {n = k} {o = o} {seen = seen} {s = s} first rest) run =
     let e : suc (k + n) ≡ suc k + n = omega arith in
     subst (λ k. Runs code k s (o ∷ (seen ++ more)) stop u) e (Runs-more first (Runs-after rest run))
 
 entry_lines-append : (a b : List Entry) → entry_lines (a ++ b) ≡ entry_lines a ++ entry_lines b
 entry_lines-append [] b = refl
 entry_lines-append (entry ∷ a) b =
-    ap (λ l. entry_line entry ++ l) (entry_lines-append a b) ∙ sym (append_assoc (entry_line entry) (entry_lines a) (entry_lines b))
+    ap (λ l. entry_line entry ++ l) (entry_lines-append a b)
+    ∙ sym (append_assoc (entry_line entry) (entry_lines a) (entry_lines b))
 
 lines_of-append : (a b : List Observation) → lines_of (a ++ b) ≡ lines_of a ++ lines_of b
 lines_of-append a b = ap entry_lines (entries_of-append a b) ∙ entry_lines-append (entries_of a) (entries_of b)
 
 -- turns that showed this, and then to the end
-ends_from : (code : Code) (budget : ℕ) (s : State) (k : ℕ) (t : State) (seen : List Observation) → Leads code k s seen t → k ≤ budget → (more : List Observation) × (stop : Stop) × Ends code budget s (seen ++ more) stop
+ends_from : (code : Code) (budget : ℕ) (s : State) (k : ℕ) (t : State) (seen : List Observation)
+    → Leads code k s seen t → k ≤ budget → (more : List Observation) × (stop : Stop)
+    × Ends code budget s (seen ++ more) stop
 ends_from code budget s k t seen led within =
     let run = run_of_state code (budget - k) t in
     let e : k + (budget - k) ≡ budget = omega arith in
     (run.0, run.1, (run.2, (subst (λ n. Runs code n s (seen ++ run.0) run.1 run.2) e (Runs-after led run.3), run.4)))
 
 -- so many turns were made from a state, which showed this
-module _ (code : Code) (budget : ℕ) (s : State) (k : ℕ) (t : State) (seen : List Observation) (led : Leads code k s seen t) where
+module _ (code : Code) (budget : ℕ) (s : State) (k : ℕ) (t : State) (seen : List Observation)
+    (led : Leads code k s seen t) where
   -- the next one goes on
   pub leads_on : (o : Observation) (u : State) → Turn code t (goes_on o u) → Leads code (k + 1) s (seen ++ o ∷ []) u
   leads_on o u turn =
@@ -72,28 +85,36 @@ module _ (code : Code) (budget : ℕ) (s : State) (k : ℕ) (t : State) (seen : 
       subst (λ n. Leads code n s (seen ++ o ∷ []) u) e (Leads-more led turn)
 
   -- the next one stops
-  pub ends_here : (last : List Observation) (stop : Stop) → k < budget → Turn code t (stops last stop) → Ends code budget s (seen ++ last) stop
-  ends_here last stop within turn = (t, (halted (omega arith) (halts led turn refl), (turn_stops code t last stop turn).0))
+  pub ends_here : (last : List Observation) (stop : Stop) → k < budget → Turn code t (stops last stop)
+      → Ends code budget s (seen ++ last) stop
+  ends_here last stop within turn =
+      (t, (halted (omega arith) (halts led turn refl), (turn_stops code t last stop turn).0))
 
   -- no more are allowed
   pub ends_spent : k ≡ budget → Ends code budget s seen Budget
   ends_spent all = (t, (spent (subst (λ n. Leads code n s seen t) all led), λ e. cc))
 
   -- a turn is made, and the run goes on to its end
-  pub ends_after : (last : Option Observation) (answer : Option Stop) (u : State) → k < budget → Turned code t last answer u → (more : List Observation) × (stop : Stop) × Ends code budget s ((seen ++ listed last) ++ more) stop
+  pub ends_after : (last : Option Observation) (answer : Option Stop) (u : State) → k < budget
+      → Turned code t last answer u → (more : List Observation) × (stop : Stop)
+      × Ends code budget s ((seen ++ listed last) ++ more) stop
   ends_after None None u within turned = elim turned [ ]
-  ends_after (Some o) None u within (turned.went_on turn) = ends_from code budget s (k + 1) u (seen ++ o ∷ []) (leads_on o u turn) (omega arith)
+  ends_after (Some o) None u within (turned.went_on turn) =
+      ends_from code budget s (k + 1) u (seen ++ o ∷ []) (leads_on o u turn) (omega arith)
   ends_after last (Some stop) u within (turned.stopped turn) =
       let ends = ends_here (listed last) stop within turn in
       ([], stop, subst (λ l. Ends code budget s l stop) (sym (append-nil (seen ++ listed last))) ends)
 
 -- what was written so far are the lines of this
 module _ (before now : List ℕ) (seen : List Observation) (so_far : now ≡ before ++ lines_of seen) where
-  pub wrote_more : (after : List ℕ) (last : List Observation) → after ≡ now ++ lines_of last → after ≡ before ++ lines_of (seen ++ last)
-  wrote_more after last is = put-more before now after (lines_of seen) (lines_of last) so_far is ∙ ap (λ l. before ++ l) (sym (lines_of-append seen last))
+  pub wrote_more : (after : List ℕ) (last : List Observation) → after ≡ now ++ lines_of last
+      → after ≡ before ++ lines_of (seen ++ last)
+  wrote_more after last is = put-more before now after (lines_of seen) (lines_of last) so_far is
+      ∙ ap (λ l. before ++ l) (sym (lines_of-append seen last))
 
   -- and then a stop's line
-  pub wrote_all : (code : Code) (budget : ℕ) (s : State) (after : List ℕ) (stop : Stop) → Ends code budget s seen stop → after ≡ now ++ stop_line stop → Writes (IsListing code budget s stop) before after
+  pub wrote_all : (code : Code) (budget : ℕ) (s : State) (after : List ℕ) (stop : Stop) → Ends code budget s seen stop
+      → after ≡ now ++ stop_line stop → Writes (IsListing code budget s stop) before after
   wrote_all code budget s after stop ends is = record {
     bytes = listing seen stop;
     such = (seen, ends, refl);
@@ -101,7 +122,9 @@ module _ (before now : List ℕ) (seen : List Observation) (so_far : now ≡ bef
   }
 
   -- and a part of a stop's line
-  pub cut_at_stop : (code : Code) (budget : ℕ) (s : State) (after : List ℕ) (stop : Stop) → Ends code budget s seen stop → GainsPart now after (stop_line stop) → WritesPart (λ bytes. (stop : Stop) × IsListing code budget s stop bytes) before after
+  pub cut_at_stop : (code : Code) (budget : ℕ) (s : State) (after : List ℕ) (stop : Stop)
+      → Ends code budget s seen stop → GainsPart now after (stop_line stop)
+      → WritesPart (λ bytes. (stop : Stop) × IsListing code budget s stop bytes) before after
   cut_at_stop code budget s after stop ends part = record {
     bytes = listing seen stop;
     such = (stop, (seen, ends, refl));
@@ -109,16 +132,22 @@ module _ (before now : List ℕ) (seen : List Observation) (so_far : now ≡ bef
   }
 
   -- and a part of the next turn's lines
-  pub cut_at_lines : (code : Code) (budget : ℕ) (s : State) (after : List ℕ) (last more : List Observation) (stop : Stop) → Ends code budget s ((seen ++ last) ++ more) stop → GainsPart now after (lines_of last) → WritesPart (λ bytes. (stop : Stop) × IsListing code budget s stop bytes) before after
+  pub cut_at_lines : (code : Code) (budget : ℕ) (s : State) (after : List ℕ) (last more : List Observation)
+      (stop : Stop) → Ends code budget s ((seen ++ last) ++ more) stop → GainsPart now after (lines_of last)
+      → WritesPart (λ bytes. (stop : Stop) × IsListing code budget s stop bytes) before after
   cut_at_lines code budget s after last more stop ends part =
       let whole : lines_of ((seen ++ last) ++ more) ≡ (lines_of seen ++ lines_of last) ++ lines_of more =
       lines_of-append (seen ++ last) more ∙ ap (λ l. l ++ lines_of more) (lines_of-append seen last) in
-      let bytes : listing ((seen ++ last) ++ more) stop ≡ (lines_of seen ++ lines_of last) ++ (lines_of more ++ stop_line stop) =
-      ap (λ l. l ++ stop_line stop) whole ∙ append_assoc (lines_of seen ++ lines_of last) (lines_of more) (stop_line stop) in
+      let bytes : listing ((seen ++ last) ++ more) stop ≡ (lines_of seen ++ lines_of last)
+      ++ (lines_of more ++ stop_line stop) =
+      ap (λ l. l ++ stop_line stop) whole
+      ∙ append_assoc (lines_of seen ++ lines_of last) (lines_of more) (stop_line stop) in
       record {
         bytes = listing ((seen ++ last) ++ more) stop;
         such = (stop, ((seen ++ last) ++ more, ends, refl));
-        part = subst (λ l. GainsPart before after l) (sym bytes) (part-inside before now after (lines_of seen) (lines_of last) (lines_of more ++ stop_line stop) so_far part);
+        part = subst (λ l. GainsPart before after l) (sym bytes)
+            (part-inside before now after (lines_of seen) (lines_of last) (lines_of more ++ stop_line stop)
+            so_far part);
       }
 
 -- what is known of an answer that is an error, and of one that names this stop
@@ -127,6 +156,7 @@ pub on_err : {T E P : Type 0} (r : Result T E) → P → OnErr r P
 on_err (Ok x) p = tt
 on_err (Err e) p = p
 
-pub if_named : {E Q : Type 0} (r : Result Stop E) (stop : Stop) (P : Stop → Type 0) → IfOk r (λ answer. answer ≡ stop) → OnOk r Q → (Q → P stop) → IfOk r P
+pub if_named : {E Q : Type 0} (r : Result Stop E) (stop : Stop) (P : Stop → Type 0) → IfOk r (λ answer. answer ≡ stop)
+    → OnOk r Q → (Q → P stop) → IfOk r P
 if_named (Ok x) stop P is q so = subst P (sym is) (so q)
 if_named (Err e) stop P is q so = tt

@@ -18,7 +18,8 @@ word_line address word text = word_head address word ++ text ++ codes "\n"
 -- the listing of words that stand one after another from an address on
 pub data ListsCode : ℕ → List ℕ → List ℕ → Type 0 where
   nothing : {address : ℕ} → ListsCode address [] []
-  line : {address word : ℕ} {words text rest : List ℕ} → IsTextOf word text → ListsCode (address + 4) words rest → ListsCode address (word ∷ words) (word_line address word text ++ rest)
+  line : {address word : ℕ} {words text rest : List ℕ} → IsTextOf word text → ListsCode (address + 4) words rest
+      → ListsCode address (word ∷ words) (word_line address word text ++ rest)
 
 -- the line of a word at an address, where there is one
 abbrev pub IsLineOf : ℕ → Option ℕ → Option (List ℕ) → Type 0

@@ -15,11 +15,15 @@ use Rattle.listing.specs.Listings.{IsListing}
 
 -- these bytes are the listing of the run of the image, loaded with these arguments, within its steps, which stops so
 abbrev pub IsLeak : Fields → List Arg → Stop → List ℕ → Type 0
-IsLeak image args stop bytes = IsListing (code_at code_base image) image.max_steps (loaded_at code_base frame_base image args) stop bytes
+IsLeak image args stop bytes =
+    IsListing (code_at code_base image) image.max_steps (loaded_at code_base frame_base image args) stop bytes
 
--- what is answered: arguments are refused by their first fault; else it is the stop of the image's run, or memory was wanting, or the sink failed
+-- what is answered: arguments are refused by their first fault; else it is the stop of the image's run, or memory was
+-- wanting, or the sink failed
 pub data Leaks (image : Fields) (args : List Arg) : Result Stop LeakFault → Type 0 where
-  refused : {fault : ArgumentFault} → fault_of (params_of image) args ≡ Some fault → Leaks image args (Err (Argument fault.rule fault.index))
+  refused : {fault : ArgumentFault} → fault_of (params_of image) args ≡ Some fault
+      → Leaks image args (Err (Argument fault.rule fault.index))
   out_of_memory : fault_of (params_of image) args ≡ None → Leaks image args (Err Memory)
   cut_off : fault_of (params_of image) args ≡ None → Leaks image args (Err Write)
-  ran : {seen : List Observation} {stop : Stop} → fault_of (params_of image) args ≡ None → ImageEnds image args seen stop → Leaks image args (Ok stop)
+  ran : {seen : List Observation} {stop : Stop} → fault_of (params_of image) args ≡ None
+      → ImageEnds image args seen stop → Leaks image args (Ok stop)

@@ -16,4 +16,5 @@ Ends code budget s seen stop = (end : State) × RunsUncut code budget s seen sto
 
 -- these bytes are the listing of a run of at most so many turns, which stops so
 abbrev pub IsListing : Code → ℕ → State → Stop → List ℕ → Type 0
-IsListing code budget s stop bytes = (seen : List Observation) × Ends code budget s seen stop × (bytes ≡ listing seen stop)
+IsListing code budget s stop bytes = (seen : List Observation) × Ends code budget s seen stop
+    × (bytes ≡ listing seen stop)

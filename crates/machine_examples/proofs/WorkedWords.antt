@@ -2,7 +2,8 @@
 use Rattle.std.proofs.Common.{◌≡◌, refl}
 use Rattle.rv_code.specs.Words.{word_of}
 use Rattle.rv_code.specs.declared.instructions.Instr.{Instr}
-use Rattle.rv_code.specs.declared.instructions.Instr.TheVariants.{Upper, Jump, Branch, Load, Store, Immediate, Shift, Register, Multiply, Divide, Ecall, Ebreak}
+use Rattle.rv_code.specs.declared.instructions.Instr.TheVariants.{Upper, Jump, Branch, Load, Store, Immediate, Shift}
+use Rattle.rv_code.specs.declared.instructions.Instr.TheVariants.{Register, Multiply, Divide, Ecall, Ebreak}
 use Rattle.rv_code.specs.declared.operations.UpperOperation.TheVariants.{Lui}
 use Rattle.rv_code.specs.declared.operations.BranchTest.TheVariants.{Beq}
 use Rattle.rv_code.specs.declared.operations.LoadOperation.TheVariants.{Lw}

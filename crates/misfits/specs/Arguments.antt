@@ -6,7 +6,8 @@ use Rattle.language.specs.declared.typing.ValueType.{ValueType}
 use Rattle.language.specs.declared.typing.ValueType.TheVariants.{Word, Array, Nothing}
 use Rattle.language.specs.declared.typing.VariableType.{VariableType}
 use Rattle.language.specs.ExprTyping.{name_type}
-use Rattle.language.specs.Tree.{ExprTree, number, truth, name, prefix, binary, rotate, convert, select, element, ParameterTree}
+use Rattle.language.specs.Tree.{ExprTree, number, truth, name, prefix, binary, rotate, convert, select, element}
+use Rattle.language.specs.Tree.{ParameterTree}
 use Rattle.language.specs.Types.{Scope, found, variable}
 use Rattle.language.specs.Typing.{is_mutable}
 use Rattle.names.specs.Scope.{found as placed_at}
@@ -78,7 +79,8 @@ shares scope array mutable p e = (mutable || is_mutable p.form) && is_array arra
 abbrev pub partner : Scope → List ℕ → Bool → List ParameterTree → List ExprTree → Option ParameterTree
 partner scope array mutable [] arguments = None
 partner scope array mutable (p ∷ ps) [] = None
-partner scope array mutable (p ∷ ps) (e ∷ es) = if shares scope array mutable p e then Some p else partner scope array mutable ps es
+partner scope array mutable (p ∷ ps) (e ∷ es) = if shares scope array mutable p e then Some p
+    else partner scope array mutable ps es
 
 -- an array that is given for two parameters
 pub record Shared : Type 0 where
@@ -101,4 +103,5 @@ shared_first scope (p ∷ ps) (e ∷ es) = shared_with scope p (array_argument s
 abbrev pub first_shared : Scope → List ParameterTree → List ExprTree → Option Shared
 first_shared scope [] arguments = None
 first_shared scope (p ∷ ps) [] = None
-first_shared scope (p ∷ ps) (e ∷ es) = option_or (shared_with scope p (array_argument scope e) ps es) (first_shared scope ps es)
+first_shared scope (p ∷ ps) (e ∷ es) =
+    option_or (shared_with scope p (array_argument scope e) ps es) (first_shared scope ps es)

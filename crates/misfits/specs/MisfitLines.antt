@@ -1,5 +1,6 @@
 -- What does not fit at a place: a line with its end, or nothing.
-use Rattle.std.specs.Prelude.{ℕ, ◌-◌, ◌==◌, true, List, [], ◌∷◌, ◌++◌, length, codes, Option, None, Some, if◌then◌else◌}
+use Rattle.std.specs.Prelude.{ℕ, ◌-◌, ◌==◌, true, List, [], ◌∷◌, ◌++◌, length, codes, Option, None, Some}
+use Rattle.std.specs.Prelude.{if◌then◌else◌}
 use Rattle.std.specs.Fmt.{decimal}
 use Rattle.language.specs.declared.signature.Kind.{Kind}
 use Rattle.language.specs.declared.signature.Kind.TheVariants.{Boolean, Uint8, Uint16, Uint32}
@@ -8,12 +9,15 @@ use Rattle.language.specs.declared.typing.ValueType.{ValueType}
 use Rattle.language.specs.declared.typing.ValueType.TheVariants.{Word}
 use Rattle.language.specs.declared.typing.WordType.{WordType}
 use Rattle.language.specs.ExprTyping.{type_of}
-use Rattle.language.specs.Tree.{ExprTree, number, truth, name, prefix, binary, rotate, convert, select, element, StatementTree, declaration, array, assignment, element_assignment, call, conditional, loop, ProcedureTree}
+use Rattle.language.specs.Tree.{ExprTree, number, truth, name, prefix, binary, rotate, convert, select, element}
+use Rattle.language.specs.Tree.{StatementTree, declaration, array, assignment, element_assignment, call, conditional}
+use Rattle.language.specs.Tree.{loop, ProcedureTree}
 use Rattle.language.specs.Types.{Scope, bits_of, callee, found, kind_of, of_one}
 use Rattle.language.specs.Typing.{called_one}
 use Rattle.misfits.specs.Arguments.{Shared, first_fixed, first_shared, fixed_place}
 use Rattle.misfits.specs.declared.misfit.Misfit.{Misfit}
-use Rattle.misfits.specs.declared.misfit.Misfit.TheVariants.{Numbers, Arguments, Fixed, Returns, Shared as SharedArrays, Values}
+use Rattle.misfits.specs.declared.misfit.Misfit.TheVariants.{Numbers, Arguments, Fixed, Returns}
+use Rattle.misfits.specs.declared.misfit.Misfit.TheVariants.{Shared as SharedArrays, Values}
 use Rattle.operand_types.specs.Nodes.{Node, of_call, of_element, of_expr, of_return, of_statement}
 use Rattle.operand_types.specs.Sites.{Site}
 use Rattle.operand_types.specs.TypeTexts.{kind_text, type_text}
@@ -38,7 +42,9 @@ greatest Uint32 = 4294967295
 -- T3: a number, and the greatest of its kind
 abbrev pub number_text : ℕ → List ℕ → ℕ → List ℕ
 number_text value kind most =
-    codes "  the number is " ++ (decimal value ++ (codes ", and the greatest " ++ (kind ++ (codes " is " ++ (decimal most ++ codes "\n")))))
+    codes "  the number is "
+    ++ (decimal value ++ (codes ", and the greatest "
+    ++ (kind ++ (codes " is " ++ (decimal most ++ codes "\n")))))
 
 abbrev pub number_line : ℕ → Kind → List ℕ
 number_line value kind = number_text value (kind_text kind) (greatest kind)
@@ -72,12 +78,14 @@ number_lines Values scope e = []
 abbrev pub count_line : ProcedureTree → List ExprTree → List ℕ
 count_line p arguments =
     codes "  the call has " ++ (things (length arguments) (codes "argument") ++ (codes ", and `" ++ (p.name
-    ++ (codes "`, declared at " ++ (place_text p.place ++ (codes ", takes " ++ (decimal (length p.parameters) ++ codes "\n")))))))
+    ++ (codes "`, declared at "
+    ++ (place_text p.place ++ (codes ", takes " ++ (decimal (length p.parameters) ++ codes "\n")))))))
 
 -- T6: what is not `mut`, and where it is declared
 abbrev pub fixed_line : List ℕ → Option Place → List ℕ
 fixed_line text None = []
-fixed_line text (Some place) = codes "  `" ++ (text ++ (codes "` is not `mut`, declared at " ++ (place_text place ++ codes "\n")))
+fixed_line text (Some place) = codes "  `"
+    ++ (text ++ (codes "` is not `mut`, declared at " ++ (place_text place ++ codes "\n")))
 
 abbrev pub change_line : Misfit → Around → List ℕ → List ℕ
 change_line Fixed around text = fixed_line text (fixed_place around text)
@@ -95,7 +103,9 @@ fixed_argument_line around (Some text) = fixed_line text (fixed_place around tex
 abbrev pub shared_line : Option Shared → List ℕ
 shared_line None = []
 shared_line (Some s) =
-    codes "  `" ++ (s.array ++ (codes "` is given for the parameters `" ++ (s.one.name ++ (codes "` and `" ++ (s.other.name ++ codes "`\n")))))
+    codes "  `"
+    ++ (s.array ++ (codes "` is given for the parameters `"
+    ++ (s.one.name ++ (codes "` and `" ++ (s.other.name ++ codes "`\n")))))
 
 abbrev pub misfit_of_call : Misfit → Around → List ExprTree → ProcedureTree → List ℕ
 misfit_of_call Arguments around es p = count_line p es
@@ -112,7 +122,8 @@ call_line m around es (Some (c, p)) = misfit_of_call m around es p
 -- T9: how many elements an array has, and how many values its list
 abbrev pub values_line : ℕ → List ExprTree → List ℕ
 values_line size values =
-    codes "  the array's length is " ++ (decimal size ++ (codes ", and its list has " ++ (things (length values) (codes "value") ++ codes "\n")))
+    codes "  the array's length is "
+    ++ (decimal size ++ (codes ", and its list has " ++ (things (length values) (codes "value") ++ codes "\n")))
 
 abbrev pub value_lines : ℕ → Option (List ExprTree) → List ℕ
 value_lines size None = []
@@ -131,7 +142,8 @@ statement_line m earlier around (declaration place label mutable kind text right
 statement_line m earlier around (array place label mutable kind size text values) = array_line m size values
 statement_line m earlier around (assignment place target text right) = change_line m around text
 statement_line m earlier around (element_assignment place bracket target text index right) = change_line m around text
-statement_line m earlier around (call c) = call_line m around c.arguments (called_one earlier (callee (found around.scope c.name)))
+statement_line m earlier around (call c) =
+    call_line m around c.arguments (called_one earlier (callee (found around.scope c.name)))
 statement_line m earlier around (conditional place condition accepted otherwise) = []
 statement_line m earlier around (loop place counter text low high body) = []
 
@@ -153,7 +165,8 @@ return_line Values scope result value = []
 
 abbrev pub node_line : Misfit → List ProcedureTree → Around → Node → List ℕ
 node_line m earlier around (of_expr e) = number_lines m around.scope e
-node_line m earlier around (of_call c) = call_line m around c.arguments (called_one earlier (callee (found around.scope c.name)))
+node_line m earlier around (of_call c) =
+    call_line m around c.arguments (called_one earlier (callee (found around.scope c.name)))
 node_line m earlier around (of_statement s) = statement_line m earlier around s
 node_line m earlier around (of_element text index) = []
 node_line m earlier around (of_return result value) = return_line m around.scope result value
@@ -170,7 +183,8 @@ named_at at (p ∷ ps) = if p.place.offset == at then Some p else named_at at ps
 
 abbrev pub result_line : Option WordType → List ℕ
 result_line None = []
-result_line (Some word) = codes "  the result is " ++ (type_text true (Word word) ++ codes ", and there is no `return`\n")
+result_line (Some word) = codes "  the result is "
+    ++ (type_text true (Word word) ++ codes ", and there is no `return`\n")
 
 abbrev pub missing_return_line : Option ProcedureTree → List ℕ
 missing_return_line None = []

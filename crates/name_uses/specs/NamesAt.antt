@@ -1,7 +1,8 @@
 -- The name that is used at a place.
 use Rattle.std.specs.Prelude.{ℕ, Bool, ◌==◌, List, [], ◌∷◌, Option, None, Some, if◌then◌else◌}
 use Rattle.std.specs.Option.{option_or}
-use Rattle.language.specs.Tree.{ExprTree, number, truth, name, prefix, binary, rotate, convert, select, element, RightTree, called, computed}
+use Rattle.language.specs.Tree.{ExprTree, number, truth, name, prefix, binary, rotate, convert, select, element}
+use Rattle.language.specs.Tree.{RightTree, called, computed}
 use Rattle.word.specs.declared.place.Place.{Place}
 
 -- a name, where it stands at this offset

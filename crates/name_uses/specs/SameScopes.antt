@@ -33,7 +33,8 @@ seen_known v = record { name = v.name; type = Some (v.label, v.kind) }
 
 -- a variable behind other names, where its name is none of them
 abbrev pub with_variable : List Known → Seen → List Known
-with_variable names v = if list_any (λ (k : Known). bytes_eq v.name k.name) names then names else names ++ seen_known v ∷ []
+with_variable names v = if list_any (λ (k : Known). bytes_eq v.name k.name) names then names
+    else names ++ seen_known v ∷ []
 
 abbrev pub with_variables : List Known → List Seen → List Known
 with_variables names [] = names
@@ -45,7 +46,8 @@ AreInScope procedures seen scope = known scope ≡ with_variables procedures see
 
 -- so it is where a body begins, and it stays so behind each statement, behind all of a block, and in a loop's body
 pub record SameScopes : Type 0 where
-  pub parameters : (scope : Scope) (ps : List ParameterTree) → AreInScope (known scope) (map variable_of ps) (with_parameters scope ps)
+  pub parameters : (scope : Scope) (ps : List ParameterTree)
+      → AreInScope (known scope) (map variable_of ps) (with_parameters scope ps)
   pub statement : (procedures : List Known) (seen : List Seen) (scope : Scope) (s : StatementTree)
       → AreInScope procedures seen scope
       → AreInScope procedures (with_seen seen (declared_by s)) (scope_after scope s)

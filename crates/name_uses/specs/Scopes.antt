@@ -3,7 +3,9 @@ use Rattle.std.specs.Prelude.{ℕ, List, [], ◌∷◌, ◌++◌, Option, None, 
 use Rattle.std.specs.Borrow.{Bor}
 use Rattle.std.specs.Global.{Vec}
 use Rattle.std.specs.Option.{option_map, option_or}
-use Rattle.language.specs.Tree.{ExprTree, expr_tree, StatementTree, declaration, array, assignment, element_assignment, call, conditional, loop, BlockTree, nothing, first, ParameterTree, ReturnTree, ProcedureTree, written}
+use Rattle.language.specs.Tree.{ExprTree, expr_tree, StatementTree, declaration, array, assignment}
+use Rattle.language.specs.Tree.{element_assignment, call, conditional, loop, BlockTree, nothing, first, ParameterTree}
+use Rattle.language.specs.Tree.{ReturnTree, ProcedureTree, written}
 use Rattle.language.specs.declared.signature.Kind.{Kind}
 use Rattle.language.specs.declared.signature.Kind.TheVariants.{Uint32}
 use Rattle.language.specs.declared.signature.Label.{Label}
@@ -45,8 +47,10 @@ values_tree = option_map (λ (values : Vec Expr). map expr_tree values.items)
 
 -- what a statement declares for those behind it
 abbrev pub declared_by : StatementTree → Option Seen
-declared_by (declaration place label mutable kind text right) = Some (record { name = text; place = place; label = label; kind = kind })
-declared_by (array place label mutable kind length text values) = Some (record { name = text; place = place; label = label; kind = kind })
+declared_by (declaration place label mutable kind text right) =
+    Some (record { name = text; place = place; label = label; kind = kind })
+declared_by (array place label mutable kind length text values) =
+    Some (record { name = text; place = place; label = label; kind = kind })
 declared_by (assignment place target text right) = None
 declared_by (element_assignment place bracket target text index right) = None
 declared_by (call c) = None
@@ -70,20 +74,25 @@ abbrev mutual
   -- the use at this offset of a name in a statement, which stands in a scope
   pub use_at : ℕ → List Seen → StatementTree → Option Use
   use_at at scope (declaration place label mutable kind text right) = used_in scope (name_in_right at right)
-  use_at at scope (array place label mutable kind length text values) = used_in scope (name_in_any at (written values))
-  use_at at scope (assignment place target text right) = used_in scope (option_or (name_here at target text) (name_in_right at right))
+  use_at at scope (array place label mutable kind length text values) =
+      used_in scope (name_in_any at (written values))
+  use_at at scope (assignment place target text right) =
+      used_in scope (option_or (name_here at target text) (name_in_right at right))
   use_at at scope (element_assignment place bracket target text index right) =
       used_in scope (option_or (name_here at target text) (option_or (name_at at index) (name_in_right at right)))
   use_at at scope (call c) = used_in scope (name_in_any at c.arguments)
   use_at at scope (conditional place condition accepted otherwise) =
-      option_or (used_in scope (name_at at condition)) (option_or (use_in at scope accepted) (use_in at scope otherwise))
+      option_or (used_in scope (name_at at condition))
+      (option_or (use_in at scope accepted) (use_in at scope otherwise))
   use_at at scope (loop place counter text low high body) =
-      option_or (used_in scope (option_or (name_at at low) (name_at at high))) (use_in at (scope ++ counter_as counter text ∷ []) body)
+      option_or (used_in scope (option_or (name_at at low) (name_at at high)))
+      (use_in at (scope ++ counter_as counter text ∷ []) body)
 
   -- the use in a block
   pub use_in : ℕ → List Seen → BlockTree → Option Use
   use_in at scope nothing = None
-  use_in at scope (first statement rest) = option_or (use_at at scope statement) (use_in at (with_seen scope (declared_by statement)) rest)
+  use_in at scope (first statement rest) =
+      option_or (use_at at scope statement) (use_in at (with_seen scope (declared_by statement)) rest)
 
 abbrev pub variable_of : ParameterTree → Seen
 variable_of p = record { name = p.name; place = p.place; label = p.label; kind = p.kind }

@@ -16,4 +16,5 @@ none_left m scope (p ∷ ps) = refl
 pub none_behind : (m : Mismatch) (scope : Scope) (ps : List ParameterTree) (i : ℕ) (es : List Expr) → length es ≤ i
     → None ≡ first_argument m scope ps (map expr_tree (drop i es))
 none_behind m scope ps i es h =
-    none_left m scope ps ∙ ap (λ (rest : List Expr). first_argument m scope ps (map expr_tree rest)) (sym (drop_all i es h))
+    none_left m scope ps ∙ ap (λ (rest : List Expr). first_argument m scope ps (map expr_tree rest))
+    (sym (drop_all i es h))

@@ -7,11 +7,14 @@ use Rattle.language.specs.declared.signature.Kind.TheVariants.{Boolean, Uint8, U
 use Rattle.language.specs.declared.signature.Label.TheVariants.{Public}
 use Rattle.language.specs.declared.typing.Callee.{Callee}
 use Rattle.language.specs.declared.operation.Operation.{Operation}
-use Rattle.language.specs.declared.operation.Operation.TheVariants.{Arithmetic, Multiplication, Division, Shift, Equality, Order, Logic}
+use Rattle.language.specs.declared.operation.Operation.TheVariants.{Arithmetic, Multiplication, Division, Shift}
+use Rattle.language.specs.declared.operation.Operation.TheVariants.{Equality, Order, Logic}
 use Rattle.language.specs.declared.typing.ValueType.{ValueType}
 use Rattle.language.specs.declared.typing.WordType.{WordType}
 use Rattle.language.specs.ExprTyping.{element_type, name_type, operation_of, type_of}
-use Rattle.language.specs.Tree.{ExprTree, number, truth, name, prefix, binary, rotate, convert, select, element, RightTree, called, computed, StatementTree, declaration, array, assignment, element_assignment, call, conditional, loop, ParameterTree, ProcedureTree, written}
+use Rattle.language.specs.Tree.{ExprTree, number, truth, name, prefix, binary, rotate, convert, select, element}
+use Rattle.language.specs.Tree.{RightTree, called, computed, StatementTree, declaration, array, assignment}
+use Rattle.language.specs.Tree.{element_assignment, call, conditional, loop, ParameterTree, ProcedureTree, written}
 use Rattle.language.specs.Types.{Scope, bits_of, callee, found, is_numeric, kind_of, of_two, word}
 use Rattle.language.specs.Typing.{called_one, parameter_value, result_value}
 use Rattle.operand_types.specs.Mismatches.{first_argument, first_value}
@@ -21,7 +24,8 @@ use Rattle.operand_types.specs.declared.mismatch.Mismatch.TheVariants.{Widths}
 
 -- this number, where it is one of the numbers of a type
 abbrev pub number_as : ℕ → ValueType → Option (ℕ × Kind)
-number_as value wanted = if is_numeric wanted && nat_lt value (2 ^ bits_of (kind_of wanted)) then Some (value, kind_of wanted) else None
+number_as value wanted = if is_numeric wanted && nat_lt value (2 ^ bits_of (kind_of wanted))
+    then Some (value, kind_of wanted) else None
 
 -- an expression that is a number, by the type that is wanted
 abbrev pub literal_as : ExprTree → Option ValueType → Option (ℕ × Kind)
@@ -38,7 +42,8 @@ literal_as (element place target text index) wanted = None
 
 -- one of two operands of one width
 abbrev pub either_literal : Scope → ExprTree → ExprTree → Option (ℕ × Kind)
-either_literal scope left right = option_or (literal_as left (type_of scope right)) (literal_as right (type_of scope left))
+either_literal scope left right =
+    option_or (literal_as left (type_of scope right)) (literal_as right (type_of scope left))
 
 -- a number that has to be a `uint32`
 abbrev pub whole_literal : ExprTree → Option (ℕ × Kind)
@@ -82,13 +87,15 @@ value_literal wanted None = None
 value_literal wanted (Some e) = literal_as e (Some wanted)
 
 abbrev pub statement_literal : List ProcedureTree → Scope → StatementTree → Option (ℕ × Kind)
-statement_literal earlier scope (declaration place label mutable kind text right) = right_literal right (Some (word kind label))
+statement_literal earlier scope (declaration place label mutable kind text right) =
+    right_literal right (Some (word kind label))
 statement_literal earlier scope (array place label mutable kind length text values) =
     value_literal (word kind label) (first_value Widths scope (word kind label) (written values))
 statement_literal earlier scope (assignment place target text right) = right_literal right (name_type scope text)
 statement_literal earlier scope (element_assignment place bracket target text index right) =
     right_literal right (of_two None element_type (name_type scope text) (type_of scope index))
-statement_literal earlier scope (call c) = call_literal scope c.arguments (called_one earlier (callee (found scope c.name)))
+statement_literal earlier scope (call c) =
+    call_literal scope c.arguments (called_one earlier (callee (found scope c.name)))
 statement_literal earlier scope (conditional place condition accepted otherwise) = None
 statement_literal earlier scope (loop place counter text low high body) = None
 
@@ -98,7 +105,8 @@ return_literal (Some wanted) value = literal_as value (Some (result_value (Some 
 
 abbrev pub node_literal : List ProcedureTree → Scope → Node → Option (ℕ × Kind)
 node_literal earlier scope (of_expr e) = expr_literal scope e
-node_literal earlier scope (of_call c) = call_literal scope c.arguments (called_one earlier (callee (found scope c.name)))
+node_literal earlier scope (of_call c) =
+    call_literal scope c.arguments (called_one earlier (callee (found scope c.name)))
 node_literal earlier scope (of_statement s) = statement_literal earlier scope s
 node_literal earlier scope (of_element text index) = whole_literal index
 node_literal earlier scope (of_return result value) = return_literal result value

@@ -37,4 +37,5 @@ first_argument m scope (p ∷ ps) (e ∷ es) =
 -- the first of an array's values that violates it
 abbrev pub first_value : Mismatch → Scope → ValueType → List ExprTree → Option ExprTree
 first_value m scope wanted [] = None
-first_value m scope wanted (e ∷ es) = if is_violated_by m scope wanted e then Some e else first_value m scope wanted es
+first_value m scope wanted (e ∷ es) = if is_violated_by m scope wanted e then Some e
+    else first_value m scope wanted es

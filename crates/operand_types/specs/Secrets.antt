@@ -2,7 +2,9 @@
 use Rattle.std.specs.Prelude.{ℕ, false, List, [], ◌++◌, codes, Option, None, Some, if◌then◌else◌}
 use Rattle.std.specs.Option.{option_map, option_or}
 use Rattle.language.specs.ExprTyping.{name_type}
-use Rattle.language.specs.Tree.{ExprTree, number, truth, name, prefix, binary, rotate, convert, select, element, RightTree, called, computed, StatementTree, declaration, array, assignment, element_assignment, call, conditional, loop, ParameterTree, ProcedureTree, written}
+use Rattle.language.specs.Tree.{ExprTree, number, truth, name, prefix, binary, rotate, convert, select, element}
+use Rattle.language.specs.Tree.{RightTree, called, computed, StatementTree, declaration, array, assignment}
+use Rattle.language.specs.Tree.{element_assignment, call, conditional, loop, ParameterTree, ProcedureTree, written}
 use Rattle.language.specs.Types.{callee, found, is_hidden, of_one, word}
 use Rattle.language.specs.Typing.{called_one}
 use Rattle.language.specs.declared.typing.Callee.{Callee}
@@ -52,7 +54,8 @@ secret_in_found around (Some e) = secret_in around e
 abbrev pub secret_argument : Around → List ExprTree → Option (Callee × ProcedureTree) → Option Secret
 secret_argument around arguments None = None
 secret_argument around arguments (Some (c, p)) =
-    secret_in_found around (option_map (λ (both : ParameterTree × ExprTree). both.1) (first_argument Labels around.scope p.parameters arguments))
+    secret_in_found around (option_map (λ (both : ParameterTree × ExprTree). both.1)
+    (first_argument Labels around.scope p.parameters arguments))
 
 -- among the operands of `/`, `%` and `*`, and in an index
 abbrev pub secret_operand : Around → ExprTree → Option Secret
@@ -72,14 +75,18 @@ secret_of_statement earlier around (declaration place label mutable kind text ri
 secret_of_statement earlier around (array place label mutable kind length text values) =
     secret_in_found around (first_value Labels around.scope (word kind label) (written values))
 secret_of_statement earlier around (assignment place target text right) = secret_in_right around right
-secret_of_statement earlier around (element_assignment place bracket target text index right) = secret_in_right around right
-secret_of_statement earlier around (call c) = secret_argument around c.arguments (called_one earlier (callee (found around.scope c.name)))
+secret_of_statement earlier around (element_assignment place bracket target text index right) =
+    secret_in_right around right
+secret_of_statement earlier around (call c) =
+    secret_argument around c.arguments (called_one earlier (callee (found around.scope c.name)))
 secret_of_statement earlier around (conditional place condition accepted otherwise) = secret_in around condition
-secret_of_statement earlier around (loop place counter text low high body) = option_or (secret_in around low) (secret_in around high)
+secret_of_statement earlier around (loop place counter text low high body) =
+    option_or (secret_in around low) (secret_in around high)
 
 abbrev pub secret_of_node : List ProcedureTree → Around → Node → Option Secret
 secret_of_node earlier around (of_expr e) = secret_operand around e
-secret_of_node earlier around (of_call c) = secret_argument around c.arguments (called_one earlier (callee (found around.scope c.name)))
+secret_of_node earlier around (of_call c) =
+    secret_argument around c.arguments (called_one earlier (callee (found around.scope c.name)))
 secret_of_node earlier around (of_statement s) = secret_of_statement earlier around s
 secret_of_node earlier around (of_element text index) = secret_in around index
 secret_of_node earlier around (of_return result value) = secret_in around value
@@ -91,4 +98,5 @@ secret_at (Some s) = secret_of_node s.earlier s.around s.node
 
 abbrev pub secret_line : Option Secret → List ℕ
 secret_line None = []
-secret_line (Some s) = codes "  `" ++ (s.name ++ (codes "` is secret, declared at " ++ (place_text s.place ++ codes "\n")))
+secret_line (Some s) = codes "  `"
+    ++ (s.name ++ (codes "` is secret, declared at " ++ (place_text s.place ++ codes "\n")))

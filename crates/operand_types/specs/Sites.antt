@@ -1,7 +1,8 @@
 -- The node at a place, with what is in scope there.
 use Rattle.std.specs.Prelude.{ℕ, false, List, [], ◌∷◌, ◌++◌, length, Option, None, Some, is_some, if◌then◌else◌}
 use Rattle.std.specs.Option.{option_map, option_or}
-use Rattle.language.specs.Tree.{ExprTree, StatementTree, declaration, array, assignment, element_assignment, call, conditional, loop, BlockTree, nothing, first, ParameterTree, ProcedureTree}
+use Rattle.language.specs.Tree.{ExprTree, StatementTree, declaration, array, assignment, element_assignment, call}
+use Rattle.language.specs.Tree.{conditional, loop, BlockTree, nothing, first, ParameterTree, ProcedureTree}
 use Rattle.language.specs.ExprTyping.{type_of}
 use Rattle.language.specs.Types.{Scope, declared, is_hidden, of_one}
 use Rattle.language.specs.Typing.{counter_as, scope_after, with_parameters, with_procedure}
@@ -55,7 +56,11 @@ in_arms around place condition = record {
 
 -- where the body of a procedure begins, whose name is in scope
 abbrev pub in_body : Scope → ProcedureTree → Around
-in_body scope p = record { scope = with_parameters scope p.parameters; places = places_of [] p.parameters; under = None }
+in_body scope p = record {
+  scope = with_parameters scope p.parameters;
+  places = places_of [] p.parameters;
+  under = None;
+}
 
 abbrev mutual
   -- at this offset in a statement
@@ -75,7 +80,8 @@ abbrev mutual
   pub around_in : ℕ → Around → BlockTree → Around
   around_in at around nothing = around
   around_in at around (first statement rest) =
-      if is_some (node_at at statement) then around_at at around statement else around_in at (after around statement) rest
+      if is_some (node_at at statement) then around_at at around statement
+      else around_in at (after around statement) rest
 
 pub record Site : Type 0 where
   pub node : Node
@@ -85,11 +91,17 @@ pub record Site : Type 0 where
 -- in a procedure behind the earlier ones, whose scope this is
 abbrev pub site_in : ℕ → List ProcedureTree → Scope → ProcedureTree → Option Site
 site_in at earlier scope p =
-    option_map (λ node. record { node = node; around = around_in at (in_body (with_procedure scope (length earlier) p) p) p.body; earlier = earlier })
+    option_map (λ node. record {
+      node = node;
+      around =
+          around_in at (in_body (with_procedure scope (length earlier) p) p) p.body;
+      earlier = earlier;
+    })
     (node_in_procedure at p)
 
 -- in these procedures
 abbrev pub site_at : ℕ → List ProcedureTree → Scope → List ProcedureTree → Option Site
 site_at at earlier scope [] = None
 site_at at earlier scope (p ∷ ps) =
-    option_or (site_in at earlier scope p) (site_at at (earlier ++ p ∷ []) (with_procedure scope (length earlier) p) ps)
+    option_or (site_in at earlier scope p)
+    (site_at at (earlier ++ p ∷ []) (with_procedure scope (length earlier) p) ps)

@@ -5,7 +5,9 @@ use Rattle.language.specs.declared.typing.Callee.{Callee}
 use Rattle.language.specs.declared.typing.ValueType.{ValueType}
 use Rattle.language.specs.declared.typing.WordType.{WordType}
 use Rattle.language.specs.ExprTyping.{element_type, name_type, type_of}
-use Rattle.language.specs.Tree.{ExprTree, number, truth, name, prefix, binary, rotate, convert, select, element, RightTree, called, computed, StatementTree, declaration, array, assignment, element_assignment, call, conditional, loop, ParameterTree, ProcedureTree, written}
+use Rattle.language.specs.Tree.{ExprTree, number, truth, name, prefix, binary, rotate, convert, select, element}
+use Rattle.language.specs.Tree.{RightTree, called, computed, StatementTree, declaration, array, assignment}
+use Rattle.language.specs.Tree.{element_assignment, call, conditional, loop, ParameterTree, ProcedureTree, written}
 use Rattle.language.specs.Types.{Scope, callee, found, of_one, of_two, of_three, word}
 use Rattle.language.specs.Typing.{called_one, parameter_value, result_value}
 use Rattle.operand_types.specs.Mismatches.{first_argument, first_value}
@@ -33,7 +35,8 @@ two_line m part other a b =
 
 abbrev pub choice_lines : Mismatch → ValueType → ValueType → ValueType → List ℕ
 choice_lines m condition accepted otherwise =
-    one_line m (codes "first operand") condition ++ two_line m (codes "second operand") (codes "third operand") accepted otherwise
+    one_line m (codes "first operand") condition
+    ++ two_line m (codes "second operand") (codes "third operand") accepted otherwise
 
 -- of the operands of an expression
 abbrev pub expr_lines : Mismatch → Scope → ExprTree → List ℕ
@@ -62,7 +65,8 @@ right_gives earlier scope (computed e) = type_of scope e
 abbrev pub argument_line : Mismatch → Scope → Option (ParameterTree × ExprTree) → List ℕ
 argument_line m scope None = []
 argument_line m scope (Some (p, e)) =
-    of_one [] (two_line m (codes "parameter `" ++ (p.name ++ codes "`")) (codes "argument") (parameter_value p p.form)) (type_of scope e)
+    of_one [] (two_line m (codes "parameter `" ++ (p.name ++ codes "`")) (codes "argument")
+    (parameter_value p p.form)) (type_of scope e)
 
 abbrev pub call_line : Mismatch → Scope → List ExprTree → Option (Callee × ProcedureTree) → List ℕ
 call_line m scope arguments None = []
@@ -85,19 +89,24 @@ statement_line m earlier scope (array place label mutable kind length text value
 statement_line m earlier scope (assignment place target text right) =
     value_line m (codes "variable") (name_type scope text) (right_gives earlier scope right)
 statement_line m earlier scope (element_assignment place bracket target text index right) =
-    value_line m (codes "element") (of_two None element_type (name_type scope text) (type_of scope index)) (right_gives earlier scope right)
-statement_line m earlier scope (call c) = call_line m scope c.arguments (called_one earlier (callee (found scope c.name)))
-statement_line m earlier scope (conditional place condition accepted otherwise) = of_one [] (one_line m (codes "condition")) (type_of scope condition)
+    value_line m (codes "element") (of_two None element_type (name_type scope text) (type_of scope index))
+    (right_gives earlier scope right)
+statement_line m earlier scope (call c) =
+    call_line m scope c.arguments (called_one earlier (callee (found scope c.name)))
+statement_line m earlier scope (conditional place condition accepted otherwise) =
+    of_one [] (one_line m (codes "condition")) (type_of scope condition)
 statement_line m earlier scope (loop place counter text low high body) =
     of_two [] (two_line m (codes "first bound") (codes "second bound")) (type_of scope low) (type_of scope high)
 
 abbrev pub return_line : Mismatch → Scope → Option WordType → ExprTree → List ℕ
 return_line m scope None value = []
-return_line m scope (Some wanted) value = value_line m (codes "result") (Some (result_value (Some wanted))) (type_of scope value)
+return_line m scope (Some wanted) value =
+    value_line m (codes "result") (Some (result_value (Some wanted))) (type_of scope value)
 
 abbrev pub node_lines : Mismatch → List ProcedureTree → Scope → Node → List ℕ
 node_lines m earlier scope (of_expr e) = expr_lines m scope e
-node_lines m earlier scope (of_call c) = call_line m scope c.arguments (called_one earlier (callee (found scope c.name)))
+node_lines m earlier scope (of_call c) =
+    call_line m scope c.arguments (called_one earlier (callee (found scope c.name)))
 node_lines m earlier scope (of_statement s) = statement_line m earlier scope s
 node_lines m earlier scope (of_element text index) =
     of_two [] (two_line m (codes "variable") (codes "index")) (name_type scope text) (type_of scope index)

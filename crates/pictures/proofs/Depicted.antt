@@ -9,8 +9,10 @@ use Rattle.pictures.specs.declared.cells.Area.{Area}
 use Rattle.pictures.specs.declared.cells.Axes.{Axes}
 use Rattle.pictures.specs.declared.cells.Cell.{Cell}
 
-pub depicted : {code frame : Area} {said : List ℕ} {are_two : Bool} {seen seen' : List Observation} {axes axes' : Axes} {cells : List Cell} {one other steps : ℕ} {page : List ℕ}
-    → one ≡ length seen → other ≡ length seen' → steps ≡ max one other → axes ≡ record { steps = steps; code = code; frame = frame } → axes' ≡ axes
+pub depicted : {code frame : Area} {said : List ℕ} {are_two : Bool} {seen seen' : List Observation}
+    {axes axes' : Axes} {cells : List Cell} {one other steps : ℕ} {page : List ℕ}
+    → one ≡ length seen → other ≡ length seen' → steps ≡ max one other
+    → axes ≡ record { steps = steps; code = code; frame = frame } → axes' ≡ axes
     → IsGrid axes (marks_from 0 seen seen') cells → page ≡ page_text axes' cells said are_two one other
     → Depicts code frame said are_two seen seen' page
 depicted {code} {frame} {said} {are_two} {seen} {seen'} {cells = cells} first second longer is same grid text =

@@ -1,5 +1,7 @@
 -- How long a page is at most.
-use Rattle.std.proofs.Common.{◌≡◌, ℕ, zero, suc, ◌+◌, ◌*◌, ◌/◌, ◌%◌, ◌-◌, ◌==◌, ◌≤◌, ◌<◌, ◌^◌, ◌&&◌, Bool, true, false, not, cond, take, drop, List, [], ◌∷◌, ◌++◌, length, length-append, replicate, codes, refl, ap, arith}
+use Rattle.std.proofs.Common.{◌≡◌, ℕ, zero, suc, ◌+◌, ◌*◌, ◌/◌, ◌%◌, ◌-◌, ◌==◌, ◌≤◌, ◌<◌, ◌^◌, ◌&&◌, Bool, true}
+use Rattle.std.proofs.Common.{false, not, cond, take, drop, List, [], ◌∷◌, ◌++◌, length, length-append, replicate}
+use Rattle.std.proofs.Common.{codes, refl, ap, arith}
 use Rattle.std.proofs.lemmas.List.{length-replicate, length-take, length-drop}
 use Rattle.std.proofs.lemmas.Fmt.{length-decimal-le}
 use Rattle.std.specs.Fmt.{decimal, digits, format_spec}
@@ -7,12 +9,16 @@ use Rattle.std.below.core.proofs.fmt.Padding.{padded_integral_zeros}
 use Rattle.std.below.core.specs.Fmt.{digits_onto, digit_glyph}
 use Rattle.pictures.specs.Constants.{front, legend, legend_of_two}
 use Rattle.pictures.specs.Grid.{most_columns, most_rows, places_used}
-use Rattle.pictures.specs.Page.{cell_text, holds, class_of, all_layers, cells_text, layer_text, layers_text, eight_digits, drawing_text, axis_text, area_text, elsewhere_text, code_cells, frame_cells, other_cells, drawings_text, steps_text, scale_text, legend_text, rest_text, page_text}
+use Rattle.pictures.specs.Page.{cell_text, holds, class_of, all_layers, cells_text, layer_text, layers_text}
+use Rattle.pictures.specs.Page.{eight_digits, drawing_text, axis_text, area_text, elsewhere_text, code_cells}
+use Rattle.pictures.specs.Page.{frame_cells, other_cells, drawings_text, steps_text, scale_text, legend_text}
+use Rattle.pictures.specs.Page.{rest_text, page_text}
 use Rattle.pictures.specs.declared.cells.Area.{Area}
 use Rattle.pictures.specs.declared.cells.Axes.{Axes}
 use Rattle.pictures.specs.declared.cells.Cell.{Cell}
 use Rattle.pictures.specs.declared.layers.Layer.{Layer}
-use Rattle.pictures.specs.declared.layers.Layer.TheVariants.{Fetched, Loaded, Stored, LoadedAndStored, OneDiffers, OtherDiffers}
+use Rattle.pictures.specs.declared.layers.Layer.TheVariants.{Fetched, Loaded, Stored, LoadedAndStored, OneDiffers}
+use Rattle.pictures.specs.declared.layers.Layer.TheVariants.{OtherDiffers}
 
 either : (b : Bool) (x y : List ℕ) (n : ℕ) → length x ≤ n → length y ≤ n → length (cond b x y) ≤ n
 either true x y n one other = one
@@ -22,7 +28,8 @@ onto : (k base : ℕ) (upper : Bool) (n : ℕ) (acc : List ℕ) → length (digi
 onto zero base upper n acc = omega arith
 onto (suc k) base upper n acc =
     let more = digit_glyph upper (n % base) ∷ acc in
-    either (n / base == 0) more (digits_onto k base upper (n / base) more) (suc k + length acc) (omega arith) (omega (arith, onto k base upper (n / base) more))
+    either (n / base == 0) more (digits_onto k base upper (n / base) more) (suc k + length acc) (omega arith)
+    (omega (arith, onto k base upper (n / base) more))
 
 -- a number in decimal
 short : (n : ℕ) → length (decimal n) ≤ 64
@@ -39,7 +46,8 @@ eight a =
     let numeral : List ℕ = digits 16 false a in
     let glyph : ℕ = 48 in
     let zeros : List ℕ = replicate (8 - length numeral) glyph in
-    let filled : eight_digits a ≡ zeros ++ numeral = padded_integral_zeros (format_spec 32 0 4 8 (2 ^ 64 - 1)) numeral refl refl in
+    let filled : eight_digits a ≡ zeros ++ numeral =
+    padded_integral_zeros (format_spec 32 0 4 8 (2 ^ 64 - 1)) numeral refl refl in
     let many : length zeros ≡ 8 - length numeral = length-replicate (8 - length numeral) glyph in
     omega (arith, short_hexadecimal a, ap length filled, length-append zeros numeral, many)
 
@@ -59,7 +67,8 @@ drawn true number few = cell_size number few
 drawn false number few = omega arith
 
 -- a cell is drawn in one layer of accesses at most
-one_layer : (f l s : Bool) → weight (f && not l && not s) + weight (l && not s) + weight (s && not l) + weight (l && s) ≤ 10
+one_layer : (f l s : Bool) → weight (f && not l && not s) + weight (l && not s) + weight (s && not l)
+    + weight (l && s) ≤ 10
 unfolding weight
 one_layer true true true = omega arith
 one_layer true true false = omega arith
@@ -77,22 +86,38 @@ once false = omega arith
 
 -- a layer with one cell more
 one_more : (layer : Layer) (number : ℕ) (c : Cell) (cells : List Cell) → number < 33024
-    → length (cells_text layer number (c ∷ cells)) ≤ weight (holds layer c) + length (cells_text layer (number + 1) cells)
+    → length (cells_text layer number (c ∷ cells)) ≤ weight (holds layer c)
+    + length (cells_text layer (number + 1) cells)
 one_more layer number c cells few =
-    omega (arith, length-append (cond (holds layer c) (cell_text number) []) (cells_text layer (number + 1) cells), drawn (holds layer c) number few)
+    omega (
+      arith,
+      length-append (cond (holds layer c) (cell_text number) []) (cells_text layer (number + 1) cells),
+      drawn (holds layer c) number few,
+    )
 
 -- the layers of accesses together
 accesses_size : (number : ℕ) (cells : List Cell) → number + length cells ≤ 33024
-    → length (cells_text Fetched number cells) + length (cells_text Loaded number cells) + length (cells_text Stored number cells) + length (cells_text LoadedAndStored number cells) ≤ 10 * length cells
+    → length (cells_text Fetched number cells) + length (cells_text Loaded number cells)
+    + length (cells_text Stored number cells) + length (cells_text LoadedAndStored number cells)
+    ≤ 10 * length cells
 accesses_size number [] few = omega arith
 accesses_size number (c ∷ cells) few =
     let inside : number < 33024 = omega (arith, few) in
     let later = accesses_size (number + 1) cells (omega (arith, few)) in
     let here = one_layer c.fetched c.loaded c.stored in
-    omega (arith, later, here, one_more Fetched number c cells inside, one_more Loaded number c cells inside, one_more Stored number c cells inside, one_more LoadedAndStored number c cells inside)
+    omega (
+      arith,
+      later,
+      here,
+      one_more Fetched number c cells inside,
+      one_more Loaded number c cells inside,
+      one_more Stored number c cells inside,
+      one_more LoadedAndStored number c cells inside,
+    )
 
 -- a layer of differences
-layer_size : (layer : Layer) (number : ℕ) (cells : List Cell) → number + length cells ≤ 33024 → length (cells_text layer number cells) ≤ 10 * length cells
+layer_size : (layer : Layer) (number : ℕ) (cells : List Cell) → number + length cells ≤ 33024
+    → length (cells_text layer number cells) ≤ 10 * length cells
 layer_size layer number [] few = omega arith
 layer_size layer number (c ∷ cells) few =
     let later = layer_size layer (number + 1) cells (omega (arith, few)) in
@@ -106,10 +131,12 @@ class_size LoadedAndStored = omega arith
 class_size OneDiffers = omega arith
 class_size OtherDiffers = omega arith
 
-line_size : (cells : List Cell) (layer : Layer) → length (layer_text cells layer) ≤ length (cells_text layer 0 cells) + 30
+line_size : (cells : List Cell) (layer : Layer)
+    → length (layer_text cells layer) ≤ length (cells_text layer 0 cells) + 30
 line_size cells layer = grind (arith, length-append, class_size)
 
-layers_size : (cells : List Cell) → length cells ≤ 33024 → length (layers_text cells all_layers) ≤ 30 * length cells + 180
+layers_size : (cells : List Cell) → length cells ≤ 33024
+    → length (layers_text cells all_layers) ≤ 30 * length cells + 180
 unfolding layers_text
 layers_size cells few =
     let small : 0 + length cells ≤ 33024 = omega (arith, few) in
@@ -138,22 +165,39 @@ layers_size cells few =
       length-append (layer_text cells OtherDiffers) rest,
     )
 
-drawing_size : (name : List ℕ) (columns rows : ℕ) (cells : List Cell) → length cells ≤ 33024 → length (drawing_text name columns rows cells) ≤ 30 * length cells + length name + 400
+drawing_size : (name : List ℕ) (columns rows : ℕ) (cells : List Cell) → length cells ≤ 33024
+    → length (drawing_text name columns rows cells) ≤ 30 * length cells + length name + 400
 unfolding drawing_text
 drawing_size name columns rows cells few = grind (arith, length-append, short, layers_size cells few)
 
-area_size : (name : List ℕ) (area : Area) (steps : ℕ) (cells : List Cell) → length cells ≤ 33024 → length (area_text name area steps cells) ≤ 30 * length cells + length name + 1_000
+area_size : (name : List ℕ) (area : Area) (steps : ℕ) (cells : List Cell) → length cells ≤ 33024
+    → length (area_text name area steps cells) ≤ 30 * length cells + length name + 1_000
 unfolding area_text
 area_size name area steps cells few =
-    grind (arith, length-append, eight, axis_size, drawing_size name (places_used steps most_columns) (places_used area.words most_rows) cells few)
+    grind (
+      arith,
+      length-append,
+      eight,
+      axis_size,
+      drawing_size name (places_used steps most_columns) (places_used area.words most_rows) cells few,
+    )
 
-elsewhere_size : (steps : ℕ) (cells : List Cell) → length cells ≤ 33024 → length (elsewhere_text steps cells) ≤ 30 * length cells + 500
+elsewhere_size : (steps : ℕ) (cells : List Cell) → length cells ≤ 33024
+    → length (elsewhere_text steps cells) ≤ 30 * length cells + 500
 unfolding elsewhere_text
-elsewhere_size steps cells few = grind (arith, length-append, drawing_size (codes "elsewhere") (places_used steps most_columns) 1 cells few)
+elsewhere_size steps cells few =
+    grind (arith, length-append, drawing_size (codes "elsewhere") (places_used steps most_columns) 1 cells few)
 
 -- a list in three parts
-three_parts : (n : ℕ) (cells : List Cell) → length (take n cells) + length (take n (drop n cells)) + length (drop n (drop n cells)) ≡ length cells
-three_parts n cells = omega (arith, length-take n cells, length-drop n cells, length-take n (drop n cells), length-drop n (drop n cells))
+three_parts : (n : ℕ) (cells : List Cell)
+    → length (take n cells) + length (take n (drop n cells)) + length (drop n (drop n cells)) ≡ length cells
+three_parts n cells = omega (
+  arith,
+  length-take n cells,
+  length-drop n cells,
+  length-take n (drop n cells),
+  length-drop n (drop n cells),
+)
 
 drawings_size : (axes : Axes) (cells : List Cell) → length cells ≡ 33024 → length (drawings_text axes cells) ≤ 994_000
 unfolding drawings_text
@@ -187,13 +231,28 @@ front_size : length front ≤ 3_000
 unfolding front
 front_size = omega arith
 
-rest_size : (axes : Axes) (cells : List Cell) (are_two : Bool) (one other : ℕ) → length cells ≡ 33024 → length (rest_text axes cells are_two one other) ≤ 996_000
+rest_size : (axes : Axes) (cells : List Cell) (are_two : Bool) (one other : ℕ) → length cells ≡ 33024
+    → length (rest_text axes cells are_two one other) ≤ 996_000
 unfolding rest_text
 rest_size axes cells are_two one other all =
-    grind (arith, length-append, legend_size are_two, steps_size are_two one other, scale_size axes, drawings_size axes cells all)
+    grind (
+      arith,
+      length-append,
+      legend_size are_two,
+      steps_size are_two one other,
+      scale_size axes,
+      drawings_size axes cells all,
+    )
 
-pub page_size : (axes : Axes) (cells : List Cell) (said : List ℕ) (are_two : Bool) (one other : ℕ) → length cells ≡ 33024
+pub page_size : (axes : Axes) (cells : List Cell) (said : List ℕ) (are_two : Bool) (one other : ℕ)
+    → length cells ≡ 33024
     → length (page_text axes cells said are_two one other) ≤ 1_000_000 + length said
 page_size axes cells said are_two one other all =
     let rest = rest_text axes cells are_two one other in
-    omega (arith, length-append front (said ++ rest), length-append said rest, front_size, rest_size axes cells are_two one other all)
+    omega (
+      arith,
+      length-append front (said ++ rest),
+      length-append said rest,
+      front_size,
+      rest_size axes cells are_two one other all,
+    )

@@ -25,7 +25,8 @@ front =
     ++ codes "pre { background: var(--area); padding: .5rem .75rem; overflow: auto }\n"
     ++ codes "pre, .addresses, .steps { font-family: ui-monospace, monospace }\n"
     ++ codes ".area { display: grid; grid-template-columns: 5rem 1fr; gap: .5rem }\n"
-    ++ codes ".addresses { display: flex; flex-direction: column; justify-content: space-between; text-align: right }\n"
+    ++ codes
+    ".addresses { display: flex; flex-direction: column; justify-content: space-between; text-align: right }\n"
     ++ codes ".steps { display: flex; justify-content: space-between; margin: .25rem 0 0 5.5rem }\n"
     ++ codes ".addresses, .steps { font-size: .8rem; line-height: 1 }\n"
     ++ codes "svg { width: 100%; height: 18rem; background: var(--area); transform: scaleY(-1) }\n"

@@ -1,6 +1,8 @@
--- The grid of a picture: steps run to the right, addresses upwards. Each column stands for equally many steps, and each row for equally many
--- words of four bytes, of the code or of the frame. One row more stands for all other addresses.
-use Rattle.std.specs.Prelude.{◌≡◌, ℕ, ◌+◌, ◌*◌, ◌-◌, ◌/◌, ◌<◌, ◌==◌, ◌&&◌, min, nat_le, nat_lt, Bool, List, length, Option, Some, None, if◌then◌else◌, slice_index_or}
+-- The grid of a picture: steps run to the right, addresses upwards. Each column stands for equally many steps, and
+-- each row for equally many words of four bytes, of the code or of the frame. One row more stands for all other
+-- addresses.
+use Rattle.std.specs.Prelude.{◌≡◌, ℕ, ◌+◌, ◌*◌, ◌-◌, ◌/◌, ◌<◌, ◌==◌, ◌&&◌, min, nat_le, nat_lt, Bool, List, length}
+use Rattle.std.specs.Prelude.{Option, Some, None, if◌then◌else◌, slice_index_or}
 use Rattle.std.specs.List.{list_any}
 use Rattle.pictures.specs.Marks.{blank}
 use Rattle.pictures.specs.declared.cells.Area.{Area}
@@ -28,7 +30,8 @@ places_used count places = place_of count places (count - 1) + 1
 
 -- the number of the word that an address is in, where it is in the area
 abbrev pub word_number : Area → ℕ → Option ℕ
-word_number area a = if nat_le area.base a && nat_lt ((a - area.base) / 4) area.words then Some ((a - area.base) / 4) else None
+word_number area a = if nat_le area.base a && nat_lt ((a - area.base) / 4) area.words
+    then Some ((a - area.base) / 4) else None
 
 -- the row of an address: rows of code come first, then those of the frame, and then the one of all other addresses
 abbrev pub row_behind : Axes → Option ℕ → Option ℕ → ℕ

@@ -1,5 +1,6 @@
 -- The marks of what two runs show: each at a step and an address.
-use Rattle.std.specs.Prelude.{ℕ, ◌+◌, ◌==◌, ◌&&◌, ◌||◌, not, Bool, true, false, List, [], ◌∷◌, ◌++◌, Option, Some, None}
+use Rattle.std.specs.Prelude.{ℕ, ◌+◌, ◌==◌, ◌&&◌, ◌||◌, not, Bool, true, false, List, [], ◌∷◌, ◌++◌, Option, Some}
+use Rattle.std.specs.Prelude.{None}
 use Rattle.rv_machine.specs.Sizes.{byte_count}
 use Rattle.rv_machine.specs.declared.observation.Event.{Event}
 use Rattle.rv_machine.specs.declared.observation.Event.TheVariants.{Load, Store, Div, Mul}
@@ -24,8 +25,20 @@ stored = record { fetched = false; loaded = false; stored = true; one_differs = 
 
 -- one with a difference of a run, where there is one
 abbrev pub difference : Side → Bool → Cell
-difference One differs = record { fetched = false; loaded = false; stored = false; one_differs = differs; other_differs = false }
-difference Other differs = record { fetched = false; loaded = false; stored = false; one_differs = false; other_differs = differs }
+difference One differs = record {
+  fetched = false;
+  loaded = false;
+  stored = false;
+  one_differs = differs;
+  other_differs = false;
+}
+difference Other differs = record {
+  fetched = false;
+  loaded = false;
+  stored = false;
+  one_differs = false;
+  other_differs = differs;
+}
 
 -- one that holds all that two cells hold
 abbrev pub joined : Cell → Cell → Cell
@@ -58,7 +71,8 @@ abbrev pub other_event : Event → Option Observation → Bool
 other_event e None = true
 other_event e (Some o) = not (is_event e o.event)
 
--- where an event is marked, and as what: a load or a store at its address, and a division or product at the instruction
+-- where an event is marked, and as what: a load or a store at its address, and a division or product at the
+-- instruction
 abbrev pub place_of_event : ℕ → Event → ℕ
 place_of_event pc (Load a n) = a
 place_of_event pc (Store a n) = a
@@ -78,7 +92,11 @@ counter_mark step side o beside =
 
 abbrev pub event_mark : ℕ → Side → ℕ → Event → Option Observation → Mark
 event_mark step side pc e beside =
-    record { step = step; address = place_of_event pc e; cell = joined (cell_of_event e) (difference side (other_event e beside)) }
+    record {
+      step = step;
+      address = place_of_event pc e;
+      cell = joined (cell_of_event e) (difference side (other_event e beside));
+    }
 
 abbrev pub event_marks : ℕ → Side → ℕ → Option Event → Option Observation → List Mark
 event_marks step side pc None beside = []

@@ -1,5 +1,6 @@
 -- The page of a picture, as bytes: HTML with the grid drawn inside, which needs nothing else.
-use Rattle.std.specs.Prelude.{ℕ, ◌+◌, ◌*◌, ◌-◌, ◌/◌, ◌%◌, ◌^◌, ◌&&◌, not, Bool, true, false, List, [], ◌∷◌, ◌++◌, codes, take, drop, if◌then◌else◌}
+use Rattle.std.specs.Prelude.{ℕ, ◌+◌, ◌*◌, ◌-◌, ◌/◌, ◌%◌, ◌^◌, ◌&&◌, not, Bool, true, false, List, [], ◌∷◌, ◌++◌}
+use Rattle.std.specs.Prelude.{codes, take, drop, if◌then◌else◌}
 use Rattle.std.specs.Fmt.{decimal, digits, padded_integral, format_spec}
 use Rattle.std.specs.List.{flat_map}
 use Rattle.pictures.specs.Constants.{front, legend, legend_of_two}
@@ -8,12 +9,14 @@ use Rattle.pictures.specs.declared.cells.Area.{Area}
 use Rattle.pictures.specs.declared.cells.Axes.{Axes}
 use Rattle.pictures.specs.declared.cells.Cell.{Cell}
 use Rattle.pictures.specs.declared.layers.Layer.{Layer}
-use Rattle.pictures.specs.declared.layers.Layer.TheVariants.{Fetched, Loaded, Stored, LoadedAndStored, OneDiffers, OtherDiffers}
+use Rattle.pictures.specs.declared.layers.Layer.TheVariants.{Fetched, Loaded, Stored, LoadedAndStored, OneDiffers}
+use Rattle.pictures.specs.declared.layers.Layer.TheVariants.{OtherDiffers}
 
 -- Cells. Each is a piece of a line, as wide as a column.
 
 abbrev pub cell_text : ℕ → List ℕ
-cell_text number = codes "M" ++ (decimal (number % most_columns) ++ (codes "," ++ (decimal (number / most_columns) ++ codes "h1")))
+cell_text number = codes "M"
+    ++ (decimal (number % most_columns) ++ (codes "," ++ (decimal (number / most_columns) ++ codes "h1")))
 
 -- which cells are drawn in a layer: each cell with accesses in one of the first four, and differences in the last two
 abbrev pub holds : Layer → Cell → Bool
@@ -38,11 +41,13 @@ all_layers = Fetched ∷ Loaded ∷ Stored ∷ LoadedAndStored ∷ OneDiffers �
 -- the cells of a layer, which are numbered from here on
 abbrev pub cells_text : Layer → ℕ → List Cell → List ℕ
 cells_text layer number [] = []
-cells_text layer number (c ∷ cells) = (if holds layer c then cell_text number else []) ++ cells_text layer (number + 1) cells
+cells_text layer number (c ∷ cells) = (if holds layer c then cell_text number else [])
+    ++ cells_text layer (number + 1) cells
 
 -- the line that draws a layer
 abbrev pub layer_text : List Cell → Layer → List ℕ
-layer_text cells layer = codes "<path class=\"" ++ (class_of layer ++ (codes "\" d=\"" ++ (cells_text layer 0 cells ++ codes "\"/>\n")))
+layer_text cells layer = codes "<path class=\""
+    ++ (class_of layer ++ (codes "\" d=\"" ++ (cells_text layer 0 cells ++ codes "\"/>\n")))
 
 -- the lines that draw layers, later ones over earlier ones
 unfoldable pub layers_text : List Cell → List Layer → List ℕ
@@ -75,13 +80,15 @@ unfoldable pub area_text : List ℕ → Area → ℕ → List Cell → List ℕ
 area_text name area steps cells =
     codes "<div class=\"area\"><div class=\"addresses\"><span>" ++ (eight_digits (end_of area)
     ++ (codes "</span><span>" ++ (eight_digits area.base
-    ++ (codes "</span></div>\n" ++ (drawing_text name (places_used steps most_columns) (places_used area.words most_rows) cells
+    ++ (codes "</span></div>\n"
+    ++ (drawing_text name (places_used steps most_columns) (places_used area.words most_rows) cells
     ++ (codes "</div>\n" ++ axis_text steps))))))
 
 -- all other addresses over so many steps
 unfoldable pub elsewhere_text : ℕ → List Cell → List ℕ
 elsewhere_text steps cells =
-    codes "<div class=\"area\"><div></div>\n" ++ (drawing_text (codes "elsewhere") (places_used steps most_columns) 1 cells
+    codes "<div class=\"area\"><div></div>\n"
+    ++ (drawing_text (codes "elsewhere") (places_used steps most_columns) 1 cells
     ++ codes "</div>\n")
 
 -- The page.

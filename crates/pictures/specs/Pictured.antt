@@ -14,15 +14,17 @@ use Rattle.pictures.specs.declared.cells.Cell.{Cell}
 abbrev pub axes_of : Area → Area → List Observation → List Observation → Axes
 axes_of code frame seen seen' = record { steps = max (length seen) (length seen'); code = code; frame = frame }
 
--- the page of what two runs show, over these addresses of code and frame, with this said of them; where they are one run, nothing
--- of a second is said
-pub record Depicts (code frame : Area) (said : List ℕ) (are_two : Bool) (seen seen' : List Observation) (page : List ℕ) : Type 0 where
+-- the page of what two runs show, over these addresses of code and frame, with this said of them; where they are one
+-- run, nothing of a second is said
+pub record Depicts (code frame : Area) (said : List ℕ) (are_two : Bool) (seen seen' : List Observation)
+    (page : List ℕ) : Type 0 where
   pub cells : List Cell
   pub filled : IsGrid (axes_of code frame seen seen') (marks_from 0 seen seen') cells
   pub written : page ≡ page_text (axes_of code frame seen seen') cells said are_two (length seen) (length seen')
 
 -- the page of two runs of code, each from a state on and of at most so many steps
-pub record IsPicture (code : Code) (steps : ℕ) (s : State) (steps' : ℕ) (s' : State) (in_code in_frame : Area) (said : List ℕ) (are_two : Bool) (page : List ℕ) : Type 0 where
+pub record IsPicture (code : Code) (steps : ℕ) (s : State) (steps' : ℕ) (s' : State) (in_code in_frame : Area)
+    (said : List ℕ) (are_two : Bool) (page : List ℕ) : Type 0 where
   pub seen : List Observation
   pub seen' : List Observation
   pub shown : IsShown code steps s seen

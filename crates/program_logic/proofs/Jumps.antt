@@ -1,5 +1,7 @@
 -- Jumps: over instructions and back, and of two pieces one.
-use Rattle.std.proofs.Common.{◌≡◌, ◌≢◌, ℕ, ◌+◌, ◌-◌, ◌*◌, ◌%◌, ◌^◌, ◌<◌, ◌≤◌, ◌==◌, Bool, true, false, not, cond, if◌then◌else◌, List, [], ◌∷◌, ◌++◌, length, None, refl, sym, ap, ◌∙◌, arith, length-append, eq-eqb, ne_eqb}
+use Rattle.std.proofs.Common.{◌≡◌, ◌≢◌, ℕ, ◌+◌, ◌-◌, ◌*◌, ◌%◌, ◌^◌, ◌<◌, ◌≤◌, ◌==◌, Bool, true, false, not, cond}
+use Rattle.std.proofs.Common.{if◌then◌else◌, List, [], ◌∷◌, ◌++◌, length, None, refl, sym, ap, ◌∙◌, arith}
+use Rattle.std.proofs.Common.{length-append, eq-eqb, ne_eqb}
 use Rattle.std.proofs.Math.Path.{fun_ext}
 use Rattle.std.proofs.lemmas.Bool.{eqb-true, eqb-false}
 use Rattle.std.proofs.lemmas.Bool.Decides.{nat_tests}
@@ -11,7 +13,8 @@ use Rattle.program_logic.specs.Placed.{Placed}
 use Rattle.rv_code.specs.declared.instructions.Instr.{Instr}
 use Rattle.rv_code.specs.declared.instructions.Instr.TheVariants as instr
 use Rattle.rv_code.specs.declared.operations.BranchTest.TheVariants.{Bne}
-use Rattle.program_logic.proofs.Below.{with_link-pc, with_link-regs, with_link-bytes, moved_to-pc, moved_to-regs, moved_to-bytes, jump_leads, branch_leads, branch_passes}
+use Rattle.program_logic.proofs.Below.{with_link-pc, with_link-regs, with_link-bytes, moved_to-pc, moved_to-regs}
+use Rattle.program_logic.proofs.Below.{moved_to-bytes, jump_leads, branch_leads, branch_passes}
 use Rattle.rv_machine.specs.Effects.{jump_target, branch_target, sign_extended, sum_of}
 use Rattle.rv_machine.specs.Machine.{State, with_link, moved_to, next}
 use Rattle.rv_machine.specs.Registers.{register, with_register}
@@ -45,7 +48,8 @@ forward p n near below =
 
 backward : (p n : ℕ) → 0 < n → 2 * n ≤ 2 ^ 19 → 4 * n ≤ p → p < 2 ^ 32 → jump_target p (2 ^ 20 - 2 * n) ≡ p - 4 * n
 backward p n some near low below =
-    let same : sign_extended 21 ((2 ^ 20 - 2 * n) * 2) ≡ (2 ^ 20 - 2 * n) * 2 + (2 ^ 32 - 2 ^ 21) = grind (arith, nat_tests) in
+    let same : sign_extended 21 ((2 ^ 20 - 2 * n) * 2) ≡ (2 ^ 20 - 2 * n) * 2 + (2 ^ 32 - 2 ^ 21) =
+    grind (arith, nat_tests) in
     ap (λ x. sum_of p x) same ∙ (omega (arith, some, near, low, below))
 
 record Between (z : Setting) (Q : After z) (env : z.Beside) (s u : State) : Type 0 where
@@ -58,60 +62,76 @@ pub moved_still : (s : State) (target : ℕ) → Still s (moved_to s target)
 moved_still s target = record { regs = moved_to-regs s target; bytes = moved_to-bytes s target }
 
 module _ {z : Setting} where
-  jump_ends : (p halves target : ℕ) (rest : List z.Mark) → Placed z.code p (instr.Jump 0 halves ∷ []) → halves < 2 ^ 20 → jump_target p halves ≡ target → target % 4 ≡ 0
+  jump_ends : (p halves target : ℕ) (rest : List z.Mark) → Placed z.code p (instr.Jump 0 halves ∷ [])
+      → halves < 2 ^ 20 → jump_target p halves ≡ target → target % 4 ≡ 0
       → (s : State) → s.pc ≡ p → Ends z 1 target (always (shown_at p)) rest rest (λ t. Still s t) s
   jump_ends p halves target rest placed small to even s at =
       let there : jump_target s.pc halves ≡ target = ap (λ q. jump_target q halves) at ∙ to in
       let t = with_link s 0 (jump_target s.pc halves) in
-      let still : Still s t = record { regs = with_link-regs s 0 (jump_target s.pc halves) ∙ dropped s.regs (next s); bytes = with_link-bytes s 0 (jump_target s.pc halves) } in
+      let still : Still s t = record {
+        regs = with_link-regs s 0 (jump_target s.pc halves) ∙ dropped s.regs (next s);
+        bytes = with_link-bytes s 0 (jump_target s.pc halves);
+      } in
       turn_ends None None t at
-      (jump_leads z.code s 0 halves (stands z.code p _ [] placed (omega arith, small) s at) (ap (λ q. q % 4) there ∙ even)) refl z.silence (z.keeps_still s t still) refl
+      (jump_leads z.code s 0 halves (stands z.code p _ [] placed (omega arith, small) s at) (ap (λ q. q % 4) there
+      ∙ even)) refl z.silence (z.keeps_still s t still) refl
       (with_link-pc s 0 (jump_target s.pc halves) ∙ there) still
 
   -- over so many instructions
-  pub over_ends : (p n : ℕ) (rest : List z.Mark) → Placed z.code p (over n ∷ []) → 2 * n + 2 < 2 ^ 19 → p + 4 + 4 * n < 2 ^ 32
+  pub over_ends : (p n : ℕ) (rest : List z.Mark) → Placed z.code p (over n ∷ []) → 2 * n + 2 < 2 ^ 19
+      → p + 4 + 4 * n < 2 ^ 32
       → (s : State) → s.pc ≡ p → Ends z 1 (p + 4 + 4 * n) (always (shown_at p)) rest rest (λ t. Still s t) s
   over_ends p n rest placed near below s at =
       let even = placed.0 in
-      jump_ends p (2 * n + 2) (p + 4 + 4 * n) rest placed (omega (arith, near)) (forward p n near below) (omega (arith, even)) s at
+      jump_ends p (2 * n + 2) (p + 4 + 4 * n) rest placed (omega (arith, near)) (forward p n near below)
+      (omega (arith, even)) s at
 
-  pub back_ends : (p n q : ℕ) (rest : List z.Mark) → Placed z.code q (back n ∷ []) → 0 < n → 2 * n ≤ 2 ^ 19 → q ≡ p + 4 * n
+  pub back_ends : (p n q : ℕ) (rest : List z.Mark) → Placed z.code q (back n ∷ []) → 0 < n → 2 * n ≤ 2 ^ 19
+      → q ≡ p + 4 * n
       → (s : State) → s.pc ≡ q → Ends z 1 p (always (shown_at q)) rest rest (λ t. Still s t) s
   back_ends p n q rest placed some near is s at =
       let even = placed.0 in
       let below = placed.1 in
       let to : q - 4 * n ≡ p = omega (arith, is) in
-      jump_ends q (2 ^ 20 - 2 * n) p rest placed (omega (arith, some)) (backward q n some near (omega (arith, is)) (omega (arith, below)) ∙ to) (omega (arith, even, is)) s at
+      jump_ends q (2 ^ 20 - 2 * n) p rest placed (omega (arith, some))
+      (backward q n some near (omega (arith, is)) (omega (arith, below)) ∙ to) (omega (arith, even, is)) s at
 
   module _ (r : ℕ) (small : r < 32) (nonzero : r ≢ 0) where
     -- the register is not 0, so the next instruction is not run
-    pub skip_ends : (p : ℕ) (rest : List z.Mark) → Placed z.code p (skip r ∷ []) → p + 8 < 2 ^ 32 → (s : State) → s.pc ≡ p → s.regs r ≢ 0
+    pub skip_ends : (p : ℕ) (rest : List z.Mark) → Placed z.code p (skip r ∷ []) → p + 8 < 2 ^ 32 → (s : State)
+        → s.pc ≡ p → s.regs r ≢ 0
         → Ends z 1 (p + 8) (always (shown_at p)) rest rest (λ t. Still s t) s
     skip_ends p rest placed below s at some =
         let even = placed.0 in
         let to : branch_target p 4 ≡ p + 8 = omega (arith, below) in
         let there : branch_target s.pc 4 ≡ p + 8 = ap (λ q. branch_target q 4) at ∙ to in
         turn_ends None None (moved_to s (branch_target s.pc 4)) at
-        (branch_leads z.code s Bne r 0 4 (stands z.code p _ [] placed (small, omega arith, omega arith) s at) (some_in s.regs r nonzero some) (multiple _ p there even)) refl z.silence (z.keeps_still s _ (moved_still s _)) refl
+        (branch_leads z.code s Bne r 0 4 (stands z.code p _ [] placed (small, omega arith, omega arith) s at)
+        (some_in s.regs r nonzero some) (multiple _ p there even)) refl z.silence
+        (z.keeps_still s _ (moved_still s _)) refl
         (moved_to-pc s (branch_target s.pc 4) ∙ there) (moved_still s _)
 
     -- the register is 0
-    pub pass_ends : (p : ℕ) (rest : List z.Mark) → Placed z.code p (skip r ∷ []) → (s : State) → s.pc ≡ p → s.regs r ≡ 0
+    pub pass_ends : (p : ℕ) (rest : List z.Mark) → Placed z.code p (skip r ∷ []) → (s : State) → s.pc ≡ p
+        → s.regs r ≡ 0
         → Ends z 1 (p + 4) (always (shown_at p)) rest rest (λ t. Still s t) s
     pass_ends p rest placed s at zero' =
         let below = placed.1 in
         let to : next s ≡ p + 4 = omega (arith, at, below) in
         turn_ends None None (moved_to s (next s)) at
-        (branch_passes z.code s Bne r 0 4 (stands z.code p _ [] placed (small, omega arith, omega arith) s at) (none_in s.regs r nonzero zero')) refl z.silence (z.keeps_still s _ (moved_still s _)) refl
+        (branch_passes z.code s Bne r 0 4 (stands z.code p _ [] placed (small, omega arith, omega arith) s at)
+        (none_in s.regs r nonzero zero')) refl z.silence (z.keeps_still s _ (moved_still s _)) refl
         (moved_to-pc s (next s) ∙ to) (moved_still s _)
 
     -- Of two pieces one.
 
-    module _ {m n : ℕ} {a b : Steps z} {xs ys : List Instr} {P P1 P2 : Before z} {Q R S : After z} (value : z.Beside → ℕ)
+    module _ {m n : ℕ} {a b : Steps z} {xs ys : List Instr} {P P1 P2 : Before z} {Q R S : After z}
+        (value : z.Beside → ℕ)
         (near : 2 * (length xs + length ys) + 8 < 2 ^ 19)
         (tested : (env : z.Beside) (s : State) → P env s → s.regs r ≡ value env)
         (accepts : (env : z.Beside) (s t : State) → value env ≢ 0 → P env s → Still s t → P1 env t)
-        (accepted : (env : z.Beside) (s t u v : State) → value env ≢ 0 → P env s → Still s t → Q env t u → Still u v → S env s v)
+        (accepted : (env : z.Beside) (s t u v : State) → value env ≢ 0 → P env s → Still s t → Q env t u → Still u v
+        → S env s v)
         (rejects : (env : z.Beside) (s t : State) → value env ≡ 0 → P env s → Still s t → P2 env t)
         (rejected : (env : z.Beside) (s t u : State) → value env ≡ 0 → P env s → Still s t → R env t u → S env s u)
         (one : Runs z m a xs P1 Q) (two : Runs z n b ys P2 R) where
@@ -135,8 +155,11 @@ module _ {z : Setting} where
         second_arm : Straight z (middle + 4) n b ys P2 R
         second_arm = two.placed_at (middle + 4) after_arm.3
 
-        rejects_ends : (env : z.Beside) (s : State) (rest : List z.Mark) → value env ≡ 0 → s.pc ≡ p → z.Fine (b env) → P env s
-            → Ends z (2 + m + n) (p + 4 * length (branch_code r xs ys)) (both (both (always (shown_at p)) (always (shown_at (p + 4)))) second_arm.leak) (z.seen (b env) ++ rest) rest (S env s) s
+        rejects_ends : (env : z.Beside) (s : State) (rest : List z.Mark) → value env ≡ 0 → s.pc ≡ p
+            → z.Fine (b env) → P env s
+            → Ends z (2 + m + n) (p + 4 * length (branch_code r xs ys))
+            (both (both (always (shown_at p)) (always (shown_at (p + 4)))) second_arm.leak)
+            (z.seen (b env) ++ rest) rest (S env s) s
         rejects_ends env s rest none' at fine fit =
             let arm = after_arm.1 in
             let e = last in
@@ -146,13 +169,20 @@ module _ {z : Setting} where
             (then_ends
             (pass_ends p (z.seen (b env) ++ rest) (placed.0, placed.1, placed.2, tt) s at (tested env s fit ∙ none'))
             (λ t there still.
-            ends_to (over_ends (p + 4) (length xs + 1) (z.seen (b env) ++ rest) (placed.3.0, placed.3.1, placed.3.2, tt) (omega (arith, near)) (omega (arith, arm, past)) t there) past
+            ends_to (over_ends (p + 4) (length xs + 1) (z.seen (b env) ++ rest)
+            (placed.3.0, placed.3.1, placed.3.2, tt) (omega (arith, near)) (omega (arith, arm, past)) t there)
+            past
             (λ u again. record { regs = again.regs ∙ still.regs; bytes = again.bytes ∙ still.bytes })))
-            (λ u there still. ends_to {R = λ v. S env s v} (second_arm.runs env u rest there fine (rejects env s u none' fit still)) refl (λ v done. rejected env s u v none' fit still done)))
+            (λ u there still. ends_to {R = λ v. S env s v}
+            (second_arm.runs env u rest there fine (rejects env s u none' fit still)) refl
+            (λ v done. rejected env s u v none' fit still done)))
             (omega arith) (omega (arith, e)) (λ v done. done)
 
-        accepts_ends : (env : z.Beside) (s : State) (rest : List z.Mark) → value env ≢ 0 → s.pc ≡ p → z.Fine (a env) → P env s
-            → Ends z (2 + m + n) (p + 4 * length (branch_code r xs ys)) (both (both (always (shown_at p)) first_arm.leak) (always (shown_at middle))) (z.seen (a env) ++ rest) rest (S env s) s
+        accepts_ends : (env : z.Beside) (s : State) (rest : List z.Mark) → value env ≢ 0 → s.pc ≡ p
+            → z.Fine (a env) → P env s
+            → Ends z (2 + m + n) (p + 4 * length (branch_code r xs ys))
+            (both (both (always (shown_at p)) first_arm.leak) (always (shown_at middle)))
+            (z.seen (a env) ++ rest) rest (S env s) s
         accepts_ends env s rest some at fine fit =
             let arm = after_arm.1 in
             let e = last in
@@ -160,15 +190,21 @@ module _ {z : Setting} where
             ends_as
             (then_ends
             (then_ends
-            (ends_to (skip_ends p (z.seen (a env) ++ rest) (placed.0, placed.1, placed.2, tt) (omega (arith, arm)) s at (λ e. some (sym (tested env s fit) ∙ e))) (omega arith) (λ t still. still))
-            (λ t there still. ends_to {R = λ u. Between z Q env s u} (first_arm.runs env t rest there fine (accepts env s t some fit still)) refl (λ u done. record { start = t; still = still; done = done })))
+            (ends_to (skip_ends p (z.seen (a env) ++ rest) (placed.0, placed.1, placed.2, tt) (omega (arith, arm)) s
+            at (λ e. some (sym (tested env s fit) ∙ e))) (omega arith) (λ t still. still))
+            (λ t there still. ends_to {R = λ u. Between z Q env s u}
+            (first_arm.runs env t rest there fine (accepts env s t some fit still)) refl
+            (λ u done. record { start = t; still = still; done = done })))
             (λ u there done.
-            ends_to {R = λ v. S env s v} (over_ends middle (length ys) rest (after_arm.0, after_arm.1, after_arm.2, tt) (omega (arith, near)) below u there) refl
+            ends_to {R = λ v. S env s v}
+            (over_ends middle (length ys) rest (after_arm.0, after_arm.1, after_arm.2, tt) (omega (arith, near))
+            below u there) refl
             (λ v still. accepted env s done.start u v some fit done.still done.done still)))
             (omega arith) (omega (arith, e)) (λ v done. done)
 
       -- where the value is known to be 0
-      pub second_runs : ((env : z.Beside) (s : State) → P env s → value env ≡ 0) → Runs z (2 + m + n) b (branch_code r xs ys) P S
+      pub second_runs : ((env : z.Beside) (s : State) → P env s → value env ≡ 0)
+          → Runs z (2 + m + n) b (branch_code r xs ys) P S
       second_runs none' = record {
         placed_at = λ p placed. record {
           leak = both (both (always (shown_at p)) (always (shown_at (p + 4)))) (second_arm p placed).leak;
@@ -177,7 +213,8 @@ module _ {z : Setting} where
       }
 
       -- or known not to be
-      pub first_runs : ((env : z.Beside) (s : State) → P env s → value env ≢ 0) → Runs z (2 + m + n) a (branch_code r xs ys) P S
+      pub first_runs : ((env : z.Beside) (s : State) → P env s → value env ≢ 0)
+          → Runs z (2 + m + n) a (branch_code r xs ys) P S
       first_runs some = record {
         placed_at = λ p placed. record {
           leak = both (both (always (shown_at p)) (first_arm p placed).leak) (always (shown_at (middle p placed)));
@@ -186,13 +223,17 @@ module _ {z : Setting} where
       }
 
       -- where the value is known, the first piece where it is not 0, and else the second
-      pub branching_at : (v : ℕ) → ((env : z.Beside) (s : State) → P env s → value env ≡ v) → Runs z (2 + m + n) (λ env. if value env == 0 then b env else a env) (branch_code r xs ys) P S
+      pub branching_at : (v : ℕ) → ((env : z.Beside) (s : State) → P env s → value env ≡ v)
+          → Runs z (2 + m + n) (λ env. if value env == 0 then b env else a env) (branch_code r xs ys) P S
       branching_at v is = by_case (v == 0) refl
         where
-          by_case : (c : Bool) → (v == 0) ≡ c → Runs z (2 + m + n) (λ env. if value env == 0 then b env else a env) (branch_code r xs ys) P S
+          by_case : (c : Bool) → (v == 0) ≡ c
+              → Runs z (2 + m + n) (λ env. if value env == 0 then b env else a env) (branch_code r xs ys) P S
           by_case true e =
-              along_fit (λ env s fit. ap (λ (x : ℕ). if x == 0 then b env else a env) (is env s fit) ∙ ap (λ (c : Bool). cond c (b env) (a env)) e)
+              along_fit (λ env s fit. ap (λ (x : ℕ). if x == 0 then b env else a env) (is env s fit)
+              ∙ ap (λ (c : Bool). cond c (b env) (a env)) e)
               (second_runs (λ env s fit. is env s fit ∙ eqb-true v 0 e))
           by_case false e =
-              along_fit (λ env s fit. ap (λ (x : ℕ). if x == 0 then b env else a env) (is env s fit) ∙ ap (λ (c : Bool). cond c (b env) (a env)) e)
+              along_fit (λ env s fit. ap (λ (x : ℕ). if x == 0 then b env else a env) (is env s fit)
+              ∙ ap (λ (c : Bool). cond c (b env) (a env)) e)
               (first_runs (λ env s fit same. eqb-false v 0 e (sym (is env s fit) ∙ same)))

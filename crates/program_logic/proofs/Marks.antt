@@ -16,7 +16,8 @@ pub record Kind (z : Setting) (A : Type 0) (Good : A → Type 0) : Type 0 where
   pub fine : (x : A) (path : List z.Mark) → z.Fine (mark x ∷ path) → z.Fine path
 
 -- what the mark carries is this
-pub record Known (z : Setting) (A : Type 0) (Good : A → Type 0) (P : Before z) (value : z.Beside → A) (x : A) (env : z.Beside) (s : State) : Type 0 where
+pub record Known (z : Setting) (A : Type 0) (Good : A → Type 0) (P : Before z) (value : z.Beside
+    → A) (x : A) (env : z.Beside) (s : State) : Type 0 where
   pub given : P env s
   pub is : value env ≡ x
   pub good : Good x
@@ -25,11 +26,14 @@ by_value : {A M : Type 0} → (A → List M → List Observation × List M) → 
 by_value leak rest (Some x) = leak x rest
 by_value leak rest None = ([], rest)
 
-by_mark_leak : {A M : Type 0} → (M → Option A) → (A → List M → List Observation × List M) → List M → List Observation × List M
+by_mark_leak : {A M : Type 0} → (M → Option A) → (A → List M → List Observation × List M) → List M
+    → List Observation × List M
 by_mark_leak read leak [] = ([], [])
 by_mark_leak read leak (mark ∷ rest) = by_value leak rest (read mark)
 
-by_mark_read : {A M : Type 0} (read : M → Option A) (leak : A → List M → List Observation × List M) (mark : M) (x : A) (rest : List M) → read mark ≡ Some x → by_mark_leak read leak (mark ∷ rest) ≡ leak x rest
+by_mark_read : {A M : Type 0} (read : M → Option A) (leak : A → List M
+    → List Observation × List M) (mark : M) (x : A) (rest : List M) → read mark ≡ Some x
+    → by_mark_leak read leak (mark ∷ rest) ≡ leak x rest
 unfolding by_mark_leak by_value
 by_mark_read read leak mark x rest is = ap (by_value leak rest) is
 
@@ -44,8 +48,11 @@ module _ {z : Setting} {A : Type 0} {Good : A → Type 0} (kind : Kind z A Good)
       runs = λ env s rest at fine fit.
           let x = value env in
           let piece = (each x).placed_at p placed in
-          ends_by (piece.runs env s rest at (kind.fine x (steps env) fine) (record { given = fit; is = refl; good = kind.good x (steps env) fine }))
-          (ap (λ (path : List z.Mark). by_mark_leak kind.read (λ y. ((each y).placed_at p placed).leak) (path ++ rest)) (kind.seen x (steps env))
-          ∙ by_mark_read kind.read (λ y. ((each y).placed_at p placed).leak) (kind.mark x) x (z.seen (steps env) ++ rest) (kind.told x));
+          ends_by (piece.runs env s rest at (kind.fine x (steps env) fine)
+          (record { given = fit; is = refl; good = kind.good x (steps env) fine }))
+          (ap (λ (path : List z.Mark). by_mark_leak kind.read (λ y. ((each y).placed_at p placed).leak)
+          (path ++ rest)) (kind.seen x (steps env))
+          ∙ by_mark_read kind.read (λ y. ((each y).placed_at p placed).leak) (kind.mark x) x
+          (z.seen (steps env) ++ rest) (kind.told x));
     };
   }

@@ -1,5 +1,6 @@
 -- Pieces of code, put together.
-use Rattle.std.proofs.Common.{◌≡◌, ℕ, zero, suc, ◌+◌, ◌*◌, ◌≤◌, List, [], ◌∷◌, ◌++◌, length, All, Option, refl, sym, ap, ◌∙◌, subst, arith, length-append, append_assoc, append-nil}
+use Rattle.std.proofs.Common.{◌≡◌, ℕ, zero, suc, ◌+◌, ◌*◌, ◌≤◌, List, [], ◌∷◌, ◌++◌, length, All, Option, refl, sym}
+use Rattle.std.proofs.Common.{ap, ◌∙◌, subst, arith, length-append, append_assoc, append-nil}
 use Rattle.std.proofs.lemmas.List.Elements.{All-append}
 use Rattle.program_logic.proofs.PlacedLaws.{Placed-left, Placed-right}
 use Rattle.program_logic.specs.Pieces.{Setting, Before, After, Steps, none, Leak, always, both, Ends, Runs, Then}
@@ -11,16 +12,21 @@ use Rattle.rv_machine.specs.declared.observation.Event.{Event}
 use Rattle.rv_machine.specs.declared.observation.Observation.{Observation}
 
 -- what is seen of two parts, and then more
-pub seen_then : (z : Setting) (one other rest : List z.Mark) → z.seen (one ++ other) ++ rest ≡ z.seen one ++ (z.seen other ++ rest)
+pub seen_then : (z : Setting) (one other rest : List z.Mark)
+    → z.seen (one ++ other) ++ rest ≡ z.seen one ++ (z.seen other ++ rest)
 seen_then z one other rest =
-    ap (λ (front : List z.Mark). front ++ rest) (z.seen_append one other) ∙ append_assoc (z.seen one) (z.seen other) rest
+    ap (λ (front : List z.Mark). front ++ rest) (z.seen_append one other)
+    ∙ append_assoc (z.seen one) (z.seen other) rest
 
 pub seen_nothing : (z : Setting) (rest : List z.Mark) → z.seen [] ++ rest ≡ rest
 seen_nothing z rest = ap (λ (front : List z.Mark). front ++ rest) z.seen_none
 
-both_seen : {M : Type 0} (one two : List M → List Observation × List M) (path middle rest : List M) (seen more : List Observation) → one path ≡ (seen, middle) → two middle ≡ (more, rest) → both one two path ≡ (seen ++ more, rest)
+both_seen : {M : Type 0} (one two : List M → List Observation × List M) (path middle rest : List M)
+    (seen more : List Observation) → one path ≡ (seen, middle) → two middle ≡ (more, rest)
+    → both one two path ≡ (seen ++ more, rest)
 both_seen {M = M} one two path middle rest seen more a b =
-    ap (λ (r : List Observation × List M). (r.0 ++ (two r.1).0, (two r.1).1)) a ∙ ap (λ (r : List Observation × List M). (seen ++ r.0, r.1)) b
+    ap (λ (r : List Observation × List M). (r.0 ++ (two r.1).0, (two r.1).1)) a
+    ∙ ap (λ (r : List Observation × List M). (seen ++ r.0, r.1)) b
 
 all_none : (P : Observation → Type 0) → All P []
 all_none P k d below = absurd (omega (arith, below))
@@ -33,7 +39,8 @@ module _ {z : Setting} where
   -- Turns from one state.
 
   -- none
-  pub stop_here : {n q : ℕ} {path : List z.Mark} {Q : State → Type 0} (s : State) → s.pc ≡ q → Q s → Ends z n q (always []) path path Q s
+  pub stop_here : {n q : ℕ} {path : List z.Mark} {Q : State → Type 0} (s : State) → s.pc ≡ q → Q s
+      → Ends z n q (always []) path path Q s
   stop_here s at done = record {
     turns = 0;
     end = s;
@@ -48,8 +55,10 @@ module _ {z : Setting} where
   }
 
   -- one, which shows this event
-  pub turn_ends : {p q : ℕ} {leak : Leak z} {path rest : List z.Mark} {Q : State → Type 0} {s : State} (shows known : Option Event) (t : State)
-      → s.pc ≡ p → Leads z.code 1 s (record { pc = s.pc; event = shows } ∷ []) t → shows ≡ known → z.Allows known → z.Keeps s t
+  pub turn_ends : {p q : ℕ} {leak : Leak z} {path rest : List z.Mark} {Q : State
+      → Type 0} {s : State} (shows known : Option Event) (t : State)
+      → s.pc ≡ p → Leads z.code 1 s (record { pc = s.pc; event = shows } ∷ []) t → shows ≡ known → z.Allows known
+      → z.Keeps s t
       → leak path ≡ (record { pc = p; event = known } ∷ [], rest) → t.pc ≡ q → Q t → Ends z 1 q leak path rest Q s
   turn_ends {p = p} {s = s} shows known t at leads same inside keeps shown there done = record {
     turns = 1;
@@ -130,16 +139,19 @@ module _ {z : Setting} where
   -- on the same path, otherwise written
   pub ends_on : {m q : ℕ} {leak : Leak z} {path other rest : List z.Mark} {Q : State → Type 0} {s : State}
       → Ends z m q leak path rest Q s → other ≡ path → Ends z m q leak other rest Q s
-  ends_on {m = m} {q = q} {leak = leak} {rest = rest} {Q = Q} {s = s} e same = subst (λ (front : List z.Mark). Ends z m q leak front rest Q s) (sym same) e
+  ends_on {m = m} {q = q} {leak = leak} {rest = rest} {Q = Q} {s = s} e same =
+      subst (λ (front : List z.Mark). Ends z m q leak front rest Q s) (sym same) e
 
   -- Pieces.
 
   -- no instruction
-  pub idle : {n : ℕ} {P : Before z} {Q : After z} → ((env : z.Beside) (s : State) → P env s → Q env s s) → Runs z n none [] P Q
+  pub idle : {n : ℕ} {P : Before z} {Q : After z} → ((env : z.Beside) (s : State) → P env s → Q env s s)
+      → Runs z n none [] P Q
   idle still = record {
     placed_at = λ p placed. record {
       leak = always [];
-      runs = λ env s rest at fine fit. ends_on (stop_here s (omega (arith, at)) (still env s fit)) (seen_nothing z rest);
+      runs = λ env s rest at fine fit. ends_on (stop_here s (omega (arith, at)) (still env s fit))
+          (seen_nothing z rest);
     };
   }
 
@@ -176,7 +188,8 @@ module _ {z : Setting} where
         record {
           leak = a.leak;
           runs = λ env s rest at fine fit.
-              ends_as (a.runs env s rest at fine (before env s fine fit)) (omega arith) refl (λ t done. after env s t fine fit done);
+              ends_as (a.runs env s rest at fine (before env s fine fit)) (omega arith) refl
+              (λ t done. after env s t fine fit done);
         };
   }
 
@@ -200,7 +213,8 @@ module _ {z : Setting} where
 
   -- the same code, beside something else
   pub beside : {n : ℕ} {steps : Steps z} {is : List Instr} {P : Before z} {Q : After z} (move : z.Beside → z.Beside)
-      → Runs z n steps is P Q → Runs z n (λ env. steps (move env)) is (λ env s. P (move env) s) (λ env s t. Q (move env) s t)
+      → Runs z n steps is P Q
+      → Runs z n (λ env. steps (move env)) is (λ env s. P (move env) s) (λ env s t. Q (move env) s t)
   beside move one = record {
     placed_at = λ p placed.
         let a = one.placed_at p placed in
@@ -229,7 +243,8 @@ module _ {z : Setting} where
   -- the same instructions, otherwise written
   pub as_code : {n : ℕ} {steps : Steps z} {is js : List Instr} {P : Before z} {Q : After z}
       → js ≡ is → Runs z n steps is P Q → Runs z n steps js P Q
-  as_code {n = n} {steps = steps} {P = P} {Q = Q} same one = subst (λ (is : List Instr). Runs z n steps is P Q) (sym same) one
+  as_code {n = n} {steps = steps} {P = P} {Q = Q} same one =
+      subst (λ (is : List Instr). Runs z n steps is P Q) (sym same) one
 
   -- and then code that puts nothing on the path
   pub quiet : {m n : ℕ} {a : Steps z} {xs ys : List Instr} {P P' : Before z} {Q R : After z}
@@ -246,7 +261,11 @@ module _ {z : Setting} where
   quietly one two link = along (λ env. refl) (seq one two link)
 
   -- code that is never run
-  pub never : {n : ℕ} {steps : Steps z} {is : List Instr} {P : Before z} {Q : After z} → ((env : z.Beside) (s : State) → P env s → ⊥) → Runs z n steps is P Q
+  pub never : {n : ℕ} {steps : Steps z} {is : List Instr} {P : Before z} {Q : After z}
+      → ((env : z.Beside) (s : State) → P env s → ⊥) → Runs z n steps is P Q
   never none_fits = record {
-    placed_at = λ p placed. record { leak = always []; runs = λ env s rest at fine fit. absurd (none_fits env s fit) };
+    placed_at = λ p placed. record {
+      leak = always [];
+      runs = λ env s rest at fine fit. absurd (none_fits env s fit);
+    };
   }

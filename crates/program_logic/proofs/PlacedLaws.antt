@@ -9,7 +9,8 @@ pub Placed-left : (code : Code) (p : ℕ) (xs ys : List Instr) → Placed code p
 Placed-left code p [] ys h = tt
 Placed-left code p (x ∷ xs) ys h = (h.0, h.1, h.2, Placed-left code (p + 4) xs ys h.3)
 
-pub Placed-right : (code : Code) (p : ℕ) (xs ys : List Instr) → Placed code p (xs ++ ys) → Placed code (p + 4 * length xs) ys
+pub Placed-right : (code : Code) (p : ℕ) (xs ys : List Instr) → Placed code p (xs ++ ys)
+    → Placed code (p + 4 * length xs) ys
 Placed-right code p [] ys h =
     let e : p ≡ p + 4 * 0 = omega arith in
     subst (λ q. Placed code q ys) e h
@@ -18,12 +19,15 @@ Placed-right code p (x ∷ xs) ys h =
     subst (λ q. Placed code q ys) e (Placed-right code (p + 4) xs ys h.3)
 
 -- placed code ends below the last address
-pub Placed-below : (code : Code) (p : ℕ) (is : List Instr) → Placed code p is → p < 2 ^ 32 → p + 4 * length is < 2 ^ 32
+pub Placed-below : (code : Code) (p : ℕ) (is : List Instr) → Placed code p is → p < 2 ^ 32
+    → p + 4 * length is < 2 ^ 32
 Placed-below code p [] h below = omega (arith, below)
 Placed-below code p (i ∷ is) h below =
     let rest = Placed-below code (p + 4) is h.3 h.1 in
     omega (arith, rest)
 
 -- an instruction of placed code stands where the machine is
-pub stands : (code : Code) (p : ℕ) (i : Instr) (is : List Instr) → Placed code p (i ∷ is) → IsInstr i → (s : State) → s.pc ≡ p → IsAt code s.pc i
-stands code p i is placed ok s at = subst (λ q. IsAt code q i) (sym at) (record { aligned = placed.0; word = placed.2; in_range = ok })
+pub stands : (code : Code) (p : ℕ) (i : Instr) (is : List Instr) → Placed code p (i ∷ is) → IsInstr i → (s : State)
+    → s.pc ≡ p → IsAt code s.pc i
+stands code p i is placed ok s at =
+    subst (λ q. IsAt code q i) (sym at) (record { aligned = placed.0; word = placed.2; in_range = ok })

@@ -1,9 +1,10 @@
--- Pieces of code. A piece has a cost, the turns that it takes at most, and what it shows is read off the part of a path
--- that the observer sees, before any state is given: it reads what it puts there and hands on the rest. So a piece that
--- follows another reads on where that one has ended, and nobody has to say where the path is cut. A branch and a loop look
--- at the next mark and choose by it. Each piece may count on it that its part of the path is fine.
+-- Pieces of code. A piece has a cost, the turns that it takes at most, and what it shows is read off the part of a
+-- path that the observer sees, before any state is given: it reads what it puts there and hands on the rest. So a
+-- piece that follows another reads on where that one has ended, and nobody has to say where the path is cut. A branch
+-- and a loop look at the next mark and choose by it. Each piece may count on it that its part of the path is fine.
 --
--- What a path's marks are, and what pieces are run beside (a state of the program that the code is for), is left open.
+-- What a path's marks are, and what pieces are run beside (a state of the program that the code is for), is left
+-- open.
 use Rattle.std.specs.Prelude.{◌≡◌, ℕ, ◌+◌, ◌*◌, ◌≤◌, List, [], ◌++◌, length, All, Option, None}
 use Rattle.std.proofs.Common.{zero, suc}
 use Rattle.program_logic.specs.Placed.{Placed}
@@ -19,8 +20,8 @@ pub record Still (s t : State) : Type 0 where
   pub regs : t.regs ≡ s.regs
   pub bytes : t.bytes ≡ s.bytes
 
--- where pieces stand, which events they may show, what they all leave alone, what they are run beside, and the marks of
--- paths: what the observer sees of a path, and when one is fine
+-- where pieces stand, which events they may show, what they all leave alone, what they are run beside, and the marks
+-- of paths: what the observer sees of a path, and when one is fine
 pub record Setting : Type 1 where
   pub code : Code
   pub Allows : Option Event → Type 0
@@ -59,11 +60,13 @@ Leak z = List z.Mark → List Observation × List z.Mark
 abbrev pub always : {M : Type 0} → List Observation → List M → List Observation × List M
 always seen path = (seen, path)
 
-abbrev pub both : {M : Type 0} → (List M → List Observation × List M) → (List M → List Observation × List M) → List M → List Observation × List M
+abbrev pub both : {M : Type 0} → (List M → List Observation × List M) → (List M → List Observation × List M) → List M
+    → List Observation × List M
 both one two path = ((one path).0 ++ (two (one path).1).0, (two (one path).1).1)
 
 -- at most so many turns to an address, on a path of which the rest is left, and the state after them
-pub record Ends (z : Setting) (cost q : ℕ) (leak : Leak z) (path rest : List z.Mark) (Q : State → Type 0) (s : State) : Type 0 where
+pub record Ends (z : Setting) (cost q : ℕ) (leak : Leak z) (path rest : List z.Mark) (Q : State
+    → Type 0) (s : State) : Type 0 where
   pub turns : ℕ
   pub end : State
   pub seen : List Observation
@@ -76,12 +79,15 @@ pub record Ends (z : Setting) (cost q : ℕ) (leak : Leak z) (path rest : List z
   pub done : Q end
 
 -- instructions at an address, run from any state that is fit for them
-pub record Straight (z : Setting) (p cost : ℕ) (steps : Steps z) (is : List Instr) (P : Before z) (Q : After z) : Type 0 where
+pub record Straight (z : Setting) (p cost : ℕ) (steps : Steps z) (is : List Instr) (P : Before z) (Q : After z) :
+    Type 0 where
   pub leak : Leak z
-  pub runs : (env : z.Beside) (s : State) (rest : List z.Mark) → s.pc ≡ p → z.Fine (steps env) → P env s → Ends z cost (p + 4 * length is) leak (z.seen (steps env) ++ rest) rest (Q env s) s
+  pub runs : (env : z.Beside) (s : State) (rest : List z.Mark) → s.pc ≡ p → z.Fine (steps env) → P env s
+      → Ends z cost (p + 4 * length is) leak (z.seen (steps env) ++ rest) rest (Q env s) s
 
 -- instructions run wherever they stand, at most so many turns
-pub record Runs (z : Setting) (cost : ℕ) (steps : Steps z) (is : List Instr) (P : Before z) (Q : After z) : Type 0 where
+pub record Runs (z : Setting) (cost : ℕ) (steps : Steps z) (is : List Instr) (P : Before z) (Q : After z) :
+    Type 0 where
   pub placed_at : (p : ℕ) → Placed z.code p is → Straight z p cost steps is P Q
 
 -- one change, and then another

@@ -1,12 +1,15 @@
--- Straight-line code, run by symbols. What it makes of registers and bytes is a function of these and of the addresses
--- that it loads from and stores to, one for each access, which are given beforehand. So what such code shows is known before
--- any state is, and what is left to prove of a state is that its accesses go to these addresses, where data is.
-use Rattle.std.specs.Prelude.{◌≡◌, ℕ, ◌+◌, ◌*◌, ◌%◌, ◌^◌, Bool, true, false, ◌&&◌, nat_lt, List, [], ◌∷◌, Option, Some, None, is_some}
+-- Straight-line code, run by symbols. What it makes of registers and bytes is a function of these and of the
+-- addresses that it loads from and stores to, one for each access, which are given beforehand. So what such code
+-- shows is known before any state is, and what is left to prove of a state is that its accesses go to these
+-- addresses, where data is.
+use Rattle.std.specs.Prelude.{◌≡◌, ℕ, ◌+◌, ◌*◌, ◌%◌, ◌^◌, Bool, true, false, ◌&&◌, nat_lt, List, [], ◌∷◌, Option}
+use Rattle.std.specs.Prelude.{Some, None, is_some}
 use Rattle.rv_code.specs.declared.instructions.Instr.{Instr}
 use Rattle.rv_code.specs.declared.instructions.Instr.TheVariants.{Upper, Immediate, Shift, Register, Load, Store}
 use Rattle.rv_code.specs.declared.operations.UpperOperation.TheVariants.{Lui}
 use Rattle.rv_machine.specs.Bytes.{ByteMap, number_at, with_number}
-use Rattle.rv_machine.specs.Effects.{sign_extended, immediate_value, shift_value, register_value, load_size, loaded_value, store_size, address_of}
+use Rattle.rv_machine.specs.Effects.{sign_extended, immediate_value, shift_value, register_value, load_size}
+use Rattle.rv_machine.specs.Effects.{loaded_value, store_size, address_of}
 use Rattle.rv_machine.specs.Machine.{State}
 use Rattle.rv_machine.specs.Registers.{register, with_register}
 use Rattle.rv_machine.specs.Sizes.{byte_count}
@@ -25,12 +28,13 @@ contents_of s = record { regs = s.regs; bytes = s.bytes }
 abbrev pub state_at : ℕ → Contents → State
 state_at p c = record { pc = p; regs = c.regs; bytes = c.bytes }
 
--- Instructions that go on to the next one and, but for an access, show nothing, with their fields in range; `works` says
--- which registers they may write.
+-- Instructions that go on to the next one and, but for an access, show nothing, with their fields in range; `works`
+-- says which registers they may write.
 
 abbrev pub is_straight : (ℕ → Bool) → Instr → Bool
 is_straight works (Upper Lui rd immediate) = works rd && (nat_lt rd 32 && nat_lt immediate 1048576)
-is_straight works (Immediate operation rd rs1 immediate) = works rd && (nat_lt rd 32 && (nat_lt rs1 32 && nat_lt immediate 4096))
+is_straight works (Immediate operation rd rs1 immediate) =
+    works rd && (nat_lt rd 32 && (nat_lt rs1 32 && nat_lt immediate 4096))
 is_straight works (Shift operation rd rs1 amount) = works rd && (nat_lt rd 32 && (nat_lt rs1 32 && nat_lt amount 32))
 is_straight works (Register operation rd rs1 rs2) = works rd && (nat_lt rd 32 && (nat_lt rs1 32 && nat_lt rs2 32))
 is_straight works (Load operation rd rs1 offset) = works rd && (nat_lt rd 32 && (nat_lt rs1 32 && nat_lt offset 4096))
@@ -71,11 +75,16 @@ number_or_zero None = 0
 -- by one instruction, whose access is at an address
 abbrev pub after : Instr → ℕ → Contents → Contents
 after (Upper operation rd immediate) a c = with_result rd (immediate * 2 ^ 12) c
-after (Immediate operation rd rs1 immediate) a c = with_result rd (immediate_value operation (register c.regs rs1) (sign_extended 12 immediate)) c
+after (Immediate operation rd rs1 immediate) a c =
+    with_result rd (immediate_value operation (register c.regs rs1) (sign_extended 12 immediate)) c
 after (Shift operation rd rs1 amount) a c = with_result rd (shift_value operation (register c.regs rs1) amount) c
-after (Register operation rd rs1 rs2) a c = with_result rd (register_value operation (register c.regs rs1) (register c.regs rs2)) c
-after (Load operation rd rs1 offset) a c = with_result rd (loaded_value operation (number_or_zero (number_at c.bytes (byte_count (load_size operation)) a))) c
-after (Store operation rs2 rs1 offset) a c = record { regs = c.regs; bytes = with_number c.bytes (byte_count (store_size operation)) a (register c.regs rs2) }
+after (Register operation rd rs1 rs2) a c =
+    with_result rd (register_value operation (register c.regs rs1) (register c.regs rs2)) c
+after (Load operation rd rs1 offset) a c =
+    with_result rd (loaded_value operation (number_or_zero (number_at c.bytes (byte_count (load_size operation)) a)))
+    c
+after (Store operation rs2 rs1 offset) a c =
+    record { regs = c.regs; bytes = with_number c.bytes (byte_count (store_size operation)) a (register c.regs rs2) }
 after _ a c = c
 
 abbrev pub after_all : List Instr → List ℕ → Contents → Contents
@@ -91,7 +100,8 @@ event_of _ a = None
 
 abbrev pub shown_by : ℕ → List Instr → List ℕ → List Observation
 shown_by p [] places = []
-shown_by p (i ∷ is) places = record { pc = p; event = event_of i (next_of places) } ∷ shown_by (p + 4) is (left_by i places)
+shown_by p (i ∷ is) places = record { pc = p; event = event_of i (next_of places) }
+    ∷ shown_by (p + 4) is (left_by i places)
 
 -- What has to hold of each access, and then of the rest.
 
@@ -101,8 +111,10 @@ pub record IsFit (Allows : Option Event → Type 0) (n : ℕ) (e : Event) (a : �
   pub allowed : Allows (Some e)
 
 abbrev pub fit_and : (Option Event → Type 0) → Instr → ℕ → Type 0 → Type 0
-fit_and Allows (Load operation rd rs1 offset) a rest = IsFit Allows (byte_count (load_size operation)) (event.Load a (load_size operation)) a × rest
-fit_and Allows (Store operation rs2 rs1 offset) a rest = IsFit Allows (byte_count (store_size operation)) (event.Store a (store_size operation)) a × rest
+fit_and Allows (Load operation rd rs1 offset) a rest =
+    IsFit Allows (byte_count (load_size operation)) (event.Load a (load_size operation)) a × rest
+fit_and Allows (Store operation rs2 rs1 offset) a rest =
+    IsFit Allows (byte_count (store_size operation)) (event.Store a (store_size operation)) a × rest
 fit_and Allows _ a rest = rest
 
 abbrev pub AreFit : (Option Event → Type 0) → List Instr → List ℕ → Type 0

@@ -9,16 +9,19 @@ use Rattle.syntax.specs.Reading.{Answer, IsRefusedAs, refused}
 use Rattle.word.specs.declared.place.Place.{Place}
 
 -- a refusal with a place is an answer to the text
-pub placed : (P : Answer → Type 0) (r : Refusal) (p : Place) → r.place ≡ Some p → IsRefusedAs P r → (place : Place) × P (refused r.rule place)
+pub placed : (P : Answer → Type 0) (r : Refusal) (p : Place) → r.place ≡ Some p → IsRefusedAs P r
+    → (place : Place) × P (refused r.rule place)
 placed P r p some (inl memory) = absurd (none-some p (sym memory.1 ∙ some))
 placed P r p some (inr answer) = (answer.0, answer.2)
 
 -- what follows for each value follows where there is one
-pub where_ok : {A E : Type 0} {P Q : A → Type 0} (result : Result A E) → ((x : A) → P x → Q x) → IfOk result P → IfOk result Q
+pub where_ok : {A E : Type 0} {P Q : A → Type 0} (result : Result A E) → ((x : A) → P x → Q x) → IfOk result P
+    → IfOk result Q
 where_ok (Ok x) follows known = follows x known
 where_ok (Err e) follows known = known
 
 -- a refusal with a place is for a violation, of which there is a first
-pub first_at : (all : List Violation) (rule : Rule) (place : Option Place) (p : Place) → place ≡ Some p → IsRefusedFor all rule place → (first : Violation) × IsFirst all first
+pub first_at : (all : List Violation) (rule : Rule) (place : Option Place) (p : Place) → place ≡ Some p
+    → IsRefusedFor all rule place → (first : Violation) × IsFirst all first
 first_at all rule place p some (inl memory) = absurd (none-some p (sym memory.1 ∙ some))
 first_at all rule place p some (inr named) = (named.0, named.1)

@@ -17,28 +17,35 @@ abbrev Export : Type 0
 Export = List ProcedureTree × ProcedureTree
 
 -- where there is a body there is an export
-pub export_there : (program : ProgramTree) (export : Option Export) (f : FlatProgram) → IsExportOf program export → Some f ≡ option_map flat_of export
+pub export_there : (program : ProgramTree) (export : Option Export) (f : FlatProgram) → IsExportOf program export
+    → Some f ≡ option_map flat_of export
     → (e : Export) × (export ≡ Some e) × (exported [] program.procedures ≡ Some e) × (f ≡ flat_of e)
 export_there program None f (ill_typed first) body = absurd (none-some f (sym body))
 export_there program None f (too_large is first) body = absurd (none-some f (sym body))
-export_there program (Some (b, x)) f (one_body typed is sized) body = ((b, x), refl, is, same_Some f (flat_of (b, x)) body)
+export_there program (Some (b, x)) f (one_body typed is sized) body =
+    ((b, x), refl, is, same_Some f (flat_of (b, x)) body)
 
 -- and it is the one that the program has
-pub same_export : (program : ProgramTree) (export : Option Export) (f : FlatProgram) (e : Export) → IsExportOf program export → Some f ≡ option_map flat_of export
+pub same_export : (program : ProgramTree) (export : Option Export) (f : FlatProgram) (e : Export)
+    → IsExportOf program export → Some f ≡ option_map flat_of export
     → exported [] program.procedures ≡ Some e → f ≡ flat_of e
 same_export program export f e is body there =
     let found = export_there program export f is body in
     found.3 ∙ ap flat_of (same_Some found.0 e (sym found.2 ∙ there))
 
 pub flat_of_export : (f : FlatProgram) (e : Export) → f ≡ flat_of e → f ≡ flattened f.profile e.0 e.1
-flat_of_export f e is = is ∙ ap (λ (profile : Profile). flattened profile e.0 e.1) (sym (ap (λ (g : FlatProgram). g.profile) is))
+flat_of_export f e is = is
+    ∙ ap (λ (profile : Profile). flattened profile e.0 e.1) (sym (ap (λ (g : FlatProgram). g.profile) is))
 
-pub no_work : (program : ProgramTree) (export : Option Export) (text : List ℕ) → IsExportOf program export → None ≡ option_map flat_of export → text ≡ [] → SaysWork program text
+pub no_work : (program : ProgramTree) (export : Option Export) (text : List ℕ) → IsExportOf program export
+    → None ≡ option_map flat_of export → text ≡ [] → SaysWork program text
 no_work program None text is body empty = record { export = None; is = is; printed = empty }
 no_work program (Some e) text is body empty = absurd (none-some (flat_of e) body)
 
-pub some_work : (program : ProgramTree) (export : Option Export) (f : FlatProgram) (e : Export) (text : List ℕ) → IsExportOf program export
-    → Some f ≡ option_map flat_of export → exported [] program.procedures ≡ Some e → text ≡ work_line (work_cost e.0 e.1) → SaysWork program text
+pub some_work : (program : ProgramTree) (export : Option Export) (f : FlatProgram) (e : Export) (text : List ℕ)
+    → IsExportOf program export
+    → Some f ≡ option_map flat_of export → exported [] program.procedures ≡ Some e
+    → text ≡ work_line (work_cost e.0 e.1) → SaysWork program text
 some_work program export f e text is body there said =
     let found = export_there program export f is body in
     let same = same_Some found.0 e (sym found.2 ∙ there) in

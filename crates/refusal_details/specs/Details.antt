@@ -1,5 +1,6 @@
 -- What is said of a refusal beside its rule: lines, each with its end, or nothing.
-use Rattle.std.specs.Prelude.{◌≡◌, ℕ, ◌==◌, nat_eq, Bool, if◌then◌else◌, List, [], ◌∷◌, ◌++◌, take, drop, length, nat_lt, codes, Option, None, Some}
+use Rattle.std.specs.Prelude.{◌≡◌, ℕ, ◌==◌, nat_eq, Bool, if◌then◌else◌, List, [], ◌∷◌, ◌++◌, take, drop, length}
+use Rattle.std.specs.Prelude.{nat_lt, codes, Option, None, Some}
 use Rattle.std.specs.List.{starts_with}
 use Rattle.std.specs.Fmt.{decimal}
 use Rattle.std.specs.Option.{option_map}
@@ -14,7 +15,9 @@ use Rattle.refusal_details.specs.TypingLines.{typing_lines}
 use Rattle.call_places.specs.CallPlaces.{call_places, procedure_at}
 use Rattle.language.specs.declared.refusal.Refusal.{Refusal}
 use Rattle.language.specs.declared.rule.Rule.{Rule}
-use Rattle.language.specs.declared.rule.Rule.TheVariants.{UnknownCharacter, UnexpectedToken, UndeclaredName, InlinedSize, DeclaredBytes, TooMuchWork, IndexOutOfRange, DivisorMayBeZero}
+use Rattle.language.specs.declared.rule.Rule.TheVariants.{UnknownCharacter, UnexpectedToken, UndeclaredName}
+use Rattle.language.specs.declared.rule.Rule.TheVariants.{InlinedSize, DeclaredBytes, TooMuchWork, IndexOutOfRange}
+use Rattle.language.specs.declared.rule.Rule.TheVariants.{DivisorMayBeZero}
 use Rattle.language.specs.Signature.{exported}
 use Rattle.language.specs.Tree.{ProcedureTree, ProgramTree}
 use Rattle.name_uses.specs.Nearest.{nearest}
@@ -30,11 +33,13 @@ begins_with_mark bytes = starts_with nat_eq bytes (0xEF ∷ 0xBB ∷ 0xBF ∷ []
 
 abbrev pub character_line : List ℕ → List ℕ
 character_line bytes =
-    if begins_with_mark bytes then codes "  this is a byte order mark, which cannot be seen: save the file without it\n" else []
+    if begins_with_mark bytes
+    then codes "  this is a byte order mark, which cannot be seen: save the file without it\n" else []
 
 -- N1: the nearest variable in scope where the name is used
 abbrev pub variable_line : Seen → List ℕ
-variable_line v = codes "  the nearest name in scope is `" ++ (v.name ++ (codes "`, declared at " ++ (place_text v.place ++ codes "\n")))
+variable_line v = codes "  the nearest name in scope is `"
+    ++ (v.name ++ (codes "`, declared at " ++ (place_text v.place ++ codes "\n")))
 
 abbrev pub nearest_line : Option Seen → List ℕ
 nearest_line None = []
@@ -53,7 +58,8 @@ interval_text i = if i.low == i.high then decimal i.low else decimal i.low ++ (c
 
 abbrev pub cause_line : Cause → List ℕ
 cause_line (Index i size) =
-    codes "  the index is " ++ (interval_text i ++ (codes ", and the array's length is " ++ (decimal size ++ codes "\n")))
+    codes "  the index is "
+    ++ (interval_text i ++ (codes ", and the array's length is " ++ (decimal size ++ codes "\n")))
 cause_line (Divisor i) = codes "  the divisor is " ++ (interval_text i ++ codes "\n")
 
 abbrev pub finding_line : Option Finding → List ℕ
@@ -69,12 +75,14 @@ places_text [] = []
 places_text (place ∷ places) = codes ", " ++ (place_text place ++ places_text places)
 
 abbrev pub others_text : List Place → List ℕ
-others_text places = places_text (take most_others places) ++ (if nat_lt most_others (length places) then codes ", .." else [])
+others_text places = places_text (take most_others places)
+    ++ (if nat_lt most_others (length places) then codes ", .." else [])
 
 abbrev pub called_line : List ℕ → List Place → List ℕ
 called_line name [] = []
 called_line name (first ∷ others) =
-    codes "  this is in `" ++ (name ++ (codes "`, which is called at " ++ (place_text first ++ (others_text others ++ codes "\n"))))
+    codes "  this is in `"
+    ++ (name ++ (codes "`, which is called at " ++ (place_text first ++ (others_text others ++ codes "\n"))))
 
 abbrev pub procedure_line : List ProcedureTree → Option ProcedureTree → List ℕ
 procedure_line procedures None = []

@@ -1,4 +1,5 @@
--- What is said of a size above its limit: how much the export has, how much is allowed, and where the part stands that has most.
+-- What is said of a size above its limit: how much the export has, how much is allowed, and where the part stands
+-- that has most.
 use Rattle.std.specs.Prelude.{ℕ, nat_lt, List, [], ◌++◌, codes, Option, None, Some, if◌then◌else◌}
 use Rattle.std.specs.Fmt.{decimal}
 use Rattle.intervals.specs.Limits.{most_work}
@@ -38,7 +39,8 @@ most_of DeclaredBytes = most_declared_bytes
 abbrev pub cost_line : Limit → Cost → List ℕ
 cost_line limit cost =
     codes "  the export has " ++ (count_text cost.whole ++ (codes " " ++ (counted_things limit
-    ++ (codes ", and at most " ++ (decimal (most_of limit) ++ (codes " are allowed" ++ (part_text cost.costliest ++ codes "\n")))))))
+    ++ (codes ", and at most "
+    ++ (decimal (most_of limit) ++ (codes " are allowed" ++ (part_text cost.costliest ++ codes "\n")))))))
 
 -- S1: the nodes, and where they are within their limit the bodies that are open at once
 abbrev pub inlined_size_line : List ProcedureTree → ProcedureTree → List ℕ

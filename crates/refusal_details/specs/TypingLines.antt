@@ -1,7 +1,12 @@
 -- What is said of a violation of the rules on types and labels.
 use Rattle.std.specs.Prelude.{ℕ, List, [], ◌++◌, Option, None, Some}
 use Rattle.language.specs.declared.rule.Rule.{Rule}
-use Rattle.language.specs.declared.rule.Rule.TheVariants.{WidthsDiffer, WrongKind, LiteralOutOfRange, ArgumentCount, ArrayShapeOrLabel, NotMutable, ReturnMismatch, ArrayPassedTwice, InitialiserCount, SecretToPublic, PublicAssignedUnderSecretControl, SecretIndex, SecretBound, SecretDivisionOperand, CallAssignsPublicUnderSecretControl, SecretMultiplicationOperand}
+use Rattle.language.specs.declared.rule.Rule.TheVariants.{WidthsDiffer, WrongKind, LiteralOutOfRange, ArgumentCount}
+use Rattle.language.specs.declared.rule.Rule.TheVariants.{ArrayShapeOrLabel, NotMutable, ReturnMismatch}
+use Rattle.language.specs.declared.rule.Rule.TheVariants.{ArrayPassedTwice, InitialiserCount, SecretToPublic}
+use Rattle.language.specs.declared.rule.Rule.TheVariants.{PublicAssignedUnderSecretControl, SecretIndex, SecretBound}
+use Rattle.language.specs.declared.rule.Rule.TheVariants.{SecretDivisionOperand, CallAssignsPublicUnderSecretControl}
+use Rattle.language.specs.declared.rule.Rule.TheVariants.{SecretMultiplicationOperand}
 use Rattle.language.specs.Tree.{ProgramTree}
 use Rattle.language.specs.Types.{empty}
 use Rattle.misfits.specs.MisfitLines.{misfit_line, missing_return_line, named_at}
@@ -14,7 +19,8 @@ use Rattle.operand_types.specs.TypeLines.{type_lines}
 use Rattle.operand_types.specs.declared.mismatch.Mismatch.TheVariants as mismatch
 use Rattle.operand_types.specs.declared.mismatch.Mismatch.TheVariants.{Kinds, Shapes}
 use Rattle.refusal_details.specs.declared.topics.Topic.{Topic}
-use Rattle.refusal_details.specs.declared.topics.Topic.TheVariants.{Widths, Types, Misfits, Returned, Labels, Condition, Secret, Nothing}
+use Rattle.refusal_details.specs.declared.topics.Topic.TheVariants.{Widths, Types, Misfits, Returned, Labels}
+use Rattle.refusal_details.specs.declared.topics.Topic.TheVariants.{Condition, Secret, Nothing}
 use Rattle.word.specs.declared.place.Place.{Place}
 use Rattle.word.specs.declared.profile.Profile.TheVariants.{P1}
 
@@ -28,7 +34,8 @@ width_lines site = type_lines mismatch.Widths site ++ literal_line (literal_at s
 
 -- T7: what is returned where nothing is, or, at the name of a procedure, what is not returned
 abbrev pub return_lines : ℕ → ProgramTree → List ℕ
-return_lines at program = misfit_line Returns (site_of at program) ++ missing_return_line (named_at at program.procedures)
+return_lines at program = misfit_line Returns (site_of at program)
+    ++ missing_return_line (named_at at program.procedures)
 
 -- L1: the types, and the first secret name in what is given
 abbrev pub label_lines : Option Site → List ℕ

@@ -1,5 +1,7 @@
 -- A run, a turn at a time, and what it shows.
-use Rattle.std.proofs.Common.{◌≡◌, ◌≢◌, ℕ, zero, suc, true, false, is_some, ◌+◌, ◌-◌, ◌<◌, ◌≤◌, List, [], ◌∷◌, ◌++◌, Option, Some, None, length, refl, sym, ap, ◌∙◌, subst, append_assoc, append-nil, length-append, zero-add, suc-add, inl, inr, arith}
+use Rattle.std.proofs.Common.{◌≡◌, ◌≢◌, ℕ, zero, suc, true, false, is_some, ◌+◌, ◌-◌, ◌<◌, ◌≤◌, List, [], ◌∷◌, ◌++◌}
+use Rattle.std.proofs.Common.{Option, Some, None, length, refl, sym, ap, ◌∙◌, subst, append_assoc, append-nil}
+use Rattle.std.proofs.Common.{length-append, zero-add, suc-add, inl, inr, arith}
 use Rattle.std.specs.Option.{option_map}
 use Rattle.std.specs.Prelude.{slice_get}
 use Rattle.std.proofs.lemmas.Option.{same_Some, slice_get_past, slice_get_within}
@@ -23,7 +25,9 @@ first_alone (o ∷ []) few = refl
 first_alone (o ∷ p ∷ seen) few = absurd (omega arith)
 
 -- the turn that a step made, of which a recorder took what it shows
-pub turn_made : (code : Code) (s t : State) (ending : Ending) (answer : Option Stop) (seen : List Observation) → Turn code s ending → Done s ending answer t seen → answer ≢ Some RecorderRefused → Turned code s (slice_get seen 0) answer t
+pub turn_made : (code : Code) (s t : State) (ending : Ending) (answer : Option Stop) (seen : List Observation)
+    → Turn code s ending → Done s ending answer t seen → answer ≢ Some RecorderRefused
+    → Turned code s (slice_get seen 0) answer t
 turn_made code s t ending answer seen turn went_on calm = turned.went_on turn
 turn_made code s t ending answer seen turn (stopped {stop = stop}) calm =
     let brief = turn_stops code s seen stop turn in
@@ -31,12 +35,14 @@ turn_made code s t ending answer seen turn (stopped {stop = stop}) calm =
 turn_made code s t ending answer seen turn (refused shows) calm = absurd (calm refl)
 
 -- what a turn is that stops, one that goes on, and one that shows something
-pub stopped_at : (code : Code) (t u : State) (last : Option Observation) (answer : Option Stop) (stop : Stop) → Turned code t last answer u → answer ≡ Some stop → Turn code t (stops (listed last) stop)
+pub stopped_at : (code : Code) (t u : State) (last : Option Observation) (answer : Option Stop) (stop : Stop)
+    → Turned code t last answer u → answer ≡ Some stop → Turn code t (stops (listed last) stop)
 stopped_at code t u last answer stop (turned.went_on turn) is = cc
 stopped_at code t u last answer stop (turned.stopped {stop = other} turn) is =
     subst (λ x. Turn code t (stops (listed last) x)) (same_Some other stop is) turn
 
-pub went_to : (code : Code) (t u : State) (last : Option Observation) (answer : Option Stop) → Turned code t last answer u → answer ≡ None → (o : Observation) × (last ≡ Some o) × Turn code t (goes_on o u)
+pub went_to : (code : Code) (t u : State) (last : Option Observation) (answer : Option Stop)
+    → Turned code t last answer u → answer ≡ None → (o : Observation) × (last ≡ Some o) × Turn code t (goes_on o u)
 went_to code t u last answer (turned.went_on {o = o} turn) is = (o, refl, turn)
 went_to code t u last answer (turned.stopped turn) is = cc
 
@@ -48,11 +54,13 @@ pub is_going : (answer : Option Stop) → is_some answer ≡ false → answer �
 is_going None none = refl
 is_going (Some stop) none = cc
 
-shows_next : (code : Code) (t u : State) (o : Observation) (answer : Option Stop) → Turned code t (Some o) answer u → ShowsNext code t o
+shows_next : (code : Code) (t u : State) (o : Observation) (answer : Option Stop) → Turned code t (Some o) answer u
+    → ShowsNext code t o
 shows_next code t u o None (turned.went_on turn) = inl (u, turn)
 shows_next code t u o (Some stop) (turned.stopped turn) = inr (stop, turn)
 
-silent : (code : Code) (t u : State) (answer : Option Stop) → Turned code t None answer u → (stop : Stop) × Turn code t (stops [] stop)
+silent : (code : Code) (t u : State) (answer : Option Stop) → Turned code t None answer u
+    → (stop : Stop) × Turn code t (stops [] stop)
 silent code t u None turned = elim turned [ ]
 silent code t u (Some stop) (turned.stopped turn) = (stop, turn)
 
@@ -60,15 +68,19 @@ Leads-length : {code : Code} {k : ℕ} {s t : State} {seen : List Observation} �
 Leads-length stays = refl
 Leads-length (turns first rest) = ap suc (Leads-length rest)
 
-pub entries_more : (seen : List Observation) (o : Observation) → length (entries_of (seen ++ o ∷ [])) ≡ length (entries_of seen) + length (entries_of (o ∷ []))
-entries_more seen o = ap length (entries_of-append seen (o ∷ [])) ∙ length-append (entries_of seen) (entries_of (o ∷ []))
+pub entries_more : (seen : List Observation) (o : Observation)
+    → length (entries_of (seen ++ o ∷ [])) ≡ length (entries_of seen) + length (entries_of (o ∷ []))
+entries_more seen o = ap length (entries_of-append seen (o ∷ []))
+    ∙ length-append (entries_of seen) (entries_of (o ∷ []))
 
 -- turns, and then a run
-pub Runs-after : {code : Code} {k n : ℕ} {s t u : State} {seen more : List Observation} {stop : Stop} → Leads code k s seen t → Runs code n t more stop u → Runs code (k + n) s (seen ++ more) stop u
+pub Runs-after : {code : Code} {k n : ℕ} {s t u : State} {seen more : List Observation} {stop : Stop}
+    → Leads code k s seen t → Runs code n t more stop u → Runs code (k + n) s (seen ++ more) stop u
 Runs-after {code} {n = n} {u = u} {more = more} {stop = stop} (stays {s = s}) run =
     let e : n ≡ 0 + n = omega arith in
     subst (λ k. Runs code k s more stop u) e run
-Runs-after {code} {n = n} {u = u} {more = more} {stop = stop} (turns {n = k} {o = o} {seen = seen} {s = s} first rest) run =
+Runs-after {code} {n = n} {u = u} {more = more} {stop =
+    stop} (turns {n = k} {o = o} {seen = seen} {s = s} first rest) run =
     let e : suc (k + n) ≡ suc k + n = omega arith in
     subst (λ k. Runs code k s (o ∷ (seen ++ more)) stop u) e (Runs-more first (Runs-after rest run))
 
@@ -83,7 +95,8 @@ get_within (y ∷ xs) ys zero x is = is
 get_within (y ∷ xs) ys (suc n) x is = get_within xs ys n x is
 
 -- so many turns were made from a state, which showed this
-module _ (code : Code) (budget : ℕ) (s : State) (k : ℕ) (t : State) (seen : List Observation) (led : Leads code k s seen t) where
+module _ (code : Code) (budget : ℕ) (s : State) (k : ℕ) (t : State) (seen : List Observation)
+    (led : Leads code k s seen t) where
   -- the next one goes on
   pub leads_on : (o : Observation) (u : State) → Turn code t (goes_on o u) → Leads code (k + 1) s (seen ++ o ∷ []) u
   leads_on o u turn =
@@ -91,28 +104,33 @@ module _ (code : Code) (budget : ℕ) (s : State) (k : ℕ) (t : State) (seen : 
       subst (λ n. Leads code n s (seen ++ o ∷ []) u) e (Leads-more led turn)
 
   -- the next one shows this and goes on
-  pub went_on_by : (u : State) (last : Option Observation) (o : Observation) (answer : Option Stop) → Turned code t last answer u → last ≡ Some o → answer ≡ None → Leads code (k + 1) s (seen ++ o ∷ []) u
+  pub went_on_by : (u : State) (last : Option Observation) (o : Observation) (answer : Option Stop)
+      → Turned code t last answer u → last ≡ Some o → answer ≡ None → Leads code (k + 1) s (seen ++ o ∷ []) u
   went_on_by u last o answer turned is none =
       let went = went_to code t u last answer turned none in
       let same : went.0 ≡ o = same_Some went.0 o (sym went.1 ∙ is) in
       subst (λ x. Leads code (k + 1) s (seen ++ x ∷ []) u) same (leads_on went.0 u went.2)
 
   -- the next one stops
-  pub ends_here : (last : List Observation) (stop : Stop) → k < budget → Turn code t (stops last stop) → Ends code budget s (seen ++ last) stop
-  ends_here last stop within turn = (t, halted (omega arith) (halts led turn refl), (turn_stops code t last stop turn).0)
+  pub ends_here : (last : List Observation) (stop : Stop) → k < budget → Turn code t (stops last stop)
+      → Ends code budget s (seen ++ last) stop
+  ends_here last stop within turn =
+      (t, halted (omega arith) (halts led turn refl), (turn_stops code t last stop turn).0)
 
   -- no more are allowed
   pub ends_spent : k ≡ budget → Ends code budget s seen Budget
   ends_spent all = (t, spent (subst (λ n. Leads code n s seen t) all led), λ e. cc)
 
   -- the next one shows nothing and stops
-  pub ends_silently : (u : State) (last : Option Observation) (answer : Option Stop) → k < budget → Turned code t last answer u → last ≡ None → (stop : Stop) × Ends code budget s seen stop
+  pub ends_silently : (u : State) (last : Option Observation) (answer : Option Stop) → k < budget
+      → Turned code t last answer u → last ≡ None → (stop : Stop) × Ends code budget s seen stop
   ends_silently u last answer within turned is =
       let end = silent code t u answer (subst (λ l. Turned code t l answer u) is turned) in
       (end.0, subst (λ list. Ends code budget s list end.0) (append-nil seen) (ends_here [] end.0 within end.1))
 
   -- the next one is the last whose program counter comes before a place
-  pub is_last : (u : State) (last : Option Observation) (o : Observation) (answer : Option Stop) (place : ℕ) → k < budget → Turned code t last answer u → last ≡ Some o
+  pub is_last : (u : State) (last : Option Observation) (o : Observation) (answer : Option Stop) (place : ℕ)
+      → k < budget → Turned code t last answer u → last ≡ Some o
       → length (entries_of seen) < place → place ≤ length (entries_of seen) + length (entries_of (o ∷ []))
       → IsLastBefore code budget s place seen t
   is_last u last o answer place within turned is before reached = record {
@@ -128,25 +146,33 @@ module _ (code : Code) (budget : ℕ) (s : State) (k : ℕ) (t : State) (seen : 
   made = Leads-length led
 
   -- and stops: then the run shows no more
-  pub fewer_here : (u : State) (last : Option Observation) (o : Observation) (answer : Option Stop) (place : ℕ) → k < budget → Turned code t last answer u → last ≡ Some o → is_some answer ≡ true
+  pub fewer_here : (u : State) (last : Option Observation) (o : Observation) (answer : Option Stop) (place : ℕ)
+      → k < budget → Turned code t last answer u → last ≡ Some o → is_some answer ≡ true
       → length (entries_of seen) + length (entries_of (o ∷ [])) < place → ShowsFewer code budget s place
   fewer_here u last o answer place within turned is ended few =
       let stop = is_stopped answer ended in
-      let turn = stopped_at code t u (Some o) answer stop.0 (subst (λ l. Turned code t l answer u) is turned) stop.1 in
+      let turn = stopped_at code t u (Some o) answer stop.0
+      (subst (λ l. Turned code t l answer u) is turned) stop.1 in
       (seen ++ o ∷ [], stop.0, ends_here (o ∷ []) stop.0 within turn, omega (arith, entries_more seen o, few))
 
   -- it shows something, and the run goes on to its end
-  pub ends_next : (o : Observation) → ShowsNext code t o → k < budget → (more : List Observation) × (stop : Stop) × Ends code budget s (seen ++ o ∷ more) stop
+  pub ends_next : (o : Observation) → ShowsNext code t o → k < budget
+      → (more : List Observation) × (stop : Stop) × Ends code budget s (seen ++ o ∷ more) stop
   ends_next o (inl (u, turn)) within =
       let run = run_of_state code (budget - (k + 1)) u in
       let e : (k + 1) + (budget - (k + 1)) ≡ budget = omega (arith, within) in
-      let all = subst (λ n. Runs code n s ((seen ++ o ∷ []) ++ run.0) run.1 run.2) e (Runs-after (leads_on o u turn) run.3) in
-      (run.0, run.1, (run.2, subst (λ l. Runs code budget s l run.1 run.2) (append_assoc seen (o ∷ []) run.0) all, run.4))
+      let all = subst (λ n. Runs code n s ((seen ++ o ∷ []) ++ run.0) run.1 run.2) e
+      (Runs-after (leads_on o u turn) run.3) in (
+        run.0,
+        run.1,
+        (run.2, subst (λ l. Runs code budget s l run.1 run.2) (append_assoc seen (o ∷ []) run.0) all, run.4),
+      )
   ends_next o (inr (stop, turn)) within = ([], stop, ends_here (o ∷ []) stop within turn)
 
   -- it shows an entry at a place
   shows_entry : (o : Observation) (place left : ℕ) (entry : Entry) → ShowsNext code t o → k < budget
-      → length (entries_of seen) + left ≡ place → slice_get (entries_of (o ∷ [])) left ≡ Some entry → ShowsAt code budget s place (shown_entry entry)
+      → length (entries_of seen) + left ≡ place → slice_get (entries_of (o ∷ [])) left ≡ Some entry
+      → ShowsAt code budget s place (shown_entry entry)
   shows_entry o place left entry next within there is =
       let ends = ends_next o next within in
       let more = ends.0 in
@@ -155,33 +181,44 @@ module _ (code : Code) (budget : ℕ) (s : State) (k : ℕ) (t : State) (seen : 
       let at_place : slice_get (entries_of (seen ++ o ∷ more)) place ≡ Some entry =
       ap (λ l. slice_get l place) whole
       ∙ (ap (λ n. slice_get (entries_of seen ++ (entries_of (o ∷ []) ++ entries_of more)) n) (sym there)
-      ∙ (get_after (entries_of seen) (entries_of (o ∷ []) ++ entries_of more) left ∙ get_within (entries_of (o ∷ [])) (entries_of more) left entry is)) in
+      ∙ (get_after (entries_of seen) (entries_of (o ∷ []) ++ entries_of more) left
+      ∙ get_within (entries_of (o ∷ [])) (entries_of more) left entry is)) in
       (seen ++ o ∷ more, ends.1, ends.2, ap (λ e. entry_or_stop e ends.1) (sym at_place))
 
-  pub shows_shown : (u : State) (last : Option Observation) (answer : Option Stop) (place left : ℕ) (shown : Shown) → k < budget → Turned code t last answer u
-      → length (entries_of seen) + left ≡ place → option_map shown_entry (slice_get (entries_of (listed last)) left) ≡ Some shown → ShowsAt code budget s place shown
+  pub shows_shown : (u : State) (last : Option Observation) (answer : Option Stop) (place left : ℕ) (shown : Shown)
+      → k < budget → Turned code t last answer u
+      → length (entries_of seen) + left ≡ place → option_map shown_entry (slice_get (entries_of (listed last)) left)
+      ≡ Some shown → ShowsAt code budget s place shown
   shows_shown u None answer place left shown within turned there is = cc
-  shows_shown u (Some o) answer place left shown within turned there is = from_entry (slice_get (entries_of (o ∷ [])) left) refl is
+  shows_shown u (Some o) answer place left shown within turned there is =
+      from_entry (slice_get (entries_of (o ∷ [])) left) refl is
     where
-      from_entry : (e : Option Entry) → slice_get (entries_of (o ∷ [])) left ≡ e → option_map shown_entry e ≡ Some shown → ShowsAt code budget s place shown
+      from_entry : (e : Option Entry) → slice_get (entries_of (o ∷ [])) left ≡ e
+          → option_map shown_entry e ≡ Some shown → ShowsAt code budget s place shown
       from_entry None at none = cc
       from_entry (Some entry) at some =
-          subst (λ x. ShowsAt code budget s place x) (same_Some (shown_entry entry) shown some) (shows_entry o place left entry (shows_next code t u o answer turned) within there at)
+          subst (λ x. ShowsAt code budget s place x) (same_Some (shown_entry entry) shown some)
+          (shows_entry o place left entry (shows_next code t u o answer turned) within there at)
 
 -- behind all entries of a run there is its stop
-pub shows_stop : (code : Code) (budget : ℕ) (s : State) (seen : List Observation) (stop : Stop) (place : ℕ) → Ends code budget s seen stop → length (entries_of seen) ≤ place → ShowsAt code budget s place (Stopped stop)
+pub shows_stop : (code : Code) (budget : ℕ) (s : State) (seen : List Observation) (stop : Stop) (place : ℕ)
+    → Ends code budget s seen stop → length (entries_of seen) ≤ place → ShowsAt code budget s place (Stopped stop)
 shows_stop code budget s seen stop place ends past =
     (seen, stop, ends, ap (λ e. entry_or_stop e stop) (sym (slice_get_past (entries_of seen) place past)))
 
 -- what a run shows at a place behind the entries of turns is what the state after them shows
-pub later_place : (code : Code) (budget : ℕ) (s t : State) (seen : List Observation) (place : ℕ) (shown : Shown) → Leads code (length seen) s seen t → length seen ≤ budget
-    → ShowsAt code (budget - length seen) t place shown → ShowsAt code budget s (length (entries_of seen) + place) shown
+pub later_place : (code : Code) (budget : ℕ) (s t : State) (seen : List Observation) (place : ℕ) (shown : Shown)
+    → Leads code (length seen) s seen t → length seen ≤ budget
+    → ShowsAt code (budget - length seen) t place shown
+    → ShowsAt code budget s (length (entries_of seen) + place) shown
 later_place code budget s t seen place shown led within shows =
     let more = shows.0 in
     let stop = shows.1 in
     let e : length seen + (budget - length seen) ≡ budget = omega (arith, within) in
-    let whole : slice_get (entries_of (seen ++ more)) (length (entries_of seen) + place) ≡ slice_get (entries_of more) place =
-    ap (λ l. slice_get l (length (entries_of seen) + place)) (entries_of-append seen more) ∙ get_after (entries_of seen) (entries_of more) place in (
+    let whole : slice_get (entries_of (seen ++ more)) (length (entries_of seen) + place)
+    ≡ slice_get (entries_of more) place =
+    ap (λ l. slice_get l (length (entries_of seen) + place)) (entries_of-append seen more)
+    ∙ get_after (entries_of seen) (entries_of more) place in (
       seen ++ more,
       stop,
       (shows.2.0, subst (λ n. Runs code n s (seen ++ more) stop shows.2.0) e (Runs-after led shows.2.1), shows.2.2),
@@ -189,9 +226,11 @@ later_place code budget s t seen place shown led within shows =
     )
 
 -- what is left of the entries before a place, once a turn has shown some
-pub left_after : (seen : List Observation) (last : Option Observation) (left left' place : ℕ) → length (entries_of seen) + left ≡ place → length (entries_of (listed last)) + left' ≡ left
+pub left_after : (seen : List Observation) (last : Option Observation) (left left' place : ℕ)
+    → length (entries_of seen) + left ≡ place → length (entries_of (listed last)) + left' ≡ left
     → length (entries_of (seen ++ listed last)) + left' ≡ place
 left_after seen last left left' place before is =
-    let all : length (entries_of (seen ++ listed last)) ≡ length (entries_of seen) + length (entries_of (listed last)) =
+    let all : length (entries_of (seen ++ listed last))
+    ≡ length (entries_of seen) + length (entries_of (listed last)) =
     ap length (entries_of-append seen (listed last)) ∙ length-append (entries_of seen) (entries_of (listed last)) in
     omega (arith, all, before, is)

@@ -15,9 +15,10 @@ Ends code budget s seen stop = (end : State) × Runs code budget s seen stop end
 abbrev pub ShowsNext : Code → State → Observation → Type 0
 ShowsNext code t o = ((u : State) × Turn code t (goes_on o u)) ⊎ ((stop : Stop) × Turn code t (stops (o ∷ []) stop))
 
--- turns that show this list lead to a state, and the next one is the last whose program counter is an entry before the place, so that the
--- place is at most the one behind its entries
-pub record IsLastBefore (code : Code) (budget : ℕ) (s : State) (place : ℕ) (seen : List Observation) (t : State) : Type 0 where
+-- turns that show this list lead to a state, and the next one is the last whose program counter is an entry before
+-- the place, so that the place is at most the one behind its entries
+pub record IsLastBefore (code : Code) (budget : ℕ) (s : State) (place : ℕ) (seen : List Observation) (t : State) :
+    Type 0 where
   pub leads : Leads code (length seen) s seen t
   pub within : length seen < budget
   pub next : Observation
@@ -27,4 +28,5 @@ pub record IsLastBefore (code : Code) (budget : ℕ) (s : State) (place : ℕ) (
 
 -- the run shows fewer entries than that
 abbrev pub ShowsFewer : Code → ℕ → State → ℕ → Type 0
-ShowsFewer code budget s place = (seen : List Observation) × (stop : Stop) × Ends code budget s seen stop × (length (entries_of seen) < place)
+ShowsFewer code budget s place = (seen : List Observation) × (stop : Stop) × Ends code budget s seen stop
+    × (length (entries_of seen) < place)

@@ -2,7 +2,9 @@
 use Rattle.std.specs.Prelude.{ℕ, ◌-◌, ◌^◌, List, [], ◌∷◌, ◌++◌, codes, false}
 use Rattle.std.specs.Fmt.{digits, padded_integral, format_spec}
 use Rattle.rv_code.specs.declared.instructions.Instr.{Instr}
-use Rattle.rv_code.specs.declared.instructions.Instr.TheVariants.{Upper, Jump, JumpRegister, Branch, Load, Store, Immediate, Shift, Register, Multiply, Divide, Fence, Ecall, Ebreak}
+use Rattle.rv_code.specs.declared.instructions.Instr.TheVariants.{Upper, Jump, JumpRegister, Branch, Load, Store}
+use Rattle.rv_code.specs.declared.instructions.Instr.TheVariants.{Immediate, Shift, Register, Multiply, Divide, Fence}
+use Rattle.rv_code.specs.declared.instructions.Instr.TheVariants.{Ecall, Ebreak}
 use Rattle.rv_code.specs.FieldText.{reg_text}
 use Rattle.rv_machine.specs.Machine.{State, Code, IsAt}
 use Rattle.rv_machine.specs.Registers.{register}

@@ -20,4 +20,5 @@ entry_or_stop None stop = Stopped stop
 -- a run of at most so many turns shows this at a place, counted from 0
 abbrev pub ShowsAt : Code → ℕ → State → ℕ → Shown → Type 0
 ShowsAt code budget s place shown =
-    (seen : List Observation) × (stop : Stop) × Ends code budget s seen stop × (shown ≡ entry_or_stop (slice_get (entries_of seen) place) stop)
+    (seen : List Observation) × (stop : Stop) × Ends code budget s seen stop
+    × (shown ≡ entry_or_stop (slice_get (entries_of seen) place) stop)

@@ -12,4 +12,5 @@ listed None = []
 -- from one state to another: the turn goes on, or it stops and the state stays
 pub data Turned (code : Code) (s : State) : Option Observation → Option Stop → State → Type 0 where
   went_on : {o : Observation} {t : State} → Turn code s (goes_on o t) → Turned code s (Some o) None t
-  stopped : {seen : Option Observation} {stop : Stop} → Turn code s (stops (listed seen) stop) → Turned code s seen (Some stop) s
+  stopped : {seen : Option Observation} {stop : Stop} → Turn code s (stops (listed seen) stop)
+      → Turned code s seen (Some stop) s

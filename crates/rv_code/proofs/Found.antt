@@ -1,24 +1,37 @@
 -- What is read from a word is an instruction that has that word.
-use Rattle.std.proofs.Common.{◌≡◌, ℕ, ◌/◌, ◌%◌, ◌^◌, ◌<◌, Bool, true, false, cond, ◌==◌, ◌&&◌, List, [], ◌∷◌, Option, Some, IfSome, find, refl, sym, arith, eqb-true}
+use Rattle.std.proofs.Common.{◌≡◌, ℕ, ◌/◌, ◌%◌, ◌^◌, ◌<◌, Bool, true, false, cond, ◌==◌, ◌&&◌, List, [], ◌∷◌, Option}
+use Rattle.std.proofs.Common.{Some, IfSome, find, refl, sym, arith, eqb-true}
 use Rattle.std.specs.Option.{option_map}
 use Rattle.std.proofs.lemmas.Bool.{and_parts}
 use Rattle.rv_code.specs.declared.instructions.Instr.{Instr}
-use Rattle.rv_code.specs.Words.{word_of, IsInstr, upper_opcode, branch_funct3, load_funct3, store_funct3, immediate_funct3, shift_funct3, shift_funct7, register_funct3, register_funct7, multiply_funct3, divide_funct3, muldiv_funct7, op_imm_opcode, op_opcode, load_opcode, store_opcode, branch_opcode, jal_opcode, jalr_opcode, misc_mem_opcode, system_opcode, ecall_word, ebreak_word}
-use Rattle.rv_code.specs.Reading.{opcode_at, funct3_at, funct7_at, upper_operations, branch_tests, load_operations, store_operations, immediate_operations, shift_operations, register_operations, multiply_operations, divide_operations, upper_made, branch_made, load_made, store_made, immediate_made, shift_made, register_made, multiply_made, divide_made, upper_at, branch_at, load_at, store_at, immediate_at, shift_at, register_at, multiply_at, divide_at, jump_at, jump_register_at, op_imm_at, muldiv_at, op_at, fence_at, system_at, group_at}
+use Rattle.rv_code.specs.Words.{word_of, IsInstr, upper_opcode, branch_funct3, load_funct3, store_funct3}
+use Rattle.rv_code.specs.Words.{immediate_funct3, shift_funct3, shift_funct7, register_funct3, register_funct7}
+use Rattle.rv_code.specs.Words.{multiply_funct3, divide_funct3, muldiv_funct7, op_imm_opcode, op_opcode, load_opcode}
+use Rattle.rv_code.specs.Words.{store_opcode, branch_opcode, jal_opcode, jalr_opcode, misc_mem_opcode, system_opcode}
+use Rattle.rv_code.specs.Words.{ecall_word, ebreak_word}
+use Rattle.rv_code.specs.Reading.{opcode_at, funct3_at, funct7_at, upper_operations, branch_tests, load_operations}
+use Rattle.rv_code.specs.Reading.{store_operations, immediate_operations, shift_operations, register_operations}
+use Rattle.rv_code.specs.Reading.{multiply_operations, divide_operations, upper_made, branch_made, load_made}
+use Rattle.rv_code.specs.Reading.{store_made, immediate_made, shift_made, register_made, multiply_made, divide_made}
+use Rattle.rv_code.specs.Reading.{upper_at, branch_at, load_at, store_at, immediate_at, shift_at, register_at}
+use Rattle.rv_code.specs.Reading.{multiply_at, divide_at, jump_at, jump_register_at, op_imm_at, muldiv_at, op_at}
+use Rattle.rv_code.specs.Reading.{fence_at, system_at, group_at}
 
 -- an instruction that has this word
 abbrev pub HasWord : ℕ → Instr → Type 0
 HasWord word i = IsInstr i × (word_of i ≡ word)
 
 -- what is made of an item that a search finds, which passes the test
-IfSome-found : {X : Type 0} (made : X → Instr) (test : X → Bool) (xs : List X) (P : Instr → Type 0) → ((x : X) → test x ≡ true → P (made x)) → IfSome (option_map made (find test xs)) P
+IfSome-found : {X : Type 0} (made : X → Instr) (test : X → Bool) (xs : List X) (P : Instr → Type 0)
+    → ((x : X) → test x ≡ true → P (made x)) → IfSome (option_map made (find test xs)) P
 IfSome-found made test [] P holds = tt
 IfSome-found made test (x ∷ xs) P holds =
     elim (test x) as (λ b. test x ≡ b → IfSome (option_map made (cond b (Some x) (find test xs))) P)
     [ true ↦ λ passes. holds x passes | false ↦ λ _. IfSome-found made test xs P holds ] refl
 
 -- a choice by a test of two numbers, each side with what the test says
-IfSome-cond : (m n : ℕ) (a b : Option Instr) (P : Instr → Type 0) → (m ≡ n → IfSome a P) → IfSome b P → IfSome (cond (m == n) a b) P
+IfSome-cond : (m n : ℕ) (a b : Option Instr) (P : Instr → Type 0) → (m ≡ n → IfSome a P) → IfSome b P
+    → IfSome (cond (m == n) a b) P
 IfSome-cond m n a b P then_a else_b =
     elim (m == n) as (λ t. (m == n) ≡ t → IfSome (cond t a b) P)
     [ true ↦ λ same. then_a (eqb-true m n same) | false ↦ λ _. else_b ] refl
@@ -55,7 +68,8 @@ branch_at-has word fits opcode =
     let e : branch_funct3 o ≡ funct3_at word = eqb-true _ _ passes in
     ((omega arith, omega arith, omega arith), omega arith))
 
-immediate_at-has : (word : ℕ) → word < 2 ^ 32 → opcode_at word ≡ op_imm_opcode → IfSome (immediate_at word) (HasWord word)
+immediate_at-has : (word : ℕ) → word < 2 ^ 32 → opcode_at word ≡ op_imm_opcode
+    → IfSome (immediate_at word) (HasWord word)
 unfolding immediate_at word_of
 immediate_at-has word fits opcode =
     IfSome-found (immediate_made word) (λ o. immediate_funct3 o == funct3_at word) immediate_operations (HasWord word)
@@ -66,7 +80,8 @@ immediate_at-has word fits opcode =
 shift_at-has : (word : ℕ) → word < 2 ^ 32 → opcode_at word ≡ op_imm_opcode → IfSome (shift_at word) (HasWord word)
 unfolding shift_at word_of
 shift_at-has word fits opcode =
-    IfSome-found (shift_made word) (λ o. shift_funct3 o == funct3_at word && shift_funct7 o == funct7_at word) shift_operations (HasWord word)
+    IfSome-found (shift_made word) (λ o. shift_funct3 o == funct3_at word && shift_funct7 o == funct7_at word)
+    shift_operations (HasWord word)
     (λ o passes.
     let both = and_parts (shift_funct3 o == funct3_at word) (shift_funct7 o == funct7_at word) passes in
     let e : shift_funct3 o ≡ funct3_at word = eqb-true _ _ both.0 in
@@ -76,19 +91,22 @@ shift_at-has word fits opcode =
 op_imm_at-has : (word : ℕ) → word < 2 ^ 32 → opcode_at word ≡ op_imm_opcode → IfSome (op_imm_at word) (HasWord word)
 unfolding op_imm_at
 op_imm_at-has word fits opcode =
-    IfSome-cond (funct3_at word % 4) 1 _ _ (HasWord word) (λ _. shift_at-has word fits opcode) (immediate_at-has word fits opcode)
+    IfSome-cond (funct3_at word % 4) 1 _ _ (HasWord word) (λ _. shift_at-has word fits opcode)
+    (immediate_at-has word fits opcode)
 
 register_at-has : (word : ℕ) → word < 2 ^ 32 → opcode_at word ≡ op_opcode → IfSome (register_at word) (HasWord word)
 unfolding register_at word_of
 register_at-has word fits opcode =
-    IfSome-found (register_made word) (λ o. register_funct3 o == funct3_at word && register_funct7 o == funct7_at word) register_operations (HasWord word)
+    IfSome-found (register_made word) (λ o. register_funct3 o == funct3_at word
+    && register_funct7 o == funct7_at word) register_operations (HasWord word)
     (λ o passes.
     let both = and_parts (register_funct3 o == funct3_at word) (register_funct7 o == funct7_at word) passes in
     let e : register_funct3 o ≡ funct3_at word = eqb-true _ _ both.0 in
     let f : register_funct7 o ≡ funct7_at word = eqb-true _ _ both.1 in
     ((omega arith, omega arith, omega arith), omega arith))
 
-multiply_at-has : (word : ℕ) → word < 2 ^ 32 → opcode_at word ≡ op_opcode → funct7_at word ≡ muldiv_funct7 → IfSome (multiply_at word) (HasWord word)
+multiply_at-has : (word : ℕ) → word < 2 ^ 32 → opcode_at word ≡ op_opcode → funct7_at word ≡ muldiv_funct7
+    → IfSome (multiply_at word) (HasWord word)
 unfolding multiply_at word_of
 multiply_at-has word fits opcode funct7 =
     IfSome-found (multiply_made word) (λ o. multiply_funct3 o == funct3_at word) multiply_operations (HasWord word)
@@ -96,7 +114,8 @@ multiply_at-has word fits opcode funct7 =
     let e : multiply_funct3 o ≡ funct3_at word = eqb-true _ _ passes in
     ((omega arith, omega arith, omega arith), omega arith))
 
-divide_at-has : (word : ℕ) → word < 2 ^ 32 → opcode_at word ≡ op_opcode → funct7_at word ≡ muldiv_funct7 → IfSome (divide_at word) (HasWord word)
+divide_at-has : (word : ℕ) → word < 2 ^ 32 → opcode_at word ≡ op_opcode → funct7_at word ≡ muldiv_funct7
+    → IfSome (divide_at word) (HasWord word)
 unfolding divide_at word_of
 divide_at-has word fits opcode funct7 =
     IfSome-found (divide_made word) (λ o. divide_funct3 o == funct3_at word) divide_operations (HasWord word)
@@ -104,24 +123,29 @@ divide_at-has word fits opcode funct7 =
     let e : divide_funct3 o ≡ funct3_at word = eqb-true _ _ passes in
     ((omega arith, omega arith, omega arith), omega arith))
 
-muldiv_at-has : (word : ℕ) → word < 2 ^ 32 → opcode_at word ≡ op_opcode → funct7_at word ≡ muldiv_funct7 → IfSome (muldiv_at word) (HasWord word)
+muldiv_at-has : (word : ℕ) → word < 2 ^ 32 → opcode_at word ≡ op_opcode → funct7_at word ≡ muldiv_funct7
+    → IfSome (muldiv_at word) (HasWord word)
 unfolding muldiv_at
 muldiv_at-has word fits opcode funct7 =
-    IfSome-cond (funct3_at word / 4) 0 _ _ (HasWord word) (λ _. multiply_at-has word fits opcode funct7) (divide_at-has word fits opcode funct7)
+    IfSome-cond (funct3_at word / 4) 0 _ _ (HasWord word) (λ _. multiply_at-has word fits opcode funct7)
+    (divide_at-has word fits opcode funct7)
 
 op_at-has : (word : ℕ) → word < 2 ^ 32 → opcode_at word ≡ op_opcode → IfSome (op_at word) (HasWord word)
 unfolding op_at
 op_at-has word fits opcode =
-    IfSome-cond (funct7_at word) muldiv_funct7 _ _ (HasWord word) (muldiv_at-has word fits opcode) (register_at-has word fits opcode)
+    IfSome-cond (funct7_at word) muldiv_funct7 _ _ (HasWord word) (muldiv_at-has word fits opcode)
+    (register_at-has word fits opcode)
 
 jump_at-has : (word : ℕ) → word < 2 ^ 32 → opcode_at word ≡ jal_opcode → IfSome (jump_at word) (HasWord word)
 unfolding word_of
 jump_at-has word fits opcode = ((omega arith, omega arith), omega arith)
 
-jump_register_at-has : (word : ℕ) → word < 2 ^ 32 → opcode_at word ≡ jalr_opcode → IfSome (jump_register_at word) (HasWord word)
+jump_register_at-has : (word : ℕ) → word < 2 ^ 32 → opcode_at word ≡ jalr_opcode
+    → IfSome (jump_register_at word) (HasWord word)
 unfolding jump_register_at word_of
 jump_register_at-has word fits opcode =
-    IfSome-cond (funct3_at word) 0 _ _ (HasWord word) (λ funct3. ((omega arith, omega arith, omega arith), omega arith)) tt
+    IfSome-cond (funct3_at word) 0 _ _ (HasWord word)
+    (λ funct3. ((omega arith, omega arith, omega arith), omega arith)) tt
 
 fence_at-has : (word : ℕ) → word < 2 ^ 32 → opcode_at word ≡ misc_mem_opcode → IfSome (fence_at word) (HasWord word)
 unfolding fence_at word_of

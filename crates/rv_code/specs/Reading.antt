@@ -1,9 +1,12 @@
 -- The instruction that the fields of a word spell, if they do: the tool by which the laws of the
 -- words are proved. No public contract cites it.
-use Rattle.std.specs.Prelude.{ℕ, ◌+◌, ◌*◌, ◌/◌, ◌%◌, ◌^◌, List, [], ◌∷◌, Option, Some, None, ◌==◌, ◌&&◌, if◌then◌else◌, find}
+use Rattle.std.specs.Prelude.{ℕ, ◌+◌, ◌*◌, ◌/◌, ◌%◌, ◌^◌, List, [], ◌∷◌, Option, Some, None, ◌==◌, ◌&&◌}
+use Rattle.std.specs.Prelude.{if◌then◌else◌, find}
 use Rattle.std.specs.Option.{option_map}
 use Rattle.rv_code.specs.declared.instructions.Instr.{Instr}
-use Rattle.rv_code.specs.declared.instructions.Instr.TheVariants.{Upper, Jump, JumpRegister, Branch, Load, Store, Immediate, Shift, Register, Multiply, Divide, Fence, Ecall, Ebreak}
+use Rattle.rv_code.specs.declared.instructions.Instr.TheVariants.{Upper, Jump, JumpRegister, Branch, Load, Store}
+use Rattle.rv_code.specs.declared.instructions.Instr.TheVariants.{Immediate, Shift, Register, Multiply, Divide, Fence}
+use Rattle.rv_code.specs.declared.instructions.Instr.TheVariants.{Ecall, Ebreak}
 use Rattle.rv_code.specs.declared.operations.UpperOperation.{UpperOperation}
 use Rattle.rv_code.specs.declared.operations.UpperOperation.TheVariants.{Lui, Auipc}
 use Rattle.rv_code.specs.declared.operations.BranchTest.{BranchTest}
@@ -17,12 +20,17 @@ use Rattle.rv_code.specs.declared.operations.ImmediateOperation.TheVariants.{Add
 use Rattle.rv_code.specs.declared.operations.ShiftOperation.{ShiftOperation}
 use Rattle.rv_code.specs.declared.operations.ShiftOperation.TheVariants.{Slli, Srli, Srai}
 use Rattle.rv_code.specs.declared.operations.RegisterOperation.{RegisterOperation}
-use Rattle.rv_code.specs.declared.operations.RegisterOperation.TheVariants.{Add, Sub, Sll, Slt, Sltu, Xor, Srl, Sra, Or, And}
+use Rattle.rv_code.specs.declared.operations.RegisterOperation.TheVariants.{Add, Sub, Sll, Slt, Sltu, Xor, Srl, Sra}
+use Rattle.rv_code.specs.declared.operations.RegisterOperation.TheVariants.{Or, And}
 use Rattle.rv_code.specs.declared.operations.MultiplyOperation.{MultiplyOperation}
 use Rattle.rv_code.specs.declared.operations.MultiplyOperation.TheVariants.{Mul, Mulh, Mulhsu, Mulhu}
 use Rattle.rv_code.specs.declared.operations.DivideOperation.{DivideOperation}
 use Rattle.rv_code.specs.declared.operations.DivideOperation.TheVariants.{Div, Divu, Rem, Remu}
-use Rattle.rv_code.specs.Words.{bits_of, op_imm_opcode, op_opcode, load_opcode, store_opcode, branch_opcode, jal_opcode, jalr_opcode, misc_mem_opcode, system_opcode, upper_opcode, branch_funct3, load_funct3, store_funct3, immediate_funct3, shift_funct3, shift_funct7, register_funct3, register_funct7, multiply_funct3, divide_funct3, muldiv_funct7, ecall_word, ebreak_word}
+use Rattle.rv_code.specs.Words.{bits_of, op_imm_opcode, op_opcode, load_opcode, store_opcode, branch_opcode}
+use Rattle.rv_code.specs.Words.{jal_opcode, jalr_opcode, misc_mem_opcode, system_opcode, upper_opcode, branch_funct3}
+use Rattle.rv_code.specs.Words.{load_funct3, store_funct3, immediate_funct3, shift_funct3, shift_funct7}
+use Rattle.rv_code.specs.Words.{register_funct3, register_funct7, multiply_funct3, divide_funct3, muldiv_funct7}
+use Rattle.rv_code.specs.Words.{ecall_word, ebreak_word}
 
 -- The fields of a word, as the R format has them.
 
@@ -53,13 +61,15 @@ abbrev pub s_immediate_at : ℕ → ℕ
 s_immediate_at word = (rd_at word + funct7_at word * 2 ^ 5) % 2 ^ 12
 
 abbrev pub b_offset_at : ℕ → ℕ
-b_offset_at word = (bits_of 8 4 word + bits_of 25 6 word * 2 ^ 4 + bits_of 7 1 word * 2 ^ 10 + word / 2 ^ 31 * 2 ^ 11) % 2 ^ 12
+b_offset_at word =
+    (bits_of 8 4 word + bits_of 25 6 word * 2 ^ 4 + bits_of 7 1 word * 2 ^ 10 + word / 2 ^ 31 * 2 ^ 11) % 2 ^ 12
 
 abbrev pub u_immediate_at : ℕ → ℕ
 u_immediate_at word = word / 2 ^ 12 % 2 ^ 20
 
 abbrev pub j_offset_at : ℕ → ℕ
-j_offset_at word = (bits_of 21 10 word + bits_of 20 1 word * 2 ^ 10 + bits_of 12 8 word * 2 ^ 11 + word / 2 ^ 31 * 2 ^ 19) % 2 ^ 20
+j_offset_at word =
+    (bits_of 21 10 word + bits_of 20 1 word * 2 ^ 10 + bits_of 12 8 word * 2 ^ 11 + word / 2 ^ 31 * 2 ^ 19) % 2 ^ 20
 
 -- The three fields of FENCE.
 
@@ -120,7 +130,8 @@ abbrev pub shift_with : ℕ → ℕ → Option ShiftOperation
 shift_with funct3 funct7 = find (λ o. shift_funct3 o == funct3 && shift_funct7 o == funct7) shift_operations
 
 abbrev pub register_with : ℕ → ℕ → Option RegisterOperation
-register_with funct3 funct7 = find (λ o. register_funct3 o == funct3 && register_funct7 o == funct7) register_operations
+register_with funct3 funct7 =
+    find (λ o. register_funct3 o == funct3 && register_funct7 o == funct7) register_operations
 
 abbrev pub multiply_with : ℕ → Option MultiplyOperation
 multiply_with funct3 = find (λ o. multiply_funct3 o == funct3) multiply_operations

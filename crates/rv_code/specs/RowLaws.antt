@@ -14,13 +14,17 @@ use Rattle.rv_code.specs.declared.operations.ImmediateOperation.TheVariants.{Add
 use Rattle.rv_code.specs.declared.operations.ShiftOperation.{ShiftOperation}
 use Rattle.rv_code.specs.declared.operations.ShiftOperation.TheVariants.{Slli, Srli, Srai}
 use Rattle.rv_code.specs.declared.operations.RegisterOperation.{RegisterOperation}
-use Rattle.rv_code.specs.declared.operations.RegisterOperation.TheVariants.{Add, Sub, Sll, Slt, Sltu, Xor, Srl, Sra, Or, And}
+use Rattle.rv_code.specs.declared.operations.RegisterOperation.TheVariants.{Add, Sub, Sll, Slt, Sltu, Xor, Srl, Sra}
+use Rattle.rv_code.specs.declared.operations.RegisterOperation.TheVariants.{Or, And}
 use Rattle.rv_code.specs.declared.operations.MultiplyOperation.{MultiplyOperation}
 use Rattle.rv_code.specs.declared.operations.MultiplyOperation.TheVariants.{Mul, Mulh, Mulhsu, Mulhu}
 use Rattle.rv_code.specs.declared.operations.DivideOperation.{DivideOperation}
 use Rattle.rv_code.specs.declared.operations.DivideOperation.TheVariants.{Div, Divu, Rem, Remu}
-use Rattle.rv_code.specs.Words.{upper_opcode, branch_funct3, load_funct3, store_funct3, immediate_funct3, shift_funct3, shift_funct7, register_funct3, register_funct7, multiply_funct3, divide_funct3, muldiv_funct7}
-use Rattle.rv_code.specs.Reading.{upper_with, branch_with, load_with, store_with, immediate_with, shift_with, register_with, multiply_with, divide_with, upper_at, group_at}
+use Rattle.rv_code.specs.Words.{upper_opcode, branch_funct3, load_funct3, store_funct3, immediate_funct3}
+use Rattle.rv_code.specs.Words.{shift_funct3, shift_funct7, register_funct3, register_funct7, multiply_funct3}
+use Rattle.rv_code.specs.Words.{divide_funct3, muldiv_funct7}
+use Rattle.rv_code.specs.Reading.{upper_with, branch_with, load_with, store_with, immediate_with, shift_with}
+use Rattle.rv_code.specs.Reading.{register_with, multiply_with, divide_with, upper_at, group_at}
 
 pub upper_opcode_fits : (operation : UpperOperation) → upper_opcode operation < 2 ^ 7
 upper_opcode_fits Lui = lit< tt
@@ -96,7 +100,8 @@ shift_funct7_fits Slli = lit< tt
 shift_funct7_fits Srli = lit< tt
 shift_funct7_fits Srai = lit< tt
 
-pub shift_row : (operation : ShiftOperation) → shift_with (shift_funct3 operation) (shift_funct7 operation) ≡ Some operation
+pub shift_row : (operation : ShiftOperation)
+    → shift_with (shift_funct3 operation) (shift_funct7 operation) ≡ Some operation
 shift_row Slli = refl
 shift_row Srli = refl
 shift_row Srai = refl
@@ -125,7 +130,8 @@ register_funct7_fits Sra = lit< tt
 register_funct7_fits Or = lit< tt
 register_funct7_fits And = lit< tt
 
-pub register_row : (operation : RegisterOperation) → register_with (register_funct3 operation) (register_funct7 operation) ≡ Some operation
+pub register_row : (operation : RegisterOperation)
+    → register_with (register_funct3 operation) (register_funct7 operation) ≡ Some operation
 register_row Add = refl
 register_row Sub = refl
 register_row Sll = refl

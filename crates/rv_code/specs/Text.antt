@@ -3,7 +3,9 @@ use Rattle.std.specs.Prelude.{ℕ, List, ◌++◌, codes}
 use Rattle.std.specs.Fmt.{decimal}
 use Rattle.rv_code.specs.FieldText.{reg_text, immediate_text, upper_text, branch_offset_text, jump_offset_text}
 use Rattle.rv_code.specs.declared.instructions.Instr.{Instr}
-use Rattle.rv_code.specs.declared.instructions.Instr.TheVariants.{Upper, Jump, JumpRegister, Branch, Load, Store, Immediate, Shift, Register, Multiply, Divide, Fence, Ecall, Ebreak}
+use Rattle.rv_code.specs.declared.instructions.Instr.TheVariants.{Upper, Jump, JumpRegister, Branch, Load, Store}
+use Rattle.rv_code.specs.declared.instructions.Instr.TheVariants.{Immediate, Shift, Register, Multiply, Divide, Fence}
+use Rattle.rv_code.specs.declared.instructions.Instr.TheVariants.{Ecall, Ebreak}
 use Rattle.rv_code.specs.declared.operations.UpperOperation.{UpperOperation}
 use Rattle.rv_code.specs.declared.operations.UpperOperation.TheVariants.{Lui, Auipc}
 use Rattle.rv_code.specs.declared.operations.BranchTest.{BranchTest}
@@ -17,7 +19,8 @@ use Rattle.rv_code.specs.declared.operations.ImmediateOperation.TheVariants.{Add
 use Rattle.rv_code.specs.declared.operations.ShiftOperation.{ShiftOperation}
 use Rattle.rv_code.specs.declared.operations.ShiftOperation.TheVariants.{Slli, Srli, Srai}
 use Rattle.rv_code.specs.declared.operations.RegisterOperation.{RegisterOperation}
-use Rattle.rv_code.specs.declared.operations.RegisterOperation.TheVariants.{Add, Sub, Sll, Slt, Sltu, Xor, Srl, Sra, Or, And}
+use Rattle.rv_code.specs.declared.operations.RegisterOperation.TheVariants.{Add, Sub, Sll, Slt, Sltu, Xor, Srl, Sra}
+use Rattle.rv_code.specs.declared.operations.RegisterOperation.TheVariants.{Or, And}
 use Rattle.rv_code.specs.declared.operations.MultiplyOperation.{MultiplyOperation}
 use Rattle.rv_code.specs.declared.operations.MultiplyOperation.TheVariants.{Mul, Mulh, Mulhsu, Mulhu}
 use Rattle.rv_code.specs.declared.operations.DivideOperation.{DivideOperation}
@@ -105,8 +108,10 @@ text_of (Jump rd offset) = two_operands (codes "jal") (reg_text rd) (jump_offset
 text_of (JumpRegister rd rs1 offset) = two_operands (codes "jalr") (reg_text rd) (address_text offset rs1)
 text_of (Branch test rs1 rs2 offset) =
     three_operands (branch_mnemonic test) (reg_text rs1) (reg_text rs2) (branch_offset_text offset)
-text_of (Load operation rd rs1 offset) = two_operands (load_mnemonic operation) (reg_text rd) (address_text offset rs1)
-text_of (Store operation rs2 rs1 offset) = two_operands (store_mnemonic operation) (reg_text rs2) (address_text offset rs1)
+text_of (Load operation rd rs1 offset) =
+    two_operands (load_mnemonic operation) (reg_text rd) (address_text offset rs1)
+text_of (Store operation rs2 rs1 offset) =
+    two_operands (store_mnemonic operation) (reg_text rs2) (address_text offset rs1)
 text_of (Immediate operation rd rs1 immediate) =
     three_operands (immediate_mnemonic operation) (reg_text rd) (reg_text rs1) (immediate_text immediate)
 text_of (Shift operation rd rs1 amount) =
@@ -118,6 +123,7 @@ text_of (Multiply operation rd rs1 rs2) =
 text_of (Divide operation rd rs1 rs2) =
     three_operands (divide_mnemonic operation) (reg_text rd) (reg_text rs1) (reg_text rs2)
 text_of (Fence mode before after rs1 rd) =
-    three_operands (codes "fence") (decimal mode) (decimal before) (decimal after) ++ codes ", " ++ reg_text rs1 ++ codes ", " ++ reg_text rd
+    three_operands (codes "fence") (decimal mode) (decimal before) (decimal after) ++ codes ", " ++ reg_text rs1
+    ++ codes ", " ++ reg_text rd
 text_of Ecall = codes "ecall"
 text_of Ebreak = codes "ebreak"

@@ -1,5 +1,6 @@
 -- Laws of entries: they tell lists of observations apart, and the first difference is one place.
-use Rattle.std.proofs.Common.{◌≡◌, ◌≢◌, ℕ, List, [], ◌∷◌, ◌++◌, Option, Some, None, zero, suc, take, refl, sym, ◌∙◌, ap}
+use Rattle.std.proofs.Common.{◌≡◌, ◌≢◌, ℕ, List, [], ◌∷◌, ◌++◌, Option, Some, None, zero, suc, take, refl, sym, ◌∙◌}
+use Rattle.std.proofs.Common.{ap}
 use Rattle.std.specs.Prelude.{slice_get}
 use Rattle.rv_machine.specs.declared.observation.Event.{Event}
 use Rattle.rv_machine.specs.declared.observation.Observation.{Observation}
@@ -32,7 +33,8 @@ entries_of-injective (o ∷ one) [] same = cc
 entries_of-injective (o ∷ one) (p ∷ other) same =
     let pcs : o.pc ≡ p.pc = cc in
     let rests : events_of o.event ++ entries_of one ≡ events_of p.event ++ entries_of other = cc in
-    let parts : (o.event ≡ p.event) × (entries_of one ≡ entries_of other) = events_apart o.event p.event one other rests in
+    let parts : (o.event ≡ p.event) × (entries_of one ≡ entries_of other) =
+    events_apart o.event p.event one other rests in
     let turn : o ≡ p = same_turn o p pcs parts.0 in
     let turns : one ≡ other = entries_of-injective one other parts.1 in
     cc
@@ -42,7 +44,8 @@ pub differ-apart : (one other : List Entry) (place : ℕ) → IsFirstDifference 
 differ-apart one other place first same = first.there (ap (λ list. slice_get list place) same)
 
 -- the first difference is one place
-pub first-unique : (one other : List Entry) (a b : ℕ) → IsFirstDifference one other a → IsFirstDifference one other b → a ≡ b
+pub first-unique : (one other : List Entry) (a b : ℕ) → IsFirstDifference one other a
+    → IsFirstDifference one other b → a ≡ b
 first-unique [] [] a b first second = absurd (first.there refl)
 first-unique [] (y ∷ other) zero zero first second = refl
 first-unique [] (y ∷ other) (suc a) b first second = let e : [] ≡ y ∷ take a other = first.before in cc

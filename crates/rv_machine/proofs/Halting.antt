@@ -1,6 +1,7 @@
 -- A hart alone whose run stops, and what it is after any number of turns.
 use Rattle.std.specs.Prelude.{◌⊎◌}
-use Rattle.std.proofs.Common.{◌≡◌, ◌≢◌, ℕ, zero, suc, ◌≤◌, List, [], ◌∷◌, ◌++◌, length, take, Some, None, refl, sym, ap, ◌∙◌, subst, ⊎_elim, inl, inr, arith, append-nil}
+use Rattle.std.proofs.Common.{◌≡◌, ◌≢◌, ℕ, zero, suc, ◌≤◌, List, [], ◌∷◌, ◌++◌, length, take, Some, None, refl, sym}
+use Rattle.std.proofs.Common.{ap, ◌∙◌, subst, ⊎_elim, inl, inr, arith, append-nil}
 use Rattle.std.proofs.lemmas.Option.{none-some, same_Some}
 use Rattle.rv_machine.specs.declared.observation.Observation.{Observation}
 use Rattle.rv_machine.specs.declared.stops.Stop.{Stop}
@@ -14,13 +15,16 @@ use Rattle.rv_machine.proofs.RunLaws.{Turn-determined, goes_on≢stops}
 use Rattle.rv_machine.proofs.TotalLaws.{turn_stops}
 
 -- what a hart is after k turns, where its run of n turns shows this and stops there
-pub record Made (k n : ℕ) (seen : List Observation) (stop : Stop) (t : State) (list : List Observation) (bytes : ByteMap) (after : Member) : Type 0 where
+pub record Made (k n : ℕ) (seen : List Observation) (stop : Stop) (t : State) (list : List Observation)
+    (bytes : ByteMap) (after : Member) : Type 0 where
   pub stands : (after.stop ≡ None) ⊎ (after.stop ≡ Some stop)
   pub shown : list ≡ take k seen
   pub finished : n ≤ k → (after.stop ≡ Some stop) × (bytes ≡ t.bytes) × (list ≡ seen)
 
 -- one that has stopped stays so
-stays_stopped : {k : ℕ} {bytes bytes' : ByteMap} {m after : Member} {list : List Observation} {stop : Stop} → m.stop ≡ Some stop → Makes k bytes m list bytes' after → (after.stop ≡ Some stop) × (bytes' ≡ bytes) × (list ≡ [])
+stays_stopped : {k : ℕ} {bytes bytes' : ByteMap} {m after : Member} {list : List Observation} {stop : Stop}
+    → m.stop ≡ Some stop → Makes k bytes m list bytes' after
+    → (after.stop ≡ Some stop) × (bytes' ≡ bytes) × (list ≡ [])
 stays_stopped is none = (is, refl, refl)
 stays_stopped is (one_more (rests same) more e) =
     let then = stays_stopped is more in
@@ -35,10 +39,14 @@ take_short (suc k) (o ∷ []) short = refl
 take_short k (o ∷ p ∷ rest) short = absurd (omega arith)
 
 -- the turn that stops, and then any number
-last_made : {k : ℕ} {own bytes between : ByteMap} {m after next : Member} {last seen rest list : List Observation} {stop : Stop} → m.stop ≡ None → Turn m.code (state_in own m) (stops last stop) → MemberTurn own m seen between next → Makes k between next rest bytes after → list ≡ seen ++ rest → Made (suc k) 1 last stop (state_in own m) list bytes after
+last_made : {k : ℕ} {own bytes between : ByteMap} {m after next : Member} {last seen rest list : List Observation}
+    {stop : Stop} → m.stop ≡ None → Turn m.code (state_in own m) (stops last stop)
+    → MemberTurn own m seen between next → Makes k between next rest bytes after → list ≡ seen ++ rest
+    → Made (suc k) 1 last stop (state_in own m) list bytes after
 last_made going end (rests is) more e = absurd (none-some _ (sym going ∙ is))
 last_made going end (moves still turn) more e = absurd (goes_on≢stops turn end)
-last_made {k} {own = own} {m = m} {last = last} {seen = seen} {stop = stop} going end (ends {stop = other} still turn) more e =
+last_made {k} {own = own} {m = m} {last = last} {seen = seen} {stop = stop} going end
+    (ends {stop = other} still turn) more e =
     let same = Turn-determined turn end in
     let same_stop : other ≡ stop = cc in
     let same_list : seen ≡ last = cc in
@@ -51,7 +59,9 @@ last_made {k} {own = own} {m = m} {last = last} {seen = seen} {stop = stop} goin
       finished = λ within. (then.0 ∙ ap Some same_stop, then.1, all);
     }
 
-more_made : {k n : ℕ} {o : Observation} {seen rest list : List Observation} {stop : Stop} {t : State} {bytes : ByteMap} {after : Member} → Made k n seen stop t rest bytes after → list ≡ o ∷ rest → Made (suc k) (suc n) (o ∷ seen) stop t list bytes after
+more_made : {k n : ℕ} {o : Observation} {seen rest list : List Observation} {stop : Stop} {t : State}
+    {bytes : ByteMap} {after : Member} → Made k n seen stop t rest bytes after → list ≡ o ∷ rest
+    → Made (suc k) (suc n) (o ∷ seen) stop t list bytes after
 more_made {o = o} then e = record {
   stands = then.stands;
   shown = e ∙ ap (λ xs. o ∷ xs) then.shown;
@@ -60,31 +70,45 @@ more_made {o = o} then e = record {
       (end.0, end.1, e ∙ ap (λ xs. o ∷ xs) end.2);
 }
 
-not_yet : {n : ℕ} {own : ByteMap} {m : Member} {seen : List Observation} {stop : Stop} {t : State} → m.stop ≡ None → Made zero (suc n) seen stop t [] own m
+not_yet : {n : ℕ} {own : ByteMap} {m : Member} {seen : List Observation} {stop : Stop} {t : State} → m.stop ≡ None
+    → Made zero (suc n) seen stop t [] own m
 not_yet going = record { stands = inl going; shown = refl; finished = λ within. absurd (omega arith) }
 
-made : {k n : ℕ} {own bytes : ByteMap} {m after : Member} {seen last list : List Observation} {stop : Stop} {t : State} → m.stop ≡ None → Leads m.code n (state_in own m) seen t → Turn m.code t (stops last stop) → Makes k own m list bytes after → Made k (suc n) (seen ++ last) stop t list bytes after
+made : {k n : ℕ} {own bytes : ByteMap} {m after : Member} {seen last list : List Observation} {stop : Stop}
+    {t : State} → m.stop ≡ None → Leads m.code n (state_in own m) seen t → Turn m.code t (stops last stop)
+    → Makes k own m list bytes after → Made k (suc n) (seen ++ last) stop t list bytes after
 made going first end none = not_yet going
 made going stays end (one_more turn more e) = last_made going end turn more e
 made going (turns first then) end (one_more (rests is) more e) = absurd (none-some _ (sym going ∙ is))
 made going (turns first then) end (one_more (ends still turn) more e) = absurd (goes_on≢stops first turn)
-made {m = m} {last = last} {stop = stop} {t = t} going (turns {n = n} {o = o} {seen = seen} {t = u} first then) end (one_more {rest = rest} (moves {o = p} {t = u'} still turn) more e) =
+made {m = m} {last = last} {stop = stop} {t = t} going (turns {n = n} {o = o} {seen = seen} {t = u} first then) end
+    (one_more {rest = rest} (moves {o = p} {t = u'} still turn) more e) =
     let same = Turn-determined first turn in
     let same_state : u ≡ u' = cc in
     let same_head : p ≡ o = cc in
-    let then' : Leads m.code n (state_in u'.bytes (gone_on m u')) seen t = subst (λ (x : State). Leads m.code n x seen t) same_state then in
+    let then' : Leads m.code n (state_in u'.bytes (gone_on m u')) seen t =
+    subst (λ (x : State). Leads m.code n x seen t) same_state then in
     more_made (made {m = gone_on m u'} refl then' end more) (e ∙ ap (λ x. x ∷ rest) same_head)
 
-made_of : {k n : ℕ} {own bytes : ByteMap} {m after : Member} {seen list : List Observation} {stop : Stop} {t : State} → m.stop ≡ None → Halts m.code n (state_in own m) seen stop t → Makes k own m list bytes after → Made k n seen stop t list bytes after
+made_of : {k n : ℕ} {own bytes : ByteMap} {m after : Member} {seen list : List Observation} {stop : Stop} {t : State}
+    → m.stop ≡ None → Halts m.code n (state_in own m) seen stop t → Makes k own m list bytes after
+    → Made k n seen stop t list bytes after
 made_of {k} {n} {bytes = bytes} {after = after} {list = list} {stop = stop} {t = t} going (halts first end is) makes =
     subst (λ xs. Made k n xs stop t list bytes after) (sym is) (made going first end makes)
 
-pub keeps_inside : (m : Member) (own : ByteMap) (n : ℕ) (seen : List Observation) (stop : Stop) (t : State) → m.stop ≡ None → Halts m.code n (state_in own m) seen stop t → stop ≢ AccessFault → KeepsInside own m
+pub keeps_inside : (m : Member) (own : ByteMap) (n : ℕ) (seen : List Observation) (stop : Stop) (t : State)
+    → m.stop ≡ None → Halts m.code n (state_in own m) seen stop t → stop ≢ AccessFault → KeepsInside own m
 keeps_inside m own n seen stop t going halting calm k list bytes after makes e =
-    ⊎_elim (λ (is : after.stop ≡ None). none-some AccessFault (sym is ∙ e)) (λ (is : after.stop ≡ Some stop). calm (same_Some stop AccessFault (sym is ∙ e))) (made_of going halting makes).stands
+    ⊎_elim (λ (is : after.stop ≡ None). none-some AccessFault (sym is ∙ e))
+    (λ (is : after.stop ≡ Some stop). calm (same_Some stop AccessFault (sym is ∙ e)))
+    (made_of going halting makes).stands
 
-pub shown_alone : (m after : Member) (own bytes : ByteMap) (n k : ℕ) (seen list : List Observation) (stop : Stop) (t : State) → m.stop ≡ None → Halts m.code n (state_in own m) seen stop t → Makes k own m list bytes after → list ≡ take k seen
+pub shown_alone : (m after : Member) (own bytes : ByteMap) (n k : ℕ) (seen list : List Observation) (stop : Stop)
+    (t : State) → m.stop ≡ None → Halts m.code n (state_in own m) seen stop t → Makes k own m list bytes after
+    → list ≡ take k seen
 shown_alone m after own bytes n k seen list stop t going halting makes = (made_of going halting makes).shown
 
-pub stopped_alone : (m after : Member) (own bytes : ByteMap) (n k : ℕ) (seen list : List Observation) (stop : Stop) (t : State) → m.stop ≡ None → Halts m.code n (state_in own m) seen stop t → Makes k own m list bytes after → n ≤ k → (after.stop ≡ Some stop) × (bytes ≡ t.bytes) × (list ≡ seen)
+pub stopped_alone : (m after : Member) (own bytes : ByteMap) (n k : ℕ) (seen list : List Observation) (stop : Stop)
+    (t : State) → m.stop ≡ None → Halts m.code n (state_in own m) seen stop t → Makes k own m list bytes after
+    → n ≤ k → (after.stop ≡ Some stop) × (bytes ≡ t.bytes) × (list ≡ seen)
 stopped_alone m after own bytes n k seen list stop t going halting makes = (made_of going halting makes).finished

@@ -1,6 +1,7 @@
 -- Bytes of pages, and of ranges.
 use Rattle.std.specs.Prelude.{is_some, slice_get}
-use Rattle.std.proofs.Common.{◌≡◌, ◌≢◌, ℕ, zero, suc, ◌+◌, ◌*◌, ◌/◌, ◌%◌, ◌^◌, ◌<◌, ◌≤◌, true, List, [], ◌∷◌, ◌++◌, take, get_or, length, Option, Some, None, refl, sym, ap, ◌∙◌, ⊎_elim, arith}
+use Rattle.std.proofs.Common.{◌≡◌, ◌≢◌, ℕ, zero, suc, ◌+◌, ◌*◌, ◌/◌, ◌%◌, ◌^◌, ◌<◌, ◌≤◌, true, List, [], ◌∷◌, ◌++◌}
+use Rattle.std.proofs.Common.{take, get_or, length, Option, Some, None, refl, sym, ap, ◌∙◌, ⊎_elim, arith}
 use Rattle.std.proofs.Math.ListN.{set}
 use Rattle.std.proofs.Math.Path.{fun_ext}
 use Rattle.std.proofs.lemmas.Bool.{cases_eq, cases_lt, le-leb, lt-leb, lt-ltb, le-ltb, false≢true}
@@ -11,7 +12,9 @@ use Rattle.rv_machine.specs.Flat.{flat_bytes}
 use Rattle.rv_machine.specs.Paged.{zeros_in, first_of, bytes_in}
 use Rattle.rv_machine.specs.declared.flat.FlatMemory.{FlatMemory}
 use Rattle.rv_machine.specs.declared.paged.AddressRange.{AddressRange}
-use Rattle.rv_machine.proofs.ByteLaws.{number_at-suc, number_at-zero, number_at_same, with_byte_same, with_byte_other, with_number-suc, with_number_below, with_number_above, is_some-with_number, joined_parts}
+use Rattle.rv_machine.proofs.ByteLaws.{number_at-suc, number_at-zero, number_at_same, with_byte_same, with_byte_other}
+use Rattle.rv_machine.proofs.ByteLaws.{with_number-suc, with_number_below, with_number_above, is_some-with_number}
+use Rattle.rv_machine.proofs.ByteLaws.{joined_parts}
 use Rattle.rv_machine.proofs.Stretch.{above}
 
 -- One byte.
@@ -21,12 +24,15 @@ joined-one (Some b) = ap Some (omega arith)
 joined-one None = refl
 
 pub number_at-one : (bytes : ByteMap) (a : ℕ) → number_at bytes 1 a ≡ bytes a
-number_at-one bytes a = number_at-suc bytes 0 a ∙ ap (joined (bytes a)) (number_at-zero bytes (a + 1)) ∙ joined-one (bytes a)
+number_at-one bytes a = number_at-suc bytes 0 a ∙ ap (joined (bytes a)) (number_at-zero bytes (a + 1))
+    ∙ joined-one (bytes a)
 
 -- Numbers of two parts.
 
-pub number_at-two : (bytes : ByteMap) (a : ℕ) → number_at bytes 2 a ≡ joined (number_at bytes 1 a) (number_at bytes 1 (a + 1))
-number_at-two bytes a = number_at-suc bytes 1 a ∙ ap (λ o. joined o (number_at bytes 1 (a + 1))) (sym (number_at-one bytes a))
+pub number_at-two : (bytes : ByteMap) (a : ℕ)
+    → number_at bytes 2 a ≡ joined (number_at bytes 1 a) (number_at bytes 1 (a + 1))
+number_at-two bytes a = number_at-suc bytes 1 a
+    ∙ ap (λ o. joined o (number_at bytes 1 (a + 1))) (sym (number_at-one bytes a))
 
 -- a low half, and the number above it
 abbrev pub over_half : Option ℕ → Option ℕ → Option ℕ
@@ -41,11 +47,16 @@ over_half-joined (Some low) None (Some high) = refl
 over_half-joined (Some low) None None = refl
 over_half-joined None p q = refl
 
-pub number_at-four : (bytes : ByteMap) (a : ℕ) → number_at bytes 4 a ≡ over_half (number_at bytes 2 a) (number_at bytes 2 (a + 2))
+pub number_at-four : (bytes : ByteMap) (a : ℕ)
+    → number_at bytes 4 a ≡ over_half (number_at bytes 2 a) (number_at bytes 2 (a + 2))
 number_at-four bytes a =
     let rest : number_at bytes 2 (a + 1 + 1) ≡ number_at bytes 2 (a + 2) = ap (number_at bytes 2) (omega arith) in
-    let two : number_at bytes 2 a ≡ joined (bytes a) (joined (bytes (a + 1)) (Some 0)) = number_at-suc bytes 1 a ∙ ap (joined (bytes a)) (number_at-suc bytes 0 (a + 1) ∙ ap (joined (bytes (a + 1))) (number_at-zero bytes (a + 1 + 1))) in
-    number_at-suc bytes 3 a ∙ ap (joined (bytes a)) (number_at-suc bytes 2 (a + 1) ∙ ap (joined (bytes (a + 1))) rest) ∙ over_half-joined (bytes a) (bytes (a + 1)) (number_at bytes 2 (a + 2)) ∙ ap (λ o. over_half o (number_at bytes 2 (a + 2))) (sym two)
+    let two : number_at bytes 2 a ≡ joined (bytes a) (joined (bytes (a + 1)) (Some 0)) = number_at-suc bytes 1 a
+    ∙ ap (joined (bytes a)) (number_at-suc bytes 0 (a + 1)
+    ∙ ap (joined (bytes (a + 1))) (number_at-zero bytes (a + 1 + 1))) in
+    number_at-suc bytes 3 a ∙ ap (joined (bytes a)) (number_at-suc bytes 2 (a + 1) ∙ ap (joined (bytes (a + 1))) rest)
+    ∙ over_half-joined (bytes a) (bytes (a + 1)) (number_at bytes 2 (a + 2))
+    ∙ ap (λ o. over_half o (number_at bytes 2 (a + 2))) (sym two)
 
 pub over_half-none : (o : Option ℕ) → over_half o None ≡ None
 over_half-none (Some low) = refl
@@ -63,10 +74,12 @@ first_of-assoc None p q = refl
 
 -- Pages, one after another.
 
-pub bytes_in-append : (pages : List FlatMemory) (page : FlatMemory) (a : ℕ) → bytes_in (pages ++ page ∷ []) a ≡ first_of (bytes_in pages a) (flat_bytes page a)
+pub bytes_in-append : (pages : List FlatMemory) (page : FlatMemory) (a : ℕ)
+    → bytes_in (pages ++ page ∷ []) a ≡ first_of (bytes_in pages a) (flat_bytes page a)
 bytes_in-append [] page a = first_of-none (flat_bytes page a)
 bytes_in-append (p ∷ pages) page a =
-    ap (first_of (flat_bytes p a)) (bytes_in-append pages page a) ∙ first_of-assoc (flat_bytes p a) (bytes_in pages a) (flat_bytes page a)
+    ap (first_of (flat_bytes p a)) (bytes_in-append pages page a)
+    ∙ first_of-assoc (flat_bytes p a) (bytes_in pages a) (flat_bytes page a)
 
 none_before : (o p : Option ℕ) → first_of o p ≡ None → (o ≡ None) × (p ≡ None)
 none_before (Some b) p e = cc
@@ -77,7 +90,8 @@ some_first (Some b) p e = refl
 some_first None p e = absurd (false≢true e)
 
 -- the first page that has the byte gives it
-pub bytes_in-found : (pages : List FlatMemory) (i : ℕ) (page : FlatMemory) (a : ℕ) → slice_get pages i ≡ Some page → bytes_in (take i pages) a ≡ None → is_some (flat_bytes page a) ≡ true → bytes_in pages a ≡ flat_bytes page a
+pub bytes_in-found : (pages : List FlatMemory) (i : ℕ) (page : FlatMemory) (a : ℕ) → slice_get pages i ≡ Some page
+    → bytes_in (take i pages) a ≡ None → is_some (flat_bytes page a) ≡ true → bytes_in pages a ≡ flat_bytes page a
 bytes_in-found [] i page a at before there = cc
 bytes_in-found (p ∷ pages) zero page a at before there =
     let same : p ≡ page = cc in
@@ -86,78 +100,109 @@ bytes_in-found (p ∷ pages) (suc i) page a at before there =
     let parts = none_before (flat_bytes p a) (bytes_in (take i pages) a) before in
     ap (λ o. first_of o (bytes_in pages a)) parts.0 ∙ bytes_in-found pages i page a at parts.1 there
 
-pub some_within : (bytes : ByteMap) (n a x : ℕ) → is_some (number_at bytes n a) ≡ true → a ≤ x → x < a + n → is_some (bytes x) ≡ true
+pub some_within : (bytes : ByteMap) (n a x : ℕ) → is_some (number_at bytes n a) ≡ true → a ≤ x → x < a + n
+    → is_some (bytes x) ≡ true
 some_within bytes zero a x there low high = absurd (omega arith)
 some_within bytes (suc n) a x there low high =
-    let parts = joined_parts (bytes a) (number_at bytes n (a + 1)) (ap is_some (sym (number_at-suc bytes n a)) ∙ there) in
-    ⊎_elim (λ (e : x ≡ a). ap (λ y. is_some (bytes y)) e ∙ parts.0) (λ (e : x ≢ a). some_within bytes n (a + 1) x parts.1 (omega arith) (omega arith)) (cases_eq x a)
+    let parts = joined_parts (bytes a) (number_at bytes n (a + 1)) (ap is_some (sym (number_at-suc bytes n a))
+    ∙ there) in
+    ⊎_elim (λ (e : x ≡ a). ap (λ y. is_some (bytes y)) e
+    ∙ parts.0) (λ (e : x ≢ a). some_within bytes n (a + 1) x parts.1 (omega arith) (omega arith)) (cases_eq x a)
 
 -- the bytes of a number that is put do not depend on those before
-pub with_number_within : (old other : ByteMap) (n a v x : ℕ) → a ≤ x → x < a + n → with_number old n a v x ≡ with_number other n a v x
+pub with_number_within : (old other : ByteMap) (n a v x : ℕ) → a ≤ x → x < a + n
+    → with_number old n a v x ≡ with_number other n a v x
 with_number_within old other zero a v x low high = absurd (omega arith)
 with_number_within old other (suc n) a v x low high =
     let one = ap (λ (m : ByteMap). m x) (with_number-suc old n a v) in
     let two = ap (λ (m : ByteMap). m x) (with_number-suc other n a v) in
-    ⊎_elim (λ (e : x ≡ a). one ∙ with_byte_same (with_number old n (a + 1) (v / 256)) a (v % 256) x e ∙ sym (two ∙ with_byte_same (with_number other n (a + 1) (v / 256)) a (v % 256) x e)) (λ (e : x ≢ a). one ∙ with_byte_other (with_number old n (a + 1) (v / 256)) a (v % 256) x e ∙ with_number_within old other n (a + 1) (v / 256) x (omega arith) (omega arith) ∙ sym (two ∙ with_byte_other (with_number other n (a + 1) (v / 256)) a (v % 256) x e)) (cases_eq x a)
+    ⊎_elim (λ (e : x ≡ a). one ∙ with_byte_same (with_number old n (a + 1) (v / 256)) a (v % 256) x e
+    ∙ sym (two ∙ with_byte_same (with_number other n (a + 1) (v / 256)) a (v % 256) x e)) (λ (e : x ≢ a). one
+    ∙ with_byte_other (with_number old n (a + 1) (v / 256)) a (v % 256) x e
+    ∙ with_number_within old other n (a + 1) (v / 256) x (omega arith) (omega arith)
+    ∙ sym (two ∙ with_byte_other (with_number other n (a + 1) (v / 256)) a (v % 256) x e)) (cases_eq x a)
 
 -- the first page
-pub first_at : (pages : List FlatMemory) (page : FlatMemory) → 0 < length pages → page ≡ get_or pages 0 page → slice_get pages 0 ≡ Some page
+pub first_at : (pages : List FlatMemory) (page : FlatMemory) → 0 < length pages → page ≡ get_or pages 0 page
+    → slice_get pages 0 ≡ Some page
 first_at pages page some read = slice_get_read pages _ _ page refl some read
 
 -- the page that has all bytes of a number, where none before it has one of them
-module _ (pages : List FlatMemory) (i : ℕ) (page : FlatMemory) (n a : ℕ) (at : slice_get pages i ≡ Some page) (first : (x : ℕ) → a ≤ x → x < a + n → bytes_in (take i pages) x ≡ None) (whole : is_some (number_at (flat_bytes page) n a) ≡ true) where
+module _ (pages : List FlatMemory) (i : ℕ) (page : FlatMemory) (n a : ℕ) (at : slice_get pages i ≡ Some page)
+    (first : (x : ℕ) → a ≤ x → x < a + n → bytes_in (take i pages) x ≡ None)
+    (whole : is_some (number_at (flat_bytes page) n a) ≡ true) where
   -- gives the number
   pub number_at-page : number_at (bytes_in pages) n a ≡ number_at (flat_bytes page) n a
   number_at-page =
-      number_at_same (flat_bytes page) (bytes_in pages) n a (λ x low high. bytes_in-found pages i page x at (first x low high) (some_within (flat_bytes page) n a x whole low high))
+      number_at_same (flat_bytes page) (bytes_in pages) n a
+      (λ x low high. bytes_in-found pages i page x at (first x low high)
+      (some_within (flat_bytes page) n a x whole low high))
 
   -- as it is read
-  pub number_at-read : (got : FlatMemory) → got ≡ get_or pages i got → number_at (flat_bytes got) n a ≡ number_at (bytes_in pages) n a
+  pub number_at-read : (got : FlatMemory) → got ≡ get_or pages i got
+      → number_at (flat_bytes got) n a ≡ number_at (bytes_in pages) n a
   number_at-read got read =
       let same : got ≡ page = read ∙ get_or_from_slice_get pages i page got at in
       ap (λ p. number_at (flat_bytes p) n a) same ∙ sym number_at-page
 
 -- and what is stored there is stored in the whole
 
-set-at : (pages : List FlatMemory) (i : ℕ) (page new : FlatMemory) → slice_get pages i ≡ Some page → slice_get (set pages i new) i ≡ Some new
+set-at : (pages : List FlatMemory) (i : ℕ) (page new : FlatMemory) → slice_get pages i ≡ Some page
+    → slice_get (set pages i new) i ≡ Some new
 set-at [] i page new at = cc
 set-at (p ∷ pages) zero page new at = refl
 set-at (p ∷ pages) (suc i) page new at = set-at pages i page new at
 
-set-apart : (pages : List FlatMemory) (i : ℕ) (page new : FlatMemory) (x : ℕ) → slice_get pages i ≡ Some page → flat_bytes new x ≡ flat_bytes page x → bytes_in (set pages i new) x ≡ bytes_in pages x
+set-apart : (pages : List FlatMemory) (i : ℕ) (page new : FlatMemory) (x : ℕ) → slice_get pages i ≡ Some page
+    → flat_bytes new x ≡ flat_bytes page x → bytes_in (set pages i new) x ≡ bytes_in pages x
 set-apart [] i page new x at same = cc
 set-apart (p ∷ pages) zero page new x at same =
     let is : p ≡ page = cc in
     ap (λ o. first_of o (bytes_in pages x)) (same ∙ ap (λ q. flat_bytes q x) (sym is))
-set-apart (p ∷ pages) (suc i) page new x at same = ap (first_of (flat_bytes p x)) (set-apart pages i page new x at same)
+set-apart (p ∷ pages) (suc i) page new x at same =
+    ap (first_of (flat_bytes p x)) (set-apart pages i page new x at same)
 
 -- a page with the same bytes in its place changes nothing
-pub set-same : (pages : List FlatMemory) (i : ℕ) (page new : FlatMemory) → slice_get pages i ≡ Some page → flat_bytes new ≡ flat_bytes page → bytes_in (set pages i new) ≡ bytes_in pages
+pub set-same : (pages : List FlatMemory) (i : ℕ) (page new : FlatMemory) → slice_get pages i ≡ Some page
+    → flat_bytes new ≡ flat_bytes page → bytes_in (set pages i new) ≡ bytes_in pages
 set-same pages i page new at same = fun_ext (λ x. set-apart pages i page new x at (ap (λ (m : ByteMap). m x) same))
 
-module _ (pages : List FlatMemory) (i : ℕ) (page new : FlatMemory) (n a v : ℕ) (at : slice_get pages i ≡ Some page) (first : (x : ℕ) → a ≤ x → x < a + n → bytes_in (take i pages) x ≡ None) (whole : is_some (number_at (flat_bytes page) n a) ≡ true) (stored : flat_bytes new ≡ with_number (flat_bytes page) n a v) where
+module _ (pages : List FlatMemory) (i : ℕ) (page new : FlatMemory) (n a v : ℕ) (at : slice_get pages i ≡ Some page)
+    (first : (x : ℕ) → a ≤ x → x < a + n → bytes_in (take i pages) x ≡ None)
+    (whole : is_some (number_at (flat_bytes page) n a) ≡ true)
+    (stored : flat_bytes new ≡ with_number (flat_bytes page) n a v) where
   byte_at : (x : ℕ) → flat_bytes new x ≡ with_number (flat_bytes page) n a v x
   byte_at x = ap (λ (m : ByteMap). m x) stored
 
   inside : (x : ℕ) → a ≤ x → x < a + n → bytes_in (set pages i new) x ≡ with_number (bytes_in pages) n a v x
   inside x low high =
-      let there = ap is_some (byte_at x) ∙ is_some-with_number (flat_bytes page) n a v x whole ∙ some_within (flat_bytes page) n a x whole low high in
-      bytes_in-found (set pages i new) i new x (set-at pages i page new at) (ap (λ ps. bytes_in ps x) (take-set pages i new) ∙ first x low high) there
+      let there = ap is_some (byte_at x) ∙ is_some-with_number (flat_bytes page) n a v x whole
+      ∙ some_within (flat_bytes page) n a x whole low high in
+      bytes_in-found (set pages i new) i new x (set-at pages i page new at)
+      (ap (λ ps. bytes_in ps x) (take-set pages i new) ∙ first x low high) there
       ∙ byte_at x ∙ with_number_within (flat_bytes page) (bytes_in pages) n a v x low high
 
   pub with_number-page : bytes_in (set pages i new) ≡ with_number (bytes_in pages) n a v
   with_number-page =
-      fun_ext (λ x. ⊎_elim (λ (h : x < a). set-apart pages i page new x at (byte_at x ∙ with_number_below (flat_bytes page) n a v x h) ∙ sym (with_number_below (bytes_in pages) n a v x h)) (λ (low : a ≤ x). ⊎_elim (λ (h : x < a + n). inside x low h) (λ (h : a + n ≤ x). set-apart pages i page new x at (byte_at x ∙ with_number_above (flat_bytes page) n a v x h) ∙ sym (with_number_above (bytes_in pages) n a v x h)) (cases_lt x (a + n))) (cases_lt x a))
+      fun_ext
+      (λ x. ⊎_elim (λ (h : x < a). set-apart pages i page new x at (byte_at x
+      ∙ with_number_below (flat_bytes page) n a v x h) ∙ sym (with_number_below (bytes_in pages) n a v x h))
+      (λ (low : a ≤ x). ⊎_elim (λ (h : x < a + n). inside x low h)
+      (λ (h : a + n ≤ x). set-apart pages i page new x at (byte_at x
+      ∙ with_number_above (flat_bytes page) n a v x h)
+      ∙ sym (with_number_above (bytes_in pages) n a v x h)) (cases_lt x (a + n))) (cases_lt x a))
 
 -- no byte lies past the greatest address
 pub bytes_in-past : (pages : List FlatMemory) (a : ℕ) → 2 ^ 32 ≤ a → bytes_in pages a ≡ None
 bytes_in-past [] a past = refl
 bytes_in-past (p ∷ pages) a past =
-    ap (λ o. first_of o (bytes_in pages a)) (above p.base p.bytes.items a (omega (arith, p.ends))) ∙ bytes_in-past pages a past
+    ap (λ o. first_of o (bytes_in pages a)) (above p.base p.bytes.items a (omega (arith, p.ends)))
+    ∙ bytes_in-past pages a past
 
 pub number_at-past : (pages : List FlatMemory) (n a : ℕ) → 2 ^ 32 ≤ a → number_at (bytes_in pages) (suc n) a ≡ None
 number_at-past pages n a past =
-    number_at-suc (bytes_in pages) n a ∙ ap (λ o. joined o (number_at (bytes_in pages) n (a + 1))) (bytes_in-past pages a past)
+    number_at-suc (bytes_in pages) n a
+    ∙ ap (λ o. joined o (number_at (bytes_in pages) n (a + 1))) (bytes_in-past pages a past)
 
 -- Ranges.
 
@@ -166,9 +211,16 @@ abbrev between : ℕ → ℕ → List AddressRange
 between low high = record { begin = low; end = high } ∷ []
 
 -- with a page behind them
-pub zeros_in-grown : (low from n a : ℕ) → low ≤ from → first_of (zeros_in (between low from) a) (zeros from n a) ≡ zeros_in (between low (from + n)) a
+pub zeros_in-grown : (low from n a : ℕ) → low ≤ from
+    → first_of (zeros_in (between low from) a) (zeros from n a) ≡ zeros_in (between low (from + n)) a
 zeros_in-grown low from n a le =
-    ⊎_elim (λ (h : a < low). rw (lt-leb low a h, lt-leb from a (omega arith)) refl) (λ (l : low ≤ a). ⊎_elim (λ (h : a < from). rw (le-leb low a l, lt-ltb a from h, lt-ltb a (from + n) (omega arith)) refl) (λ (m : from ≤ a). ⊎_elim (λ (h : a < from + n). rw (le-leb low a l, le-ltb a from m, le-leb from a m, lt-ltb a (from + n) h) refl) (λ (h : from + n ≤ a). rw (le-leb low a l, le-ltb a from m, le-leb from a m, le-ltb a (from + n) h) refl) (cases_lt a (from + n))) (cases_lt a from)) (cases_lt a low)
+    ⊎_elim (λ (h : a < low). rw (lt-leb low a h, lt-leb from a (omega arith)) refl)
+    (λ (l : low ≤ a).
+    ⊎_elim (λ (h : a < from). rw (le-leb low a l, lt-ltb a from h, lt-ltb a (from + n) (omega arith)) refl)
+    (λ (m : from ≤ a). ⊎_elim (λ (h : a < from + n).
+    rw (le-leb low a l, le-ltb a from m, le-leb from a m, lt-ltb a (from + n) h) refl)
+    (λ (h : from + n ≤ a). rw (le-leb low a l, le-ltb a from m, le-leb from a m, le-ltb a (from + n) h)
+    refl) (cases_lt a (from + n))) (cases_lt a from)) (cases_lt a low)
 
 -- a page without a byte
 pub nothing_more : (bytes : ByteMap) (a : ℕ) → first_of (bytes a) (zeros 0 0 a) ≡ bytes a

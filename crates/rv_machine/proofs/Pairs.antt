@@ -37,13 +37,15 @@ count-few o = few o.event
     few (Some e) = omega arith
 
 -- where one list has ended and the other has not, they differ at once
-pub other-ends : (o : Observation) (seen : List Observation) → IsFirstDifference (entries_of (o ∷ seen)) (entries_of []) 0
+pub other-ends : (o : Observation) (seen : List Observation)
+    → IsFirstDifference (entries_of (o ∷ seen)) (entries_of []) 0
 other-ends o seen = record { before = refl; there = apart }
   where
     apart : Some (program_counter o.pc) ≡ None → ⊥
     apart same = cc
 
-pub one-ends : (o : Observation) (seen : List Observation) → IsFirstDifference (entries_of []) (entries_of (o ∷ seen)) 0
+pub one-ends : (o : Observation) (seen : List Observation)
+    → IsFirstDifference (entries_of []) (entries_of (o ∷ seen)) 0
 one-ends o seen = record { before = refl; there = apart }
   where
     apart : None ≡ Some (program_counter o.pc) → ⊥

@@ -1,6 +1,7 @@
 -- Numbers in one stretch of bytes.
 use Rattle.std.specs.Prelude.{is_some}
-use Rattle.std.proofs.Common.{◌≡◌, ℕ, zero, suc, ◌+◌, ◌-◌, ◌<◌, ◌≤◌, List, length, get_or, Option, Some, None, true, refl, ap, ◌∙◌, ⊎_elim, arith}
+use Rattle.std.proofs.Common.{◌≡◌, ℕ, zero, suc, ◌+◌, ◌-◌, ◌<◌, ◌≤◌, List, length, get_or, Option, Some, None, true}
+use Rattle.std.proofs.Common.{refl, ap, ◌∙◌, ⊎_elim, arith}
 use Rattle.std.proofs.lemmas.Bool.{cases_lt, le-leb, lt-leb}
 use Rattle.std.proofs.lemmas.Option.{slice_get-get_or, slice_get_past}
 use Rattle.rv_machine.specs.Bytes.{joined, number_at, bytes_from}
@@ -32,17 +33,27 @@ module _ (base : ℕ) (items : List ℕ) where
       rw (le-leb base a (omega arith), at) (slice_get-get_or items k 0 h)
 
   -- where a byte lies outside, there is no number
-  pub number_outside : (n a : ℕ) → 0 < n → (base ≤ a × (a + n ≤ base + length items) → ⊥) → number_at (bytes_from base items) n a ≡ None
+  pub number_outside : (n a : ℕ) → 0 < n → (base ≤ a × (a + n ≤ base + length items) → ⊥)
+      → number_at (bytes_from base items) n a ≡ None
   number_outside zero a some out = absurd (omega arith)
   number_outside (suc n) a some out =
       let bytes = bytes_from base items in
       let rest = number_at bytes n (a + 1) in
-      ⊎_elim (λ (low : a < base). number_at-suc bytes n a ∙ ap (λ o. joined o rest) (below a low)) (λ (low : base ≤ a). ⊎_elim (λ (high : a < base + length items). let more : 0 < n = ⊎_elim (λ (h : 0 < n). h) (λ (h : n ≤ 0). absurd (out (low, omega arith))) (cases_lt 0 n) in number_at-suc bytes n a ∙ ap (joined (bytes a)) (number_outside n (a + 1) more (λ within. out (low, omega (arith, within.1)))) ∙ joined-none (bytes a)) (λ (high : base + length items ≤ a). number_at-suc bytes n a ∙ ap (λ o. joined o rest) (above a high)) (cases_lt a (base + length items))) (cases_lt a base)
+      ⊎_elim (λ (low : a < base). number_at-suc bytes n a ∙ ap (λ o. joined o rest) (below a low))
+      (λ (low : base ≤ a). ⊎_elim (λ (high : a < base + length items). let more : 0 < n =
+      ⊎_elim (λ (h : 0 < n). h) (λ (h : n ≤ 0). absurd (out (low, omega arith))) (cases_lt 0 n) in
+      number_at-suc bytes n a
+      ∙ ap (joined (bytes a)) (number_outside n (a + 1) more (λ within. out (low, omega (arith, within.1))))
+      ∙ joined-none (bytes a)) (λ (high : base + length items ≤ a). number_at-suc bytes n a
+      ∙ ap (λ o. joined o rest) (above a high)) (cases_lt a (base + length items))) (cases_lt a base)
 
   -- where all lie inside, there is one
-  pub number_within : (n a : ℕ) → base ≤ a → a + n ≤ base + length items → is_some (number_at (bytes_from base items) n a) ≡ true
+  pub number_within : (n a : ℕ) → base ≤ a → a + n ≤ base + length items
+      → is_some (number_at (bytes_from base items) n a) ≡ true
   number_within zero a low high = ap is_some (number_at-zero (bytes_from base items) a)
   number_within (suc n) a low high =
       let bytes = bytes_from base items in
       let here = byte_within a (a - base) (omega arith) (omega arith) in
-      ap is_some (number_at-suc bytes n a ∙ ap (λ o. joined o (number_at bytes n (a + 1))) here) ∙ some-joined (get_or items (a - base) 0) (number_at bytes n (a + 1)) ∙ number_within n (a + 1) (omega arith) (omega arith)
+      ap is_some (number_at-suc bytes n a ∙ ap (λ o. joined o (number_at bytes n (a + 1))) here)
+      ∙ some-joined (get_or items (a - base) 0) (number_at bytes n (a + 1))
+      ∙ number_within n (a + 1) (omega arith) (omega arith)

@@ -1,5 +1,8 @@
--- Laws of harts over one memory: the turns of a schedule follow one another, and what they show and where they end are one.
-use Rattle.std.proofs.Common.{◌≡◌, ◌≢◌, ℕ, zero, suc, ◌<◌, ◌+◌, Bool, true, false, is_some, List, [], ◌∷◌, ◌++◌, length, map, set, take, drop, get_or, Option, Some, None, Result, Ok, Err, OnErr, refl, sym, ap, ◌∙◌, subst, arith, append_assoc, append-nil, All}
+-- Laws of harts over one memory: the turns of a schedule follow one another, and what they show and where they end
+-- are one.
+use Rattle.std.proofs.Common.{◌≡◌, ◌≢◌, ℕ, zero, suc, ◌<◌, ◌+◌, Bool, true, false, is_some, List, [], ◌∷◌, ◌++◌}
+use Rattle.std.proofs.Common.{length, map, set, take, drop, get_or, Option, Some, None, Result, Ok, Err, OnErr, refl}
+use Rattle.std.proofs.Common.{sym, ap, ◌∙◌, subst, arith, append_assoc, append-nil, All}
 use Rattle.std.specs.Prelude.{slice_get}
 use Rattle.std.proofs.lemmas.Bool.{false≢true}
 use Rattle.std.proofs.lemmas.List.{take_more, drop_more, take-append-drop}
@@ -14,7 +17,8 @@ use Rattle.rv_machine.specs.HartRecording.{kept_of}
 use Rattle.rv_machine.specs.RunningHarts.{Followed, CutShort}
 use Rattle.rv_machine.specs.Leakage.{Done, went_on, stopped, refused, followed_by}
 use Rattle.rv_machine.specs.Machine.{State, Ending, goes_on, stops, Turn}
-use Rattle.rv_machine.specs.System.{Member, System, MemberTurn, rests, moves, ends, state_in, with_member, shown_by, Follows, done, turns}
+use Rattle.rv_machine.specs.System.{Member, System, MemberTurn, rests, moves, ends, state_in, with_member, shown_by}
+use Rattle.rv_machine.specs.System.{Follows, done, turns}
 use Rattle.rv_machine.proofs.RunLaws.{Turn-determined}
 use Rattle.rv_machine.proofs.Shown.{first_alone}
 use Rattle.rv_machine.proofs.TotalLaws.{turn_of_state, turn_stops}
@@ -31,30 +35,40 @@ goes_still None is = refl
 -- A turn.
 
 -- the turn that one call made of a hart that had not stopped
-pub member_turn_made : (bytes : ByteMap) (m : Member) (t : State) (ending : Ending) (answer : Option Stop) (seen : List Observation) → m.stop ≡ None → Turn m.code (state_in bytes m) ending → Done (state_in bytes m) ending answer t seen → answer ≢ Some RecorderRefused → MemberTurn bytes m (followed_by (slice_get seen 0) []) t.bytes (record { code = m.code; pc = t.pc; regs = t.regs; stop = answer })
+pub member_turn_made : (bytes : ByteMap) (m : Member) (t : State) (ending : Ending) (answer : Option Stop)
+    (seen : List Observation) → m.stop ≡ None → Turn m.code (state_in bytes m) ending
+    → Done (state_in bytes m) ending answer t seen → answer ≢ Some RecorderRefused
+    → MemberTurn bytes m (followed_by (slice_get seen 0) []) t.bytes
+    (record { code = m.code; pc = t.pc; regs = t.regs; stop = answer })
 member_turn_made bytes m t ending answer seen running turn went_on calm = moves running turn
 member_turn_made bytes m t ending answer seen running turn (stopped {stop = stop}) calm =
     let brief = turn_stops m.code (state_in bytes m) seen stop turn in
     let same = first_alone seen [] brief.1 refl in
-    subst (λ xs. MemberTurn bytes m xs bytes (record { code = m.code; pc = m.pc; regs = m.regs; stop = Some stop })) (sym same) (ends running turn)
+    subst (λ xs. MemberTurn bytes m xs bytes (record { code = m.code; pc = m.pc; regs = m.regs; stop = Some stop }))
+    (sym same) (ends running turn)
 member_turn_made bytes m t ending answer seen running turn (refused shows) calm = absurd (calm refl)
 
 -- every hart has a turn
-member_turn_of_ending : (bytes : ByteMap) (m : Member) (ending : Ending) → m.stop ≡ None → Turn m.code (state_in bytes m) ending → (seen : List Observation) × (bytes' : ByteMap) × (after : Member) × MemberTurn bytes m seen bytes' after
+member_turn_of_ending : (bytes : ByteMap) (m : Member) (ending : Ending) → m.stop ≡ None
+    → Turn m.code (state_in bytes m) ending → (seen : List Observation) × (bytes' : ByteMap) × (after : Member)
+    × MemberTurn bytes m seen bytes' after
 member_turn_of_ending bytes m (goes_on o t) running turn = (_, _, _, moves running turn)
 member_turn_of_ending bytes m (stops seen stop) running turn = (_, _, _, ends running turn)
 
-member_turn_by : (bytes : ByteMap) (m : Member) (stop : Option Stop) → m.stop ≡ stop → (seen : List Observation) × (bytes' : ByteMap) × (after : Member) × MemberTurn bytes m seen bytes' after
+member_turn_by : (bytes : ByteMap) (m : Member) (stop : Option Stop) → m.stop ≡ stop
+    → (seen : List Observation) × (bytes' : ByteMap) × (after : Member) × MemberTurn bytes m seen bytes' after
 member_turn_by bytes m (Some stop) is = ([], bytes, m, rests is)
 member_turn_by bytes m None is =
     let turn = turn_of_state m.code (state_in bytes m) in
     member_turn_of_ending bytes m turn.0 is turn.1
 
-pub member_turn_of : (bytes : ByteMap) (m : Member) → (seen : List Observation) × (bytes' : ByteMap) × (after : Member) × MemberTurn bytes m seen bytes' after
+pub member_turn_of : (bytes : ByteMap) (m : Member) → (seen : List Observation) × (bytes' : ByteMap)
+    × (after : Member) × MemberTurn bytes m seen bytes' after
 member_turn_of bytes m = member_turn_by bytes m m.stop refl
 
 -- and one
-pub MemberTurn-determined : {bytes b b' : ByteMap} {m n n' : Member} {seen seen' : List Observation} → MemberTurn bytes m seen b n → MemberTurn bytes m seen' b' n' → (seen ≡ seen') × (b ≡ b') × (n ≡ n')
+pub MemberTurn-determined : {bytes b b' : ByteMap} {m n n' : Member} {seen seen' : List Observation}
+    → MemberTurn bytes m seen b n → MemberTurn bytes m seen' b' n' → (seen ≡ seen') × (b ≡ b') × (n ≡ n')
 MemberTurn-determined (rests is) (rests js) = (refl, refl, refl)
 MemberTurn-determined (rests is) (moves none turn) = absurd (none-some _ (sym none ∙ is))
 MemberTurn-determined (rests is) (ends none turn) = absurd (none-some _ (sym none ∙ is))
@@ -75,12 +89,14 @@ MemberTurn-determined (ends {seen = a} {stop = stop} none turn) (ends {seen = b}
 
 -- Members.
 
-pub length-with_member : (members : List Member) (k : ℕ) (m : Member) → length (with_member members k m) ≡ length members
+pub length-with_member : (members : List Member) (k : ℕ) (m : Member)
+    → length (with_member members k m) ≡ length members
 length-with_member [] k m = refl
 length-with_member (other ∷ rest) zero m = refl
 length-with_member (other ∷ rest) (suc k) m = ap suc (length-with_member rest k m)
 
-pub map-with_member : {X : Type 0} (f : X → Member) (xs : List X) (k : ℕ) (x : X) → map f (set xs k x) ≡ with_member (map f xs) k (f x)
+pub map-with_member : {X : Type 0} (f : X → Member) (xs : List X) (k : ℕ) (x : X)
+    → map f (set xs k x) ≡ with_member (map f xs) k (f x)
 map-with_member f [] k x = refl
 map-with_member f (other ∷ rest) zero x = refl
 map-with_member f (other ∷ rest) (suc k) x = ap (λ ms. f other ∷ ms) (map-with_member f rest k x)
@@ -94,34 +110,45 @@ member_at (m ∷ rest) (suc k) inside = member_at rest k (omega arith)
 -- Schedules.
 
 -- one turn is a schedule of one entry
-pub Follows-one : {s : System} {k : ℕ} {m after : Member} {bytes : ByteMap} {seen : List Observation} → slice_get s.members k ≡ Some m → MemberTurn s.bytes m seen bytes after → Follows (k ∷ []) s (shown_by k seen) (record { members = with_member s.members k after; bytes = bytes })
+pub Follows-one : {s : System} {k : ℕ} {m after : Member} {bytes : ByteMap} {seen : List Observation}
+    → slice_get s.members k ≡ Some m → MemberTurn s.bytes m seen bytes after
+    → Follows (k ∷ []) s (shown_by k seen) (record { members = with_member s.members k after; bytes = bytes })
 Follows-one {k = k} {seen = seen} there turn = turns there turn done (sym (append-nil (shown_by k seen)))
 
 -- a schedule, and then another
-pub Follows-append : {a b : List ℕ} {s t u : System} {x y : List HartObservation} → Follows a s x t → Follows b t y u → Follows (a ++ b) s (x ++ y) u
+pub Follows-append : {a b : List ℕ} {s t u : System} {x y : List HartObservation} → Follows a s x t → Follows b t y u
+    → Follows (a ++ b) s (x ++ y) u
 Follows-append done then = then
 Follows-append {y = y} (turns {k = k} {seen = seen} {rest = rest} there turn later is) then =
     turns there turn (Follows-append later then) (ap (λ xs. xs ++ y) is ∙ append_assoc (shown_by k seen) rest y)
 
 -- harts neither come nor go
-pub Follows-count : {schedule : List ℕ} {s t : System} {seen : List HartObservation} → Follows schedule s seen t → length t.members ≡ length s.members
+pub Follows-count : {schedule : List ℕ} {s t : System} {seen : List HartObservation} → Follows schedule s seen t
+    → length t.members ≡ length s.members
 Follows-count done = refl
-Follows-count {s = s} (turns {k = k} {after = after} there turn later is) = Follows-count later ∙ length-with_member s.members k after
+Follows-count {s = s} (turns {k = k} {after = after} there turn later is) = Follows-count later
+    ∙ length-with_member s.members k after
 
-pub Follows-determined : {schedule : List ℕ} {s t u : System} {a b : List HartObservation} → Follows schedule s a t → Follows schedule s b u → (a ≡ b) × (t ≡ u)
+pub Follows-determined : {schedule : List ℕ} {s t u : System} {a b : List HartObservation} → Follows schedule s a t
+    → Follows schedule s b u → (a ≡ b) × (t ≡ u)
 Follows-determined done done = (refl, refl)
-Follows-determined {u = u} (turns {k = k} {schedule = schedule} {s = s} {m = m} {after = n} {bytes = bytes} {seen = seen} {rest = rest} there turn later is) (turns {m = m'} {after = n'} {bytes = bytes'} {seen = seen'} {rest = rest'} here other then js) =
+Follows-determined {u = u} (turns {k = k} {schedule = schedule} {s = s} {m = m} {after = n} {bytes = bytes} {seen =
+    seen} {rest = rest} there turn later is)
+    (turns {m = m'} {after = n'} {bytes = bytes'} {seen = seen'} {rest = rest'} here other then js) =
     let same : m' ≡ m = same_Some m' m (sym here ∙ there) in
     let one = MemberTurn-determined turn (subst (λ x. MemberTurn s.bytes x seen' bytes' n') same other) in
     let shown = one.0 in
     let written = one.1 in
     let hart = one.2 in
-    let P : ByteMap → Member → Type 0 = λ b x. Follows schedule (record { members = with_member s.members k x; bytes = b }) rest' u in
-    let both = Follows-determined later (subst (λ b. P b n) (sym written) (subst (λ x. P bytes' x) (sym hart) then)) in
+    let P : ByteMap → Member → Type 0 =
+    λ b x. Follows schedule (record { members = with_member s.members k x; bytes = b }) rest' u in
+    let both =
+    Follows-determined later (subst (λ b. P b n) (sym written) (subst (λ x. P bytes' x) (sym hart) then)) in
     (is ∙ ap (λ xs. shown_by k xs ++ rest) shown ∙ ap (λ xs. shown_by k seen' ++ xs) both.0 ∙ sym js, both.1)
 
 -- a schedule of numbers that harts have has an end
-pub every_schedule_has_an_end : (schedule : List ℕ) (s : System) → All (λ number. number < length s.members) schedule → (seen : List HartObservation) × (end : System) × Follows schedule s seen end
+pub every_schedule_has_an_end : (schedule : List ℕ) (s : System) → All (λ number. number < length s.members) schedule
+    → (seen : List HartObservation) × (end : System) × Follows schedule s seen end
 every_schedule_has_an_end [] s within = ([], s, done)
 every_schedule_has_an_end (k ∷ schedule) s within =
     let inside : k < length s.members = All-head (λ number. number < length s.members) k schedule within in
@@ -129,7 +156,9 @@ every_schedule_has_an_end (k ∷ schedule) s within =
     let turn = member_turn_of s.bytes found.0 in
     let next : System = record { members = with_member s.members k turn.2; bytes = turn.1 } in
     let count : length s.members ≡ length next.members = sym (length-with_member s.members k turn.2) in
-    let later = every_schedule_has_an_end schedule next (subst (λ n. All (λ number. number < n) schedule) count (All-tail (λ number. number < length s.members) k schedule within)) in
+    let later = every_schedule_has_an_end schedule next
+    (subst (λ n. All (λ number. number < n) schedule) count
+    (All-tail (λ number. number < length s.members) k schedule within)) in
     (shown_by k turn.0 ++ later.0, later.1, turns found.1 turn.3 later.2 refl)
 
 -- What a recorder takes.
@@ -142,24 +171,42 @@ pub kept_of-nothing : (keeps : Bool) (list : List HartObservation) → kept_of k
 kept_of-nothing true list = append-nil list
 kept_of-nothing false list = refl
 
-kept_of-append : (keeps : Bool) (list a b : List HartObservation) → kept_of keeps (kept_of keeps list a) b ≡ kept_of keeps list (a ++ b)
+kept_of-append : (keeps : Bool) (list a b : List HartObservation)
+    → kept_of keeps (kept_of keeps list a) b ≡ kept_of keeps list (a ++ b)
 kept_of-append true list a b = append_assoc list a b
 kept_of-append false list a b = refl
 
-module _ (keeps : Bool) (schedule : List ℕ) (i : ℕ) (inside : i < length schedule) (s t u : System) (list between : List HartObservation) (shown : List HartObservation) (so_far : Followed keeps (take i schedule) s list t between) (turn : Follows (get_or schedule i 0 ∷ []) t shown u) where
+module _ (keeps : Bool) (schedule : List ℕ) (i : ℕ) (inside : i < length schedule) (s t u : System)
+    (list between : List HartObservation) (shown : List HartObservation)
+    (so_far : Followed keeps (take i schedule) s list t between)
+    (turn : Follows (get_or schedule i 0 ∷ []) t shown u) where
   -- one entry more was followed
-  pub Followed-more : (list' : List HartObservation) → list' ≡ kept_of keeps between shown → Followed keeps (take (i + 1) schedule) s list u list'
+  pub Followed-more : (list' : List HartObservation) → list' ≡ kept_of keeps between shown
+      → Followed keeps (take (i + 1) schedule) s list u list'
   Followed-more list' is =
       let before = so_far.0 in
-      let all = Follows-append so_far.1 turn in
-      (before ++ shown, subst (λ xs. Follows xs s (before ++ shown) u) (sym (take_more schedule i 0 inside)) all, is ∙ ap (λ xs. kept_of keeps xs shown) so_far.2 ∙ kept_of-append keeps list before shown)
+      let all = Follows-append so_far.1 turn in (
+        before ++ shown,
+        subst (λ xs. Follows xs s (before ++ shown) u) (sym (take_more schedule i 0 inside)) all,
+        is
+            ∙ ap (λ xs. kept_of keeps xs shown) so_far.2 ∙ kept_of-append keeps list before shown,
+      )
 
   -- what one entry more shows was refused
-  pub Followed-short : (n : ℕ) → n ≡ length u.members → All (λ number. number < n) schedule → CutShort keeps schedule s list between
+  pub Followed-short : (n : ℕ) → n ≡ length u.members → All (λ number. number < n) schedule
+      → CutShort keeps schedule s list between
   Followed-short n count within =
       let before = so_far.0 in
-      let rest : All (λ number. number < n) (drop (i + 1) schedule) = All-drop (λ number. number < n) (i + 1) schedule within in
-      let later = every_schedule_has_an_end (drop (i + 1) schedule) u (subst (λ m. All (λ number. number < m) (drop (i + 1) schedule)) count rest) in
+      let rest : All (λ number. number < n) (drop (i + 1) schedule) =
+      All-drop (λ number. number < n) (i + 1) schedule within in
+      let later = every_schedule_has_an_end (drop (i + 1) schedule) u
+      (subst (λ m. All (λ number. number < m) (drop (i + 1) schedule)) count rest) in
       let all = Follows-append so_far.1 (Follows-append turn later.2) in
-      let whole : take i schedule ++ (get_or schedule i 0 ∷ drop (i + 1) schedule) ≡ schedule = ap (λ xs. take i schedule ++ xs) (sym (drop_more schedule i 0 inside)) ∙ take-append-drop i schedule in
-      (before, shown ++ later.0, later.1, subst (λ xs. Follows xs s (before ++ (shown ++ later.0)) later.1) whole all, so_far.2)
+      let whole : take i schedule ++ (get_or schedule i 0 ∷ drop (i + 1) schedule) ≡ schedule =
+      ap (λ xs. take i schedule ++ xs) (sym (drop_more schedule i 0 inside)) ∙ take-append-drop i schedule in (
+        before,
+        shown ++ later.0,
+        later.1,
+        subst (λ xs. Follows xs s (before ++ (shown ++ later.0)) later.1) whole all,
+        so_far.2,
+      )

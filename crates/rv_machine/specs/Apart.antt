@@ -10,7 +10,8 @@ use Rattle.rv_machine.specs.System.{Member, System, Makes, of_hart}
 abbrev pub Covers : ByteMap → ByteMap → Type 0
 Covers own bytes = (a : ℕ) → is_some (own a) ≡ true → bytes a ≡ own a
 
--- one made of these own bytes those, and the same of them among others; which addresses are its own stays, and the others' bytes stay
+-- one made of these own bytes those, and the same of them among others; which addresses are its own stays, and the
+-- others' bytes stay
 pub record Changes (own bytes own' bytes' : ByteMap) : Type 0 where
   pub covers : Covers own' bytes'
   pub extent : (a : ℕ) → is_some (own' a) ≡ is_some (own a)
@@ -18,7 +19,8 @@ pub record Changes (own bytes own' bytes' : ByteMap) : Type 0 where
 
 -- alone with these bytes a hart reaches for no others, however many turns it makes
 abbrev pub KeepsInside : ByteMap → Member → Type 0
-KeepsInside own m = (n : ℕ) (seen : List Observation) (bytes : ByteMap) (after : Member) → Makes n own m seen bytes after → after.stop ≢ Some AccessFault
+KeepsInside own m = (n : ℕ) (seen : List Observation) (bytes : ByteMap) (after : Member)
+    → Makes n own m seen bytes after → after.stop ≢ Some AccessFault
 
 -- each hart has bytes of its own, no two the same, and reaches for no others
 pub record AreApart (own : ℕ → ByteMap) (s : System) : Type 0 where
@@ -27,7 +29,8 @@ pub record AreApart (own : ℕ → ByteMap) (s : System) : Type 0 where
   pub inside : (k : ℕ) (m : Member) → slice_get s.members k ≡ Some m → KeepsInside (own k) m
 
 -- what the hart k has come to among others, and shown, is what it comes to alone in so many turns
-pub record IsAsAlone (k turns : ℕ) (own : ByteMap) (m : Member) (list : List HartObservation) (end : System) : Type 0 where
+pub record IsAsAlone (k turns : ℕ) (own : ByteMap) (m : Member) (list : List HartObservation) (end : System) :
+    Type 0 where
   pub seen : List Observation
   pub bytes : ByteMap
   pub member : Member
@@ -39,4 +42,5 @@ pub record IsAsAlone (k turns : ℕ) (own : ByteMap) (m : Member) (list : List H
 
 -- alone both show the same, however many turns they make
 abbrev pub ShowTheSame : ByteMap → Member → ByteMap → Member → Type 0
-ShowTheSame own m own' m' = (n : ℕ) (seen seen' : List Observation) (bytes bytes' : ByteMap) (after after' : Member) → Makes n own m seen bytes after → Makes n own' m' seen' bytes' after' → seen ≡ seen'
+ShowTheSame own m own' m' = (n : ℕ) (seen seen' : List Observation) (bytes bytes' : ByteMap) (after after' : Member)
+    → Makes n own m seen bytes after → Makes n own' m' seen' bytes' after' → seen ≡ seen'

@@ -10,7 +10,12 @@ use Rattle.rv_machine.specs.declared.system.RunningHart.{RunningHart}
 
 -- a hart among others
 abbrev pub member_now : RunningHart → Member
-member_now running = record { code = code_of running.code; pc = pc_of running.hart; regs = regs_of running.hart; stop = running.stop }
+member_now running = record {
+  code = code_of running.code;
+  pc = pc_of running.hart;
+  regs = regs_of running.hart;
+  stop = running.stop;
+}
 
 -- harts over the bytes of a memory
 abbrev pub system_now : List RunningHart → ByteMap → System
@@ -24,4 +29,5 @@ Followed keeps schedule s list t list' =
 -- what was recorded is a beginning of what the whole schedule shows
 abbrev pub CutShort : Bool → List ℕ → System → List HartObservation → List HartObservation → Type 0
 CutShort keeps schedule s list list' =
-    (seen rest : List HartObservation) × (end : System) × Follows schedule s (seen ++ rest) end × (list' ≡ kept_of keeps list seen)
+    (seen rest : List HartObservation) × (end : System) × Follows schedule s (seen ++ rest) end
+    × (list' ≡ kept_of keeps list seen)

@@ -1,7 +1,8 @@
 -- The names of stops.
 use Rattle.std.specs.Prelude.{ℕ, List, codes}
 use Rattle.rv_machine.specs.declared.stops.Stop.{Stop}
-use Rattle.rv_machine.specs.declared.stops.Stop.TheVariants.{Ecall, Break, Illegal, AccessFault, Misaligned, Budget, RecorderRefused}
+use Rattle.rv_machine.specs.declared.stops.Stop.TheVariants.{Ecall, Break, Illegal, AccessFault, Misaligned, Budget}
+use Rattle.rv_machine.specs.declared.stops.Stop.TheVariants.{RecorderRefused}
 
 abbrev pub stop_name : Stop → List ℕ
 stop_name Ecall = codes "Ecall"

@@ -1,5 +1,6 @@
 -- The names of a body that begins, one after another: of a name that stands twice the first counts.
-use Rattle.std.proofs.Common.{◌≡◌, ℕ, ◌+◌, ◌<◌, ◌≤◌, Bool, true, false, cond, is_some, List, [], ◌∷◌, Option, Some, None, drop, get_or, length, map, nat_lt, refl, sym, ap, ap₂, ◌∙◌}
+use Rattle.std.proofs.Common.{◌≡◌, ℕ, ◌+◌, ◌<◌, ◌≤◌, Bool, true, false, cond, is_some, List, [], ◌∷◌, Option, Some}
+use Rattle.std.proofs.Common.{None, drop, get_or, length, map, nat_lt, refl, sym, ap, ap₂, ◌∙◌}
 use Rattle.std.proofs.Math.Path.{fun_ext}
 use Rattle.std.proofs.lemmas.List.{drop_all, drop_more}
 use Rattle.std.proofs.lemmas.Slice.Eq.{bytes_eq-Decides}
@@ -40,17 +41,21 @@ set_at false (Some w) there rest v same = refl
 set_at true None there rest v same = rw (same refl) refl
 set_at true (Some w) there rest v same = rw (same refl) refl
 
-at_name : (b : Bool) (s : State) (text other : List ℕ) (v : Value) → cond b s (with_value s text v) other ≡ cond b (s other) (with_value s text v other)
+at_name : (b : Bool) (s : State) (text other : List ℕ) (v : Value)
+    → cond b s (with_value s text v) other ≡ cond b (s other) (with_value s text v other)
 at_name true s text other v = refl
 at_name false s text other v = refl
 
-pub over_first : (s t : State) (text : List ℕ) (v : Value) → over (with_first s text v) t ≡ over s (with_value t text v)
+pub over_first : (s t : State) (text : List ℕ) (v : Value)
+    → over (with_first s text v) t ≡ over s (with_value t text v)
 over_first s t text v = fun_ext (λ other.
     ap (λ o. first_of o (t other)) (at_name (is_some (s text)) s text other v)
-    ∙ set_at (bytes_eq other text) (s text) (s other) (t other) v (λ same. ap s ((bytes_eq-Decides other text).0 same)))
+    ∙ set_at (bytes_eq other text) (s text) (s other) (t other) v
+    (λ same. ap s ((bytes_eq-Decides other text).0 same)))
 
 -- the names of a called body
-module _ (s whole : State) (ps : List Parameter) (es : List Expr) (i : ℕ) (d : Parameter) (e : Expr) (inside_ps : i < length ps) (inside_es : i < length es) (is_e : e ≡ get_or es i e)
+module _ (s whole : State) (ps : List Parameter) (es : List Expr) (i : ℕ) (d : Parameter) (e : Expr)
+    (inside_ps : i < length ps) (inside_es : i < length es) (is_e : e ≡ get_or es i e)
     (vs rest : List Word) (left : rest ≡ words_left (get_or ps i d).form vs) (before : State)
     (so_far : over before (begun s (map parameter_tree (drop i ps)) (map expr_tree (drop i es)) vs) ≡ whole) where
   abbrev p : Parameter
@@ -61,15 +66,21 @@ module _ (s whole : State) (ps : List Parameter) (es : List Expr) (i : ℕ) (d :
 
   at_next : over before (with_some others p.name.now (argument_held s p.form (expr_tree e) vs)) ≡ whole
   at_next =
-      sym (ap (over before) (ap₂ (λ xs ys. begun s (map parameter_tree xs) (map expr_tree ys) vs) (drop_more ps i d inside_ps) (next_of es i e inside_es is_e)
-      ∙ ap (λ ws. with_some (begun s (map parameter_tree (drop (i + 1) ps)) (map expr_tree (drop (i + 1) es)) ws) p.name.now (argument_held s p.form (expr_tree e) vs)) (sym left)))
+      sym
+      (ap (over before) (ap₂ (λ xs ys. begun s (map parameter_tree xs) (map expr_tree ys) vs)
+      (drop_more ps i d inside_ps) (next_of es i e inside_es is_e)
+      ∙ ap (λ ws. with_some (begun s (map parameter_tree (drop (i + 1) ps)) (map expr_tree (drop (i + 1) es)) ws)
+      p.name.now (argument_held s p.form (expr_tree e) vs)) (sym left)))
       ∙ so_far
 
-  pub begun_more : (v : Value) (after : State) → Some v ≡ argument_held s p.form (expr_tree e) vs → after ≡ with_first before p.name.now v → over after others ≡ whole
+  pub begun_more : (v : Value) (after : State) → Some v ≡ argument_held s p.form (expr_tree e) vs
+      → after ≡ with_first before p.name.now v → over after others ≡ whole
   begun_more v after holds set =
-      ap (λ t. over t others) set ∙ over_first before others p.name.now v ∙ ap (λ o. over before (with_some others p.name.now o)) holds ∙ at_next
+      ap (λ t. over t others) set ∙ over_first before others p.name.now v
+      ∙ ap (λ o. over before (with_some others p.name.now o)) holds ∙ at_next
 
-  pub begun_same : (after : State) → None ≡ argument_held s p.form (expr_tree e) vs → after ≡ before → over after others ≡ whole
+  pub begun_same : (after : State) → None ≡ argument_held s p.form (expr_tree e) vs → after ≡ before
+      → over after others ≡ whole
   begun_same after none same =
       ap (λ t. over t others) same ∙ ap (λ o. over before (with_some others p.name.now o)) none ∙ at_next
 
@@ -78,35 +89,53 @@ no_begun : (s : State) (ps : List ParameterTree) (vs : List Word) → begun s ps
 no_begun s [] vs = refl
 no_begun s (p ∷ ps) vs = refl
 
-pub begun_all : (s whole before : State) (ps : List Parameter) (es : List Expr) (i : ℕ) (vs : List Word) → length ps ≤ i
+pub begun_all : (s whole before : State) (ps : List Parameter) (es : List Expr) (i : ℕ) (vs : List Word)
+    → length ps ≤ i
     → over before (begun s (map parameter_tree (drop i ps)) (map expr_tree (drop i es)) vs) ≡ whole → before ≡ whole
 begun_all s whole before ps es i vs most so_far =
-    sym (over_empty before) ∙ sym (ap (λ xs. over before (begun s (map parameter_tree xs) (map expr_tree (drop i es)) vs)) (drop_all i ps most)) ∙ so_far
+    sym (over_empty before)
+    ∙ sym (ap (λ xs. over before (begun s (map parameter_tree xs) (map expr_tree (drop i es)) vs))
+    (drop_all i ps most)) ∙ so_far
 
-pub begun_early : (s whole before : State) (ps : List Parameter) (es : List Expr) (i : ℕ) (vs : List Word) → false ≡ nat_lt i (length es)
+pub begun_early : (s whole before : State) (ps : List Parameter) (es : List Expr) (i : ℕ) (vs : List Word)
+    → false ≡ nat_lt i (length es)
     → over before (begun s (map parameter_tree (drop i ps)) (map expr_tree (drop i es)) vs) ≡ whole → before ≡ whole
 begun_early s whole before ps es i vs past so_far =
-    sym (over_empty before) ∙ sym (ap (over before) (ap (λ xs. begun s (map parameter_tree (drop i ps)) (map expr_tree xs) vs) (none_after es i past) ∙ no_begun s (map parameter_tree (drop i ps)) vs)) ∙ so_far
+    sym (over_empty before)
+    ∙ sym
+    (ap (over before) (ap (λ xs. begun s (map parameter_tree (drop i ps)) (map expr_tree xs) vs)
+    (none_after es i past) ∙ no_begun s (map parameter_tree (drop i ps)) vs)) ∙ so_far
 
 -- the names of the export
-pub holding_more : (whole : State) (ps : List Parameter) (args : List Arg) (i : ℕ) (d : Parameter) (a : Arg) (v : Value) (before after : State) → i < length ps → i < length args → a ≡ get_or args i a
+pub holding_more : (whole : State) (ps : List Parameter) (args : List Arg) (i : ℕ) (d : Parameter) (a : Arg)
+    (v : Value) (before after : State) → i < length ps → i < length args → a ≡ get_or args i a
     → v ≡ argument_value (get_or ps i d).kind a → after ≡ with_first before (get_or ps i d).name.now v
-    → over before (holding (map parameter_tree (drop i ps)) (drop i args)) ≡ whole → over after (holding (map parameter_tree (drop (i + 1) ps)) (drop (i + 1) args)) ≡ whole
+    → over before (holding (map parameter_tree (drop i ps)) (drop i args)) ≡ whole
+    → over after (holding (map parameter_tree (drop (i + 1) ps)) (drop (i + 1) args)) ≡ whole
 holding_more whole ps args i d a v before after inside_ps inside_args is_a holds set so_far =
     let p = get_or ps i d in
     let others = holding (map parameter_tree (drop (i + 1) ps)) (drop (i + 1) args) in
-    ap (λ t. over t others) set ∙ over_first before others p.name.now v ∙ ap (λ w. over before (with_value others p.name.now w)) holds
-    ∙ sym (ap (over before) (ap₂ (λ xs ys. holding (map parameter_tree xs) ys) (drop_more ps i d inside_ps) (next_of args i a inside_args is_a)))
+    ap (λ t. over t others) set ∙ over_first before others p.name.now v
+    ∙ ap (λ w. over before (with_value others p.name.now w)) holds
+    ∙ sym
+    (ap (over before) (ap₂ (λ xs ys. holding (map parameter_tree xs) ys) (drop_more ps i d inside_ps)
+    (next_of args i a inside_args is_a)))
     ∙ so_far
 
 no_holding : (ps : List ParameterTree) → holding ps [] ≡ empty
 no_holding [] = refl
 no_holding (p ∷ ps) = refl
 
-pub holding_all : (whole before : State) (ps : List Parameter) (args : List Arg) (i : ℕ) → length ps ≤ i → over before (holding (map parameter_tree (drop i ps)) (drop i args)) ≡ whole → before ≡ whole
+pub holding_all : (whole before : State) (ps : List Parameter) (args : List Arg) (i : ℕ) → length ps ≤ i
+    → over before (holding (map parameter_tree (drop i ps)) (drop i args)) ≡ whole → before ≡ whole
 holding_all whole before ps args i most so_far =
-    sym (over_empty before) ∙ sym (ap (λ xs. over before (holding (map parameter_tree xs) (drop i args))) (drop_all i ps most)) ∙ so_far
+    sym (over_empty before)
+    ∙ sym (ap (λ xs. over before (holding (map parameter_tree xs) (drop i args))) (drop_all i ps most)) ∙ so_far
 
-pub holding_early : (whole before : State) (ps : List Parameter) (args : List Arg) (i : ℕ) → false ≡ nat_lt i (length args) → over before (holding (map parameter_tree (drop i ps)) (drop i args)) ≡ whole → before ≡ whole
+pub holding_early : (whole before : State) (ps : List Parameter) (args : List Arg) (i : ℕ)
+    → false ≡ nat_lt i (length args) → over before (holding (map parameter_tree (drop i ps)) (drop i args)) ≡ whole
+    → before ≡ whole
 holding_early whole before ps args i past so_far =
-    sym (over_empty before) ∙ sym (ap (over before) (ap (holding (map parameter_tree (drop i ps))) (none_after args i past) ∙ no_holding (map parameter_tree (drop i ps)))) ∙ so_far
+    sym (over_empty before)
+    ∙ sym (ap (over before) (ap (holding (map parameter_tree (drop i ps))) (none_after args i past)
+    ∙ no_holding (map parameter_tree (drop i ps)))) ∙ so_far

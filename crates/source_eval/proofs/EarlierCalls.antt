@@ -1,7 +1,8 @@
 -- Programs whose calls are of earlier procedures.
 use Rattle.std.proofs.Common.{◌≡◌, ℕ, List, [], ◌∷◌, ◌++◌, Some}
 use Rattle.language.specs.Meaning.{named}
-use Rattle.language.specs.Tree.{RightTree, called, computed, StatementTree, declaration, array, assignment, element_assignment, call, conditional, loop, BlockTree, nothing, first, ProcedureTree}
+use Rattle.language.specs.Tree.{RightTree, called, computed, StatementTree, declaration, array, assignment}
+use Rattle.language.specs.Tree.{element_assignment, call, conditional, loop, BlockTree, nothing, first, ProcedureTree}
 use Rattle.source_eval.proofs.Below.{Found}
 
 -- one of these procedures has the name
@@ -20,7 +21,8 @@ abbrev mutual
   StatementKnown earlier (assignment place target text right) = RightKnown earlier right
   StatementKnown earlier (element_assignment place bracket target text index right) = RightKnown earlier right
   StatementKnown earlier (call c) = IsNamed earlier c.name
-  StatementKnown earlier (conditional place condition accepted otherwise) = BlockKnown earlier accepted × BlockKnown earlier otherwise
+  StatementKnown earlier (conditional place condition accepted otherwise) = BlockKnown earlier accepted
+      × BlockKnown earlier otherwise
   StatementKnown earlier (loop place counter text low high body) = BlockKnown earlier body
 
   pub BlockKnown : List ProcedureTree → BlockTree → Type 0

@@ -1,14 +1,27 @@
 -- The end that is worked out is one that the rules give, where each call is of an earlier procedure.
-use Rattle.std.proofs.Common.{◌≡◌, ℕ, zero, suc, ◌+◌, ◌-◌, ◌<◌, Bool, true, false, if◌then◌else◌, List, [], ◌∷◌, ◌++◌, Option, Some, None, ◌⊎◌, inl, inr, is_some, refl, sym, ap, ◌∙◌, subst, arith, append-nil, append_assoc}
+use Rattle.std.proofs.Common.{◌≡◌, ℕ, zero, suc, ◌+◌, ◌-◌, ◌<◌, Bool, true, false, if◌then◌else◌, List, [], ◌∷◌, ◌++◌}
+use Rattle.std.proofs.Common.{Option, Some, None, ◌⊎◌, inl, inr, is_some, refl, sym, ap, ◌∙◌, subst, arith}
+use Rattle.std.proofs.Common.{append-nil, append_assoc}
 use Rattle.std.proofs.lemmas.Option.{none-some, same_Some}
 use Rattle.std.specs.Str.{bytes_eq}
 use Rattle.word.specs.declared.place.Place.{Place}
 use Rattle.language.specs.declared.values.Arg.{Arg}
-use Rattle.language.specs.Evaluation.{ended, tick, inside, value, values, passed, call_run, right_run, turns, run, run_all, return_run, body_run, found_run, program_run, runnable, runnables}
-use Rattle.language.specs.Meaning.{gives, element_held, named, Evaluates, by_operands, operand_faults, EvaluatesAll, none_left, one_more, this_faults, later_faults, word_arguments, begun, exported, holding, written, counting, Calls, argument_faults, body_faults, body_ends, Bodies, statements_fault, returns_nothing, returns, return_faults, Rights, of_call, of_expr, expr_faults, Runs, declares, declaration_faults, declares_array, first_value_faults, assigns, assignment_faults, target_faults, right_faults, assigns_element, calls, call_faults, condition_faults, accepts, declines, bounds_fault, loops, Turns, no_turn, turn_faults, a_turn, RunsAll, ends, stops, goes_on, Gives, ends_well, meets_fault}
+use Rattle.language.specs.Evaluation.{ended, tick, inside, value, values, passed, call_run, right_run, turns, run}
+use Rattle.language.specs.Evaluation.{run_all, return_run, body_run, found_run, program_run, runnable, runnables}
+use Rattle.language.specs.Meaning.{gives, element_held, named, Evaluates, by_operands, operand_faults, EvaluatesAll}
+use Rattle.language.specs.Meaning.{none_left, one_more, this_faults, later_faults, word_arguments, begun, exported}
+use Rattle.language.specs.Meaning.{holding, written, counting, Calls, argument_faults, body_faults, body_ends, Bodies}
+use Rattle.language.specs.Meaning.{statements_fault, returns_nothing, returns, return_faults, Rights, of_call}
+use Rattle.language.specs.Meaning.{of_expr, expr_faults, Runs, declares, declaration_faults, declares_array}
+use Rattle.language.specs.Meaning.{first_value_faults, assigns, assignment_faults, target_faults, right_faults}
+use Rattle.language.specs.Meaning.{assigns_element, calls, call_faults, condition_faults, accepts, declines}
+use Rattle.language.specs.Meaning.{bounds_fault, loops, Turns, no_turn, turn_faults, a_turn, RunsAll, ends, stops}
+use Rattle.language.specs.Meaning.{goes_on, Gives, ends_well, meets_fault}
 use Rattle.language.specs.Operators.{truth_of}
 use Rattle.language.specs.State.{State, Word}
-use Rattle.language.specs.Tree.{ExprTree, element, CallTree, RightTree, called, computed, StatementTree, declaration, array, assignment, element_assignment, call, conditional, loop, BlockTree, nothing, first, ReturnTree, ProcedureTree, ProgramTree}
+use Rattle.language.specs.Tree.{ExprTree, element, CallTree, RightTree, called, computed, StatementTree, declaration}
+use Rattle.language.specs.Tree.{array, assignment, element_assignment, call, conditional, loop, BlockTree, nothing}
+use Rattle.language.specs.Tree.{first, ReturnTree, ProcedureTree, ProgramTree}
 use Rattle.source_eval.proofs.Below.{Found, known-named}
 use Rattle.source_eval.proofs.EarlierCalls.{IsNamed, RightKnown, StatementKnown, BlockKnown, CallEarlier}
 use Rattle.source_eval.proofs.RunEnds.{then-either}
@@ -22,14 +35,17 @@ abbrev AllHad : List ProcedureTree → Type 0
 AllHad ps = (text : List ℕ) (found : Found) → named [] ps text ≡ Some found → BodyHad found
 
 -- the turns of a loop, by those of its body
-turns-had : (ps : List ProcedureTree) (text : List ℕ) (body : BlockTree) → ((s : State) → RunsAll ps s body (run_all (runnables ps) s body).ends)
-    → (left i n : ℕ) (s : State) → n - i ≡ left → Turns ps s text body i n (turns left i (λ k t. run_all (runnables ps) (counting t text k) body) s).ends
+turns-had : (ps : List ProcedureTree) (text : List ℕ) (body : BlockTree)
+    → ((s : State) → RunsAll ps s body (run_all (runnables ps) s body).ends)
+    → (left i n : ℕ) (s : State) → n - i ≡ left
+    → Turns ps s text body i n (turns left i (λ k t. run_all (runnables ps) (counting t text k) body) s).ends
 unfolding tick
 turns-had ps text body had zero i n s none = no_turn (omega (arith, none))
 turns-had ps text body had (suc left) i n s more =
     let low : i < n = omega (arith, more) in
     let fewer : n - (i + 1) ≡ left = omega (arith, more) in
-    then-either (RunsAll ps (counting s text i) body) (Turns ps s text body i n) (run_all (runnables ps) (counting s text i) body) _ (had (counting s text i))
+    then-either (RunsAll ps (counting s text i) body) (Turns ps s text body i n)
+    (run_all (runnables ps) (counting s text i) body) _ (had (counting s text i))
     (λ t d. a_turn low d (turns-had ps text body had left (i + 1) n t fewer))
     (λ at d. turn_faults low d)
 
@@ -40,70 +56,97 @@ module _ (ps : List ProcedureTree) (had : AllHad ps) where
       let before = is.0.0 in
       let p = is.0.1 in
       subst (λ o. Calls ps s c (call_run o s c).ends) (sym (known-named runnable ps before p c.name is.1))
-      (then-either (EvaluatesAll s (word_arguments p.parameters c.arguments)) (Calls ps s c) (passed s (word_arguments p.parameters c.arguments)) _ (passed-had s (word_arguments p.parameters c.arguments))
-      (λ vs d. then-either (Bodies before p (begun s p.parameters c.arguments vs)) (Calls ps s c) (inside (body_run (runnables before) p (begun s p.parameters c.arguments vs))) _ (had c.name is.0 is.1 (begun s p.parameters c.arguments vs))
+      (then-either (EvaluatesAll s (word_arguments p.parameters c.arguments)) (Calls ps s c)
+      (passed s (word_arguments p.parameters c.arguments)) _
+      (passed-had s (word_arguments p.parameters c.arguments))
+      (λ vs d. then-either (Bodies before p (begun s p.parameters c.arguments vs)) (Calls ps s c)
+      (inside (body_run (runnables before) p (begun s p.parameters c.arguments vs))) _
+      (had c.name is.0 is.1 (begun s p.parameters c.arguments vs))
       (λ r b. body_ends is.1 d b)
       (λ place b. body_faults is.1 d b))
       (λ place d. argument_faults is.1 d))
 
-  right-had : (s : State) (right : RightTree) → RightKnown ps right → Rights ps s right (right_run (runnables ps) s right).ends
+  right-had : (s : State) (right : RightTree) → RightKnown ps right
+      → Rights ps s right (right_run (runnables ps) s right).ends
   right-had s (called c) is = of_call (call-had s c is)
-  right-had s (computed e) is = then-either (Evaluates s e) (Rights ps s (computed e)) (value s e) _ (value-had s e) (λ v d. of_expr d) (λ place d. expr_faults d)
+  right-had s (computed e) is =
+      then-either (Evaluates s e) (Rights ps s (computed e)) (value s e) _ (value-had s e) (λ v d. of_expr d)
+      (λ place d. expr_faults d)
 
-  branch-had : (s : State) (place : Place) (condition : ExprTree) (accepted otherwise : BlockTree) (c : Word) → Evaluates s condition (gives c)
-      → RunsAll ps s accepted (run_all (runnables ps) s accepted).ends → RunsAll ps s otherwise (run_all (runnables ps) s otherwise).ends
+  branch-had : (s : State) (place : Place) (condition : ExprTree) (accepted otherwise : BlockTree) (c : Word)
+      → Evaluates s condition (gives c)
+      → RunsAll ps s accepted (run_all (runnables ps) s accepted).ends
+      → RunsAll ps s otherwise (run_all (runnables ps) s otherwise).ends
       → (holds : Bool) → truth_of c.value ≡ holds
-      → Runs ps s (conditional place condition accepted otherwise) (if holds then run_all (runnables ps) s accepted else run_all (runnables ps) s otherwise).ends
+      → Runs ps s (conditional place condition accepted otherwise) (if holds then run_all (runnables ps) s accepted
+      else run_all (runnables ps) s otherwise).ends
   branch-had s place condition accepted otherwise c d one other true is = accepts d is one
   branch-had s place condition accepted otherwise c d one other false is = declines d is other
 
   mutual
     unfolding tick
 
-    statement-had : (s : State) (statement : StatementTree) → StatementKnown ps statement → Runs ps s statement (run (runnables ps) s statement).ends
+    statement-had : (s : State) (statement : StatementTree) → StatementKnown ps statement
+        → Runs ps s statement (run (runnables ps) s statement).ends
     statement-had s (declaration place label mutable kind text right) is =
-        then-either (Rights ps s right) (Runs ps s (declaration place label mutable kind text right)) (right_run (runnables ps) s right) _ (right-had s right is)
+        then-either (Rights ps s right) (Runs ps s (declaration place label mutable kind text right))
+        (right_run (runnables ps) s right) _ (right-had s right is)
         (λ r d. declares d)
         (λ at d. declaration_faults d)
     statement-had s (array place label mutable kind size text initial) is =
-        then-either (EvaluatesAll s (written initial)) (Runs ps s (array place label mutable kind size text initial)) (values s (written initial)) _ (values-had s (written initial))
+        then-either (EvaluatesAll s (written initial)) (Runs ps s (array place label mutable kind size text initial))
+        (values s (written initial)) _ (values-had s (written initial))
         (λ vs d. declares_array d)
         (λ at d. first_value_faults d)
     statement-had s (assignment place target text right) is =
-        then-either (Rights ps s right) (Runs ps s (assignment place target text right)) (right_run (runnables ps) s right) _ (right-had s right is)
+        then-either (Rights ps s right) (Runs ps s (assignment place target text right))
+        (right_run (runnables ps) s right) _ (right-had s right is)
         (λ r d. assigns d)
         (λ at d. assignment_faults d)
     statement-had s (element_assignment place bracket target text index right) is =
-        then-either (Evaluates s index) (Runs ps s (element_assignment place bracket target text index right)) (value s index) _ (value-had s index)
-        (λ i d. then-either (Evaluates s (element bracket target text index)) (Runs ps s (element_assignment place bracket target text index right)) (ended (element_held bracket (s text) i.value)) _
+        then-either (Evaluates s index) (Runs ps s (element_assignment place bracket target text index right))
+        (value s index) _ (value-had s index)
+        (λ i d. then-either (Evaluates s (element bracket target text index))
+        (Runs ps s (element_assignment place bracket target text index right))
+        (ended (element_held bracket (s text) i.value)) _
         (by_operands (one_more d none_left))
-        (λ old e. then-either (Rights ps s right) (Runs ps s (element_assignment place bracket target text index right)) (right_run (runnables ps) s right) _ (right-had s right is)
+        (λ old e. then-either (Rights ps s right)
+        (Runs ps s (element_assignment place bracket target text index right))
+        (right_run (runnables ps) s right) _ (right-had s right is)
         (λ r f. assigns_element e d f)
         (λ at f. right_faults e f))
         (λ at e. target_faults e))
         (λ at d. target_faults (operand_faults (this_faults d)))
     statement-had s (call c) is =
-        then-either (Calls ps s c) (Runs ps s (call c)) (call_run (runnables ps c.name) s c) _ (call-had s c is) (λ r d. calls d) (λ at d. call_faults d)
+        then-either (Calls ps s c) (Runs ps s (call c)) (call_run (runnables ps c.name) s c) _ (call-had s c is)
+        (λ r d. calls d) (λ at d. call_faults d)
     statement-had s (conditional place condition accepted otherwise) is =
-        then-either (Evaluates s condition) (Runs ps s (conditional place condition accepted otherwise)) (value s condition) _ (value-had s condition)
-        (λ c d. branch-had s place condition accepted otherwise c d (block-had s accepted is.0) (block-had s otherwise is.1) (truth_of c.value) refl)
+        then-either (Evaluates s condition) (Runs ps s (conditional place condition accepted otherwise))
+        (value s condition) _ (value-had s condition)
+        (λ c d. branch-had s place condition accepted otherwise c d (block-had s accepted is.0)
+        (block-had s otherwise is.1) (truth_of c.value) refl)
         (λ at d. condition_faults d)
     statement-had s (loop place counter text low high body) is =
-        then-either (Evaluates s low) (Runs ps s (loop place counter text low high body)) (value s low) _ (value-had s low)
-        (λ a d. then-either (Evaluates s high) (Runs ps s (loop place counter text low high body)) (value s high) _ (value-had s high)
+        then-either (Evaluates s low) (Runs ps s (loop place counter text low high body)) (value s low) _
+        (value-had s low)
+        (λ a d. then-either (Evaluates s high) (Runs ps s (loop place counter text low high body)) (value s high) _
+        (value-had s high)
         (λ b e. loops (one_more d (one_more e none_left))
         (turns-had ps text body (λ t. block-had t body is) (b.value - a.value) a.value b.value s refl))
         (λ at e. bounds_fault (later_faults d (this_faults e))))
         (λ at d. bounds_fault (this_faults d))
 
-    block-had : (s : State) (block : BlockTree) → BlockKnown ps block → RunsAll ps s block (run_all (runnables ps) s block).ends
+    block-had : (s : State) (block : BlockTree) → BlockKnown ps block
+        → RunsAll ps s block (run_all (runnables ps) s block).ends
     block-had s nothing is = ends
     block-had s (first statement rest) is =
-        then-either (Runs ps s statement) (RunsAll ps s (first statement rest)) (run (runnables ps) s statement) _ (statement-had s statement is.0)
+        then-either (Runs ps s statement) (RunsAll ps s (first statement rest)) (run (runnables ps) s statement) _
+        (statement-had s statement is.0)
         (λ t d. goes_on d (block-had t rest is.1))
         (λ at d. stops d)
 
-  return-had : (p : ProcedureTree) (s t : State) → RunsAll ps s p.body (gives t) → (o : Option ReturnTree) → p.returned ≡ o → Bodies ps p s (return_run t o).ends
+  return-had : (p : ProcedureTree) (s t : State) → RunsAll ps s p.body (gives t) → (o : Option ReturnTree)
+      → p.returned ≡ o → Bodies ps p s (return_run t o).ends
   unfolding tick
   return-had p s t d None is = returns_nothing d is
   return-had p s t d (Some r) is =
@@ -118,48 +161,63 @@ module _ (ps : List ProcedureTree) (had : AllHad ps) where
       (λ place d. statements_fault d)
 
 -- of these procedures and one more, a name's is one of them or the one
-last-named : (before ps : List ProcedureTree) (p : ProcedureTree) (text : List ℕ) (found : Found) → named before (ps ++ p ∷ []) text ≡ Some found → (named before ps text ≡ Some found) ⊎ (found ≡ (before ++ ps, p))
+last-named : (before ps : List ProcedureTree) (p : ProcedureTree) (text : List ℕ) (found : Found)
+    → named before (ps ++ p ∷ []) text ≡ Some found → (named before ps text ≡ Some found)
+    ⊎ (found ≡ (before ++ ps, p))
 last-named before [] p text found = by_name (bytes_eq text p.name)
   where
-    by_name : (same : Bool) → (if same then Some (before, p) else None) ≡ Some found → (None ≡ Some found) ⊎ (found ≡ (before ++ [], p))
+    by_name : (same : Bool) → (if same then Some (before, p) else None) ≡ Some found
+        → (None ≡ Some found) ⊎ (found ≡ (before ++ [], p))
     by_name true is = inr (sym (same_Some (before, p) found is) ∙ ap (λ l. (l, p)) (sym (append-nil before)))
     by_name false is = inl is
-last-named before (q ∷ ps) p text found = by_name (last-named (before ++ q ∷ []) ps p text found) (bytes_eq text q.name)
+last-named before (q ∷ ps) p text found =
+    by_name (last-named (before ++ q ∷ []) ps p text found) (bytes_eq text q.name)
   where
-    moved : (named (before ++ q ∷ []) ps text ≡ Some found) ⊎ (found ≡ (before ++ q ∷ [] ++ ps, p)) → (named (before ++ q ∷ []) ps text ≡ Some found) ⊎ (found ≡ (before ++ (q ∷ ps), p))
+    moved : (named (before ++ q ∷ []) ps text ≡ Some found) ⊎ (found ≡ (before ++ q ∷ [] ++ ps, p))
+        → (named (before ++ q ∷ []) ps text ≡ Some found) ⊎ (found ≡ (before ++ (q ∷ ps), p))
     moved (inl is) = inl is
     moved (inr is) = inr (is ∙ ap (λ l. (l, p)) (append_assoc before (q ∷ []) ps))
 
-    by_name : (named (before ++ q ∷ []) (ps ++ p ∷ []) text ≡ Some found → (named (before ++ q ∷ []) ps text ≡ Some found) ⊎ (found ≡ (before ++ q ∷ [] ++ ps, p)))
-        → (same : Bool) → (if same then Some (before, q) else named (before ++ q ∷ []) (ps ++ p ∷ []) text) ≡ Some found
-        → ((if same then Some (before, q) else named (before ++ q ∷ []) ps text) ≡ Some found) ⊎ (found ≡ (before ++ (q ∷ ps), p))
+    by_name : (named (before ++ q ∷ []) (ps ++ p ∷ []) text ≡ Some found
+        → (named (before ++ q ∷ []) ps text ≡ Some found) ⊎ (found ≡ (before ++ q ∷ [] ++ ps, p)))
+        → (same : Bool) → (if same then Some (before, q) else named (before ++ q ∷ []) (ps ++ p ∷ []) text)
+        ≡ Some found
+        → ((if same then Some (before, q) else named (before ++ q ∷ []) ps text) ≡ Some found)
+        ⊎ (found ≡ (before ++ (q ∷ ps), p))
     by_name later true is = inl is
     by_name later false is = moved (later is)
 
-one-more-had : (before : List ProcedureTree) (p : ProcedureTree) → AllHad before → BodyHad (before, p) → AllHad (before ++ p ∷ [])
+one-more-had : (before : List ProcedureTree) (p : ProcedureTree) → AllHad before → BodyHad (before, p)
+    → AllHad (before ++ p ∷ [])
 one-more-had before p all this text found is = by_place (last-named [] before p text found is)
   where
     by_place : (named [] before text ≡ Some found) ⊎ (found ≡ (before, p)) → BodyHad found
     by_place (inl there) = all text found there
     by_place (inr here) = subst BodyHad (sym here) this
 
-export-had : (before ps : List ProcedureTree) → AllHad before → CallEarlier before ps → (found : Found) → exported before ps ≡ Some found → BodyHad found
+export-had : (before ps : List ProcedureTree) → AllHad before → CallEarlier before ps → (found : Found)
+    → exported before ps ≡ Some found → BodyHad found
 export-had before [] all earlier found is = absurd (none-some found is)
 export-had before (p ∷ ps) all earlier found is =
     let here = body-had before all p earlier.0 in
-    by_export here (export-had (before ++ p ∷ []) ps (one-more-had before p all here) earlier.1 found) (is_some p.export) is
+    by_export here (export-had (before ++ p ∷ []) ps (one-more-had before p all here) earlier.1 found)
+    (is_some p.export) is
   where
-    by_export : BodyHad (before, p) → (exported (before ++ p ∷ []) ps ≡ Some found → BodyHad found) → (exports : Bool) → (if exports then Some (before, p) else exported (before ++ p ∷ []) ps) ≡ Some found → BodyHad found
+    by_export : BodyHad (before, p) → (exported (before ++ p ∷ []) ps ≡ Some found → BodyHad found) → (exports : Bool)
+        → (if exports then Some (before, p) else exported (before ++ p ∷ []) ps) ≡ Some found → BodyHad found
     by_export here later true this = subst BodyHad (same_Some (before, p) found this) here
     by_export here later false that = later that
 
 -- what the rules give a program with an export
-pub program-had : (program : ProgramTree) (args : List Arg) (found : Found) → exported [] program.procedures ≡ Some found → CallEarlier [] program.procedures → Gives program args (program_run program args).ends
+pub program-had : (program : ProgramTree) (args : List Arg) (found : Found)
+    → exported [] program.procedures ≡ Some found → CallEarlier [] program.procedures
+    → Gives program args (program_run program args).ends
 unfolding inside
 program-had program args found is earlier =
     let p = found.1 in
     let body = export-had [] program.procedures (λ text other none. absurd (none-some other none)) earlier found is in
     subst (λ o. Gives program args (found_run o args).ends) (sym is)
-    (then-either (Bodies found.0 p (holding p.parameters args)) (Gives program args) (inside (body_run (runnables found.0) p (holding p.parameters args))) _ (body (holding p.parameters args))
+    (then-either (Bodies found.0 p (holding p.parameters args)) (Gives program args)
+    (inside (body_run (runnables found.0) p (holding p.parameters args))) _ (body (holding p.parameters args))
     (λ r d. ends_well is d)
     (λ at d. meets_fault is d))

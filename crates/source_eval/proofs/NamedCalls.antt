@@ -1,5 +1,6 @@
 -- In a program that violates no rule each call is of an earlier procedure, and one procedure is exported.
-use Rattle.std.proofs.Common.{◌≡◌, ℕ, Bool, true, false, cond, if◌then◌else◌, List, [], ◌∷◌, ◌++◌, length, slice_get, Option, Some, None, is_some, ◌⊎◌, inl, inr, refl, ap, arith}
+use Rattle.std.proofs.Common.{◌≡◌, ℕ, Bool, true, false, cond, if◌then◌else◌, List, [], ◌∷◌, ◌++◌, length, slice_get}
+use Rattle.std.proofs.Common.{Option, Some, None, is_some, ◌⊎◌, inl, inr, refl, ap, arith}
 use Rattle.std.proofs.lemmas.Option.{none-some, same_Some, slice_get_within}
 use Rattle.std.specs.Map.{lookup}
 use Rattle.std.specs.Str.{bytes_eq}
@@ -12,10 +13,16 @@ use Rattle.language.specs.declared.typing.Declared.TheVariants.{Procedure, Varia
 use Rattle.language.specs.declared.typing.ValueType.{ValueType}
 use Rattle.language.specs.declared.typing.VariableType.{VariableType}
 use Rattle.language.specs.Meaning.{named, exported}
-use Rattle.language.specs.Tree.{CallTree, RightTree, StatementTree, declaration, array, assignment, element_assignment, call, conditional, loop, BlockTree, ParameterTree, ProcedureTree, ProgramTree}
+use Rattle.language.specs.Tree.{CallTree, RightTree, StatementTree, declaration, array, assignment}
+use Rattle.language.specs.Tree.{element_assignment, call, conditional, loop, BlockTree, ParameterTree, ProcedureTree}
+use Rattle.language.specs.Tree.{ProgramTree}
 use Rattle.language.specs.Types.{Scope, found, declared, callee}
-use Rattle.language.specs.Typing.{assigns_public, scope_after, parameter_as, with_parameters, with_procedure, export_place, exports}
-use Rattle.language.specs.WellTyped.{IsCall, of_procedure, Gives, of_call, of_value, IsWellTyped, declares, declares_array, assigns, assigns_element, calls, chooses, repeats, AreWellTyped, no_statement, one_more, AreProcedures, no_procedure, one_procedure, IsTypedProgram}
+use Rattle.language.specs.Typing.{assigns_public, scope_after, parameter_as, with_parameters, with_procedure}
+use Rattle.language.specs.Typing.{export_place, exports}
+use Rattle.language.specs.WellTyped.{IsCall, of_procedure, Gives, of_call, of_value, IsWellTyped, declares}
+use Rattle.language.specs.WellTyped.{declares_array, assigns, assigns_element, calls, chooses, repeats, AreWellTyped}
+use Rattle.language.specs.WellTyped.{no_statement, one_more, AreProcedures, no_procedure, one_procedure}
+use Rattle.language.specs.WellTyped.{IsTypedProgram}
 use Rattle.source_eval.proofs.Below.{Found}
 use Rattle.source_eval.proofs.EarlierCalls.{IsNamed, RightKnown, StatementKnown, BlockKnown, CallEarlier}
 
@@ -25,23 +32,32 @@ IsThere {A} o = (a : A) × (o ≡ Some a)
 
 -- What a name stands for after a declaration.
 
-lookup-last : (test : List ℕ → Bool) (names : List (List ℕ × Declared)) (name : List ℕ) (what d : Declared) → lookup test (names ++ (name, what) ∷ []) ≡ Some d → (lookup test names ≡ Some d) ⊎ ((test name ≡ true) × (what ≡ d))
+lookup-last : (test : List ℕ → Bool) (names : List (List ℕ × Declared)) (name : List ℕ) (what d : Declared)
+    → lookup test (names ++ (name, what) ∷ []) ≡ Some d
+    → (lookup test names ≡ Some d) ⊎ ((test name ≡ true) × (what ≡ d))
 lookup-last test [] name what d = by_test (test name) refl
   where
-    by_test : (b : Bool) → test name ≡ b → cond b (Some what) None ≡ Some d → (None ≡ Some d) ⊎ ((test name ≡ true) × (what ≡ d))
+    by_test : (b : Bool) → test name ≡ b → cond b (Some what) None ≡ Some d
+        → (None ≡ Some d) ⊎ ((test name ≡ true) × (what ≡ d))
     by_test true e is = inr (e, same_Some what d is)
     by_test false e is = inl is
 lookup-last test (x ∷ names) name what d = by_test (lookup-last test names name what d) (test x.0)
   where
-    by_test : (lookup test (names ++ (name, what) ∷ []) ≡ Some d → (lookup test names ≡ Some d) ⊎ ((test name ≡ true) × (what ≡ d))) → (b : Bool)
-        → cond b (Some x.1) (lookup test (names ++ (name, what) ∷ [])) ≡ Some d → (cond b (Some x.1) (lookup test names) ≡ Some d) ⊎ ((test name ≡ true) × (what ≡ d))
+    by_test : (lookup test (names ++ (name, what) ∷ []) ≡ Some d
+        → (lookup test names ≡ Some d) ⊎ ((test name ≡ true) × (what ≡ d))) → (b : Bool)
+        → cond b (Some x.1) (lookup test (names ++ (name, what) ∷ [])) ≡ Some d
+        → (cond b (Some x.1) (lookup test names) ≡ Some d) ⊎ ((test name ≡ true) × (what ≡ d))
     by_test later true is = inl is
     by_test later false is = later is
 
-found-after : (scope : Scope) (name : List ℕ) (what : Declared) (text : List ℕ) (d : Declared) → found (declared scope name what) text ≡ Some d → (found scope text ≡ Some d) ⊎ ((bytes_eq text name ≡ true) × (what ≡ d))
+found-after : (scope : Scope) (name : List ℕ) (what : Declared) (text : List ℕ) (d : Declared)
+    → found (declared scope name what) text ≡ Some d
+    → (found scope text ≡ Some d) ⊎ ((bytes_eq text name ≡ true) × (what ≡ d))
 found-after scope name what text d = by_scope (is_some (found scope name))
   where
-    by_scope : (taken : Bool) → lookup (bytes_eq text) (if taken then scope.names else scope.names ++ (name, what) ∷ []) ≡ Some d → (found scope text ≡ Some d) ⊎ ((bytes_eq text name ≡ true) × (what ≡ d))
+    by_scope : (taken : Bool)
+        → lookup (bytes_eq text) (if taken then scope.names else scope.names ++ (name, what) ∷ []) ≡ Some d
+        → (found scope text ≡ Some d) ⊎ ((bytes_eq text name ≡ true) × (what ≡ d))
     by_scope true is = inl is
     by_scope false is = lookup-last (bytes_eq text) scope.names name what d is
 
@@ -53,7 +69,8 @@ AreNamed earlier scope = (text : List ℕ) (c : Callee) → found scope text ≡
 
 -- so is one that may be called
 abbrev AreCallable : List ProcedureTree → Scope → Type 0
-AreCallable earlier scope = (text : List ℕ) (c : Callee) (p : ProcedureTree) → found scope text ≡ Some (Procedure c) → slice_get earlier c.number ≡ Some p → IsNamed earlier text
+AreCallable earlier scope = (text : List ℕ) (c : Callee) (p : ProcedureTree) → found scope text ≡ Some (Procedure c)
+    → slice_get earlier c.number ≡ Some p → IsNamed earlier text
 
 no-procedure : (v : VariableType) (c : Callee) → Variable v ≡ Procedure c → ⊥
 no-procedure v c h = cc
@@ -61,10 +78,13 @@ no-procedure v c h = cc
 same-procedure : (a b : Callee) → Procedure a ≡ Procedure b → a ≡ b
 same-procedure a b h = cc
 
-callable-after : (earlier : List ProcedureTree) (scope : Scope) (name : List ℕ) (v : VariableType) → AreCallable earlier scope → AreCallable earlier (declared scope name (Variable v))
-callable-after earlier scope name v are text c p is there = by_name (found-after scope name (Variable v) text (Procedure c) is)
+callable-after : (earlier : List ProcedureTree) (scope : Scope) (name : List ℕ) (v : VariableType)
+    → AreCallable earlier scope → AreCallable earlier (declared scope name (Variable v))
+callable-after earlier scope name v are text c p is there =
+    by_name (found-after scope name (Variable v) text (Procedure c) is)
   where
-    by_name : (found scope text ≡ Some (Procedure c)) ⊎ ((bytes_eq text name ≡ true) × (Variable v ≡ Procedure c)) → IsNamed earlier text
+    by_name : (found scope text ≡ Some (Procedure c)) ⊎ ((bytes_eq text name ≡ true) × (Variable v ≡ Procedure c))
+        → IsNamed earlier text
     by_name (inl old) = are text c p old there
     by_name (inr new) = absurd (no-procedure v c new.1)
 
@@ -73,10 +93,14 @@ abbrev as_callee : Scope → ℕ → ProcedureTree → Callee
 as_callee scope number p = record { number = number; assigns_public = assigns_public scope p }
 
 -- a procedure may not call itself
-callable-within : (earlier : List ProcedureTree) (scope : Scope) (q : ProcedureTree) → AreNamed earlier scope → AreCallable earlier (with_procedure scope (length earlier) q)
-callable-within earlier scope q are text c p is there = by_name (found-after scope q.name (Procedure (as_callee scope (length earlier) q)) text (Procedure c) is)
+callable-within : (earlier : List ProcedureTree) (scope : Scope) (q : ProcedureTree) → AreNamed earlier scope
+    → AreCallable earlier (with_procedure scope (length earlier) q)
+callable-within earlier scope q are text c p is there =
+    by_name (found-after scope q.name (Procedure (as_callee scope (length earlier) q)) text (Procedure c) is)
   where
-    by_name : (found scope text ≡ Some (Procedure c)) ⊎ ((bytes_eq text q.name ≡ true) × (Procedure (as_callee scope (length earlier) q) ≡ Procedure c)) → IsNamed earlier text
+    by_name : (found scope text ≡ Some (Procedure c))
+        ⊎ ((bytes_eq text q.name ≡ true) × (Procedure (as_callee scope (length earlier) q) ≡ Procedure c))
+        → IsNamed earlier text
     by_name (inl old) = are text c old
     by_name (inr new) =
         let low = slice_get_within earlier c.number p there in
@@ -84,41 +108,56 @@ callable-within earlier scope q are text c p is there = by_name (found-after sco
         absurd (omega (arith, low, here))
 
 -- one more procedure
-named-kept : (before ps : List ProcedureTree) (p : ProcedureTree) (text : List ℕ) (old : Found) → named before ps text ≡ Some old → (new : Found) × (named before (ps ++ p ∷ []) text ≡ Some new)
+named-kept : (before ps : List ProcedureTree) (p : ProcedureTree) (text : List ℕ) (old : Found)
+    → named before ps text ≡ Some old → (new : Found) × (named before (ps ++ p ∷ []) text ≡ Some new)
 named-kept before [] p text old is = absurd (none-some old is)
-named-kept before (q ∷ ps) p text old is = by_name (named-kept (before ++ q ∷ []) ps p text old) (bytes_eq text q.name) is
+named-kept before (q ∷ ps) p text old is =
+    by_name (named-kept (before ++ q ∷ []) ps p text old) (bytes_eq text q.name) is
   where
-    by_name : (named (before ++ q ∷ []) ps text ≡ Some old → (new : Found) × (named (before ++ q ∷ []) (ps ++ p ∷ []) text ≡ Some new)) → (same : Bool)
-        → (if same then Some (before, q) else named (before ++ q ∷ []) ps text) ≡ Some old → (new : Found) × ((if same then Some (before, q) else named (before ++ q ∷ []) (ps ++ p ∷ []) text) ≡ Some new)
+    by_name : (named (before ++ q ∷ []) ps text ≡ Some old
+        → (new : Found) × (named (before ++ q ∷ []) (ps ++ p ∷ []) text ≡ Some new)) → (same : Bool)
+        → (if same then Some (before, q) else named (before ++ q ∷ []) ps text) ≡ Some old
+        → (new : Found) × ((if same then Some (before, q) else named (before ++ q ∷ []) (ps ++ p ∷ []) text)
+        ≡ Some new)
     by_name later true here = ((before, q), refl)
     by_name later false there = later there
 
-named-last : (before ps : List ProcedureTree) (p : ProcedureTree) (text : List ℕ) → bytes_eq text p.name ≡ true → (new : Found) × (named before (ps ++ p ∷ []) text ≡ Some new)
+named-last : (before ps : List ProcedureTree) (p : ProcedureTree) (text : List ℕ) → bytes_eq text p.name ≡ true
+    → (new : Found) × (named before (ps ++ p ∷ []) text ≡ Some new)
 named-last before [] p text same = ((before, p), ap (λ b. if b then Some (before, p) else None) same)
 named-last before (q ∷ ps) p text same = by_name (named-last (before ++ q ∷ []) ps p text same) (bytes_eq text q.name)
   where
-    by_name : (new : Found) × (named (before ++ q ∷ []) (ps ++ p ∷ []) text ≡ Some new) → (here : Bool) → (new : Found) × ((if here then Some (before, q) else named (before ++ q ∷ []) (ps ++ p ∷ []) text) ≡ Some new)
+    by_name : (new : Found) × (named (before ++ q ∷ []) (ps ++ p ∷ []) text ≡ Some new) → (here : Bool)
+        → (new : Found) × ((if here then Some (before, q) else named (before ++ q ∷ []) (ps ++ p ∷ []) text)
+        ≡ Some new)
     by_name later true = ((before, q), refl)
     by_name later false = later
 
-named-after : (earlier : List ProcedureTree) (scope : Scope) (number : ℕ) (p : ProcedureTree) → AreNamed earlier scope → AreNamed (earlier ++ p ∷ []) (with_procedure scope number p)
-named-after earlier scope number p are text c is = by_name (found-after scope p.name (Procedure (as_callee scope number p)) text (Procedure c) is)
+named-after : (earlier : List ProcedureTree) (scope : Scope) (number : ℕ) (p : ProcedureTree) → AreNamed earlier scope
+    → AreNamed (earlier ++ p ∷ []) (with_procedure scope number p)
+named-after earlier scope number p are text c is =
+    by_name (found-after scope p.name (Procedure (as_callee scope number p)) text (Procedure c) is)
   where
-    by_name : (found scope text ≡ Some (Procedure c)) ⊎ ((bytes_eq text p.name ≡ true) × (Procedure (as_callee scope number p) ≡ Procedure c)) → IsNamed (earlier ++ p ∷ []) text
+    by_name : (found scope text ≡ Some (Procedure c))
+        ⊎ ((bytes_eq text p.name ≡ true) × (Procedure (as_callee scope number p) ≡ Procedure c))
+        → IsNamed (earlier ++ p ∷ []) text
     by_name (inl old) = let there = are text c old in named-kept [] earlier p text there.0 there.1
     by_name (inr new) = named-last [] earlier p text new.0
 
 -- Calls, statements and procedures.
 
 module _ (earlier : List ProcedureTree) where
-  call-named : {scope : Scope} {control : Label} {c : CallTree} {type : ValueType} → AreCallable earlier scope → IsCall earlier scope control c type → IsNamed earlier c.name
+  call-named : {scope : Scope} {control : Label} {c : CallTree} {type : ValueType} → AreCallable earlier scope
+      → IsCall earlier scope control c type → IsNamed earlier c.name
   call-named are (of_procedure {c = c} {callee = callee} {p = p} is there passed may) = are c.name callee p is there
 
-  right-named : {scope : Scope} {control : Label} {right : RightTree} {type : ValueType} → AreCallable earlier scope → Gives earlier scope control right type → RightKnown earlier right
+  right-named : {scope : Scope} {control : Label} {right : RightTree} {type : ValueType} → AreCallable earlier scope
+      → Gives earlier scope control right type → RightKnown earlier right
   right-named are (of_call is) = call-named are is
   right-named are (of_value has) = tt
 
-  scope-callable : (scope : Scope) (statement : StatementTree) → AreCallable earlier scope → AreCallable earlier (scope_after scope statement)
+  scope-callable : (scope : Scope) (statement : StatementTree) → AreCallable earlier scope
+      → AreCallable earlier (scope_after scope statement)
   scope-callable scope (declaration place label mutable kind text right) are = callable-after earlier scope text _ are
   scope-callable scope (array place label mutable kind size text values) are = callable-after earlier scope text _ are
   scope-callable scope (assignment place target text right) are = are
@@ -128,45 +167,60 @@ module _ (earlier : List ProcedureTree) where
   scope-callable scope (loop place counter text low high body) are = are
 
 mutual
-  statement-named : {earlier : List ProcedureTree} {scope : Scope} {control : Label} {statement : StatementTree} → AreCallable earlier scope → IsWellTyped earlier scope control statement → StatementKnown earlier statement
+  statement-named : {earlier : List ProcedureTree} {scope : Scope} {control : Label} {statement : StatementTree}
+      → AreCallable earlier scope → IsWellTyped earlier scope control statement → StatementKnown earlier statement
   statement-named {earlier = earlier} are (declares new has suit flow) = right-named earlier are has
   statement-named are (declares_array new all count flow) = tt
   statement-named {earlier = earlier} are (assigns is has suit flow) = right-named earlier are has
   statement-named {earlier = earlier} are (assigns_element is has value suit flow) = right-named earlier are value
   statement-named {earlier = earlier} are (calls is) = call-named earlier are is
   statement-named are (chooses has one other) = (block-named are one, block-named are other)
-  statement-named {earlier = earlier} are (repeats {scope = scope} {text = text} low high new inner) = block-named (callable-after earlier scope text _ are) inner
+  statement-named {earlier = earlier} are (repeats {scope = scope} {text = text} low high new inner) =
+      block-named (callable-after earlier scope text _ are) inner
 
-  block-named : {earlier : List ProcedureTree} {scope : Scope} {control : Label} {block : BlockTree} → AreCallable earlier scope → AreWellTyped earlier scope control block → BlockKnown earlier block
+  block-named : {earlier : List ProcedureTree} {scope : Scope} {control : Label} {block : BlockTree}
+      → AreCallable earlier scope → AreWellTyped earlier scope control block → BlockKnown earlier block
   block-named are no_statement = tt
-  block-named {earlier = earlier} are (one_more {scope = scope} {statement = statement} here there) = (statement-named are here, block-named (scope-callable earlier scope statement are) there)
+  block-named {earlier = earlier} are (one_more {scope = scope} {statement = statement} here there) =
+      (statement-named are here, block-named (scope-callable earlier scope statement are) there)
 
-parameters-callable : (earlier : List ProcedureTree) (scope : Scope) (ps : List ParameterTree) → AreCallable earlier scope → AreCallable earlier (with_parameters scope ps)
+parameters-callable : (earlier : List ProcedureTree) (scope : Scope) (ps : List ParameterTree)
+    → AreCallable earlier scope → AreCallable earlier (with_parameters scope ps)
 parameters-callable earlier scope [] are = are
-parameters-callable earlier scope (p ∷ ps) are = parameters-callable earlier (declared scope p.name (parameter_as p)) ps (callable-after earlier scope p.name _ are)
+parameters-callable earlier scope (p ∷ ps) are =
+    parameters-callable earlier (declared scope p.name (parameter_as p)) ps
+    (callable-after earlier scope p.name _ are)
 
-calls-earlier : {earlier : List ProcedureTree} {scope : Scope} {ps : List ProcedureTree} → AreNamed earlier scope → AreProcedures earlier scope ps → CallEarlier earlier ps
+calls-earlier : {earlier : List ProcedureTree} {scope : Scope} {ps : List ProcedureTree} → AreNamed earlier scope
+    → AreProcedures earlier scope ps → CallEarlier earlier ps
 calls-earlier are no_procedure = tt
 calls-earlier are (one_procedure {earlier = earlier} {scope = scope} {p = p} this later) = (
-  block-named (parameters-callable earlier (with_procedure scope (length earlier) p) p.parameters (callable-within earlier scope p are)) this.body,
+  block-named (parameters-callable earlier (with_procedure scope (length earlier) p) p.parameters
+      (callable-within earlier scope p are)) this.body,
   calls-earlier (named-after earlier scope (length earlier) p are) later,
 )
 
 -- The program.
 
-first-exported : (before ps : List ProcedureTree) (place : Place) (places : List Place) → exports ps ≡ place ∷ places → IsThere (exported before ps)
+first-exported : (before ps : List ProcedureTree) (place : Place) (places : List Place) → exports ps ≡ place ∷ places
+    → IsThere (exported before ps)
 first-exported before [] place places is = absurd (nothing-first place places is)
   where
     nothing-first : (place : Place) (places : List Place) → [] ≡ place ∷ places → ⊥
     nothing-first place places h = cc
-first-exported before (p ∷ ps) place places is = by_export p.export is (first-exported (before ++ p ∷ []) ps place places)
+first-exported before (p ∷ ps) place places is =
+    by_export p.export is (first-exported (before ++ p ∷ []) ps place places)
   where
-    by_export : (o : Option Place) → export_place o (exports ps) ≡ place ∷ places → (exports ps ≡ place ∷ places → IsThere (exported (before ++ p ∷ []) ps)) → IsThere (if is_some o then Some (before, p) else exported (before ++ p ∷ []) ps)
+    by_export : (o : Option Place) → export_place o (exports ps) ≡ place ∷ places
+        → (exports ps ≡ place ∷ places → IsThere (exported (before ++ p ∷ []) ps))
+        → IsThere (if is_some o then Some (before, p) else exported (before ++ p ∷ []) ps)
     by_export (Some here) h later = ((before, p), refl)
     by_export None h later = later h
 
-pub one-exported : {profile : Profile} (program : ProgramTree) → IsTypedProgram profile program → IsThere (exported [] program.procedures)
+pub one-exported : {profile : Profile} (program : ProgramTree) → IsTypedProgram profile program
+    → IsThere (exported [] program.procedures)
 one-exported program typed = first-exported [] program.procedures typed.export [] typed.exported
 
-pub all-call-earlier : {profile : Profile} (program : ProgramTree) → IsTypedProgram profile program → CallEarlier [] program.procedures
+pub all-call-earlier : {profile : Profile} (program : ProgramTree) → IsTypedProgram profile program
+    → CallEarlier [] program.procedures
 all-call-earlier program typed = calls-earlier (λ text c is. absurd (none-some (Procedure c) is)) typed.procedures

@@ -1,23 +1,31 @@
 -- How many bodies are open at once in a run: no more than in the text.
-use Rattle.std.proofs.Common.{◌≡◌, ℕ, zero, suc, ◌+◌, ◌-◌, ◌≤◌, Bool, true, false, if◌then◌else◌, List, [], ◌∷◌, Option, Some, None, max, sym, subst, arith}
+use Rattle.std.proofs.Common.{◌≡◌, ℕ, zero, suc, ◌+◌, ◌-◌, ◌≤◌, Bool, true, false, if◌then◌else◌, List, [], ◌∷◌}
+use Rattle.std.proofs.Common.{Option, Some, None, max, sym, subst, arith}
 use Rattle.std.proofs.Math.Nat.{max-le, le-max_left, le-max_right}
 use Rattle.std.specs.Str.{bytes_eq}
 use Rattle.language.specs.declared.values.Arg.{Arg}
-use Rattle.language.specs.Evaluation.{Run, Runnable, Runnables, runnable, runnables, tick, inside, andthen, continued, value, passed, call_run, right_run, turns, run, run_all, body_run, found_run, export_run, program_run}
+use Rattle.language.specs.Evaluation.{Run, Runnable, Runnables, runnable, runnables, tick, inside, andthen, continued}
+use Rattle.language.specs.Evaluation.{value, passed, call_run, right_run, turns, run, run_all, body_run, found_run}
+use Rattle.language.specs.Evaluation.{export_run, program_run}
 use Rattle.language.specs.Known.{first_known, known_from, nothing_known, with_known}
 use Rattle.language.specs.Meaning.{Ending, gives, faults, begun, counting, exported, holding, word_arguments}
 use Rattle.language.specs.Operators.{truth_of}
-use Rattle.language.specs.Size.{Extent, Extents, bodies_of, bodies_of_called, right_bodies, statement_bodies, block_bodies, extent_of, extents_of}
+use Rattle.language.specs.Size.{Extent, Extents, bodies_of, bodies_of_called, right_bodies, statement_bodies}
+use Rattle.language.specs.Size.{block_bodies, extent_of, extents_of}
 use Rattle.language.specs.State.{State}
-use Rattle.language.specs.Tree.{ExprTree, CallTree, RightTree, called, computed, StatementTree, declaration, array, assignment, element_assignment, call, conditional, loop, BlockTree, nothing, first, ProcedureTree, ProgramTree}
+use Rattle.language.specs.Tree.{ExprTree, CallTree, RightTree, called, computed, StatementTree, declaration, array}
+use Rattle.language.specs.Tree.{assignment, element_assignment, call, conditional, loop, BlockTree, nothing, first}
+use Rattle.language.specs.Tree.{ProcedureTree, ProgramTree}
 use Rattle.source_eval.proofs.RunLemmas.{value_opens, passed_open, return_opens, array_opens}
 
 -- a part and a next one
-continued_open : {A B : Type 0} (most nodes bodies : ℕ) (ending : Ending A) (next : A → Run B) → bodies ≤ most → ((a : A) → (next a).bodies ≤ most) → (continued nodes bodies ending next).bodies ≤ most
+continued_open : {A B : Type 0} (most nodes bodies : ℕ) (ending : Ending A) (next : A → Run B) → bodies ≤ most
+    → ((a : A) → (next a).bodies ≤ most) → (continued nodes bodies ending next).bodies ≤ most
 continued_open most nodes bodies (gives a) next h k = max-le h (k a)
 continued_open most nodes bodies (faults place) next h k = h
 
-then_open : {A B : Type 0} (most : ℕ) (r : Run A) (next : A → Run B) → r.bodies ≤ most → ((a : A) → (next a).bodies ≤ most) → (andthen r next).bodies ≤ most
+then_open : {A B : Type 0} (most : ℕ) (r : Run A) (next : A → Run B) → r.bodies ≤ most
+    → ((a : A) → (next a).bodies ≤ most) → (andthen r next).bodies ≤ most
 unfolding andthen
 then_open most r next h k = continued_open most r.nodes r.bodies r.ends next h k
 
@@ -26,13 +34,16 @@ none_open : (most n : ℕ) → n ≡ 0 → n ≤ most
 none_open most n h = omega (arith, h)
 
 -- so many turns
-turns_open : (most : ℕ) (turn : ℕ → State → Run State) → ((i : ℕ) (s : State) → (turn i s).bodies ≤ most) → (n i : ℕ) (s : State) → (turns n i turn s).bodies ≤ most
+turns_open : (most : ℕ) (turn : ℕ → State → Run State) → ((i : ℕ) (s : State) → (turn i s).bodies ≤ most)
+    → (n i : ℕ) (s : State) → (turns n i turn s).bodies ≤ most
 unfolding tick
 turns_open most turn each zero i s = omega arith
-turns_open most turn each (suc n) i s = then_open most (turn i s) _ (each i s) (λ t. turns_open most turn each n (i + 1) t)
+turns_open most turn each (suc n) i s =
+    then_open most (turn i s) _ (each i s) (λ t. turns_open most turn each n (i + 1) t)
 
 -- one of two runs
-one_open : (a b : ℕ) (accepted otherwise : Run State) → accepted.bodies ≤ a → otherwise.bodies ≤ b → (test : Bool) → (if test then accepted else otherwise).bodies ≤ max a b
+one_open : (a b : ℕ) (accepted otherwise : Run State) → accepted.bodies ≤ a → otherwise.bodies ≤ b → (test : Bool)
+    → (if test then accepted else otherwise).bodies ≤ max a b
 one_open a b accepted otherwise h k true = omega (arith, h, le-max_left a b)
 one_open a b accepted otherwise h k false = omega (arith, k, le-max_right a b)
 
@@ -48,15 +59,18 @@ IsOpened (Some known) (Some extent) = (s : State) → (known.body s).bodies + 1 
 abbrev AreOpened : Runnables → Extents → Type 0
 AreOpened known extents = (name : List ℕ) → IsOpened (known name) (extents name)
 
-call_open : (known : Option Runnable) (extent : Option Extent) → IsOpened known extent → (s : State) (c : CallTree) → (call_run known s c).bodies ≤ bodies_of_called extent
+call_open : (known : Option Runnable) (extent : Option Extent) → IsOpened known extent → (s : State) (c : CallTree)
+    → (call_run known s c).bodies ≤ bodies_of_called extent
 unfolding tick inside
 call_open None None opened s c = omega arith
 call_open None (Some extent) opened s c = absurd opened
 call_open (Some known) None opened s c = absurd opened
 call_open (Some known) (Some extent) opened s c =
     let words = word_arguments known.procedure.parameters c.arguments in
-    then_open extent.bodies (passed s words) _ (none_open extent.bodies (passed s words).bodies (passed_open s words)) (λ vs.
-    then_open extent.bodies (inside (known.body (begun s known.procedure.parameters c.arguments vs))) _ (opened (begun s known.procedure.parameters c.arguments vs)) (λ r. omega arith))
+    then_open extent.bodies (passed s words) _ (none_open extent.bodies (passed s words).bodies (passed_open s words))
+    (λ vs.
+    then_open extent.bodies (inside (known.body (begun s known.procedure.parameters c.arguments vs))) _
+    (opened (begun s known.procedure.parameters c.arguments vs)) (λ r. omega arith))
 
 module _ (known : Runnables) (extents : Extents) (opened : AreOpened known extents) where
   value_open : (most : ℕ) (s : State) (e : ExprTree) → (value s e).bodies ≤ most
@@ -69,41 +83,62 @@ module _ (known : Runnables) (extents : Extents) (opened : AreOpened known exten
   mutual
     unfolding tick
 
-    statement_open : (statement : StatementTree) (s : State) → (run known s statement).bodies ≤ statement_bodies extents statement
-    statement_open (declaration place label mutable kind text right) s = then_open (right_bodies extents right) (right_run known s right) _ (right_open s right) (λ r. omega arith)
-    statement_open (array place label mutable kind size text initial) s = none_open 0 _ (array_opens s text kind size initial)
-    statement_open (assignment place target text right) s = then_open (right_bodies extents right) (right_run known s right) _ (right_open s right) (λ r. omega arith)
+    statement_open : (statement : StatementTree) (s : State)
+        → (run known s statement).bodies ≤ statement_bodies extents statement
+    statement_open (declaration place label mutable kind text right) s =
+        then_open (right_bodies extents right) (right_run known s right) _ (right_open s right) (λ r. omega arith)
+    statement_open (array place label mutable kind size text initial) s =
+        none_open 0 _ (array_opens s text kind size initial)
+    statement_open (assignment place target text right) s =
+        then_open (right_bodies extents right) (right_run known s right) _ (right_open s right) (λ r. omega arith)
     statement_open (element_assignment place bracket target text index right) s =
         let most = right_bodies extents right in
         then_open most (value s index) _ (value_open most s index) (λ i.
-        then_open most _ _ (omega arith) (λ old. then_open most (right_run known s right) _ (right_open s right) (λ r. omega arith)))
-    statement_open (call c) s = then_open (bodies_of_called (extents c.name)) (call_run (known c.name) s c) _ (call_open (known c.name) (extents c.name) (opened c.name) s c) (λ r. omega arith)
+        then_open most _ _ (omega arith)
+        (λ old. then_open most (right_run known s right) _ (right_open s right) (λ r. omega arith)))
+    statement_open (call c) s =
+        then_open (bodies_of_called (extents c.name)) (call_run (known c.name) s c) _
+        (call_open (known c.name) (extents c.name) (opened c.name) s c) (λ r. omega arith)
     statement_open (conditional place condition accepted otherwise) s =
         let most = max (block_bodies extents accepted) (block_bodies extents otherwise) in
         then_open most (value s condition) _ (value_open most s condition) (λ c.
-        one_open (block_bodies extents accepted) (block_bodies extents otherwise) (run_all known s accepted) (run_all known s otherwise) (block_open accepted s) (block_open otherwise s) (truth_of c.value))
+        one_open (block_bodies extents accepted) (block_bodies extents otherwise) (run_all known s accepted)
+        (run_all known s otherwise) (block_open accepted s) (block_open otherwise s) (truth_of c.value))
     statement_open (loop place counter text low high body) s =
         let most = block_bodies extents body in
         then_open most (value s low) _ (value_open most s low) (λ a.
         then_open most (value s high) _ (value_open most s high) (λ b.
-        turns_open most (λ i t. run_all known (counting t text i) body) (λ i t. block_open body (counting t text i)) (b.value - a.value) a.value s))
+        turns_open most (λ i t. run_all known (counting t text i) body) (λ i t. block_open body (counting t text i))
+        (b.value - a.value) a.value s))
 
     block_open : (block : BlockTree) (s : State) → (run_all known s block).bodies ≤ block_bodies extents block
     block_open nothing s = omega arith
     block_open (first statement rest) s =
         let most = max (statement_bodies extents statement) (block_bodies extents rest) in
-        then_open most (run known s statement) _ (omega (arith, statement_open statement s, le-max_left (statement_bodies extents statement) (block_bodies extents rest)))
-        (λ t. omega (arith, block_open rest t, le-max_right (statement_bodies extents statement) (block_bodies extents rest)))
+        then_open most (run known s statement) _
+        (omega (
+          arith,
+          statement_open statement s,
+          le-max_left (statement_bodies extents statement) (block_bodies extents rest),
+        ))
+        (λ t. omega (
+          arith,
+          block_open rest t,
+          le-max_right (statement_bodies extents statement) (block_bodies extents rest),
+        ))
 
   body_open : (p : ProcedureTree) (s : State) → (body_run known p s).bodies ≤ block_bodies extents p.body
-  body_open p s = then_open (block_bodies extents p.body) (run_all known s p.body) _ (block_open p.body s) (λ t. none_open (block_bodies extents p.body) _ (return_opens t p.returned))
+  body_open p s = then_open (block_bodies extents p.body) (run_all known s p.body) _ (block_open p.body s)
+      (λ t. none_open (block_bodies extents p.body) _ (return_opens t p.returned))
 
   -- with one more procedure
-  one_more_opened : (p : ProcedureTree) → AreOpened (with_known known p.name (runnable known p)) (with_known extents p.name (extent_of extents p))
+  one_more_opened : (p : ProcedureTree)
+      → AreOpened (with_known known p.name (runnable known p)) (with_known extents p.name (extent_of extents p))
   one_more_opened p name = by_name (known name) (extents name) (opened name) (bytes_eq name p.name)
     where
       by_name : (one : Option Runnable) (extent : Option Extent) → IsOpened one extent → (same : Bool)
-          → IsOpened (first_known one (if same then Some (runnable known p) else None)) (first_known extent (if same then Some (extent_of extents p) else None))
+          → IsOpened (first_known one (if same then Some (runnable known p) else None))
+          (first_known extent (if same then Some (extent_of extents p) else None))
       by_name None None both true = λ s. omega (arith, body_open p s)
       by_name None None both false = tt
       by_name None (Some extent) both same = absurd both
@@ -112,12 +147,15 @@ module _ (known : Runnables) (extents : Extents) (opened : AreOpened known exten
 
 -- Programs.
 
-all_opened : (ps : List ProcedureTree) (known : Runnables) (extents : Extents) → AreOpened known extents → AreOpened (known_from runnable known ps) (known_from extent_of extents ps)
+all_opened : (ps : List ProcedureTree) (known : Runnables) (extents : Extents) → AreOpened known extents
+    → AreOpened (known_from runnable known ps) (known_from extent_of extents ps)
 all_opened [] known extents opened = opened
 all_opened (p ∷ ps) known extents opened =
-    all_opened ps (with_known known p.name (runnable known p)) (with_known extents p.name (extent_of extents p)) (one_more_opened known extents opened p)
+    all_opened ps (with_known known p.name (runnable known p)) (with_known extents p.name (extent_of extents p))
+    (one_more_opened known extents opened p)
 
-export_opens : (before : List ProcedureTree) (p : ProcedureTree) (args : List Arg) → (export_run before p args).bodies ≤ bodies_of (extents_of before) p
+export_opens : (before : List ProcedureTree) (p : ProcedureTree) (args : List Arg)
+    → (export_run before p args).bodies ≤ bodies_of (extents_of before) p
 unfolding inside
 export_opens before p args =
     let known = runnables before in
@@ -125,7 +163,9 @@ export_opens before p args =
     then_open (bodies_of (extents_of before) p) (inside (body_run known p (holding p.parameters args))) _
     (omega (arith, body_open known (extents_of before) opened p (holding p.parameters args))) (λ r. omega arith)
 
-pub program_opens : (program : ProgramTree) (args : List Arg) (before : List ProcedureTree) (p : ProcedureTree) → exported [] program.procedures ≡ Some (before, p)
+pub program_opens : (program : ProgramTree) (args : List Arg) (before : List ProcedureTree) (p : ProcedureTree)
+    → exported [] program.procedures ≡ Some (before, p)
     → (program_run program args).bodies ≤ bodies_of (extents_of before) p
 program_opens program args before p is =
-    subst (λ (found : Option (List ProcedureTree × ProcedureTree)). (found_run found args).bodies ≤ bodies_of (extents_of before) p) (sym is) (export_opens before p args)
+    subst (λ (found : Option (List ProcedureTree × ProcedureTree)). (found_run found args).bodies
+    ≤ bodies_of (extents_of before) p) (sym is) (export_opens before p args)

@@ -10,7 +10,9 @@ use Rattle.language.specs.declared.tree.BinaryOperator.TheVariants.{Less, Add, D
 use Rattle.language.specs.declared.values.Arg.TheVariants as arg
 use Rattle.language.specs.Evaluation.{tick, andthen, inside, program_run}
 use Rattle.language.specs.Meaning.{gives, faults}
-use Rattle.language.specs.Tree.{ExprTree, number, truth, name, binary, element, computed, declaration, assignment, element_assignment, call, conditional, loop, BlockTree, nothing, first, ParameterTree, ReturnTree, ProcedureTree, ProgramTree}
+use Rattle.language.specs.Tree.{ExprTree, number, truth, name, binary, element, computed, declaration, assignment}
+use Rattle.language.specs.Tree.{element_assignment, call, conditional, loop, BlockTree, nothing, first, ParameterTree}
+use Rattle.language.specs.Tree.{ReturnTree, ProcedureTree, ProgramTree}
 
 abbrev here : Place
 here = record { offset = 0; line = 1; column = 1 }
@@ -31,7 +33,15 @@ abbrev n : ℕ → ExprTree
 n k = number here k Uint32
 
 abbrev void : List ℕ → List ParameterTree → BlockTree → Option ReturnTree → ProcedureTree
-void text ps body returned = record { export = None; result = None; place = here; name = text; parameters = ps; body = body; returned = returned }
+void text ps body returned = record {
+  export = None;
+  result = None;
+  place = here;
+  name = text;
+  parameters = ps;
+  body = body;
+  returned = returned;
+}
 
 abbrev exporting : ProcedureTree → ProcedureTree
 exporting p = record p { export = Some here }
@@ -44,21 +54,25 @@ six = record {
     result = Some (record { kind = Uint32; label = Secret });
     place = here;
     name = 102 ∷ [];
-    parameters = record { label = Secret; kind = Boolean; form = SingleWord; length = 1; place = here; name = t } ∷ [];
+    parameters = record { label = Secret; kind = Boolean; form = SingleWord; length = 1; place = here; name = t }
+        ∷ [];
     body = first (declaration here Secret true Boolean s (computed (v t)))
         (first (declaration here Secret true Uint32 y (computed (n 0)))
         (first (conditional here (v s)
-        (first (assignment here here s (computed (truth here false))) (first (assignment here here y (computed (n 1))) nothing))
+        (first (assignment here here s (computed (truth here false)))
+        (first (assignment here here y (computed (n 1))) nothing))
         (first (assignment here here y (computed (n 2))) nothing)) nothing));
     returned = Some (record { place = here; value = v y });
   } ∷ [];
 }
 
-pub six_on_one : program_run six (arg.Word 1 ∷ []) ≡ record { nodes = 12; bodies = 1; ends = gives (record { returned = Some 1; arrays = [] }) }
+pub six_on_one : program_run six (arg.Word 1 ∷ [])
+    ≡ record { nodes = 12; bodies = 1; ends = gives (record { returned = Some 1; arrays = [] }) }
 unfolding tick andthen inside
 six_on_one = refl
 
-pub six_on_zero : program_run six (arg.Word 0 ∷ []) ≡ record { nodes = 10; bodies = 1; ends = gives (record { returned = Some 2; arrays = [] }) }
+pub six_on_zero : program_run six (arg.Word 0 ∷ [])
+    ≡ record { nodes = 10; bodies = 1; ends = gives (record { returned = Some 2; arrays = [] }) }
 unfolding tick andthen inside
 six_on_zero = refl
 
@@ -73,31 +87,43 @@ abbrev no_turns : ProgramTree
 no_turns = record {
   procedures = exporting (void (102 ∷ []) []
       (first (declaration here Public true Uint32 s (computed (n 7)))
-      (first (loop here here j (n 5) (n 5) (first (assignment here here s (computed (binary here Add (v s) (v j)))) nothing))
+      (first (loop here here j (n 5) (n 5)
+      (first (assignment here here s (computed (binary here Add (v s) (v j)))) nothing))
       (first (loop here here j (n 9) (n 2) (first (assignment here here s (computed (n 0))) nothing)) nothing)))
       (Some (record { place = here; value = v s }))) ∷ [];
 }
 
-pub counts_no_turn : program_run no_turns [] ≡ record { nodes = 10; bodies = 1; ends = gives (record { returned = Some 7; arrays = [] }) }
+pub counts_no_turn : program_run no_turns []
+    ≡ record { nodes = 10; bodies = 1; ends = gives (record { returned = Some 7; arrays = [] }) }
 unfolding tick andthen inside
 counts_no_turn = refl
 
 -- an array is copied in and out, its word argument taken before
 abbrev parameter : Form → ℕ → List ℕ → ParameterTree
-parameter form size text = record { label = Secret; kind = Uint32; form = form; length = size; place = here; name = text }
+parameter form size text = record {
+  label = Secret;
+  kind = Uint32;
+  form = form;
+  length = size;
+  place = here;
+  name = text;
+}
 
 abbrev copying : ProgramTree
 copying = record {
   procedures =
       void (103 ∷ []) (parameter MutableArray 2 y ∷ parameter SingleWord 1 t ∷ [])
       (first (element_assignment here here here y (n 0) (computed (v t)))
-      (first (element_assignment here here here y (n 1) (computed (binary here Add (element here here y (n 0)) (v t)))) nothing)) None
+      (first (element_assignment here here here y (n 1)
+      (computed (binary here Add (element here here y (n 0)) (v t)))) nothing)) None
       ∷ exporting (void (102 ∷ []) (parameter MutableArray 2 a ∷ [])
-      (first (call (record { place = here; name = 103 ∷ []; arguments = v a ∷ element here here a (n 1) ∷ [] })) nothing) None)
+      (first (call (record { place = here; name = 103 ∷ []; arguments = v a ∷ element here here a (n 1) ∷ [] }))
+      nothing) None)
       ∷ [];
 }
 
-pub copies : program_run copying (arg.Array (7 ∷ 5 ∷ []) ∷ []) ≡ record { nodes = 15; bodies = 2; ends = gives (record { returned = None; arrays = (5 ∷ 10 ∷ []) ∷ [] }) }
+pub copies : program_run copying (arg.Array (7 ∷ 5 ∷ []) ∷ [])
+    ≡ record { nodes = 15; bodies = 2; ends = gives (record { returned = None; arrays = (5 ∷ 10 ∷ []) ∷ [] }) }
 unfolding tick andthen inside
 copies = refl
 
@@ -109,7 +135,9 @@ abbrev dropping : ProgramTree
 dropping = record {
   procedures =
       void (103 ∷ []) [] nothing (Some (record { place = here; value = binary there Divide (n 1) (n 0) }))
-      ∷ exporting (void (102 ∷ []) [] (first (call (record { place = here; name = 103 ∷ []; arguments = [] })) nothing) None)
+      ∷ exporting
+      (void (102 ∷ []) [] (first (call (record { place = here; name = 103 ∷ []; arguments = [] })) nothing)
+      None)
       ∷ [];
 }
 
@@ -120,14 +148,22 @@ drops_no_fault = refl
 -- an arm that does not run meets no fault, and the one that runs does
 abbrev guarded : ProgramTree
 guarded = record {
-  procedures = exporting (void (102 ∷ []) (record (parameter SingleWord 1 s) { kind = Boolean } ∷ parameter SingleWord 1 j ∷ parameter MutableArray 2 a ∷ [])
-      (first (conditional here (v s) (first (conditional here (binary here Less (v j) (n 2)) (first (element_assignment here there here a (v j) (computed (n 9))) nothing) nothing) nothing) nothing) nothing) None) ∷ [];
+  procedures =
+      exporting (void (102 ∷ []) (record (parameter SingleWord 1 s) { kind = Boolean } ∷ parameter SingleWord 1 j
+      ∷ parameter MutableArray 2 a ∷ [])
+      (first
+      (conditional here (v s)
+      (first (conditional here (binary here Less (v j) (n 2))
+      (first (element_assignment here there here a (v j) (computed (n 9))) nothing) nothing) nothing)
+      nothing) nothing) None) ∷ [];
 }
 
-pub guards : program_run guarded (arg.Word 1 ∷ arg.Word 2 ∷ arg.Array (1 ∷ 2 ∷ []) ∷ []) ≡ record { nodes = 6; bodies = 1; ends = gives (record { returned = None; arrays = (1 ∷ 2 ∷ []) ∷ [] }) }
+pub guards : program_run guarded (arg.Word 1 ∷ arg.Word 2 ∷ arg.Array (1 ∷ 2 ∷ []) ∷ [])
+    ≡ record { nodes = 6; bodies = 1; ends = gives (record { returned = None; arrays = (1 ∷ 2 ∷ []) ∷ [] }) }
 unfolding tick andthen inside
 guards = refl
 
-pub guards_within : program_run guarded (arg.Word 1 ∷ arg.Word 1 ∷ arg.Array (1 ∷ 2 ∷ []) ∷ []) ≡ record { nodes = 10; bodies = 1; ends = gives (record { returned = None; arrays = (1 ∷ 9 ∷ []) ∷ [] }) }
+pub guards_within : program_run guarded (arg.Word 1 ∷ arg.Word 1 ∷ arg.Array (1 ∷ 2 ∷ []) ∷ [])
+    ≡ record { nodes = 10; bodies = 1; ends = gives (record { returned = None; arrays = (1 ∷ 9 ∷ []) ∷ [] }) }
 unfolding tick andthen inside
 guards_within = refl

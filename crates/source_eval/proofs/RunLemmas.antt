@@ -1,15 +1,19 @@
 -- How runs spend a budget, part by part.
-use Rattle.std.proofs.Common.{◌≡◌, ℕ, suc, ◌+◌, ◌-◌, ◌<◌, ◌≤◌, inl, inr, List, [], ◌∷◌, ◌++◌, Option, Some, None, append_assoc, append-nil, refl, sym, subst, arith}
+use Rattle.std.proofs.Common.{◌≡◌, ℕ, suc, ◌+◌, ◌-◌, ◌<◌, ◌≤◌, inl, inr, List, [], ◌∷◌, ◌++◌, Option, Some, None}
+use Rattle.std.proofs.Common.{append_assoc, append-nil, refl, sym, subst, arith}
 use Rattle.language.specs.declared.signature.Kind.{Kind}
-use Rattle.language.specs.Evaluation.{Run, given, tick, andthen, later, continued, value, values, passed, turns, array_run, loop_run, return_run, run, run_all, Runnables}
+use Rattle.language.specs.Evaluation.{Run, given, tick, andthen, later, continued, value, values, passed, turns}
+use Rattle.language.specs.Evaluation.{array_run, loop_run, return_run, run, run_all, Runnables}
 use Rattle.language.specs.Meaning.{Ending, gives, faults, written}
 use Rattle.language.specs.State.{State, Word}
 use Rattle.source_eval.specs.Metering.{Ended, Stopped}
 use Rattle.source_eval.specs.declared.fault.EvalFault.{EvalFault}
 use Rattle.source_eval.specs.declared.fault.EvalFault.TheVariants.{Argument, NoMeaning, Budget, Memory}
-use Rattle.language.specs.Tree.{ExprTree, number, truth, name, prefix, binary, rotate, convert, select, element, StatementTree, BlockTree, first, ReturnTree}
+use Rattle.language.specs.Tree.{ExprTree, number, truth, name, prefix, binary, rotate, convert, select, element}
+use Rattle.language.specs.Tree.{StatementTree, BlockTree, first, ReturnTree}
 
-then-none : {A B : Type 0} (nodes bodies : ℕ) (ending : Ending A) (next : A → Run B) → bodies ≡ 0 → ((a : A) → (next a).bodies ≡ 0) → (continued nodes bodies ending next).bodies ≡ 0
+then-none : {A B : Type 0} (nodes bodies : ℕ) (ending : Ending A) (next : A → Run B) → bodies ≡ 0
+    → ((a : A) → (next a).bodies ≡ 0) → (continued nodes bodies ending next).bodies ≡ 0
 then-none nodes bodies (gives a) next h k = let e = k a in omega arith
 then-none nodes bodies (faults place) next h k = h
 
@@ -19,10 +23,13 @@ value_opens s (number place v kind) = refl
 value_opens s (truth place v) = refl
 value_opens s (name place text) = refl
 value_opens s (prefix place operator a) = then-none _ _ _ _ (value_opens s a) (λ _. refl)
-value_opens s (binary place operator a b) = then-none _ _ _ _ (value_opens s a) (λ _. then-none _ _ _ _ (value_opens s b) (λ _. refl))
+value_opens s (binary place operator a b) =
+    then-none _ _ _ _ (value_opens s a) (λ _. then-none _ _ _ _ (value_opens s b) (λ _. refl))
 value_opens s (rotate place a amount) = then-none _ _ _ _ (value_opens s a) (λ _. refl)
 value_opens s (convert place kind a) = then-none _ _ _ _ (value_opens s a) (λ _. refl)
-value_opens s (select place a b c) = then-none _ _ _ _ (value_opens s a) (λ _. then-none _ _ _ _ (value_opens s b) (λ _. then-none _ _ _ _ (value_opens s c) (λ _. refl)))
+value_opens s (select place a b c) =
+    then-none _ _ _ _ (value_opens s a)
+    (λ _. then-none _ _ _ _ (value_opens s b) (λ _. then-none _ _ _ _ (value_opens s c) (λ _. refl)))
 value_opens s (element place target text a) = then-none _ _ _ _ (value_opens s a) (λ _. refl)
 
 pub values_open : (s : State) (es : List ExprTree) → (values s es).bodies ≡ 0
@@ -52,7 +59,8 @@ unfolding tick andthen
 return_opens s None = refl
 return_opens s (Some r) = then-none _ _ _ _ (value_opens s r.value) (λ _. refl)
 
-pub array_opens : (s : State) (text : List ℕ) (kind : Kind) (size : ℕ) (initial : Option (List ExprTree)) → (array_run s text kind size initial).bodies ≡ 0
+pub array_opens : (s : State) (text : List ℕ) (kind : Kind) (size : ℕ) (initial : Option (List ExprTree))
+    → (array_run s text kind size initial).bodies ≡ 0
 unfolding tick andthen
 array_opens s text kind size initial = then-none _ _ _ _ (values_open s (written initial)) (λ _. refl)
 
@@ -66,7 +74,8 @@ then_ends {A} {B} r next left middle after room a b h k =
     (record { gives_it = k.gives_it; spends = omega arith; opens = omega arith })
 
 later_stops : {B : Type 0} (r : Run B) (nodes bodies left middle room : ℕ) (fault : EvalFault)
-    → left ≡ nodes + middle → bodies ≤ room → Stopped r middle room fault → Stopped (later nodes bodies r) left room fault
+    → left ≡ nodes + middle → bodies ≤ room → Stopped r middle room fault
+    → Stopped (later nodes bodies r) left room fault
 later_stops r nodes bodies left middle room (NoMeaning place) spent opened h = (h.0, omega arith, omega arith)
 later_stops r nodes bodies left middle room Budget spent opened (inl h) = inl (omega arith)
 later_stops r nodes bodies left middle room Budget spent opened (inr h) = inr (omega arith)
@@ -89,7 +98,8 @@ pub stops_then : {A B : Type 0} (r : Run A) (next : A → Run B) (left room : �
     → Stopped r left room fault → Stopped (andthen r next) left room fault
 unfolding andthen
 stops_then {A} {B} r next left room (NoMeaning place) h =
-    subst (λ (ending : Ending A). Stopped (continued r.nodes r.bodies ending next) left room (NoMeaning place)) (sym h.0) (refl, h.1, h.2)
+    subst (λ (ending : Ending A). Stopped (continued r.nodes r.bodies ending next) left room (NoMeaning place))
+    (sym h.0) (refl, h.1, h.2)
 stops_then r next left room Budget (inl h) = let more = at_least r.nodes r.bodies r.ends next in inl (omega arith)
 stops_then r next left room Budget (inr h) = let more = at_least r.nodes r.bodies r.ends next in inr (omega arith)
 stops_then r next left room Memory h = h
@@ -97,11 +107,13 @@ stops_then r next left room (Argument fault) h = h
 
 -- One node.
 
-pub tick_ends : {A : Type 0} (r : Run A) (before left room : ℕ) (a : A) (after : ℕ) → before ≡ left + 1 → Ended r left room a after → Ended (tick r) before room a after
+pub tick_ends : {A : Type 0} (r : Run A) (before left room : ℕ) (a : A) (after : ℕ) → before ≡ left + 1
+    → Ended r left room a after → Ended (tick r) before room a after
 unfolding tick
 tick_ends r before left room a after one h = record { gives_it = h.gives_it; spends = omega arith; opens = h.opens }
 
-pub tick_stops : {A : Type 0} (r : Run A) (before left room : ℕ) (fault : EvalFault) → before ≡ left + 1 → Stopped r left room fault → Stopped (tick r) before room fault
+pub tick_stops : {A : Type 0} (r : Run A) (before left room : ℕ) (fault : EvalFault) → before ≡ left + 1
+    → Stopped r left room fault → Stopped (tick r) before room fault
 unfolding tick
 tick_stops r before left room (NoMeaning place) one h = (h.0, omega arith, h.2)
 tick_stops r before left room Budget one (inl h) = inl (omega arith)
@@ -109,94 +121,138 @@ tick_stops r before left room Budget one (inr h) = inr h
 tick_stops r before left room Memory one h = h
 tick_stops r before left room (Argument fault) one h = h
 
-pub tick_lacks : {A : Type 0} (r : Run A) (left room : ℕ) (fault : EvalFault) → left ≡ 0 → fault ≡ Budget → Stopped (tick r) left room fault
+pub tick_lacks : {A : Type 0} (r : Run A) (left room : ℕ) (fault : EvalFault) → left ≡ 0 → fault ≡ Budget
+    → Stopped (tick r) left room fault
 unfolding tick
 tick_lacks r left room fault none is = subst (Stopped (tick r) left room) (sym is) (inl (omega arith))
 
-pub memory_stops : {A : Type 0} (r : Run A) (left room : ℕ) (fault : EvalFault) → fault ≡ Memory → Stopped r left room fault
+pub memory_stops : {A : Type 0} (r : Run A) (left room : ℕ) (fault : EvalFault) → fault ≡ Memory
+    → Stopped r left room fault
 memory_stops r left room fault is = subst (Stopped r left room) (sym is) tt
 
 -- A run that goes on with what is left of it.
 
 -- the whole comes to what the rest comes to, once that is joined to what was found
-pub record Leads {A B : Type 0} (whole : Run A) (start room : ℕ) (rest : Run B) (now : ℕ) (join : B → A) : Type 0 where
+pub record Leads {A B : Type 0} (whole : Run A) (start room : ℕ) (rest : Run B) (now : ℕ) (join : B
+    → A) : Type 0 where
   pub ends : (b : B) (after : ℕ) → Ended rest now room b after → Ended whole start room (join b) after
   pub stops : (fault : EvalFault) → Stopped rest now room fault → Stopped whole start room fault
 
-cons_ends : {r : Run (List Word)} (v : Word) (left room : ℕ) (vs : List Word) (after : ℕ) → Ended r left room vs after → Ended (andthen r (λ ws. given (v ∷ ws))) left room (v ∷ vs) after
-cons_ends {r} v left room vs after h = then_ends r _ left after after room vs (v ∷ vs) h (record { gives_it = refl; spends = omega arith; opens = omega arith })
+cons_ends : {r : Run (List Word)} (v : Word) (left room : ℕ) (vs : List Word) (after : ℕ) → Ended r left room vs after
+    → Ended (andthen r (λ ws. given (v ∷ ws))) left room (v ∷ vs) after
+cons_ends {r} v left room vs after h =
+    then_ends r _ left after after room vs (v ∷ vs) h
+    (record { gives_it = refl; spends = omega arith; opens = omega arith })
 
-pub values_more : (s : State) (whole : Run (List Word)) (e : ExprTree) (es : List ExprTree) (start now middle : ℕ) (front : List Word) (v : Word)
+pub values_more : (s : State) (whole : Run (List Word)) (e : ExprTree) (es : List ExprTree) (start now middle : ℕ)
+    (front : List Word) (v : Word)
     → Leads whole start 0 (values s (e ∷ es)) now (λ vs. front ++ vs) → Ended (value s e) now 0 v middle
     → Leads whole start 0 (values s es) middle (λ vs. (front ++ v ∷ []) ++ vs)
 values_more s whole e es start now middle front v leads h = record {
-  ends = λ vs after k. subst (λ ws. Ended whole start 0 ws after) (sym (append_assoc front (v ∷ []) vs)) (leads.ends (v ∷ vs) after (then_ends (value s e) _ now middle after 0 v (v ∷ vs) h (cons_ends v middle 0 vs after k)));
-  stops = λ fault k. leads.stops fault (then_stops (value s e) _ now middle 0 v fault h (stops_then (values s es) _ middle 0 fault k));
+  ends = λ vs after k. subst (λ ws. Ended whole start 0 ws after) (sym (append_assoc front (v ∷ []) vs))
+      (leads.ends (v ∷ vs) after
+      (then_ends (value s e) _ now middle after 0 v (v ∷ vs) h (cons_ends v middle 0 vs after k)));
+  stops =
+      λ fault k. leads.stops fault
+      (then_stops (value s e) _ now middle 0 v fault h (stops_then (values s es) _ middle 0 fault k));
 }
 
-pub values_stop : (s : State) (whole : Run (List Word)) (e : ExprTree) (es : List ExprTree) (start now : ℕ) (join : List Word → List Word) (fault : EvalFault)
+pub values_stop : (s : State) (whole : Run (List Word)) (e : ExprTree) (es : List ExprTree) (start now : ℕ)
+    (join : List Word → List Word) (fault : EvalFault)
     → Leads whole start 0 (values s (e ∷ es)) now join → Stopped (value s e) now 0 fault → Stopped whole start 0 fault
 values_stop s whole e es start now join fault leads h = leads.stops fault (stops_then (value s e) _ now 0 fault h)
 
 -- the values of word arguments, some of which are found
-pub passed_more : (s : State) (whole : Run (List Word)) (e : ExprTree) (es : List ExprTree) (start before now middle : ℕ) (front : List Word) (v : Word)
-    → Leads whole start 0 (passed s (e ∷ es)) before (λ vs. front ++ vs) → before ≡ now + 1 → Ended (value s e) now 0 v middle
+pub passed_more : (s : State) (whole : Run (List Word)) (e : ExprTree) (es : List ExprTree)
+    (start before now middle : ℕ) (front : List Word) (v : Word)
+    → Leads whole start 0 (passed s (e ∷ es)) before (λ vs. front ++ vs) → before ≡ now + 1
+    → Ended (value s e) now 0 v middle
     → Leads whole start 0 (passed s es) middle (λ vs. (front ++ v ∷ []) ++ vs)
 passed_more s whole e es start before now middle front v leads one h = record {
-  ends = λ vs after k. subst (λ ws. Ended whole start 0 ws after) (sym (append_assoc front (v ∷ []) vs)) (leads.ends (v ∷ vs) after (tick_ends _ before now 0 (v ∷ vs) after one (then_ends (value s e) _ now middle after 0 v (v ∷ vs) h (cons_ends v middle 0 vs after k))));
-  stops = λ fault k. leads.stops fault (tick_stops _ before now 0 fault one (then_stops (value s e) _ now middle 0 v fault h (stops_then (passed s es) _ middle 0 fault k)));
+  ends = λ vs after k. subst (λ ws. Ended whole start 0 ws after) (sym (append_assoc front (v ∷ []) vs))
+      (leads.ends (v ∷ vs) after
+      (tick_ends _ before now 0 (v ∷ vs) after one
+      (then_ends (value s e) _ now middle after 0 v (v ∷ vs) h (cons_ends v middle 0 vs after k))));
+  stops =
+      λ fault k. leads.stops fault
+      (tick_stops _ before now 0 fault one
+      (then_stops (value s e) _ now middle 0 v fault h (stops_then (passed s es) _ middle 0 fault k)));
 }
 
-pub passed_stop : (s : State) (whole : Run (List Word)) (e : ExprTree) (es : List ExprTree) (start before now : ℕ) (join : List Word → List Word) (fault : EvalFault)
-    → Leads whole start 0 (passed s (e ∷ es)) before join → before ≡ now + 1 → Stopped (value s e) now 0 fault → Stopped whole start 0 fault
-passed_stop s whole e es start before now join fault leads one h = leads.stops fault (tick_stops _ before now 0 fault one (stops_then (value s e) _ now 0 fault h))
+pub passed_stop : (s : State) (whole : Run (List Word)) (e : ExprTree) (es : List ExprTree) (start before now : ℕ)
+    (join : List Word → List Word) (fault : EvalFault)
+    → Leads whole start 0 (passed s (e ∷ es)) before join → before ≡ now + 1 → Stopped (value s e) now 0 fault
+    → Stopped whole start 0 fault
+passed_stop s whole e es start before now join fault leads one h =
+    leads.stops fault (tick_stops _ before now 0 fault one (stops_then (value s e) _ now 0 fault h))
 
-pub passed_lacks : (s : State) (whole : Run (List Word)) (e : ExprTree) (es : List ExprTree) (start before : ℕ) (join : List Word → List Word) (fault : EvalFault)
+pub passed_lacks : (s : State) (whole : Run (List Word)) (e : ExprTree) (es : List ExprTree) (start before : ℕ)
+    (join : List Word → List Word) (fault : EvalFault)
     → Leads whole start 0 (passed s (e ∷ es)) before join → before ≡ 0 → fault ≡ Budget → Stopped whole start 0 fault
-passed_lacks s whole e es start before join fault leads none is = leads.stops fault (tick_lacks _ before 0 fault none is)
+passed_lacks s whole e es start before join fault leads none is =
+    leads.stops fault (tick_lacks _ before 0 fault none is)
 
 -- nothing is left
 pub all_found : (whole : Run (List Word)) (start now : ℕ) (front : List Word)
     → Leads whole start 0 (given []) now (λ vs. front ++ vs) → Ended whole start 0 front now
 all_found whole start now front leads =
-    subst (λ ws. Ended whole start 0 ws now) (append-nil front) (leads.ends [] now (record { gives_it = refl; spends = omega arith; opens = omega arith }))
+    subst (λ ws. Ended whole start 0 ws now) (append-nil front)
+    (leads.ends [] now (record { gives_it = refl; spends = omega arith; opens = omega arith }))
 
 -- the turns of a loop
 step_of : (i n : ℕ) → i < n → n - i ≡ suc (n - (i + 1))
 step_of i n less = omega arith
 
 module _ (whole : Run State) (turn : ℕ → State → Run State) (start room : ℕ) where
-  pub turns_more : (s t : State) (i n before now middle : ℕ) → i < n → Leads whole start room (turns (n - i) i turn s) before (λ u. u) → before ≡ now + 1 → Ended (turn i s) now room t middle
+  pub turns_more : (s t : State) (i n before now middle : ℕ) → i < n
+      → Leads whole start room (turns (n - i) i turn s) before (λ u. u) → before ≡ now + 1
+      → Ended (turn i s) now room t middle
       → Leads whole start room (turns (n - (i + 1)) (i + 1) turn t) middle (λ u. u)
   turns_more s t i n before now middle less leads one h =
-      let l : Leads whole start room (turns (suc (n - (i + 1))) i turn s) before (λ u. u) = subst (λ m. Leads whole start room (turns m i turn s) before (λ u. u)) (step_of i n less) leads in
+      let l : Leads whole start room (turns (suc (n - (i + 1))) i turn s) before (λ u. u) =
+      subst (λ m. Leads whole start room (turns m i turn s) before (λ u. u)) (step_of i n less) leads in
       record {
-        ends = λ u after k. l.ends u after (tick_ends _ before now room u after one (then_ends (turn i s) _ now middle after room t u h k));
-        stops = λ fault k. l.stops fault (tick_stops _ before now room fault one (then_stops (turn i s) _ now middle room t fault h k));
+        ends =
+            λ u after k. l.ends u after
+            (tick_ends _ before now room u after one (then_ends (turn i s) _ now middle after room t u h k));
+        stops =
+            λ fault k.
+            l.stops fault (tick_stops _ before now room fault one
+            (then_stops (turn i s) _ now middle room t fault h k));
       }
 
-  pub turns_stop : (s : State) (i n before now : ℕ) (fault : EvalFault) → i < n → Leads whole start room (turns (n - i) i turn s) before (λ u. u) → before ≡ now + 1 → Stopped (turn i s) now room fault
+  pub turns_stop : (s : State) (i n before now : ℕ) (fault : EvalFault) → i < n
+      → Leads whole start room (turns (n - i) i turn s) before (λ u. u) → before ≡ now + 1
+      → Stopped (turn i s) now room fault
       → Stopped whole start room fault
   turns_stop s i n before now fault less leads one h =
-      let l : Leads whole start room (turns (suc (n - (i + 1))) i turn s) before (λ u. u) = subst (λ m. Leads whole start room (turns m i turn s) before (λ u. u)) (step_of i n less) leads in
+      let l : Leads whole start room (turns (suc (n - (i + 1))) i turn s) before (λ u. u) =
+      subst (λ m. Leads whole start room (turns m i turn s) before (λ u. u)) (step_of i n less) leads in
       l.stops fault (tick_stops _ before now room fault one (stops_then (turn i s) _ now room fault h))
 
-  pub turns_lack : (s : State) (i n before : ℕ) (fault : EvalFault) → i < n → Leads whole start room (turns (n - i) i turn s) before (λ u. u) → before ≡ 0 → fault ≡ Budget → Stopped whole start room fault
+  pub turns_lack : (s : State) (i n before : ℕ) (fault : EvalFault) → i < n
+      → Leads whole start room (turns (n - i) i turn s) before (λ u. u) → before ≡ 0 → fault ≡ Budget
+      → Stopped whole start room fault
   turns_lack s i n before fault less leads none is =
-      let l : Leads whole start room (turns (suc (n - (i + 1))) i turn s) before (λ u. u) = subst (λ m. Leads whole start room (turns m i turn s) before (λ u. u)) (step_of i n less) leads in
+      let l : Leads whole start room (turns (suc (n - (i + 1))) i turn s) before (λ u. u) =
+      subst (λ m. Leads whole start room (turns m i turn s) before (λ u. u)) (step_of i n less) leads in
       l.stops fault (tick_lacks _ before room fault none is)
 
-  pub turns_end : (s : State) (i n now : ℕ) → n ≤ i → Leads whole start room (turns (n - i) i turn s) now (λ u. u) → Ended whole start room s now
+  pub turns_end : (s : State) (i n now : ℕ) → n ≤ i → Leads whole start room (turns (n - i) i turn s) now (λ u. u)
+      → Ended whole start room s now
   turns_end s i n now least leads =
       let none : n - i ≡ 0 = omega arith in
-      let l : Leads whole start room (turns 0 i turn s) now (λ u. u) = subst (λ m. Leads whole start room (turns m i turn s) now (λ u. u)) none leads in
+      let l : Leads whole start room (turns 0 i turn s) now (λ u. u) =
+      subst (λ m. Leads whole start room (turns m i turn s) now (λ u. u)) none leads in
       l.ends s now (record { gives_it = refl; spends = omega arith; opens = omega arith })
 
 -- what opens no body does so in any room
-pub roomy_ends : {A : Type 0} (r : Run A) (left room : ℕ) (a : A) (after : ℕ) → Ended r left 0 a after → Ended r left room a after
+pub roomy_ends : {A : Type 0} (r : Run A) (left room : ℕ) (a : A) (after : ℕ) → Ended r left 0 a after
+    → Ended r left room a after
 roomy_ends r left room a after h = record { gives_it = h.gives_it; spends = h.spends; opens = omega arith }
 
-pub roomy_stops : {A : Type 0} (r : Run A) (left room : ℕ) (fault : EvalFault) → r.bodies ≡ 0 → Stopped r left 0 fault → Stopped r left room fault
+pub roomy_stops : {A : Type 0} (r : Run A) (left room : ℕ) (fault : EvalFault) → r.bodies ≡ 0 → Stopped r left 0 fault
+    → Stopped r left room fault
 roomy_stops r left room (NoMeaning place) none h = (h.0, h.1, omega arith)
 roomy_stops r left room Budget none (inl h) = inl h
 roomy_stops r left room Budget none (inr h) = absurd (omega arith)
@@ -204,23 +260,33 @@ roomy_stops r left room Memory none h = h
 roomy_stops r left room (Argument fault) none h = h
 
 -- the bounds of a loop, and then its turns
-pub bounds_end : (s : State) (low high : ExprTree) (turn : ℕ → State → Run State) (start one two three room : ℕ) (a b : Word)
+pub bounds_end : (s : State) (low high : ExprTree) (turn : ℕ → State
+    → Run State) (start one two three room : ℕ) (a b : Word)
     → start ≡ one + 1 → Ended (value s low) one 0 a two → Ended (value s high) two 0 b three
     → Leads (loop_run s low high turn) start room (turns (b.value - a.value) a.value turn s) three (λ u. u)
 bounds_end s low high turn start one two three room a b counts h k = record {
-  ends = λ u after m. tick_ends _ start one room u after counts (then_ends (value s low) _ one two after room a u (roomy_ends _ one room a two h) (then_ends (value s high) _ two three after room b u (roomy_ends _ two room b three k) m));
-  stops = λ fault m. tick_stops _ start one room fault counts (then_stops (value s low) _ one two room a fault (roomy_ends _ one room a two h) (then_stops (value s high) _ two three room b fault (roomy_ends _ two room b three k) m));
+  ends = λ u after m. tick_ends _ start one room u after counts
+      (then_ends (value s low) _ one two after room a u (roomy_ends _ one room a two h)
+      (then_ends (value s high) _ two three after room b u (roomy_ends _ two room b three k) m));
+  stops = λ fault m. tick_stops _ start one room fault counts
+      (then_stops (value s low) _ one two room a fault (roomy_ends _ one room a two h)
+      (then_stops (value s high) _ two three room b fault (roomy_ends _ two room b three k) m));
 }
 
 -- statements
 module _ (whole : Run State) (known : Runnables) (start room : ℕ) where
-  pub block_more : (s t : State) (statement : StatementTree) (rest : BlockTree) (now middle : ℕ) → Leads whole start room (run_all known s (first statement rest)) now (λ u. u) → Ended (run known s statement) now room t middle
+  pub block_more : (s t : State) (statement : StatementTree) (rest : BlockTree) (now middle : ℕ)
+      → Leads whole start room (run_all known s (first statement rest)) now (λ u. u)
+      → Ended (run known s statement) now room t middle
       → Leads whole start room (run_all known t rest) middle (λ u. u)
   block_more s t statement rest now middle leads h = record {
     ends = λ u after k. leads.ends u after (then_ends (run known s statement) _ now middle after room t u h k);
     stops = λ fault k. leads.stops fault (then_stops (run known s statement) _ now middle room t fault h k);
   }
 
-  pub block_stop : (s : State) (statement : StatementTree) (rest : BlockTree) (now : ℕ) (fault : EvalFault) → Leads whole start room (run_all known s (first statement rest)) now (λ u. u) → Stopped (run known s statement) now room fault
+  pub block_stop : (s : State) (statement : StatementTree) (rest : BlockTree) (now : ℕ) (fault : EvalFault)
+      → Leads whole start room (run_all known s (first statement rest)) now (λ u. u)
+      → Stopped (run known s statement) now room fault
       → Stopped whole start room fault
-  block_stop s statement rest now fault leads h = leads.stops fault (stops_then (run known s statement) _ now room fault h)
+  block_stop s statement rest now fault leads h =
+      leads.stops fault (stops_then (run known s statement) _ now room fault h)

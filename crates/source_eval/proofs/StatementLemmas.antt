@@ -1,5 +1,6 @@
 -- How the running of a call, of a loop and of a conditional spends a budget.
-use Rattle.std.proofs.Common.{◌≡◌, ℕ, ◌+◌, ◌-◌, ◌<◌, List, [], Option, Some, None, Result, map, Vec, Global, inl, inr, refl, sym, ap, ap₂, subst, ◌∙◌, arith}
+use Rattle.std.proofs.Common.{◌≡◌, ℕ, ◌+◌, ◌-◌, ◌<◌, List, [], Option, Some, None, Result, map, Vec, Global, inl, inr}
+use Rattle.std.proofs.Common.{refl, sym, ap, ap₂, subst, ◌∙◌, arith}
 use Rattle.std.proofs.lemmas.Result.{on_ok_weaker}
 use Rattle.std.specs.Option.{option_map}
 use Rattle.std.specs.Result.{OnOk}
@@ -10,24 +11,31 @@ use Rattle.language.specs.declared.tree.Parameter.{Parameter}
 use Rattle.language.specs.declared.tree.Procedure.{Procedure}
 use Rattle.language.specs.declared.tree.Statement.{Statement, If, For}
 use Rattle.language.specs.declared.tree.Counter.{Counter}
-use Rattle.language.specs.Evaluation.{Run, Runnable, Runnables, runnable, given, inside, passed, value, body_run, branch_run, call_run, called_run, loop_run, export_run, results, turns, run, run_all}
+use Rattle.language.specs.Evaluation.{Run, Runnable, Runnables, runnable, given, inside, passed, value, body_run}
+use Rattle.language.specs.Evaluation.{branch_run, call_run, called_run, loop_run, export_run, results, turns, run}
+use Rattle.language.specs.Evaluation.{run_all}
 use Rattle.language.specs.Limits.{most_bodies}
-use Rattle.language.specs.Meaning.{named, Returned, word_arguments, begun, copied_out, counting, final_arrays, holding}
+use Rattle.language.specs.Meaning.{named, Returned, word_arguments, begun, copied_out, counting, final_arrays}
+use Rattle.language.specs.Meaning.{holding}
 use Rattle.language.specs.declared.values.Arg.{Arg}
 use Rattle.language.specs.Results.{Results}
 use Rattle.language.specs.State.{State, Word}
-use Rattle.language.specs.Tree.{CallTree, ExprTree, BlockTree, block_tree, call_tree, expr_tree, parameter_tree, procedure_tree, statement_tree}
+use Rattle.language.specs.Tree.{CallTree, ExprTree, BlockTree, block_tree, call_tree, expr_tree, parameter_tree}
+use Rattle.language.specs.Tree.{procedure_tree, statement_tree}
 use Rattle.source_eval.specs.Metering.{Ended, Stopped, known_of}
 use Rattle.source_eval.proofs.Below.{conditional_tree, loop_tree, known-named}
 use Rattle.source_eval.specs.declared.fault.EvalFault.{EvalFault}
 use Rattle.source_eval.specs.declared.fault.EvalFault.TheVariants.{Argument, NoMeaning, Budget, Memory}
-use Rattle.source_eval.proofs.RunLemmas.{Leads, then_ends, then_stops, stops_then, tick_ends, tick_stops, roomy_ends, roomy_stops, passed_open, value_opens, turns_more, turns_stop}
+use Rattle.source_eval.proofs.RunLemmas.{Leads, then_ends, then_stops, stops_then, tick_ends, tick_stops, roomy_ends}
+use Rattle.source_eval.proofs.RunLemmas.{roomy_stops, passed_open, value_opens, turns_more, turns_stop}
 
-inside_ends : {A : Type 0} (r : Run A) (left room more : ℕ) (a : A) (after : ℕ) → more ≡ room + 1 → Ended r left room a after → Ended (inside r) left more a after
+inside_ends : {A : Type 0} (r : Run A) (left room more : ℕ) (a : A) (after : ℕ) → more ≡ room + 1
+    → Ended r left room a after → Ended (inside r) left more a after
 unfolding inside
 inside_ends r left room more a after one h = record { gives_it = h.gives_it; spends = h.spends; opens = omega arith }
 
-inside_stops : {A : Type 0} (r : Run A) (left room more : ℕ) (fault : EvalFault) → more ≡ room + 1 → Stopped r left room fault → Stopped (inside r) left more fault
+inside_stops : {A : Type 0} (r : Run A) (left room more : ℕ) (fault : EvalFault) → more ≡ room + 1
+    → Stopped r left room fault → Stopped (inside r) left more fault
 unfolding inside
 inside_stops r left room more (NoMeaning place) one h = (h.0, h.1, omega arith)
 inside_stops r left room more Budget one (inl h) = inl h
@@ -43,66 +51,102 @@ given_ends : {A : Type 0} (a : A) (left room : ℕ) → Ended (given a) left roo
 given_ends a left room = record { gives_it = refl; spends = omega arith; opens = omega arith }
 
 -- calls
-pub call_none : (o : Option Runnable) (s : State) (c : CallTree) (before left room : ℕ) → o ≡ None → before ≡ left + 1 → Ended (call_run o s c) before room (record { word = None; state = s }) left
+pub call_none : (o : Option Runnable) (s : State) (c : CallTree) (before left room : ℕ) → o ≡ None → before ≡ left + 1
+    → Ended (call_run o s c) before room (record { word = None; state = s }) left
 call_none o s c before left room is one =
     subst (λ x. Ended (call_run x s c) before room (record { word = None; state = s }) left) (sym is)
     (tick_ends _ before left room _ left one (given_ends _ left room))
 
-module _ (o : Option Runnable) (k : Runnable) (s : State) (c : CallTree) (before left room : ℕ) (is : o ≡ Some k) (one : before ≡ left + 1) where
-  stops_so : (fault : EvalFault) → Stopped (called_run (Some k) s c) left room fault → Stopped (call_run o s c) before room fault
-  stops_so fault h = subst (λ x. Stopped (call_run x s c) before room fault) (sym is) (tick_stops _ before left room fault one h)
+module _ (o : Option Runnable) (k : Runnable) (s : State) (c : CallTree) (before left room : ℕ) (is : o ≡ Some k)
+    (one : before ≡ left + 1) where
+  stops_so : (fault : EvalFault) → Stopped (called_run (Some k) s c) left room fault
+      → Stopped (call_run o s c) before room fault
+  stops_so fault h = subst (λ x. Stopped (call_run x s c) before room fault) (sym is)
+      (tick_stops _ before left room fault one h)
 
-  pub call_argument_stops : (fault : EvalFault) → Stopped (passed s (word_arguments k.procedure.parameters c.arguments)) left 0 fault → Stopped (call_run o s c) before room fault
-  call_argument_stops fault h = stops_so fault (stops_then _ _ left room fault (roomy_stops _ left room fault (passed_open s (word_arguments k.procedure.parameters c.arguments)) h))
+  pub call_argument_stops : (fault : EvalFault)
+      → Stopped (passed s (word_arguments k.procedure.parameters c.arguments)) left 0 fault
+      → Stopped (call_run o s c) before room fault
+  call_argument_stops fault h =
+      stops_so fault (stops_then _ _ left room fault
+      (roomy_stops _ left room fault (passed_open s (word_arguments k.procedure.parameters c.arguments)) h))
 
-  module _ (vs : List Word) (middle : ℕ) (arguments : Ended (passed s (word_arguments k.procedure.parameters c.arguments)) left 0 vs middle) where
+  module _ (vs : List Word) (middle : ℕ)
+      (arguments : Ended (passed s (word_arguments k.procedure.parameters c.arguments)) left 0 vs middle) where
     pub call_lacks_room : room ≡ 0 → Stopped (call_run o s c) before room Budget
-    call_lacks_room none = stops_so Budget (then_stops _ _ left middle room vs Budget (roomy_ends _ left room vs middle arguments) (stops_then _ _ middle room Budget (inside_lacks _ middle room none)))
+    call_lacks_room none =
+        stops_so Budget (then_stops _ _ left middle room vs Budget (roomy_ends _ left room vs middle arguments)
+        (stops_then _ _ middle room Budget (inside_lacks _ middle room none)))
 
-    module _ (inner : ℕ) (state : State) (more : room ≡ inner + 1) (begins : state ≡ begun s k.procedure.parameters c.arguments vs) where
-      pub call_body_stops : (fault : EvalFault) → Stopped (k.body state) middle inner fault → Stopped (call_run o s c) before room fault
+    module _ (inner : ℕ) (state : State) (more : room ≡ inner + 1)
+        (begins : state ≡ begun s k.procedure.parameters c.arguments vs) where
+      pub call_body_stops : (fault : EvalFault) → Stopped (k.body state) middle inner fault
+          → Stopped (call_run o s c) before room fault
       call_body_stops fault h =
           stops_so fault (then_stops _ _ left middle room vs fault (roomy_ends _ left room vs middle arguments)
-          (stops_then _ _ middle room fault (inside_stops _ middle inner room fault more (subst (λ u. Stopped (k.body u) middle inner fault) begins h))))
+          (stops_then _ _ middle room fault
+          (inside_stops _ middle inner room fault more
+          (subst (λ u. Stopped (k.body u) middle inner fault) begins h))))
 
-      pub call_ends : (word : Option Word) (t caller : State) (after : ℕ) → Ended (k.body state) middle inner (record { word = word; state = t }) after
-          → caller ≡ copied_out s t k.procedure.parameters c.arguments → Ended (call_run o s c) before room (record { word = word; state = caller }) after
+      pub call_ends : (word : Option Word) (t caller : State) (after : ℕ)
+          → Ended (k.body state) middle inner (record { word = word; state = t }) after
+          → caller ≡ copied_out s t k.procedure.parameters c.arguments
+          → Ended (call_run o s c) before room (record { word = word; state = caller }) after
       call_ends word t caller after h out =
           let r : Returned = record { word = word; state = t } in
           let result : Returned = record { word = word; state = copied_out s t k.procedure.parameters c.arguments } in
           let whole : Ended (call_run o s c) before room result after =
-          subst (λ x. Ended (call_run x s c) before room result after) (sym is) (tick_ends _ before left room result after one
+          subst (λ x. Ended (call_run x s c) before room result after) (sym is)
+          (tick_ends _ before left room result after one
           (then_ends _ _ left middle after room vs result (roomy_ends _ left room vs middle arguments)
-          (then_ends _ _ middle after after room r result (inside_ends _ middle inner room r after more (subst (λ u. Ended (k.body u) middle inner r after) begins h)) (given_ends result after room)))) in
+          (then_ends _ _ middle after after room r result
+          (inside_ends _ middle inner room r after more
+          (subst (λ u. Ended (k.body u) middle inner r after) begins h))
+          (given_ends result after room)))) in
           subst (λ u. Ended (call_run o s c) before room (record { word = word; state = u }) after) (sym out) whole
 
 -- the bounds of a loop
-module _ (s : State) (low high : ExprTree) (turn : ℕ → State → Run State) (start one room : ℕ) (counts : start ≡ one + 1) where
-  pub low_stops : (fault : EvalFault) → Stopped (value s low) one 0 fault → Stopped (loop_run s low high turn) start room fault
-  low_stops fault h = tick_stops _ start one room fault counts (stops_then _ _ one room fault (roomy_stops _ one room fault (value_opens s low) h))
+module _ (s : State) (low high : ExprTree) (turn : ℕ → State
+    → Run State) (start one room : ℕ) (counts : start ≡ one + 1) where
+  pub low_stops : (fault : EvalFault) → Stopped (value s low) one 0 fault
+      → Stopped (loop_run s low high turn) start room fault
+  low_stops fault h = tick_stops _ start one room fault counts
+      (stops_then _ _ one room fault (roomy_stops _ one room fault (value_opens s low) h))
 
-  pub high_stops : (a : Word) (two : ℕ) (fault : EvalFault) → Ended (value s low) one 0 a two → Stopped (value s high) two 0 fault → Stopped (loop_run s low high turn) start room fault
+  pub high_stops : (a : Word) (two : ℕ) (fault : EvalFault) → Ended (value s low) one 0 a two
+      → Stopped (value s high) two 0 fault → Stopped (loop_run s low high turn) start room fault
   high_stops a two fault h k =
-      tick_stops _ start one room fault counts (then_stops _ _ one two room a fault (roomy_ends _ one room a two h) (stops_then _ _ two room fault (roomy_stops _ two room fault (value_opens s high) k)))
+      tick_stops _ start one room fault counts
+      (then_stops _ _ one two room a fault (roomy_ends _ one room a two h)
+      (stops_then _ _ two room fault (roomy_stops _ two room fault (value_opens s high) k)))
 
 -- its turns, from states in which the counter was set
 module _ (whole : Run State) (known : Runnables) (text : List ℕ) (body : BlockTree) (start room : ℕ) where
   abbrev turn : ℕ → State → Run State
   turn i t = run_all known (counting t text i) body
 
-  pub each_turn : (s counted t : State) (i n before now middle : ℕ) → i < n → Leads whole start room (turns (n - i) i turn s) before (λ u. u) → before ≡ now + 1 → counted ≡ counting s text i
-      → Ended (run_all known counted body) now room t middle → Leads whole start room (turns (n - (i + 1)) (i + 1) turn t) middle (λ u. u)
+  pub each_turn : (s counted t : State) (i n before now middle : ℕ) → i < n
+      → Leads whole start room (turns (n - i) i turn s) before (λ u. u) → before ≡ now + 1
+      → counted ≡ counting s text i
+      → Ended (run_all known counted body) now room t middle
+      → Leads whole start room (turns (n - (i + 1)) (i + 1) turn t) middle (λ u. u)
   each_turn s counted t i n before now middle less leads one is h =
-      turns_more whole turn start room s t i n before now middle less leads one (subst (λ u. Ended (run_all known u body) now room t middle) is h)
+      turns_more whole turn start room s t i n before now middle less leads one
+      (subst (λ u. Ended (run_all known u body) now room t middle) is h)
 
-  pub turn_stops : (s counted : State) (i n before now : ℕ) (fault : EvalFault) → i < n → Leads whole start room (turns (n - i) i turn s) before (λ u. u) → before ≡ now + 1 → counted ≡ counting s text i
+  pub turn_stops : (s counted : State) (i n before now : ℕ) (fault : EvalFault) → i < n
+      → Leads whole start room (turns (n - i) i turn s) before (λ u. u) → before ≡ now + 1
+      → counted ≡ counting s text i
       → Stopped (run_all known counted body) now room fault → Stopped whole start room fault
   turn_stops s counted i n before now fault less leads one is h =
-      turns_stop whole turn start room s i n before now fault less leads one (subst (λ u. Stopped (run_all known u body) now room fault) is h)
+      turns_stop whole turn start room s i n before now fault less leads one
+      (subst (λ u. Stopped (run_all known u body) now room fault) is h)
 
 -- a call, over the lists that the code goes through
-module _ (earlier front : List Procedure) (callee : Procedure) (s : State) (c : Call) (ps : List Parameter) (es : List Expr) (before left room : ℕ)
-    (found : Some (map procedure_tree front, procedure_tree callee) ≡ named [] (map procedure_tree earlier) c.name.now) (one : before ≡ left + 1)
+module _ (earlier front : List Procedure) (callee : Procedure) (s : State) (c : Call) (ps : List Parameter)
+    (es : List Expr) (before left room : ℕ)
+    (found : Some (map procedure_tree front, procedure_tree callee)
+    ≡ named [] (map procedure_tree earlier) c.name.now) (one : before ≡ left + 1)
     (parameters : ps ≡ callee.parameters.items) (arguments : es ≡ c.arguments.items) where
   abbrev words_of : List Parameter → List Expr → List ExprTree
   words_of xs ys = word_arguments (map parameter_tree xs) (map expr_tree ys)
@@ -120,10 +164,13 @@ module _ (earlier front : List Procedure) (callee : Procedure) (s : State) (c : 
   k = runnable known (procedure_tree callee)
 
   is : o ≡ Some k
-  is = known-named runnable (map procedure_tree earlier) (map procedure_tree front) (procedure_tree callee) c.name.now (sym found)
+  is = known-named runnable (map procedure_tree earlier) (map procedure_tree front) (procedure_tree callee) c.name.now
+      (sym found)
 
-  pub argument_stops : (fault : EvalFault) → Stopped (passed s (words_of ps es)) left 0 fault → Stopped (call_run o s (call_tree c)) before room fault
-  argument_stops fault h = call_argument_stops o k s (call_tree c) before left room is one fault (subst (λ ws. Stopped (passed s ws) left 0 fault) same_words h)
+  pub argument_stops : (fault : EvalFault) → Stopped (passed s (words_of ps es)) left 0 fault
+      → Stopped (call_run o s (call_tree c)) before room fault
+  argument_stops fault h = call_argument_stops o k s (call_tree c) before left room is one fault
+      (subst (λ ws. Stopped (passed s ws) left 0 fault) same_words h)
 
   module _ (vs : List Word) (middle : ℕ) (ended_words : Ended (passed s (words_of ps es)) left 0 vs middle) where
     abbrev ended_so : Ended (passed s (words_of callee.parameters.items c.arguments.items)) left 0 vs middle
@@ -132,61 +179,90 @@ module _ (earlier front : List Procedure) (callee : Procedure) (s : State) (c : 
     pub room_lacks : room ≡ 0 → Stopped (call_run o s (call_tree c)) before room Budget
     room_lacks none = call_lacks_room o k s (call_tree c) before left room is one vs middle ended_so none
 
-    module _ (inner : ℕ) (state : State) (more : room ≡ inner + 1) (begins : state ≡ begun s (map parameter_tree ps) (map expr_tree es) vs) where
-      abbrev begins_so : state ≡ begun s (map parameter_tree callee.parameters.items) (map expr_tree c.arguments.items) vs
+    module _ (inner : ℕ) (state : State) (more : room ≡ inner + 1)
+        (begins : state ≡ begun s (map parameter_tree ps) (map expr_tree es) vs) where
+      abbrev begins_so : state ≡ begun s (map parameter_tree callee.parameters.items)
+          (map expr_tree c.arguments.items) vs
       begins_so = begins ∙ ap₂ (λ xs ys. begun s (map parameter_tree xs) (map expr_tree ys) vs) parameters arguments
 
-      pub body_stops : (fault : EvalFault) → Stopped (body_run known (procedure_tree callee) state) middle inner fault → Stopped (call_run o s (call_tree c)) before room fault
-      body_stops fault h = call_body_stops o k s (call_tree c) before left room is one vs middle ended_so inner state more begins_so fault h
+      pub body_stops : (fault : EvalFault) → Stopped (body_run known (procedure_tree callee) state) middle inner fault
+          → Stopped (call_run o s (call_tree c)) before room fault
+      body_stops fault h = call_body_stops o k s (call_tree c) before left room is one vs middle ended_so inner state
+          more begins_so fault h
 
-      pub whole_ends : (word : Option Word) (t caller : State) (after : ℕ) → Ended (body_run known (procedure_tree callee) state) middle inner (record { word = word; state = t }) after
-          → caller ≡ copied_out s t (map parameter_tree ps) (map expr_tree es) → Ended (call_run o s (call_tree c)) before room (record { word = word; state = caller }) after
+      pub whole_ends : (word : Option Word) (t caller : State) (after : ℕ)
+          → Ended (body_run known (procedure_tree callee) state) middle inner
+          (record { word = word; state = t }) after
+          → caller ≡ copied_out s t (map parameter_tree ps) (map expr_tree es)
+          → Ended (call_run o s (call_tree c)) before room (record { word = word; state = caller }) after
       whole_ends word t caller after h out =
-          call_ends o k s (call_tree c) before left room is one vs middle ended_so inner state more begins_so word t caller after h
+          call_ends o k s (call_tree c) before left room is one vs middle ended_so inner state more begins_so word t
+          caller after h
           (out ∙ ap₂ (λ xs ys. copied_out s t (map parameter_tree xs) (map expr_tree ys)) parameters arguments)
 
 -- a conditional and a loop of the tree
-pub if_run : (known : Runnables) (s : State) (statement : Statement) (place : Place) (condition : Expr) (accepted otherwise : Vec Statement Global) (a b : List Statement)
+pub if_run : (known : Runnables) (s : State) (statement : Statement) (place : Place) (condition : Expr)
+    (accepted otherwise : Vec Statement Global) (a b : List Statement)
     → statement ≡ If place condition accepted otherwise → a ≡ accepted.items → b ≡ otherwise.items
-    → branch_run s (expr_tree condition) (run_all known s (block_tree a)) (run_all known s (block_tree b)) ≡ run known s (statement_tree statement)
+    → branch_run s (expr_tree condition) (run_all known s (block_tree a)) (run_all known s (block_tree b))
+    ≡ run known s (statement_tree statement)
 if_run known s statement place condition accepted otherwise a b is one other =
-    ap₂ (λ xs ys. branch_run s (expr_tree condition) (run_all known s (block_tree xs)) (run_all known s (block_tree ys))) one other
+    ap₂ (λ xs ys. branch_run s (expr_tree condition) (run_all known s (block_tree xs))
+    (run_all known s (block_tree ys))) one other
     ∙ sym (ap (run known s) (ap statement_tree is ∙ conditional_tree place condition accepted otherwise))
 
-pub for_run : (known : Runnables) (s : State) (statement : Statement) (place : Place) (counter : Counter) (low high : Expr) (body : Vec Statement Global) (b : List Statement)
+pub for_run : (known : Runnables) (s : State) (statement : Statement) (place : Place) (counter : Counter)
+    (low high : Expr) (body : Vec Statement Global) (b : List Statement)
     → statement ≡ For place counter low high body → b ≡ body.items
-    → loop_run s (expr_tree low) (expr_tree high) (λ i t. run_all known (counting t counter.name.now i) (block_tree b)) ≡ run known s (statement_tree statement)
+    → loop_run s (expr_tree low) (expr_tree high)
+    (λ i t. run_all known (counting t counter.name.now i) (block_tree b))
+    ≡ run known s (statement_tree statement)
 for_run known s statement place counter low high body b is one =
-    ap (λ xs. loop_run s (expr_tree low) (expr_tree high) (λ i t. run_all known (counting t counter.name.now i) (block_tree xs))) one
+    ap (λ xs. loop_run s (expr_tree low) (expr_tree high)
+    (λ i t. run_all known (counting t counter.name.now i) (block_tree xs))) one
     ∙ sym (ap (run known s) (ap statement_tree is ∙ loop_tree place counter low high body))
 
-pub ends_along : {A : Type 0} (r q : Run A) (left room : ℕ) (a : A) (after : ℕ) → r ≡ q → Ended r left room a after → Ended q left room a after
+pub ends_along : {A : Type 0} (r q : Run A) (left room : ℕ) (a : A) (after : ℕ) → r ≡ q → Ended r left room a after
+    → Ended q left room a after
 ends_along r q left room a after is h = subst (λ x. Ended x left room a after) is h
 
-pub stops_along : {A : Type 0} (r q : Run A) (left room : ℕ) (fault : EvalFault) → r ≡ q → Stopped r left room fault → Stopped q left room fault
+pub stops_along : {A : Type 0} (r q : Run A) (left room : ℕ) (fault : EvalFault) → r ≡ q → Stopped r left room fault
+    → Stopped q left room fault
 stops_along r q left room fault is h = subst (λ x. Stopped x left room fault) is h
 
-pub ok_along : {T : Type 0} (result : Result T EvalFault) (r q : Run State) (left room : ℕ) (t : State) (after : ℕ) → r ≡ q → OnOk result (Ended r left room t after) → OnOk result (Ended q left room t after)
+pub ok_along : {T : Type 0} (result : Result T EvalFault) (r q : Run State) (left room : ℕ) (t : State) (after : ℕ)
+    → r ≡ q → OnOk result (Ended r left room t after) → OnOk result (Ended q left room t after)
 ok_along result r q left room t after is h = on_ok_weaker result (λ k. ends_along r q left room t after is k) h
 
 -- an export
-module _ (before : List Procedure) (export : Procedure) (args : List Arg) (left : ℕ) (ps : List Parameter) (state : State)
+module _ (before : List Procedure) (export : Procedure) (args : List Arg) (left : ℕ) (ps : List Parameter)
+    (state : State)
     (parameters : ps ≡ export.parameters.items) (begins : state ≡ holding (map parameter_tree ps) args) where
   abbrev holds_so : state ≡ holding (map parameter_tree export.parameters.items) args
   holds_so = begins ∙ ap (λ xs. holding (map parameter_tree xs) args) parameters
 
-  pub export_stops : (fault : EvalFault) → Stopped (body_run (known_of before) (procedure_tree export) state) left 63 fault
+  pub export_stops : (fault : EvalFault)
+      → Stopped (body_run (known_of before) (procedure_tree export) state) left 63 fault
       → Stopped (export_run (map procedure_tree before) (procedure_tree export) args) left most_bodies fault
   export_stops fault h =
-      stops_then _ _ left 64 fault (inside_stops _ left 63 64 fault (omega arith) (subst (λ u. Stopped (body_run (known_of before) (procedure_tree export) u) left 63 fault) holds_so h))
+      stops_then _ _ left 64 fault
+      (inside_stops _ left 63 64 fault (omega arith)
+      (subst (λ u. Stopped (body_run (known_of before) (procedure_tree export) u) left 63 fault) holds_so h))
 
-  pub export_ends : (word : Option Word) (t : State) (after : ℕ) (qs : List Parameter) (outcome : Results) → Ended (body_run (known_of before) (procedure_tree export) state) left 63 (record { word = word; state = t }) after
-      → qs ≡ export.parameters.items → outcome.returned ≡ option_map (λ (v : Word). v.value) word → outcome.arrays ≡ final_arrays t (map parameter_tree qs)
+  pub export_ends : (word : Option Word) (t : State) (after : ℕ) (qs : List Parameter) (outcome : Results)
+      → Ended (body_run (known_of before) (procedure_tree export) state) left 63
+      (record { word = word; state = t }) after
+      → qs ≡ export.parameters.items → outcome.returned ≡ option_map (λ (v : Word). v.value) word
+      → outcome.arrays ≡ final_arrays t (map parameter_tree qs)
       → Ended (export_run (map procedure_tree before) (procedure_tree export) args) left most_bodies outcome after
   export_ends word t after qs outcome h again one other =
       let r : Returned = record { word = word; state = t } in
       let out : Results = results (procedure_tree export) r in
       let arrays : outcome.arrays ≡ out.arrays = other ∙ ap (λ xs. final_arrays t (map parameter_tree xs)) again in
       let same : out ≡ outcome = ap₂ (λ a b. record { returned = a; arrays = b }) (sym one) (sym arrays) in
-      subst (λ x. Ended (export_run (map procedure_tree before) (procedure_tree export) args) left most_bodies x after) same
-      (then_ends _ _ left after after 64 r out (inside_ends _ left 63 64 r after (omega arith) (subst (λ u. Ended (body_run (known_of before) (procedure_tree export) u) left 63 r after) holds_so h)) (given_ends out after 64))
+      subst (λ x. Ended (export_run (map procedure_tree before) (procedure_tree export) args) left most_bodies x
+      after) same
+      (then_ends _ _ left after after 64 r out
+      (inside_ends _ left 63 64 r after (omega arith)
+      (subst (λ u. Ended (body_run (known_of before) (procedure_tree export) u) left 63 r after) holds_so
+      h)) (given_ends out after 64))

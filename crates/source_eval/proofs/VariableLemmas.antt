@@ -26,12 +26,14 @@ symmetric false true xs ys d e =
 pub bytes_eq-symmetric : (xs ys : List ℕ) → bytes_eq xs ys ≡ bytes_eq ys xs
 bytes_eq-symmetric xs ys = symmetric (bytes_eq xs ys) (bytes_eq ys xs) xs ys refl refl
 
-mapped : (b : Bool) (value : Value) (other : Option Value) → option_map value_of (cond b (Some value) other) ≡ cond b (Some (value_of value)) (option_map value_of other)
+mapped : (b : Bool) (value : Value) (other : Option Value)
+    → option_map value_of (cond b (Some value) other) ≡ cond b (Some (value_of value)) (option_map value_of other)
 mapped true value other = refl
 mapped false value other = refl
 
 -- a map of which a key's value was set holds that value
-pub held-set : (m n : Variables) (text : List ℕ) (value : Value) → UpdatesBy (λ x y. bytes_eq x.now y.now) (λ key. bytes_eq text key.now) m.values n.values (Some value)
+pub held-set : (m n : Variables) (text : List ℕ) (value : Value)
+    → UpdatesBy (λ x y. bytes_eq x.now y.now) (λ key. bytes_eq text key.now) m.values n.values (Some value)
     → held n ≡ with_value (held m) text (value_of value)
 unfolding held
 held-set m n text value updates = fun_ext (λ other.
@@ -39,12 +41,14 @@ held-set m n text value updates = fun_ext (λ other.
     ∙ mapped (bytes_eq text other) value (get_by (λ key. bytes_eq other key.now) m.values)
     ∙ ap (λ b. cond b (Some (value_of value)) (held m other)) (bytes_eq-symmetric text other))
 
-pub copied : (o : Option (Bor Value)) → option_map (λ value. value_of value.now) o ≡ option_map value_of (option_copied o)
+pub copied : (o : Option (Bor Value)) → option_map (λ value. value_of value.now) o
+    ≡ option_map value_of (option_copied o)
 copied None = refl
 copied (Some value) = refl
 
 -- what a name holds
-pub held-at : (m : Variables) (text : List ℕ) (found : Option Value) → found ≡ get_by (λ key. bytes_eq text key.now) m.values → held m text ≡ option_map value_of found
+pub held-at : (m : Variables) (text : List ℕ) (found : Option Value)
+    → found ≡ get_by (λ key. bytes_eq text key.now) m.values → held m text ≡ option_map value_of found
 unfolding held
 held-at m text found is = ap (option_map value_of) (sym is)
 
@@ -62,4 +66,5 @@ held-put m n text old new index word updates is put =
 pub held-lacks : (m : Variables) (text : List ℕ) (index : ℕ) (word : Word)
     → None ≡ get_by (λ key. bytes_eq text key.now) m.values
     → held m ≡ with_some (held m) text (with_element (held m text) index word)
-held-lacks m text index word is = ap (λ o. with_some (held m) text (with_element o index word)) (sym (held-at m text None is))
+held-lacks m text index word is =
+    ap (λ o. with_some (held m) text (with_element o index word)) (sym (held-at m text None is))

@@ -28,7 +28,8 @@ ending_answer (faults place) = Err (NoMeaning place)
 
 -- more bodies than the language allows are never open
 abbrev pub run_answer : Run Results → ℕ → Result Results EvalFault
-run_answer run budget = if nat_lt budget run.nodes || nat_lt most_bodies run.bodies then Err Budget else ending_answer run.ends
+run_answer run budget = if nat_lt budget run.nodes || nat_lt most_bodies run.bodies then Err Budget
+    else ending_answer run.ends
 
 -- the arguments are judged before all else
 abbrev pub judged_answer : Option ArgumentFault → Run Results → ℕ → Result Results EvalFault

@@ -1,5 +1,6 @@
 -- A line of a source with a place marked: what is shown of it, byte by byte.
-use Rattle.std.specs.Prelude.{ℕ, ◌-◌, ◌==◌, nat_lt, Bool, ◌&&◌, ◌||◌, if◌then◌else◌, List, [], ◌∷◌, ◌++◌, length, take, drop, reverse, codes}
+use Rattle.std.specs.Prelude.{ℕ, ◌-◌, ◌==◌, nat_lt, Bool, ◌&&◌, ◌||◌, if◌then◌else◌, List, [], ◌∷◌, ◌++◌, length}
+use Rattle.std.specs.Prelude.{take, drop, reverse, codes}
 use Rattle.std.specs.Fmt.{decimal}
 use Rattle.std.specs.List.{flat_map, position}
 use Rattle.std.specs.Option.{unwrap_or}
@@ -43,7 +44,8 @@ blanks = flat_map blank_byte
 abbrev pub last_line : List ℕ → List ℕ
 last_line bytes = drop (length bytes - unwrap_or (position is_line_feed (reverse bytes)) (length bytes)) bytes
 
--- of the bytes from a place on those that are on its line: those before the first line end, or all where there is none
+-- of the bytes from a place on those that are on its line: those before the first line end, or all where there is
+-- none
 abbrev pub first_line : List ℕ → List ℕ
 first_line bytes = take (unwrap_or (position is_line_end bytes) (length bytes)) bytes
 
@@ -55,7 +57,8 @@ dots part = if nat_lt most_shown (length part) then codes "..." else []
 abbrev pub end_of : List ℕ → List ℕ
 end_of part = drop (length part - most_shown) part
 
--- a line whose part before the place and from the place on are shown so, with dots or without, and what stands below the first
+-- a line whose part before the place and from the place on are shown so, with dots or without, and what stands below
+-- the first
 abbrev pub line_text : List ℕ → List ℕ → List ℕ → List ℕ → List ℕ
 line_text dots_before front back dots_behind = shown dots_before ++ shown front ++ shown back ++ shown dots_behind
 
@@ -65,7 +68,9 @@ below_text dots_before front = blanks dots_before ++ blanks front
 -- a line behind its number, and below it the mark
 abbrev pub marked_text : List ℕ → List ℕ → List ℕ → List ℕ → List ℕ
 marked_text number line margin below =
-    codes "  " ++ (number ++ (codes " | " ++ (line ++ (codes "\n  " ++ (margin ++ (codes " | " ++ (below ++ codes "^\n")))))))
+    codes "  "
+    ++ (number
+    ++ (codes " | " ++ (line ++ (codes "\n  " ++ (margin ++ (codes " | " ++ (below ++ codes "^\n")))))))
 
 -- what is shown of a source at a place
 abbrev pub excerpt_text : List ℕ → Place → List ℕ
@@ -73,4 +78,5 @@ excerpt_text source place =
     let number : List ℕ = decimal place.line in
     let front : List ℕ = last_line (take place.offset source) in
     let back : List ℕ = first_line (drop place.offset source) in
-    marked_text number (line_text (dots front) (end_of front) (take most_shown back) (dots back)) (blanks number) (below_text (dots front) (end_of front))
+    marked_text number (line_text (dots front) (end_of front) (take most_shown back) (dots back)) (blanks number)
+    (below_text (dots front) (end_of front))

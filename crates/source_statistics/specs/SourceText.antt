@@ -21,7 +21,8 @@ use Rattle.word.specs.Places.{place_text}
 -- the nodes of a body, its work, and the fields of an image
 abbrev pub costs_text : RangedProgram → Fields → List ℕ
 costs_text body fields =
-    codes "nodes " ++ decimal body.flat.nodes ++ codes "\nwork " ++ decimal body.work ++ codes "\n" ++ fields_text fields
+    codes "nodes " ++ decimal body.flat.nodes ++ codes "\nwork " ++ decimal body.work ++ codes "\n"
+    ++ fields_text fields
 
 -- the first of the parts that have most of something: how much, and where it stands
 abbrev pub most_line : List ℕ → Option Part → List ℕ
@@ -29,8 +30,8 @@ most_line name None = []
 most_line name (Some p) =
     codes "most " ++ (name ++ (codes " " ++ (decimal p.cost ++ (codes " at " ++ (place_text p.place ++ codes "\n")))))
 
--- of an export behind the procedures that it may call: the bodies that are open at once, the declared bytes, and the parts with
--- most nodes, most declared bytes and most work
+-- of an export behind the procedures that it may call: the bodies that are open at once, the declared bytes, and the
+-- parts with most nodes, most declared bytes and most work
 abbrev pub size_text : Cost → Cost → Cost → Cost → List ℕ
 size_text nodes bodies bytes work =
     codes "bodies " ++ (decimal bodies.whole ++ (codes "\ndeclared_bytes " ++ (decimal bytes.whole ++ (codes "\n"
@@ -38,16 +39,19 @@ size_text nodes bodies bytes work =
     ++ (most_line (codes "declared_bytes") bytes.costliest ++ most_line (codes "work") work.costliest))))))
 
 abbrev pub size_lines : List ProcedureTree → ProcedureTree → List ℕ
-size_lines before p = size_text (cost_of Nodes before p) (cost_of Bodies before p) (cost_of DeclaredBytes before p) (work_cost before p)
+size_lines before p = size_text (cost_of Nodes before p) (cost_of Bodies before p) (cost_of DeclaredBytes before p)
+    (work_cost before p)
 
 abbrev pub export_lines : Option (List ProcedureTree × ProcedureTree) → List ℕ
 export_lines None = []
 export_lines (Some export) = size_lines export.0 export.1
 
--- the source is accepted, and the text has what its passes counted, the fields of its plain image and the sizes of its export
+-- the source is accepted, and the text has what its passes counted, the fields of its plain image and the sizes of
+-- its export
 pub record SaysCosts (profile : Profile) (source text : List ℕ) : Type 0 where
   pub program : ProgramTree
   pub before : List ProcedureTree
   pub export : ProcedureTree
   pub judged : Judges profile source (accepts program before export)
-  pub printed : text ≡ costs_text (ranged (flattened profile before export)) (image_for Off profile before export) ++ size_lines before export
+  pub printed : text ≡ costs_text (ranged (flattened profile before export)) (image_for Off profile before export)
+      ++ size_lines before export

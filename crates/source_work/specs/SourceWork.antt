@@ -1,11 +1,13 @@
--- Work, as a sum over the source: how many nodes a run evaluates at most. Each node counts 1 and its parts, but a loop counts
--- its body once for each turn that the intervals of its bounds allow, and once more; an array counts its elements too; and a
--- call counts the words that it passes and the called body, there where it stands.
+-- Work, as a sum over the source: how many nodes a run evaluates at most. Each node counts 1 and its parts, but a
+-- loop counts its body once for each turn that the intervals of its bounds allow, and once more; an array counts its
+-- elements too; and a call counts the words that it passes and the called body, there where it stands.
 use Rattle.std.specs.Prelude.{ℕ, ◌+◌, ◌*◌, false, nat_lt, List, ◌++◌, length, map, replicate, Option, None, Some}
 use Rattle.std.specs.Option.{option_map}
 use Rattle.inline.specs.declared.flat.FlatVariable.{FlatVariable}
 use Rattle.inline.specs.Flat.{word_as, counter_type, declaration_of}
-use Rattle.inline.specs.Numbering.{Numbers, Callable, Callables, callable, callables, call_names, call_start, declared_in_all, label_in, names_after, naming, numbers_taken, numbers_taken_all, param_of, parameter_names, passed, statement, term}
+use Rattle.inline.specs.Numbering.{Numbers, Callable, Callables, callable, callables, call_names, call_start}
+use Rattle.inline.specs.Numbering.{declared_in_all, label_in, names_after, naming, numbers_taken, numbers_taken_all}
+use Rattle.inline.specs.Numbering.{param_of, parameter_names, passed, statement, term}
 use Rattle.intervals.specs.Limits.{most_work}
 use Rattle.intervals.specs.Intervals.{Bounds, interval, with_bound}
 use Rattle.intervals.specs.Narrowing.{where_false, where_true}
@@ -15,11 +17,13 @@ use Rattle.language.specs.declared.typing.Violation.{Violation}
 use Rattle.language.specs.Known.{Known, known_of}
 use Rattle.language.specs.Meaning.{word_arguments}
 use Rattle.language.specs.Size.{nodes_in, nodes_in_all, nodes_passed, return_nodes}
-use Rattle.language.specs.Tree.{ExprTree, CallTree, RightTree, called, computed, StatementTree, declaration, array, assignment, element_assignment, call, conditional, loop, BlockTree, nothing, first, ProcedureTree, written}
+use Rattle.language.specs.Tree.{ExprTree, CallTree, RightTree, called, computed, StatementTree, declaration, array}
+use Rattle.language.specs.Tree.{assignment, element_assignment, call, conditional, loop, BlockTree, nothing, first}
+use Rattle.language.specs.Tree.{ProcedureTree, written}
 use Rattle.language.specs.Types.{at, when}
 
--- Where a statement stands: what number each name in scope has, which is the next number, and between which numbers the
--- variables lie there.
+-- Where a statement stands: what number each name in scope has, which is the next number, and between which numbers
+-- the variables lie there.
 pub record Here : Type 0 where
   pub names : Numbers
   pub next : ℕ
@@ -51,7 +55,8 @@ module _ (declared : List FlatVariable) where
   -- a call: itself, its word arguments and the called body
   abbrev pub called_work : Option Worked → Here → CallTree → ℕ
   called_work None at c = 1
-  called_work (Some w) at c = 1 + nodes_passed (word_arguments w.own.parameters c.arguments) + w.work (entered w.own at c.arguments)
+  called_work (Some w) at c = 1 + nodes_passed (word_arguments w.own.parameters c.arguments)
+      + w.work (entered w.own at c.arguments)
 
   abbrev pub right_work : Works → Here → RightTree → ℕ
   right_work works at (called c) = called_work (works c.name) at c
@@ -71,7 +76,8 @@ module _ (declared : List FlatVariable) where
 
   -- the turns of a loop: as many as the intervals of its bounds allow
   abbrev pub turns : Here → ExprTree → ExprTree → ℕ
-  turns at low high = most_turns (interval declared at.bounds (term at.names low)) (interval declared at.bounds (term at.names high))
+  turns at low high = most_turns (interval declared at.bounds (term at.names low))
+      (interval declared at.bounds (term at.names high))
 
   -- where the arms of a conditional and the body of a loop begin
   abbrev pub in_accepted : Here → ExprTree → Here
@@ -92,7 +98,8 @@ module _ (declared : List FlatVariable) where
     -- the work of a statement
     pub statement_work : Works → Here → StatementTree → ℕ
     statement_work works at (declaration place label mutable kind text right) = 1 + right_work works at right
-    statement_work works at (array place label mutable kind size text values) = 1 + size + nodes_in_all (written values)
+    statement_work works at (array place label mutable kind size text values) =
+        1 + size + nodes_in_all (written values)
     statement_work works at (assignment place target text right) = 1 + right_work works at right
     statement_work works at (element_assignment place bracket target text index right) =
         1 + (1 + nodes_in index) + right_work works (behind_index at index right) right
@@ -101,7 +108,8 @@ module _ (declared : List FlatVariable) where
         1 + nodes_in condition + block_work works (in_accepted at condition) accepted
         + block_work works (in_otherwise works at condition accepted) otherwise
     statement_work works at (loop place counter text low high body) =
-        nodes_in low + nodes_in high + (turns at low high + 1) * (1 + block_work works (in_turn at text low high) body)
+        nodes_in low + nodes_in high + (turns at low high + 1)
+        * (1 + block_work works (in_turn at text low high) body)
 
     pub block_work : Works → Here → BlockTree → ℕ
     block_work works at nothing = 0
@@ -120,7 +128,8 @@ module _ (declared : List FlatVariable) where
 
 -- the variables of the export: its parameters, and what is declared behind them
 abbrev pub export_variables : List ProcedureTree → ProcedureTree → List FlatVariable
-export_variables before p = map declaration_of (map param_of p.parameters) ++ declared_in_all (callables before) p.body
+export_variables before p = map declaration_of (map param_of p.parameters)
+    ++ declared_in_all (callables before) p.body
 
 -- where the export's body begins: of its parameters, public words are anything of their kind
 abbrev pub export_start : List ProcedureTree → ProcedureTree → Here
@@ -130,7 +139,8 @@ export_start before p =
 
 -- the work of the export behind the procedures that it may call
 abbrev pub source_work : List ProcedureTree → ProcedureTree → ℕ
-source_work before p = work_in (export_variables before p) (works_of (export_variables before p) before) (export_start before p) p
+source_work before p = work_in (export_variables before p) (works_of (export_variables before p) before)
+    (export_start before p) p
 
 -- the limit on work, at the name of the export
 abbrev pub work_violations : List ProcedureTree → ProcedureTree → List Violation

@@ -1,5 +1,6 @@
 -- What a name stands for after a declaration.
-use Rattle.std.proofs.Common.{◌≡◌, ℕ, Bool, true, false, cond, List, [], ◌∷◌, ◌++◌, Option, Some, None, is_some, refl, sym, ap, ◌∙◌, true≢false}
+use Rattle.std.proofs.Common.{◌≡◌, ℕ, Bool, true, false, cond, List, [], ◌∷◌, ◌++◌, Option, Some, None, is_some, refl}
+use Rattle.std.proofs.Common.{sym, ap, ◌∙◌, true≢false}
 use Rattle.std.specs.Map.{lookup}
 use Rattle.std.specs.Str.{bytes_eq}
 use lib.Pointwise.{bytes_decides}
@@ -18,25 +19,32 @@ first-some : {A : Type 0} (a b : Option A) → is_some a ≡ true → first_of_t
 first-some (Some a) b h = refl
 first-some None b h = absurd (true≢false (sym h))
 
-lookup_append : {V : Type 0} (test : List ℕ → Bool) (xs ys : List (List ℕ × V)) → lookup test (xs ++ ys) ≡ first_of_two (lookup test xs) (lookup test ys)
+lookup_append : {V : Type 0} (test : List ℕ → Bool) (xs ys : List (List ℕ × V))
+    → lookup test (xs ++ ys) ≡ first_of_two (lookup test xs) (lookup test ys)
 lookup_append test [] ys = refl
 lookup_append test (x ∷ xs) ys = by_test (test x.0) (lookup_append test xs ys)
   where
-    by_test : (b : Bool) → lookup test (xs ++ ys) ≡ first_of_two (lookup test xs) (lookup test ys) → cond b (Some x.1) (lookup test (xs ++ ys)) ≡ first_of_two (cond b (Some x.1) (lookup test xs)) (lookup test ys)
+    by_test : (b : Bool) → lookup test (xs ++ ys) ≡ first_of_two (lookup test xs) (lookup test ys)
+        → cond b (Some x.1) (lookup test (xs ++ ys))
+        ≡ first_of_two (cond b (Some x.1) (lookup test xs)) (lookup test ys)
     by_test true rest = refl
     by_test false rest = rest
 
 module _ {V : Type 0} (scope : List (List ℕ × V)) (name : List ℕ) (what : V) (text : List ℕ) where
-  hidden : (b : Bool) → bytes_eq text name ≡ b → is_some (found scope name) ≡ true → found scope text ≡ first_of_two (found scope text) (cond b (Some what) None)
+  hidden : (b : Bool) → bytes_eq text name ≡ b → is_some (found scope name) ≡ true
+      → found scope text ≡ first_of_two (found scope text) (cond b (Some what) None)
   hidden true e there =
       let same = (bytes_decides text name).0 e in
       sym (first-some (found scope text) (Some what) (ap (λ x. is_some (found scope x)) same ∙ there))
   hidden false e there = sym (first-none (found scope text))
 
-  after : (b : Bool) → is_some (found scope name) ≡ b → found (cond b scope (scope ++ (name, what) ∷ [])) text ≡ first_of_two (found scope text) (cond (bytes_eq text name) (Some what) None)
+  after : (b : Bool) → is_some (found scope name) ≡ b
+      → found (cond b scope (scope ++ (name, what) ∷ [])) text
+      ≡ first_of_two (found scope text) (cond (bytes_eq text name) (Some what) None)
   after true e = hidden (bytes_eq text name) refl e
   after false e = lookup_append (bytes_eq text) scope ((name, what) ∷ [])
 
   -- a declaration is found where nothing was found before
-  pub found_declared : found (declared scope name what) text ≡ first_of_two (found scope text) (cond (bytes_eq text name) (Some what) None)
+  pub found_declared : found (declared scope name what) text
+      ≡ first_of_two (found scope text) (cond (bytes_eq text name) (Some what) None)
   found_declared = after (is_some (found scope name)) refl

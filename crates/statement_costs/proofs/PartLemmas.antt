@@ -1,28 +1,36 @@
--- The parts of a procedure: together they are the whole, and counts of the called procedures give the counts of the parts.
-use Rattle.std.proofs.Common.{◌≡◌, ℕ, ◌+◌, ◌*◌, List, [], ◌∷◌, ◌++◌, map, max, Option, None, Some, refl, sym, ap, ap₂, ◌∙◌, arith}
+-- The parts of a procedure: together they are the whole, and counts of the called procedures give the counts of the
+-- parts.
+use Rattle.std.proofs.Common.{◌≡◌, ℕ, ◌+◌, ◌*◌, List, [], ◌∷◌, ◌++◌, map, max, Option, None, Some, refl, sym, ap, ap₂}
+use Rattle.std.proofs.Common.{◌∙◌, arith}
 use Rattle.std.proofs.lemmas.List.{map-append}
-use Rattle.language.specs.Size.{Extents, nodes_of, bodies_of, declared_bytes, block_nodes, block_words, block_bodies, parameter_words, return_nodes, statement_nodes, statement_bodies}
+use Rattle.language.specs.Size.{Extents, nodes_of, bodies_of, declared_bytes, block_nodes, block_words, block_bodies}
+use Rattle.language.specs.Size.{parameter_words, return_nodes, statement_nodes, statement_bodies}
 use Rattle.language.specs.Tree.{BlockTree, nothing, first, StatementTree, ParameterTree, ProcedureTree, ReturnTree}
-use Rattle.statement_costs.specs.Costs.{counted_part, greatest_of, parameter_part, parts, place_of, return_parts, statement_cost, statement_parts, sum_of, whole}
+use Rattle.statement_costs.specs.Costs.{counted_part, greatest_of, parameter_part, parts, place_of, return_parts}
+use Rattle.statement_costs.specs.Costs.{statement_cost, statement_parts, sum_of, whole}
 use Rattle.statement_costs.specs.Counts.{AreCountsOf, counted}
 use Rattle.statement_costs.specs.declared.costs.Limit.{Limit}
 use Rattle.statement_costs.specs.declared.costs.Limit.TheVariants.{Nodes, Bodies, DeclaredBytes}
 use Rattle.statement_costs.specs.declared.costs.Part.{Part}
-use Rattle.statement_costs.proofs.CountLemmas.{statement_nodes_same, statement_words_same, statement_bodies_same, nodes_same, bodies_same, block_words_same}
+use Rattle.statement_costs.proofs.CountLemmas.{statement_nodes_same, statement_words_same, statement_bodies_same}
+use Rattle.statement_costs.proofs.CountLemmas.{nodes_same, bodies_same, block_words_same}
 
 sum_append : (ps qs : List Part) → sum_of (ps ++ qs) ≡ sum_of ps + sum_of qs
 sum_append [] qs = omega arith
 sum_append (p ∷ ps) qs = omega (arith, sum_append ps qs)
 
-nodes_together : (extents : Extents) (b : BlockTree) → sum_of (statement_parts Nodes extents b) ≡ block_nodes extents b
+nodes_together : (extents : Extents) (b : BlockTree)
+    → sum_of (statement_parts Nodes extents b) ≡ block_nodes extents b
 nodes_together extents nothing = refl
 nodes_together extents (first s b) = ap (λ n. statement_nodes extents s + n) (nodes_together extents b)
 
-words_together : (extents : Extents) (b : BlockTree) → sum_of (statement_parts DeclaredBytes extents b) ≡ 4 * block_words extents b
+words_together : (extents : Extents) (b : BlockTree)
+    → sum_of (statement_parts DeclaredBytes extents b) ≡ 4 * block_words extents b
 words_together extents nothing = refl
 words_together extents (first s b) = omega (arith, words_together extents b)
 
-bodies_together : (extents : Extents) (b : BlockTree) → greatest_of (statement_parts Bodies extents b) ≡ block_bodies extents b
+bodies_together : (extents : Extents) (b : BlockTree)
+    → greatest_of (statement_parts Bodies extents b) ≡ block_bodies extents b
 bodies_together extents nothing = refl
 bodies_together extents (first s b) = ap (max (statement_bodies extents s)) (bodies_together extents b)
 
@@ -39,10 +47,12 @@ nodes_whole extents p =
     sum_append (statement_parts Nodes extents p.body) (return_parts p.returned)
     ∙ ap₂ ◌+◌ (nodes_together extents p.body) (return_together p.returned)
 
-pub bodies_whole : (extents : Extents) (p : ProcedureTree) → 1 + greatest_of (parts Bodies extents p) ≡ bodies_of extents p
+pub bodies_whole : (extents : Extents) (p : ProcedureTree)
+    → 1 + greatest_of (parts Bodies extents p) ≡ bodies_of extents p
 bodies_whole extents p = ap (λ n. 1 + n) (bodies_together extents p.body)
 
-pub bytes_whole : (extents : Extents) (p : ProcedureTree) → sum_of (parts DeclaredBytes extents p) ≡ declared_bytes extents p
+pub bytes_whole : (extents : Extents) (p : ProcedureTree)
+    → sum_of (parts DeclaredBytes extents p) ≡ declared_bytes extents p
 bytes_whole extents p =
     let sum = sum_append (map parameter_part p.parameters) (statement_parts DeclaredBytes extents p.body) in
     let front = parameters_together p.parameters in
@@ -51,22 +61,27 @@ bytes_whole extents p =
 
 -- parts by counts are parts by what they count
 module _ (counts extents : Extents) (same : AreCountsOf counts extents) where
-  cost_same : (limit : Limit) (s : StatementTree) → counted (statement_cost limit counts s) ≡ counted (statement_cost limit extents s)
+  cost_same : (limit : Limit) (s : StatementTree)
+      → counted (statement_cost limit counts s) ≡ counted (statement_cost limit extents s)
   cost_same Nodes s = statement_nodes_same counts extents same s
   cost_same Bodies s = statement_bodies_same counts extents same s
   cost_same DeclaredBytes s = omega (arith, statement_words_same counts extents same s)
 
-  statements_same : (limit : Limit) (b : BlockTree) → map counted_part (statement_parts limit counts b) ≡ map counted_part (statement_parts limit extents b)
+  statements_same : (limit : Limit) (b : BlockTree)
+      → map counted_part (statement_parts limit counts b) ≡ map counted_part (statement_parts limit extents b)
   statements_same limit nothing = refl
   statements_same limit (first s b) =
-      ap₂ (λ (n : ℕ) (rest : List Part). record { place = place_of s; cost = n } ∷ rest) (cost_same limit s) (statements_same limit b)
+      ap₂ (λ (n : ℕ) (rest : List Part). record { place = place_of s; cost = n } ∷ rest) (cost_same limit s)
+      (statements_same limit b)
 
-  pub whole_same : (limit : Limit) (p : ProcedureTree) → counted (whole limit counts p) ≡ counted (whole limit extents p)
+  pub whole_same : (limit : Limit) (p : ProcedureTree)
+      → counted (whole limit counts p) ≡ counted (whole limit extents p)
   whole_same Nodes p = nodes_same counts extents same p
   whole_same Bodies p = bodies_same counts extents same p
   whole_same DeclaredBytes p = omega (arith, block_words_same counts extents same p.body)
 
-  pub parts_same : (limit : Limit) (p : ProcedureTree) → map counted_part (parts limit counts p) ≡ map counted_part (parts limit extents p)
+  pub parts_same : (limit : Limit) (p : ProcedureTree)
+      → map counted_part (parts limit counts p) ≡ map counted_part (parts limit extents p)
   parts_same Nodes p =
       map-append counted_part (statement_parts Nodes counts p.body) (return_parts p.returned)
       ∙ ap (λ (ps : List Part). ps ++ map counted_part (return_parts p.returned)) (statements_same Nodes p.body)
@@ -74,5 +89,6 @@ module _ (counts extents : Extents) (same : AreCountsOf counts extents) where
   parts_same Bodies p = statements_same Bodies p.body
   parts_same DeclaredBytes p =
       map-append counted_part (map parameter_part p.parameters) (statement_parts DeclaredBytes counts p.body)
-      ∙ ap (λ (ps : List Part). map counted_part (map parameter_part p.parameters) ++ ps) (statements_same DeclaredBytes p.body)
+      ∙ ap (λ (ps : List Part). map counted_part (map parameter_part p.parameters) ++ ps)
+      (statements_same DeclaredBytes p.body)
       ∙ sym (map-append counted_part (map parameter_part p.parameters) (statement_parts DeclaredBytes extents p.body))

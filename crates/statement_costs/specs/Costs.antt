@@ -1,8 +1,12 @@
--- What each part of a procedure costs of a limit on its size, with a called body in each call; and the part that costs most.
-use Rattle.std.specs.Prelude.{◌≡◌, ◌<◌, ◌≤◌, ℕ, ◌+◌, ◌*◌, nat_lt, fold, List, [], ◌∷◌, ◌++◌, map, max, Option, None, Some, if◌then◌else◌}
+-- What each part of a procedure costs of a limit on its size, with a called body in each call; and the part that
+-- costs most.
+use Rattle.std.specs.Prelude.{◌≡◌, ◌<◌, ◌≤◌, ℕ, ◌+◌, ◌*◌, nat_lt, fold, List, [], ◌∷◌, ◌++◌, map, max, Option, None}
+use Rattle.std.specs.Prelude.{Some, if◌then◌else◌}
 use Rattle.std.specs.List.{AllByRecursion}
-use Rattle.language.specs.Size.{Extents, extents_of, nodes_of, bodies_of, declared_bytes, held_words, nodes_in, statement_bodies, statement_nodes, statement_words}
-use Rattle.language.specs.Tree.{StatementTree, declaration, array, assignment, element_assignment, call, conditional, loop, BlockTree, nothing, first, ParameterTree, ReturnTree, ProcedureTree}
+use Rattle.language.specs.Size.{Extents, extents_of, nodes_of, bodies_of, declared_bytes, held_words, nodes_in}
+use Rattle.language.specs.Size.{statement_bodies, statement_nodes, statement_words}
+use Rattle.language.specs.Tree.{StatementTree, declaration, array, assignment, element_assignment, call, conditional}
+use Rattle.language.specs.Tree.{loop, BlockTree, nothing, first, ParameterTree, ReturnTree, ProcedureTree}
 use Rattle.statement_costs.specs.Counts.{counted}
 use Rattle.statement_costs.specs.declared.costs.Cost.{Cost}
 use Rattle.statement_costs.specs.declared.costs.Limit.{Limit}
@@ -29,7 +33,8 @@ statement_cost DeclaredBytes extents s = 4 * statement_words extents s
 -- the statements of a body, those inside others aside
 abbrev pub statement_parts : Limit → Extents → BlockTree → List Part
 statement_parts limit extents nothing = []
-statement_parts limit extents (first s rest) = record { place = place_of s; cost = statement_cost limit extents s } ∷ statement_parts limit extents rest
+statement_parts limit extents (first s rest) = record { place = place_of s; cost = statement_cost limit extents s }
+    ∷ statement_parts limit extents rest
 
 -- the `return`, where there is one
 abbrev pub return_parts : Option ReturnTree → List Part

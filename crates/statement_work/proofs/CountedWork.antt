@@ -1,5 +1,6 @@
 -- The turns of a loop, counted; and what is passed past the last argument.
-use Rattle.std.proofs.Common.{◌≡◌, ◌<◌, ◌≤◌, ℕ, ◌+◌, ◌*◌, Bool, true, false, nat_lt, List, [], ◌∷◌, length, drop, map, min, refl, ap, ◌∙◌, arith}
+use Rattle.std.proofs.Common.{◌≡◌, ◌<◌, ◌≤◌, ℕ, ◌+◌, ◌*◌, Bool, true, false, nat_lt, List, [], ◌∷◌, length, drop, map}
+use Rattle.std.proofs.Common.{min, refl, ap, ◌∙◌, arith}
 use Rattle.std.proofs.lemmas.Bool.Decides.{nat_tests}
 use Rattle.std.proofs.Math.Nat.{le-mul_of_pos_right, mul_comm}
 use Rattle.std.proofs.lemmas.List.{drop_all}
@@ -33,4 +34,5 @@ pub no_arguments : (ps : List ParameterTree) (es : List Expr) (n : ℕ) → fals
     → length (word_arguments ps (map expr_tree (drop n es))) ≡ 0
 no_arguments ps es n past =
     let end : length es ≤ n = grind (arith, nat_tests) in
-    ap (λ rest. length (word_arguments ps (map expr_tree rest))) (drop_all n es end) ∙ ap length (no_word_arguments ps)
+    ap (λ rest. length (word_arguments ps (map expr_tree rest))) (drop_all n es end)
+    ∙ ap length (no_word_arguments ps)

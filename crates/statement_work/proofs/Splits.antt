@@ -1,5 +1,6 @@
 -- The statements of the one body that each statement of the source becomes are taken one after the other.
-use Rattle.std.proofs.Common.{◌≡◌, ◌≤◌, ℕ, ◌+◌, Bool, true, false, List, [], ◌∷◌, take, drop, length, refl, sym, ap, ap₂, ◌∙◌, true≢false, arith}
+use Rattle.std.proofs.Common.{◌≡◌, ◌≤◌, ℕ, ◌+◌, Bool, true, false, List, [], ◌∷◌, take, drop, length, refl, sym, ap}
+use Rattle.std.proofs.Common.{ap₂, ◌∙◌, true≢false, arith}
 use Rattle.inline.specs.declared.flat.FlatStatement.{FlatStatement}
 use Rattle.inline.specs.Flat.{FlatBlock, FlatTree, chain, flat_block, flat_tree}
 use Rattle.inline.specs.Flat as flat
@@ -32,7 +33,8 @@ taken flat.nothing b xs is = refl
 taken (flat.first s a) b [] is = absurd (true≢false (sym (ap is_first is)))
 taken (flat.first s a) b (x ∷ xs) is = ap₂ flat.first (ap (head_or s) is) (taken a b xs (ap tail_of is))
 
-left_over : (a b : FlatBlock) (xs : List FlatStatement) → flat_block xs ≡ chain a b → flat_block (drop (count a) xs) ≡ b
+left_over : (a b : FlatBlock) (xs : List FlatStatement) → flat_block xs ≡ chain a b
+    → flat_block (drop (count a) xs) ≡ b
 left_over flat.nothing b xs is = is
 left_over (flat.first s a) b [] is = absurd (true≢false (sym (ap is_first is)))
 left_over (flat.first s a) b (x ∷ xs) is = left_over a b xs (ap tail_of is)
@@ -58,7 +60,8 @@ some_nodes (flat.loop x low high body) = omega arith
 
 pub fewer_than_nodes : (b : FlatBlock) → count b ≤ body_nodes b
 fewer_than_nodes flat.nothing = omega arith
-fewer_than_nodes (flat.first s rest) = let one = some_nodes s in let others = fewer_than_nodes rest in omega (arith, one, others)
+fewer_than_nodes (flat.first s rest) = let one = some_nodes s in let others = fewer_than_nodes rest in
+    omega (arith, one, others)
 
 module _ (turns : List ℕ) (lengths : Lengths) (known : Callables) (alike : AllAlike lengths known) where
   pub pieces_are_parts : (b : BlockTree) (names : Numbers) (n : ℕ) (left : List FlatStatement)
@@ -77,4 +80,5 @@ module _ (turns : List ℕ) (lengths : Lengths) (known : Callables) (alike : All
       let own = ap (λ k. flat_block (take k left)) within ∙ taken one others left is in
       let behind = ap (λ k. flat_block (drop k left)) within ∙ left_over one others left is in
       ap₂ (λ (n : ℕ) (ps : List Part). record { place = place_of s; cost = n } ∷ ps) (ap (body_work turns) own)
-      (pieces_are_parts rest next later (drop (counted (statement_length lengths s)) left) behind (omega (arith, back, few)))
+      (pieces_are_parts rest next later (drop (counted (statement_length lengths s)) left) behind
+      (omega (arith, back, few)))

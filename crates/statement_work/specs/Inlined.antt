@@ -12,7 +12,11 @@ counted_inlined i = record { parameters = i.parameters; statements = counted i.s
 
 -- as it lies in memory
 abbrev pub inlined_of : InlinedFound → Inlined
-inlined_of i = record { parameters = map parameter_tree i.parameters.now; statements = i.statements; returns = i.returns }
+inlined_of i = record {
+  parameters = map parameter_tree i.parameters.now;
+  statements = i.statements;
+  returns = i.returns;
+}
 
 -- what is known by a table of them
 abbrev pub lengths_in : List (List ℕ × InlinedFound) → Lengths

@@ -2,7 +2,9 @@
 use Rattle.std.specs.Prelude.{ℕ, ◌+◌, Bool, List, length, Option, None, Some, is_some, if◌then◌else◌}
 use Rattle.language.specs.Known.{Known, known_of}
 use Rattle.language.specs.Meaning.{word_arguments}
-use Rattle.language.specs.Tree.{ExprTree, RightTree, called, computed, StatementTree, declaration, array, assignment, element_assignment, call, conditional, loop, BlockTree, nothing, first, ParameterTree, ProcedureTree}
+use Rattle.language.specs.Tree.{ExprTree, RightTree, called, computed, StatementTree, declaration, array, assignment}
+use Rattle.language.specs.Tree.{element_assignment, call, conditional, loop, BlockTree, nothing, first, ParameterTree}
+use Rattle.language.specs.Tree.{ProcedureTree}
 
 -- a procedure that may be called: how many statements its body becomes, and whether it gives something
 pub record Inlined : Type 0 where
@@ -48,7 +50,11 @@ block_length lengths (first s rest) = statement_length lengths s + block_length 
 
 -- a procedure behind those that it may call
 abbrev pub inlined : Lengths → ProcedureTree → Inlined
-inlined lengths p = record { parameters = p.parameters; statements = block_length lengths p.body; returns = is_some p.result }
+inlined lengths p = record {
+  parameters = p.parameters;
+  statements = block_length lengths p.body;
+  returns = is_some p.result;
+}
 
 abbrev pub lengths_of : List ProcedureTree → Lengths
 lengths_of before = known_of inlined before

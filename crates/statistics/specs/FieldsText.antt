@@ -15,7 +15,8 @@ profile_number P2 = 2
 -- the line of a parameter
 abbrev pub slot_line : ℕ → Slot → List ℕ
 slot_line number slot =
-    codes "parameter " ++ decimal number ++ codes " at " ++ decimal slot.offset ++ codes ": " ++ param_text slot.param ++ codes "\n"
+    codes "parameter " ++ decimal number ++ codes " at " ++ decimal slot.offset ++ codes ": " ++ param_text slot.param
+    ++ codes "\n"
 
 -- a line for each parameter, which are numbered from here on
 abbrev pub slot_lines : ℕ → List Slot → List ℕ
@@ -25,12 +26,18 @@ slot_lines number (slot ∷ slots) = slot_line number slot ++ slot_lines (number
 -- the line of the result, where there is one
 abbrev pub returned_line : Option ResultSlot → List ℕ
 returned_line None = []
-returned_line (Some slot) = codes "result at " ++ decimal slot.offset ++ codes ": " ++ label_text slot.label ++ kind_text slot.kind ++ codes "\n"
+returned_line (Some slot) = codes "result at " ++ decimal slot.offset ++ codes ": " ++ label_text slot.label
+    ++ kind_text slot.kind ++ codes "\n"
 
 -- the observer, the words of code, the bytes of the frame, and the most steps of a run
 abbrev pub sizes_text : ℕ → ℕ → ℕ → ℕ → List ℕ
 sizes_text profile words frame steps =
-    codes "profile " ++ (decimal profile ++ (codes "\nwords " ++ (decimal words ++ (codes "\nframe_bytes " ++ (decimal frame ++ (codes "\nmax_steps " ++ (decimal steps ++ codes "\n")))))))
+    codes "profile "
+    ++ (decimal profile
+    ++ (codes "\nwords "
+    ++ (decimal words
+    ++ (codes "\nframe_bytes "
+    ++ (decimal frame ++ (codes "\nmax_steps " ++ (decimal steps ++ codes "\n")))))))
 
 -- these, and where parameters and result lie
 abbrev pub fields_text : Fields → List ℕ

@@ -33,4 +33,5 @@ length_text MutableArray count = codes "[" ++ decimal count ++ codes "]"
 
 -- the type of a parameter, without its name
 abbrev pub param_text : Param → List ℕ
-param_text param = label_text param.label ++ mutable_text param.form ++ kind_text param.kind ++ length_text param.form param.length
+param_text param = label_text param.label ++ mutable_text param.form ++ kind_text param.kind
+    ++ length_text param.form param.length

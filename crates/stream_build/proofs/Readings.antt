@@ -10,7 +10,8 @@ all-of-fewer read all asked is fewer =
     is ∙ take_all asked all (omega (arith, length-take asked all))
 
 -- there are no fewer than came
-pub no-fewer : (read all : List ℕ) (asked least : ℕ) → read ≡ take asked all → least < length read → least < length all
+pub no-fewer : (read all : List ℕ) (asked least : ℕ) → read ≡ take asked all → least < length read
+    → least < length all
 no-fewer read all asked least is more =
     let counted : length read ≡ length (take asked all) = ap length is in
     omega (arith, length-take asked all)

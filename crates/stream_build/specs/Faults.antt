@@ -1,4 +1,5 @@
--- Which bytes are a text, and which fault is answered to bytes that are not built. Length is asked first, then UTF-8, then the text.
+-- Which bytes are a text, and which fault is answered to bytes that are not built. Length is asked first, then UTF-8,
+-- then the text.
 use Rattle.std.specs.Prelude.{◌≡◌, ◌⊎◌, ℕ, ◌<◌, ◌≤◌, List, length, Some, ⊤}
 use Rattle.std.specs.Str.{IsUtf8}
 use Rattle.hepurita.specs.Built.{Judges, IsRefusal}
@@ -26,9 +27,11 @@ NoText bytes NotUtf8 = (length bytes ≤ text_limit) × ¬ IsUtf8 bytes
 NoText bytes (Refused refusal) = IsWantOfMemory refusal.rule refusal.place ⊎ IsTooLong bytes refusal
 NoText bytes Write = ⊥
 
--- why a source's bytes are not built to a sink, for an observer: they are not had as a text, or are one that is refused, or whose image is not all written
+-- why a source's bytes are not built to a sink, for an observer: they are not had as a text, or are one that is
+-- refused, or whose image is not all written
 abbrev pub IsFaultOf : Profile → List ℕ → BuildFault Refusal → Type 0
 IsFaultOf profile bytes Read = ⊤
 IsFaultOf profile bytes NotUtf8 = NoText bytes NotUtf8
-IsFaultOf profile bytes (Refused refusal) = NoText bytes (Refused refusal) ⊎ (IsText bytes × IsRefusal (Judges profile bytes) refusal)
+IsFaultOf profile bytes (Refused refusal) = NoText bytes (Refused refusal)
+    ⊎ (IsText bytes × IsRefusal (Judges profile bytes) refusal)
 IsFaultOf profile bytes Write = IsText bytes

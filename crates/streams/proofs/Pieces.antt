@@ -1,5 +1,6 @@
 -- Bytes that move in pieces, one after another.
-use Rattle.std.proofs.Common.{◌≡◌, ℕ, ◌+◌, ◌-◌, ◌≤◌, ◌++◌, List, length, take, drop, arith, append_assoc, sym, ◌∙◌, ap, subst, length-drop}
+use Rattle.std.proofs.Common.{◌≡◌, ℕ, ◌+◌, ◌-◌, ◌≤◌, ◌++◌, List, length, take, drop, arith, append_assoc, sym, ◌∙◌}
+use Rattle.std.proofs.Common.{ap, subst, length-drop}
 use Rattle.std.proofs.Math.Seq.{take-add, drop-append-add, take-append_seam}
 use Rattle.std.proofs.lemmas.List.{drop-drop, take-append-drop, take_all}
 use Rattle.streams.specs.Streams.{LosesPart}

@@ -1,5 +1,6 @@
 -- Sinks and sources: what is known of the bytes that went out or came in, and how failed calls are counted.
-use Rattle.std.specs.Prelude.{◌≡◌, ℕ, ◌-◌, ◌<◌, ◌≤◌, ◌++◌, ◌==◌, Bool, false, List, length, take, drop, Option, Some, None, if◌then◌else◌}
+use Rattle.std.specs.Prelude.{◌≡◌, ℕ, ◌-◌, ◌<◌, ◌≤◌, ◌++◌, ◌==◌, Bool, false, List, length, take, drop, Option, Some}
+use Rattle.std.specs.Prelude.{None, if◌then◌else◌}
 
 -- to what had gone out, some of these bytes were added, from their beginning, and not all of them
 pub record GainsPart (before after bytes : List ℕ) : Type 0 where

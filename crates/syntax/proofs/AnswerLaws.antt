@@ -1,5 +1,6 @@
 -- A text has one answer.
-use Rattle.std.proofs.Common.{◌≡◌, ℕ, ◌<◌, ◌≤◌, Some, inl, inr, List, length, sym, subst, refl, arith, Bool, true, false}
+use Rattle.std.proofs.Common.{◌≡◌, ℕ, ◌<◌, ◌≤◌, Some, inl, inr, List, length, sym, subst, refl, arith, Bool, true}
+use Rattle.std.proofs.Common.{false}
 use Rattle.std.specs.Prelude.{nat_lt}
 use Rattle.language.specs.declared.refusal.Refusal.{Refusal}
 use Rattle.language.specs.declared.rule.Rule.TheVariants.{TextTooLong}
@@ -19,12 +20,15 @@ one_answer text _ two (too_long _ long) (by_tokens _ tokens ending _ short lexes
 one_answer text one _ (by_tokens _ tokens ending _ short lexes h) (too_long _ long) = absurd (omega arith)
 one_answer text one two (by_tokens _ tokens ending _ short lexes h) (by_tokens _ tokens' ending' _ short' lexes' h') =
     let same = one_list text tokens tokens' ending ending' lexes lexes' in
-    one_answer_for_tokens tokens' ending' one two (subst (λ e. Answers tokens' e one) same.1 (subst (λ ts. Answers ts ending one) same.0 h)) h'
+    one_answer_for_tokens tokens' ending' one two
+    (subst (λ e. Answers tokens' e one) same.1 (subst (λ ts. Answers ts ending one) same.0 h)) h'
 
 -- what refuses the tokens of a text refuses the text
-pub text-refused : (text : List ℕ) (tokens : List Lexeme) (ending : Ending) (r : Refusal) → length text ≤ text_limit → Lexes text tokens ending → IsRefusedAs (Answers tokens ending) r → IsRefusedAs (Reads text) r
+pub text-refused : (text : List ℕ) (tokens : List Lexeme) (ending : Ending) (r : Refusal) → length text ≤ text_limit
+    → Lexes text tokens ending → IsRefusedAs (Answers tokens ending) r → IsRefusedAs (Reads text) r
 text-refused text tokens ending r short lexes (inl memory) = inl memory
-text-refused text tokens ending r short lexes (inr w) = inr (w.0, w.1, by_tokens text tokens ending (refused r.rule w.0) short lexes w.2)
+text-refused text tokens ending r short lexes (inr w) =
+    inr (w.0, w.1, by_tokens text tokens ending (refused r.rule w.0) short lexes w.2)
 
 pub not-long : (n : ℕ) → (text_limit < n → ⊥) → n ≤ text_limit
 not-long n h = go (nat_lt text_limit n) refl
@@ -34,9 +38,17 @@ not-long n h = go (nat_lt text_limit n) refl
     go false e = lt-false text_limit n e
 
 -- what the lexer refuses
-pub lexer-refused : (text : List ℕ) (r : Refusal) → (text_limit < length text → (r.rule ≡ TextTooLong) × (r.place ≡ Some origin)) → (length text ≤ text_limit → IsWantOfMemory r.rule r.place) → IsRefusedAs (Reads text) r
+pub lexer-refused : (text : List ℕ) (r : Refusal)
+    → (text_limit < length text → (r.rule ≡ TextTooLong) × (r.place ≡ Some origin))
+    → (length text ≤ text_limit → IsWantOfMemory r.rule r.place) → IsRefusedAs (Reads text) r
 lexer-refused text r long memory = go (nat_lt text_limit (length text)) refl
   where
     go : (b : Bool) → nat_lt text_limit (length text) ≡ b → IsRefusedAs (Reads text) r
-    go true e = let w = long (lt-true text_limit (length text) e) in inr (origin, w.1, subst (λ rule. Reads text (refused rule origin)) (sym w.0) (too_long text (lt-true text_limit (length text) e)))
+    go true e = let w = long (lt-true text_limit (length text) e) in
+        inr (
+          origin,
+          w.1,
+          subst (λ rule. Reads text (refused rule origin)) (sym w.0)
+              (too_long text (lt-true text_limit (length text) e)),
+        )
     go false e = inl (memory (lt-false text_limit (length text) e))

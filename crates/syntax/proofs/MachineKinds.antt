@@ -1,5 +1,6 @@
 -- What the machine's tables say of a token's kind.
-use Rattle.std.proofs.Common.{◌≡◌, ◌≤◌, ◌<◌, ◌↔◌, ◌&&◌, nat_eq, ℕ, Bool, true, false, List, [], ◌∷◌, find, Option, Some, None, refl, sym, subst, ap, ap₂, ◌∙◌, arith, eqb-true, eq-eqb}
+use Rattle.std.proofs.Common.{◌≡◌, ◌≤◌, ◌<◌, ◌↔◌, ◌&&◌, nat_eq, ℕ, Bool, true, false, List, [], ◌∷◌, find, Option}
+use Rattle.std.proofs.Common.{Some, None, refl, sym, subst, ap, ap₂, ◌∙◌, arith, eqb-true, eq-eqb}
 use Rattle.std.specs.Str.{bytes_eq}
 use Rattle.std.proofs.lemmas.Slice.Eq.{bytes_eq-Decides}
 use Rattle.syntax.specs.declared.token.Suffix.{Suffix}
@@ -9,17 +10,23 @@ use Rattle.syntax.proofs.TokenLaws.{keyword_unique, sign_unique}
 use Rattle.syntax.proofs.TokenRuns.{and_true}
 use Rattle.std.specs.Option.{option_map}
 use Rattle.syntax.specs.declared.parser.operator.Begins.{Begins}
-use Rattle.syntax.specs.declared.parser.operator.Begins.TheVariants.{Number as by_number, Truth as by_truth, Name as by_name, Bracket as by_bracket, Prefix as by_prefix, Conversion as by_conversion, Select as by_select}
+use Rattle.syntax.specs.declared.parser.operator.Begins.TheVariants.{Number as by_number, Truth as by_truth}
+use Rattle.syntax.specs.declared.parser.operator.Begins.TheVariants.{Name as by_name, Bracket as by_bracket}
+use Rattle.syntax.specs.declared.parser.operator.Begins.TheVariants.{Prefix as by_prefix, Conversion as by_conversion}
+use Rattle.syntax.specs.declared.parser.operator.Begins.TheVariants.{Select as by_select}
 use Rattle.syntax.specs.declared.parser.operator.Link.{Link}
 use Rattle.syntax.specs.declared.parser.operator.Link.TheVariants.{Operator as by_operator, Rotation as by_rotation}
 use Rattle.syntax.specs.declared.parser.statement.Start.{Start}
-use Rattle.syntax.specs.declared.parser.statement.Start.TheVariants.{Declaration as by_label, Target as by_target, Conditional as by_if, Loop as by_for}
+use Rattle.syntax.specs.declared.parser.statement.Start.TheVariants.{Declaration as by_label, Target as by_target}
+use Rattle.syntax.specs.declared.parser.statement.Start.TheVariants.{Conditional as by_if, Loop as by_for}
 use Rattle.language.specs.declared.signature.Kind.{Kind}
 use Rattle.language.specs.declared.signature.Label.{Label}
 use Rattle.syntax.specs.declared.token.TokenKind.{TokenKind}
 use Rattle.syntax.specs.declared.token.TokenKind.TheVariants as token
-use Rattle.syntax.specs.declared.token.Keyword.TheVariants.{Export, Void, Public, Secret, Mut, Uint32, True, False, If, Else, For, From, To, Return, Select}
-use Rattle.syntax.specs.declared.token.Sign.TheVariants.{RotateLeft, OpenRound, CloseRound, OpenCurly, CloseCurly, OpenSquare, CloseSquare, Comma, Semicolon, Assign}
+use Rattle.syntax.specs.declared.token.Keyword.TheVariants.{Export, Void, Public, Secret, Mut, Uint32, True, False}
+use Rattle.syntax.specs.declared.token.Keyword.TheVariants.{If, Else, For, From, To, Return, Select}
+use Rattle.syntax.specs.declared.token.Sign.TheVariants.{RotateLeft, OpenRound, CloseRound, OpenCurly, CloseCurly}
+use Rattle.syntax.specs.declared.token.Sign.TheVariants.{OpenSquare, CloseSquare, Comma, Semicolon, Assign}
 use Rattle.language.specs.declared.tree.BinaryOperator.{BinaryOperator}
 use Rattle.language.specs.declared.tree.BinaryOperator.TheVariants as operator
 use Rattle.language.specs.declared.tree.PrefixOperator.{PrefixOperator}
@@ -46,18 +53,22 @@ suffix_unique a b e =
 
 pub kind-fits : (what kind : TokenKind) → fits what kind ≡ true → kind ≡ what
 kind-fits token.Name token.Name e = refl
-kind-fits (token.Keyword a) (token.Keyword b) e = ap token.Keyword (sym (keyword_unique a b ((bytes_eq-Decides (keyword_text a) (keyword_text b)).0 e)))
-kind-fits (token.Sign a) (token.Sign b) e = ap token.Sign (sym (sign_unique a b ((bytes_eq-Decides (sign_text a) (sign_text b)).0 e)))
+kind-fits (token.Keyword a) (token.Keyword b) e =
+    ap token.Keyword (sym (keyword_unique a b ((bytes_eq-Decides (keyword_text a) (keyword_text b)).0 e)))
+kind-fits (token.Sign a) (token.Sign b) e =
+    ap token.Sign (sym (sign_unique a b ((bytes_eq-Decides (sign_text a) (sign_text b)).0 e)))
 kind-fits (token.Number m a) (token.Number n b) e =
     let both = and_true (nat_eq m n) (bytes_eq (suffix_text a) (suffix_text b)) e in
-    sym (ap₂ token.Number (eqb-true m n both.0) (suffix_unique a b ((bytes_eq-Decides (suffix_text a) (suffix_text b)).0 both.1)))
+    sym (ap₂ token.Number (eqb-true m n both.0)
+    (suffix_unique a b ((bytes_eq-Decides (suffix_text a) (suffix_text b)).0 both.1)))
 kind-fits _ _ e = cc
 
 fits-itself : (kind : TokenKind) → fits kind kind ≡ true
 fits-itself token.Name = refl
 fits-itself (token.Keyword a) = (bytes_eq-Decides (keyword_text a) (keyword_text a)).1 refl
 fits-itself (token.Sign a) = (bytes_eq-Decides (sign_text a) (sign_text a)).1 refl
-fits-itself (token.Number n a) = ap₂ (λ x y. x && y) (eq-eqb n n refl) ((bytes_eq-Decides (suffix_text a) (suffix_text a)).1 refl)
+fits-itself (token.Number n a) =
+    ap₂ (λ x y. x && y) (eq-eqb n n refl) ((bytes_eq-Decides (suffix_text a) (suffix_text a)).1 refl)
 
 pub fits-kind : (what kind : TokenKind) → kind ≡ what → fits what kind ≡ true
 fits-kind what kind e = ap (fits what) e ∙ fits-itself what
@@ -77,7 +88,8 @@ Holds P None = Unit {0}
 Holds P (Some x) = P x
 
 -- what holds of a table's entry, of the entry that a table over it has
-holds-mapped : {A B : Type 0} (f : A → B) (P : B → Type 0) (o : Option A) → ((x : A) → o ≡ Some x → P (f x)) → Holds P (option_map f o)
+holds-mapped : {A B : Type 0} (f : A → B) (P : B → Type 0) (o : Option A) → ((x : A) → o ≡ Some x → P (f x))
+    → Holds P (option_map f o)
 holds-mapped f P None h = tt
 holds-mapped f P (Some x) h = h x refl
 
@@ -97,22 +109,26 @@ begins-holds (token.Number n suffix) = refl
 begins-holds (token.Keyword True) = refl
 begins-holds (token.Keyword False) = refl
 begins-holds (token.Keyword Select) = refl
-begins-holds (token.Keyword word) = holds-mapped by_conversion (BeginsBy (token.Keyword word)) (conversion_of (token.Keyword word)) (λ x e. e)
+begins-holds (token.Keyword word) =
+    holds-mapped by_conversion (BeginsBy (token.Keyword word)) (conversion_of (token.Keyword word)) (λ x e. e)
 begins-holds token.Name = refl
 begins-holds (token.Sign OpenRound) = refl
-begins-holds (token.Sign sign) = holds-mapped by_prefix (BeginsBy (token.Sign sign)) (prefix_of (token.Sign sign)) (λ x e. e)
+begins-holds (token.Sign sign) =
+    holds-mapped by_prefix (BeginsBy (token.Sign sign)) (prefix_of (token.Sign sign)) (λ x e. e)
 
 pub begins-by : (kind : TokenKind) (b : Begins) → begins_of kind ≡ Some b → BeginsBy kind b
 begins-by kind b e = subst (λ o. Holds (BeginsBy kind) o) e (begins-holds kind)
 
-pub prefix-begins : (kind : TokenKind) (operator : PrefixOperator) → prefix_of kind ≡ Some operator → begins_of kind ≡ Some (by_prefix operator)
+pub prefix-begins : (kind : TokenKind) (operator : PrefixOperator) → prefix_of kind ≡ Some operator
+    → begins_of kind ≡ Some (by_prefix operator)
 prefix-begins (token.Sign OpenRound) operator e = cc
 prefix-begins (token.Sign _) operator e = ap (option_map by_prefix) e
 prefix-begins (token.Keyword _) operator e = cc
 prefix-begins token.Name operator e = cc
 prefix-begins (token.Number _ _) operator e = cc
 
-pub conversion-begins : (kind : TokenKind) (what : Kind) → conversion_of kind ≡ Some what → begins_of kind ≡ Some (by_conversion what)
+pub conversion-begins : (kind : TokenKind) (what : Kind) → conversion_of kind ≡ Some what
+    → begins_of kind ≡ Some (by_conversion what)
 conversion-begins (token.Keyword True) what e = cc
 conversion-begins (token.Keyword False) what e = cc
 conversion-begins (token.Keyword Select) what e = cc
@@ -133,7 +149,8 @@ links-holds kind = holds-mapped by_operator (LinksBy kind) (operator_of kind) (�
 pub links-by : (kind : TokenKind) (link : Link) → link_of kind ≡ Some link → LinksBy kind link
 links-by kind link e = subst (λ o. Holds (LinksBy kind) o) e (links-holds kind)
 
-pub operator-links : (kind : TokenKind) (o : BinaryOperator) → operator_of kind ≡ Some o → link_of kind ≡ Some (by_operator o)
+pub operator-links : (kind : TokenKind) (o : BinaryOperator) → operator_of kind ≡ Some o
+    → link_of kind ≡ Some (by_operator o)
 operator-links (token.Sign RotateLeft) o e = cc
 operator-links kind o e = ap (option_map by_operator) e
 
@@ -153,7 +170,8 @@ starts-holds kind = holds-mapped by_label (StartsBy kind) (label_of kind) (λ x 
 pub starts-by : (kind : TokenKind) (start : Start) → starts_with kind ≡ Some start → StartsBy kind start
 starts-by kind start e = subst (λ o. Holds (StartsBy kind) o) e (starts-holds kind)
 
-pub label-starts : (kind : TokenKind) (label : Label) → label_of kind ≡ Some label → starts_with kind ≡ Some (by_label label)
+pub label-starts : (kind : TokenKind) (label : Label) → label_of kind ≡ Some label
+    → starts_with kind ≡ Some (by_label label)
 label-starts token.Name label e = cc
 label-starts (token.Keyword If) label e = cc
 label-starts (token.Keyword For) label e = cc
@@ -215,7 +233,9 @@ operator-bars token.Name o e = cc
 operator-bars (token.Number _ _) o e = cc
 
 -- what a keyword of a type is not
-pub label-no : (kind : TokenKind) (label : Label) → label_of kind ≡ Some label → (fits (token.Keyword keyword.Else) kind ≡ false) × (fits (token.Sign sign.CloseRound) kind ≡ false) × (fits (token.Keyword keyword.Void) kind ≡ false) × (fits (token.Keyword keyword.Export) kind ≡ false)
+pub label-no : (kind : TokenKind) (label : Label) → label_of kind ≡ Some label
+    → (fits (token.Keyword keyword.Else) kind ≡ false) × (fits (token.Sign sign.CloseRound) kind ≡ false)
+    × (fits (token.Keyword keyword.Void) kind ≡ false) × (fits (token.Keyword keyword.Export) kind ≡ false)
 label-no (token.Keyword Public) label e = (refl, refl, refl, refl)
 label-no (token.Keyword Secret) label e = (refl, refl, refl, refl)
 label-no (token.Keyword _) label e = cc
@@ -223,7 +243,8 @@ label-no (token.Sign _) label e = cc
 label-no token.Name label e = cc
 label-no (token.Number _ _) label e = cc
 
-pub word-no-mut : (which : TokenKind) (kind : Kind) → word_of which ≡ Some kind → fits (token.Keyword keyword.Mut) which ≡ false
+pub word-no-mut : (which : TokenKind) (kind : Kind) → word_of which ≡ Some kind
+    → fits (token.Keyword keyword.Mut) which ≡ false
 word-no-mut (token.Keyword Mut) kind e = cc
 word-no-mut (token.Keyword _) kind e = refl
 word-no-mut (token.Sign _) kind e = cc

@@ -1,5 +1,6 @@
 -- What the machine reads is in the grammar, and each state can be finished.
-use Rattle.std.proofs.Common.{◌≡◌, ℕ, ◌≤◌, Bool, true, false, ◌&&◌, ◌⊎◌, inl, inr, List, [], ◌∷◌, ◌++◌, Option, Some, None, refl, sym, subst, ap, ◌∙◌, arith, if◌then◌else◌, append_assoc}
+use Rattle.std.proofs.Common.{◌≡◌, ℕ, ◌≤◌, Bool, true, false, ◌&&◌, ◌⊎◌, inl, inr, List, [], ◌∷◌, ◌++◌, Option, Some}
+use Rattle.std.proofs.Common.{None, refl, sym, subst, ap, ◌∙◌, arith, if◌then◌else◌, append_assoc}
 use Rattle.std.proofs.lemmas.List.{append-nil}
 use Rattle.std.proofs.lemmas.Bool.Decides.{nat_tests}
 use Rattle.std.proofs.lemmas.Option.{same_Some}
@@ -17,17 +18,40 @@ use Rattle.syntax.specs.declared.token.TokenKind.TheVariants as token
 use Rattle.syntax.specs.declared.token.Keyword.TheVariants.{Public, Bool as BoolWord, If, Else}
 use Rattle.syntax.specs.declared.token.Sign.TheVariants.{CloseRound}
 use Rattle.language.specs.declared.typing.WordType.{WordType}
-use Rattle.syntax.specs.Grammar.{label_of, word_of, length_of, amount_of, left_level_of, level_of, ExprAt, a_number, a_true, a_false, a_name, an_element, in_brackets, a_conversion, a_select, a_prefix, a_rotation, a_binary, no_more, one_more, SomeExprs, some_exprs as some_exprs_rule, no_arguments, some_arguments, Call, a_call, RightSide, a_call_value, a_value, Mutable, no_mut, a_mut, an_array_type, FirstValues, no_values, some_values, Statement, a_declaration, an_array, an_assignment, an_element_assignment, a_call_statement, a_conditional_statement, a_loop, Conditional, a_conditional, Statements, no_statement, one_statement, Block, a_block, Otherwise, no_else, an_else, an_else_if, Parameter, a_word, a_fixed_array, a_mutable_array, no_more_parameters, one_more_parameter, Parameters, no_parameters, some_parameters, ResultType, a_void, a_type, BodyEnd, no_return, a_return, Exported, not_exported, an_export, Procedure, a_procedure, no_procedure, one_procedure, IsProgram, a_program, IsBeginning}
+use Rattle.syntax.specs.Grammar.{label_of, word_of, length_of, amount_of, left_level_of, level_of, ExprAt, a_number}
+use Rattle.syntax.specs.Grammar.{a_true, a_false, a_name, an_element, in_brackets, a_conversion, a_select, a_prefix}
+use Rattle.syntax.specs.Grammar.{a_rotation, a_binary, no_more, one_more, SomeExprs, some_exprs as some_exprs_rule}
+use Rattle.syntax.specs.Grammar.{no_arguments, some_arguments, Call, a_call, RightSide, a_call_value, a_value}
+use Rattle.syntax.specs.Grammar.{Mutable, no_mut, a_mut, an_array_type, FirstValues, no_values, some_values}
+use Rattle.syntax.specs.Grammar.{Statement, a_declaration, an_array, an_assignment, an_element_assignment}
+use Rattle.syntax.specs.Grammar.{a_call_statement, a_conditional_statement, a_loop, Conditional, a_conditional}
+use Rattle.syntax.specs.Grammar.{Statements, no_statement, one_statement, Block, a_block, Otherwise, no_else, an_else}
+use Rattle.syntax.specs.Grammar.{an_else_if, Parameter, a_word, a_fixed_array, a_mutable_array, no_more_parameters}
+use Rattle.syntax.specs.Grammar.{one_more_parameter, Parameters, no_parameters, some_parameters, ResultType, a_void}
+use Rattle.syntax.specs.Grammar.{a_type, BodyEnd, no_return, a_return, Exported, not_exported, an_export, Procedure}
+use Rattle.syntax.specs.Grammar.{a_procedure, no_procedure, one_procedure, IsProgram, a_program, IsBeginning}
 use Rattle.syntax.specs.Lexeme.{Lexeme}
 use Rattle.language.specs.Tree as tree
-use Rattle.language.specs.Tree.{ExprTree, CallTree, RightTree, StatementTree, BlockTree, nothing, first, ParameterTree, ReturnTree, ProcedureTree, ProgramTree}
+use Rattle.language.specs.Tree.{ExprTree, CallTree, RightTree, StatementTree, BlockTree, nothing, first}
+use Rattle.language.specs.Tree.{ParameterTree, ReturnTree, ProcedureTree, ProgramTree}
 use Rattle.syntax.specs.declared.parser.operator.Begins.{Begins}
-use Rattle.syntax.specs.declared.parser.operator.Begins.TheVariants.{Number as by_number, Truth as by_truth, Name as by_name, Bracket as by_bracket, Prefix as by_prefix, Conversion as by_conversion, Select as by_select}
+use Rattle.syntax.specs.declared.parser.operator.Begins.TheVariants.{Number as by_number, Truth as by_truth}
+use Rattle.syntax.specs.declared.parser.operator.Begins.TheVariants.{Name as by_name, Bracket as by_bracket}
+use Rattle.syntax.specs.declared.parser.operator.Begins.TheVariants.{Prefix as by_prefix, Conversion as by_conversion}
+use Rattle.syntax.specs.declared.parser.operator.Begins.TheVariants.{Select as by_select}
 use Rattle.syntax.specs.declared.parser.operator.Link.{Link}
 use Rattle.syntax.specs.declared.parser.operator.Link.TheVariants.{Operator as by_operator, Rotation as by_rotation}
 use Rattle.syntax.specs.declared.parser.statement.Start.{Start}
-use Rattle.syntax.specs.declared.parser.statement.Start.TheVariants.{Declaration as by_label, Target as by_target, Conditional as by_if, Loop as by_for}
-use Rattle.syntax.specs.private.Machine.{State, procedures, one, either, a_label, a_kind, a_length, an_amount, more_parameters, expr, more, more_exprs, statements, otherwise, fits, begins_of, link_of, link_level, link_left_level, starts_with, some_exprs, call_of, named, operand, linked, right_from, right, right_end, first_values, declared_array, declared_word, declared_as, declared, targeted, block, conditioned, after_else, statement, labelled, parameter, parameters, returned, procedure_from, result_type, procedure, program, started, within, joined, step_result, step, at_end, run}
+use Rattle.syntax.specs.declared.parser.statement.Start.TheVariants.{Declaration as by_label, Target as by_target}
+use Rattle.syntax.specs.declared.parser.statement.Start.TheVariants.{Conditional as by_if, Loop as by_for}
+use Rattle.syntax.specs.private.Machine.{State, procedures, one, either, a_label, a_kind, a_length, an_amount}
+use Rattle.syntax.specs.private.Machine.{more_parameters, expr, more, more_exprs, statements, otherwise, fits}
+use Rattle.syntax.specs.private.Machine.{begins_of, link_of, link_level, link_left_level, starts_with, some_exprs}
+use Rattle.syntax.specs.private.Machine.{call_of, named, operand, linked, right_from, right, right_end, first_values}
+use Rattle.syntax.specs.private.Machine.{declared_array, declared_word, declared_as, declared, targeted, block}
+use Rattle.syntax.specs.private.Machine.{conditioned, after_else, statement, labelled, parameter, parameters}
+use Rattle.syntax.specs.private.Machine.{returned, procedure_from, result_type, procedure, program, started, within}
+use Rattle.syntax.specs.private.Machine.{joined, step_result, step, at_end, run}
 use Rattle.syntax.proofs.MachineKinds.{kind-fits, begins-by, links-by, starts-by}
 use Rattle.syntax.proofs.MachineMeaning.{Grows, Finishes}
 use Rattle.syntax.specs.declared.token.Keyword.TheVariants as keyword
@@ -37,56 +61,122 @@ if_some : {A : Type 0} (b : Bool) (x y : A) → (if b then Some x else None) ≡
 if_some true x y e = (refl, cc)
 if_some false x y e = cc
 
-map_some : {A B : Type 0} (f : A → B) (o : Option A) (y : B) → option_map f o ≡ Some y → (x : A) × (o ≡ Some x) × (f x ≡ y)
+map_some : {A B : Type 0} (f : A → B) (o : Option A) (y : B) → option_map f o ≡ Some y
+    → (x : A) × (o ≡ Some x) × (f x ≡ y)
 map_some f None y e = cc
 map_some f (Some x) y e = (x, refl, cc)
 
-pub and_then_some : {A B : Type 0} (f : A → Option B) (o : Option A) (y : B) → option_and_then f o ≡ Some y → (x : A) × (o ≡ Some x) × (f x ≡ Some y)
+pub and_then_some : {A B : Type 0} (f : A → Option B) (o : Option A) (y : B) → option_and_then f o ≡ Some y
+    → (x : A) × (o ≡ Some x) × (f x ≡ Some y)
 and_then_some f None y e = cc
 and_then_some f (Some x) y e = (x, refl, e)
 
 -- a name's value or an element's, read after the name
-named-finishes : (t : Lexeme) → t.kind ≡ token.Name → (k : ExprTree → State) (ts : List Lexeme) (p : ProgramTree) → Finishes (named t k) ts p → (e : ExprTree) × (rest : List Lexeme) × ((level : ℕ) → ExprAt level (t ∷ ts) e rest) × Finishes (k e) rest p
+named-finishes : (t : Lexeme) → t.kind ≡ token.Name → (k : ExprTree → State) (ts : List Lexeme) (p : ProgramTree)
+    → Finishes (named t k) ts p → (e : ExprTree) × (rest : List Lexeme) × ((level : ℕ) → ExprAt level (t ∷ ts) e rest)
+    × Finishes (k e) rest p
 named-finishes t is k ts p (inl done) = (tree.name t.place t.text, ts, λ level. a_name level t ts is, done)
 named-finishes t is k ts p (inr (opening, r, cut, opens, (i, r', inner, (closing, rest, cut', closes, done)))) = (
   tree.element opening.place t.place t.text i,
   rest,
-  λ level. rw cut (an_element level t opening closing r rest i is opens (subst (λ x. ExprAt 1 r i x) cut' inner) closes),
+  λ level.
+      rw cut (an_element level t opening closing r rest i is opens (subst (λ x. ExprAt 1 r i x) cut' inner) closes),
   done,
 )
 
 -- an operand, read from its first token on, is an expression at each level
-operand-finishes : (b : Begins) (t : Lexeme) → begins_of t.kind ≡ Some b → (k : ExprTree → State) (ts : List Lexeme) (p : ProgramTree) → Finishes (operand b t k) ts p → (e : ExprTree) × (rest : List Lexeme) × ((level : ℕ) → ExprAt level (t ∷ ts) e rest) × Finishes (k e) rest p
-operand-finishes (by_number n suffix) t is k ts p h = (_, ts, λ level. a_number level t n suffix ts (begins-by t.kind (by_number n suffix) is), h)
-operand-finishes (by_truth true) t is k ts p h = (tree.truth t.place true, ts, λ level. a_true level t ts (begins-by t.kind (by_truth true) is), h)
-operand-finishes (by_truth false) t is k ts p h = (tree.truth t.place false, ts, λ level. a_false level t ts (begins-by t.kind (by_truth false) is), h)
+operand-finishes : (b : Begins) (t : Lexeme) → begins_of t.kind ≡ Some b
+    → (k : ExprTree → State) (ts : List Lexeme) (p : ProgramTree) → Finishes (operand b t k) ts p
+    → (e : ExprTree) × (rest : List Lexeme) × ((level : ℕ) → ExprAt level (t ∷ ts) e rest) × Finishes (k e) rest p
+operand-finishes (by_number n suffix) t is k ts p h =
+    (_, ts, λ level. a_number level t n suffix ts (begins-by t.kind (by_number n suffix) is), h)
+operand-finishes (by_truth true) t is k ts p h =
+    (tree.truth t.place true, ts, λ level. a_true level t ts (begins-by t.kind (by_truth true) is), h)
+operand-finishes (by_truth false) t is k ts p h =
+    (tree.truth t.place false, ts, λ level. a_false level t ts (begins-by t.kind (by_truth false) is), h)
 operand-finishes by_name t is k ts p h = named-finishes t (begins-by t.kind by_name is) k ts p h
-operand-finishes by_bracket t is k ts p (e, r, inner, (closing, rest, cut, closes, done)) =
-    (e, rest, λ level. in_brackets level t closing ts rest e (begins-by t.kind by_bracket is) (subst (λ x. ExprAt 1 ts e x) cut inner) closes, done)
-operand-finishes (by_prefix o) t is k ts p (e, rest, inner, done) =
-    (tree.prefix t.place o e, rest, λ level. a_prefix level t o ts rest e (begins-by t.kind (by_prefix o) is) inner, done)
-operand-finishes (by_conversion what) t is k ts p (opening, r, cut, opens, (e, r', inner, (closing, rest, cut', closes, done))) = (
-  tree.convert t.place what e,
+operand-finishes by_bracket t is k ts p (e, r, inner, (closing, rest, cut, closes, done)) = (
+  e,
   rest,
-  λ level. rw cut (a_conversion level t opening closing r rest what e (begins-by t.kind (by_conversion what) is) opens (subst (λ x. ExprAt 1 r e x) cut' inner) closes),
+  λ level. in_brackets level t closing ts rest e (begins-by t.kind by_bracket is)
+      (subst (λ x. ExprAt 1 ts e x) cut inner) closes,
   done,
 )
-operand-finishes by_select t is k ts p (opening, ts', cut, opens, (a, r, in_a, (comma, r', cut', is_comma, (b, s, in_b, (comma', s', cut'', is_comma', (c, u, in_c, (closing, u', cut''', closes, done))))))) =
-    (tree.select t.place a b c, u', λ level. rw cut (a_select level t opening comma comma' closing ts' r' s' u' a b c (begins-by t.kind by_select is) opens (subst (λ x. ExprAt 1 ts' a x) cut' in_a) is_comma (subst (λ x. ExprAt 1 r' b x) cut'' in_b) is_comma' (subst (λ x. ExprAt 1 s' c x) cut''' in_c) closes), done)
+operand-finishes (by_prefix o) t is k ts p (e, rest, inner, done) = (
+  tree.prefix t.place o e,
+  rest,
+  λ level. a_prefix level t o ts rest e (begins-by t.kind (by_prefix o) is) inner,
+  done,
+)
+operand-finishes (by_conversion what) t is k ts p (
+  opening,
+  r,
+  cut,
+  opens,
+  (e, r', inner, (closing, rest, cut', closes, done)),
+) = (
+  tree.convert t.place what e,
+  rest,
+  λ level. rw cut (a_conversion level t opening closing r rest what e (begins-by t.kind (by_conversion what) is) opens
+      (subst (λ x. ExprAt 1 r e x) cut' inner) closes),
+  done,
+)
+operand-finishes by_select t is k ts p (
+  opening,
+  ts',
+  cut,
+  opens,
+  (
+    a,
+    r,
+    in_a,
+    (
+      comma,
+      r',
+      cut',
+      is_comma,
+      (b, s, in_b, (comma', s', cut'', is_comma', (c, u, in_c, (closing, u', cut''', closes, done)))),
+    ),
+  ),
+) = (
+  tree.select t.place a b c,
+  u',
+  λ level.
+      rw cut (a_select level t opening comma comma' closing ts' r' s' u' a b c (begins-by t.kind by_select is)
+      opens (subst (λ x. ExprAt 1 ts' a x) cut' in_a) is_comma (subst (λ x. ExprAt 1 r' b x) cut'' in_b)
+      is_comma' (subst (λ x. ExprAt 1 s' c x) cut''' in_c) closes),
+  done,
+)
 
 -- expressions and the token that ends them
-some-finishes : (end : TokenKind) (k : List ExprTree → State) (ts : List Lexeme) (p : ProgramTree) → Finishes (some_exprs end k) ts p → (es : List ExprTree) × (rest : List Lexeme) × SomeExprs end ts es rest × Finishes (k es) rest p
-some-finishes end k ts p (e, r, in_e, (es, rest, in_more, done)) = (e ∷ es, rest, some_exprs_rule ts r rest e es in_e in_more, done)
+some-finishes : (end : TokenKind) (k : List ExprTree → State) (ts : List Lexeme) (p : ProgramTree)
+    → Finishes (some_exprs end k) ts p → (es : List ExprTree) × (rest : List Lexeme) × SomeExprs end ts es rest
+    × Finishes (k es) rest p
+some-finishes end k ts p (e, r, in_e, (es, rest, in_more, done)) =
+    (e ∷ es, rest, some_exprs_rule ts r rest e es in_e in_more, done)
 
 -- a call, read after its opening bracket
-call-finishes : (t opening : Lexeme) → t.kind ≡ token.Name → opening.kind ≡ (token.Sign sign.OpenRound) → (k : CallTree → State) (ts : List Lexeme) (p : ProgramTree) → Finishes (call_of t k) ts p → (c : CallTree) × (rest : List Lexeme) × Call (t ∷ opening ∷ ts) c rest × Finishes (k c) rest p
+call-finishes : (t opening : Lexeme) → t.kind ≡ token.Name → opening.kind ≡ (token.Sign sign.OpenRound)
+    → (k : CallTree → State) (ts : List Lexeme) (p : ProgramTree) → Finishes (call_of t k) ts p
+    → (c : CallTree) × (rest : List Lexeme) × Call (t ∷ opening ∷ ts) c rest × Finishes (k c) rest p
 call-finishes t opening is opens k ts p (inl h) =
-    let w = some-finishes (token.Sign sign.CloseRound) (λ es. k (record { place = t.place; name = t.text; arguments = es })) ts p h in
-    (record { place = t.place; name = t.text; arguments = w.0 }, w.1, a_call t opening ts w.1 w.0 is opens (some_arguments ts w.1 w.0 w.2), w.3)
-call-finishes t opening is opens k ts p (inr (closing, rest, cut, closes, done)) =
-    (record { place = t.place; name = t.text; arguments = [] }, rest, rw cut (a_call t opening (closing ∷ rest) rest [] is opens (no_arguments closing rest closes)), done)
+    let w = some-finishes (token.Sign sign.CloseRound)
+    (λ es. k (record { place = t.place; name = t.text; arguments = es })) ts p h in (
+      record { place = t.place; name = t.text; arguments = w.0 },
+      w.1,
+      a_call t opening ts w.1 w.0 is opens (some_arguments ts w.1 w.0 w.2),
+      w.3,
+    )
+call-finishes t opening is opens k ts p (inr (closing, rest, cut, closes, done)) = (
+  record { place = t.place; name = t.text; arguments = [] },
+  rest,
+  rw cut (a_call t opening (closing ∷ rest) rest [] is opens (no_arguments closing rest closes)),
+  done,
+)
 
-right-from-finishes : (t : Lexeme) → t.kind ≡ token.Name → (k : RightTree → State) (ts : List Lexeme) (p : ProgramTree) → Finishes (right_from t k) ts p → (r : RightTree) × (rest : List Lexeme) × RightSide (t ∷ ts) r rest × Finishes (k r) rest p
+right-from-finishes : (t : Lexeme) → t.kind ≡ token.Name
+    → (k : RightTree → State) (ts : List Lexeme) (p : ProgramTree) → Finishes (right_from t k) ts p
+    → (r : RightTree) × (rest : List Lexeme) × RightSide (t ∷ ts) r rest × Finishes (k r) rest p
 right-from-finishes t is k ts p (inl h) =
     let w = named-finishes t is (λ e. more 1 11 e (λ e. k (tree.computed e))) ts p h in
     (tree.computed w.3.0, w.3.1, a_value (t ∷ ts) w.3.1 w.3.0 (w.3.2 (t ∷ ts) (w.2 11) (w.2 1)), w.3.3)
@@ -94,86 +184,162 @@ right-from-finishes t is k ts p (inr (opening, r, cut, opens, h)) =
     let w = call-finishes t opening is opens (λ c. k (tree.called c)) r p h in
     (tree.called w.0, w.1, rw cut (a_call_value (t ∷ opening ∷ r) w.1 w.0 w.2), w.3)
 
-right-finishes : (k : RightTree → State) (ts : List Lexeme) (p : ProgramTree) → Finishes (right k) ts p → (r : RightTree) × (rest : List Lexeme) × RightSide ts r rest × Finishes (k r) rest p
+right-finishes : (k : RightTree → State) (ts : List Lexeme) (p : ProgramTree) → Finishes (right k) ts p
+    → (r : RightTree) × (rest : List Lexeme) × RightSide ts r rest × Finishes (k r) rest p
 right-finishes k ts p (inl (e, rest, in_e, done)) = (tree.computed e, rest, a_value ts rest e in_e, done)
 right-finishes k ts p (inr (t, r, cut, is, h)) =
     let w = right-from-finishes t is k r p h in
     (w.0, w.1, rw cut w.2, w.3)
 
 -- a right side and the semicolon
-right-end-finishes : (k : RightTree → State) (ts : List Lexeme) (p : ProgramTree) → Finishes (right_end k) ts p → (r : RightTree) × (semicolon : Lexeme) × (rest : List Lexeme) × RightSide ts r (semicolon ∷ rest) × (semicolon.kind ≡ (token.Sign sign.Semicolon)) × Finishes (k r) rest p
+right-end-finishes : (k : RightTree → State) (ts : List Lexeme) (p : ProgramTree) → Finishes (right_end k) ts p
+    → (r : RightTree) × (semicolon : Lexeme) × (rest : List Lexeme) × RightSide ts r (semicolon ∷ rest)
+    × (semicolon.kind ≡ (token.Sign sign.Semicolon)) × Finishes (k r) rest p
 right-end-finishes k ts p h =
     let w = right-finishes (λ r. one (token.Sign sign.Semicolon) (λ _. k r)) ts p h in
     (w.0, w.3.0, w.3.1, subst (λ x. RightSide ts w.0 x) w.3.2 w.2, w.3.3, w.3.4)
 
-first-values-finishes : (k : Option (List ExprTree) → State) (ts : List Lexeme) (p : ProgramTree) → Finishes (first_values k) ts p → (vs : Option (List ExprTree)) × (rest : List Lexeme) × FirstValues ts vs rest × Finishes (k vs) rest p
+first-values-finishes : (k : Option (List ExprTree) → State) (ts : List Lexeme) (p : ProgramTree)
+    → Finishes (first_values k) ts p → (vs : Option (List ExprTree)) × (rest : List Lexeme) × FirstValues ts vs rest
+    × Finishes (k vs) rest p
 first-values-finishes k ts p (inl done) = (None, ts, no_values ts, done)
 first-values-finishes k ts p (inr (equals, r, cut, is, (opening, r', cut', opens, h))) =
     let w = some-finishes (token.Sign sign.CloseCurly) (λ es. k (Some es)) r' p h in
     (Some w.0, w.1, rw cut (rw cut' (some_values equals opening r' w.1 w.0 is opens w.2)), w.3)
 
 -- a declaration, read after its type
-declared-word-finishes : (start second : Lexeme) (label : Label) (kind : Kind) → label_of start.kind ≡ Some label → word_of second.kind ≡ Some kind → (mutable : Bool) (list ts : List Lexeme) → Mutable list mutable (second ∷ ts) → (k : StatementTree → State) (p : ProgramTree) → Finishes (declared_word label mutable kind k) ts p → (s : StatementTree) × (rest : List Lexeme) × Statement (start ∷ list) s rest × Finishes (k s) rest p
-declared-word-finishes start second label kind is is_kind mutable list ts is_mutable k p (t, r, cut, is_name, (equals, r', cut', is_equals, h)) =
+declared-word-finishes : (start second : Lexeme) (label : Label) (kind : Kind) → label_of start.kind ≡ Some label
+    → word_of second.kind ≡ Some kind → (mutable : Bool) (list ts : List Lexeme) → Mutable list mutable (second ∷ ts)
+    → (k : StatementTree → State) (p : ProgramTree) → Finishes (declared_word label mutable kind k) ts p
+    → (s : StatementTree) × (rest : List Lexeme) × Statement (start ∷ list) s rest × Finishes (k s) rest p
+declared-word-finishes start second label kind is is_kind mutable list ts is_mutable k p
+    (t, r, cut, is_name, (equals, r', cut', is_equals, h)) =
     let w = right-end-finishes (λ v. k (tree.declaration t.place label mutable kind t.text v)) r' p h in (
       tree.declaration t.place label mutable kind t.text w.0,
       w.2,
-      a_declaration start second t equals w.1 list r' w.2 label mutable kind w.0 is (subst (λ x. Mutable list mutable (second ∷ x)) (cut ∙ ap (λ x. t ∷ x) cut') is_mutable) is_kind is_name is_equals w.3 w.4,
+      a_declaration start second t equals w.1 list r' w.2 label mutable kind w.0 is
+          (subst (λ x. Mutable list mutable (second ∷ x)) (cut ∙ ap (λ x. t ∷ x) cut') is_mutable) is_kind is_name
+          is_equals w.3 w.4,
       w.5,
     )
 
-declared-array-finishes : (start second opening number closing : Lexeme) (label : Label) (kind : Kind) (n : ℕ) → label_of start.kind ≡ Some label → word_of second.kind ≡ Some kind → opening.kind ≡ (token.Sign sign.OpenSquare) → length_of number.kind ≡ Some n → closing.kind ≡ (token.Sign sign.CloseSquare) → (mutable : Bool) (list ts : List Lexeme) → Mutable list mutable (second ∷ opening ∷ number ∷ closing ∷ ts) → (k : StatementTree → State) (p : ProgramTree) → Finishes (declared_array label mutable kind n k) ts p → (s : StatementTree) × (rest : List Lexeme) × Statement (start ∷ list) s rest × Finishes (k s) rest p
-declared-array-finishes start second opening number closing label kind n is is_kind opens is_length closes mutable list ts is_mutable k p (t, r, cut, is_name, h) =
-    let w = first-values-finishes (λ vs. one (token.Sign sign.Semicolon) (λ _. k (tree.array t.place label mutable kind n t.text vs))) r p h in (
+declared-array-finishes : (start second opening number closing : Lexeme) (label : Label) (kind : Kind) (n : ℕ)
+    → label_of start.kind ≡ Some label → word_of second.kind ≡ Some kind → opening.kind ≡ (token.Sign sign.OpenSquare)
+    → length_of number.kind ≡ Some n → closing.kind ≡ (token.Sign sign.CloseSquare)
+    → (mutable : Bool) (list ts : List Lexeme) → Mutable list mutable (second ∷ opening ∷ number ∷ closing ∷ ts)
+    → (k : StatementTree → State) (p : ProgramTree) → Finishes (declared_array label mutable kind n k) ts p
+    → (s : StatementTree) × (rest : List Lexeme) × Statement (start ∷ list) s rest × Finishes (k s) rest p
+declared-array-finishes start second opening number closing label kind n is is_kind opens is_length closes mutable
+    list ts is_mutable k p (t, r, cut, is_name, h) =
+    let w =
+    first-values-finishes (λ vs. one (token.Sign sign.Semicolon)
+    (λ _. k (tree.array t.place label mutable kind n t.text vs))) r p h in (
       tree.array t.place label mutable kind n t.text w.0,
       w.3.1,
-      an_array start t w.3.0 list (second ∷ opening ∷ number ∷ closing ∷ ts) r w.3.1 label mutable kind n w.0 is is_mutable (rw cut (an_array_type second opening number closing (t ∷ r) kind n is_kind opens is_length closes)) is_name (subst (λ x. FirstValues r w.0 x) w.3.2 w.2) w.3.3,
+      an_array start t w.3.0 list (second ∷ opening ∷ number ∷ closing ∷ ts) r w.3.1 label mutable kind n w.0 is
+          is_mutable
+          (rw cut (an_array_type second opening number closing (t ∷ r) kind n is_kind opens is_length closes))
+          is_name (subst (λ x. FirstValues r w.0 x) w.3.2 w.2) w.3.3,
       w.3.4,
     )
 
 -- a declaration, read after its label and `mut`
-declared-as-finishes : (start : Lexeme) (label : Label) → label_of start.kind ≡ Some label → (mutable : Bool) (list ts : List Lexeme) → Mutable list mutable ts → (k : StatementTree → State) (p : ProgramTree) → Finishes (declared_as label mutable k) ts p → (s : StatementTree) × (rest : List Lexeme) × Statement (start ∷ list) s rest × Finishes (k s) rest p
+declared-as-finishes : (start : Lexeme) (label : Label) → label_of start.kind ≡ Some label
+    → (mutable : Bool) (list ts : List Lexeme) → Mutable list mutable ts
+    → (k : StatementTree → State) (p : ProgramTree) → Finishes (declared_as label mutable k) ts p
+    → (s : StatementTree) × (rest : List Lexeme) × Statement (start ∷ list) s rest × Finishes (k s) rest p
 declared-as-finishes start label is mutable list ts is_mutable k p (second, r, kind, cut, is_kind, inl h) =
-    declared-word-finishes start second label kind is is_kind mutable list r (subst (λ x. Mutable list mutable x) cut is_mutable) k p h
-declared-as-finishes start label is mutable list ts is_mutable k p (second, r, kind, cut, is_kind, inr (opening, r₁, cut₁, opens, (number, r₂, n, cut₂, is_length, (closing, r₃, cut₃, closes, h)))) =
-    declared-array-finishes start second opening number closing label kind n is is_kind opens is_length closes mutable list r₃
-    (subst (λ x. Mutable list mutable x) (cut ∙ ap (λ x. second ∷ x) (cut₁ ∙ ap (λ x. opening ∷ x) (cut₂ ∙ ap (λ x. number ∷ x) cut₃))) is_mutable) k p h
+    declared-word-finishes start second label kind is is_kind mutable list r
+    (subst (λ x. Mutable list mutable x) cut is_mutable) k p h
+declared-as-finishes start label is mutable list ts is_mutable k p (
+  second,
+  r,
+  kind,
+  cut,
+  is_kind,
+  inr (opening, r₁, cut₁, opens, (number, r₂, n, cut₂, is_length, (closing, r₃, cut₃, closes, h))),
+) =
+    declared-array-finishes start second opening number closing label kind n is is_kind opens is_length closes
+    mutable list r₃
+    (subst (λ x. Mutable list mutable x) (cut
+    ∙ ap (λ x. second ∷ x) (cut₁ ∙ ap (λ x. opening ∷ x) (cut₂ ∙ ap (λ x. number ∷ x) cut₃))) is_mutable) k p
+    h
 
-declared-finishes : (start : Lexeme) (label : Label) → label_of start.kind ≡ Some label → (k : StatementTree → State) (ts : List Lexeme) (p : ProgramTree) → Finishes (declared label k) ts p → (s : StatementTree) × (rest : List Lexeme) × Statement (start ∷ ts) s rest × Finishes (k s) rest p
+declared-finishes : (start : Lexeme) (label : Label) → label_of start.kind ≡ Some label
+    → (k : StatementTree → State) (ts : List Lexeme) (p : ProgramTree) → Finishes (declared label k) ts p
+    → (s : StatementTree) × (rest : List Lexeme) × Statement (start ∷ ts) s rest × Finishes (k s) rest p
 declared-finishes start label is k ts p (inl h) = declared-as-finishes start label is false ts ts (no_mut ts) k p h
-declared-finishes start label is k ts p (inr (m, r, cut, is_mut, h)) = declared-as-finishes start label is true ts r (rw cut (a_mut m r is_mut)) k p h
+declared-finishes start label is k ts p (inr (m, r, cut, is_mut, h)) =
+    declared-as-finishes start label is true ts r (rw cut (a_mut m r is_mut)) k p h
 
 -- a statement that begins with a name
-targeted-finishes : (t : Lexeme) → t.kind ≡ token.Name → (k : StatementTree → State) (ts : List Lexeme) (p : ProgramTree) → Finishes (targeted t k) ts p → (s : StatementTree) × (rest : List Lexeme) × Statement (t ∷ ts) s rest × Finishes (k s) rest p
+targeted-finishes : (t : Lexeme) → t.kind ≡ token.Name
+    → (k : StatementTree → State) (ts : List Lexeme) (p : ProgramTree) → Finishes (targeted t k) ts p
+    → (s : StatementTree) × (rest : List Lexeme) × Statement (t ∷ ts) s rest × Finishes (k s) rest p
 targeted-finishes t is k ts p (inr (equals, r, cut, is_equals, h)) =
-    let w = right-end-finishes (λ v. k (tree.assignment equals.place t.place t.text v)) r p h in
-    (tree.assignment equals.place t.place t.text w.0, w.2, rw cut (an_assignment t equals w.1 r w.2 w.0 is is_equals w.3 w.4), w.5)
-targeted-finishes t is k ts p (inl (inr (opening, r, cut, opens, (i, r₁, in_i, (closing, r₂, cut₂, closes, (equals, r₃, cut₃, is_equals, h)))))) =
-    let w = right-end-finishes (λ v. k (tree.element_assignment equals.place opening.place t.place t.text i v)) r₃ p h in (
+    let w = right-end-finishes (λ v. k (tree.assignment equals.place t.place t.text v)) r p h in (
+      tree.assignment equals.place t.place t.text w.0,
+      w.2,
+      rw cut (an_assignment t equals w.1 r w.2 w.0 is is_equals w.3 w.4),
+      w.5,
+    )
+targeted-finishes t is k ts p
+    (inl
+    (inr (
+      opening,
+      r,
+      cut,
+      opens,
+      (i, r₁, in_i, (closing, r₂, cut₂, closes, (equals, r₃, cut₃, is_equals, h))),
+    ))) =
+    let w = right-end-finishes (λ v. k (tree.element_assignment equals.place opening.place t.place t.text i v))
+    r₃ p h in (
       tree.element_assignment equals.place opening.place t.place t.text i w.0,
       w.2,
-      rw cut (an_element_assignment t opening closing equals w.1 r r₃ w.2 i w.0 is opens (subst (λ x. ExprAt 1 r i x) (cut₂ ∙ ap (λ x. closing ∷ x) cut₃) in_i) closes is_equals w.3 w.4),
+      rw cut (an_element_assignment t opening closing equals w.1 r r₃ w.2 i w.0 is opens
+          (subst (λ x. ExprAt 1 r i x) (cut₂ ∙ ap (λ x. closing ∷ x) cut₃) in_i) closes is_equals w.3 w.4),
       w.5,
     )
 targeted-finishes t is k ts p (inl (inl (opening, r, cut, opens, h))) =
-    let w = call-finishes t opening is opens (λ c. one (token.Sign sign.Semicolon) (λ _. k (tree.call c))) r p h in
-    (tree.call w.0, w.3.1, rw cut (a_call_statement w.3.0 (t ∷ opening ∷ r) w.3.1 w.0 (subst (λ x. Call (t ∷ opening ∷ r) w.0 x) w.3.2 w.2) w.3.3), w.3.4)
+    let w = call-finishes t opening is opens (λ c. one (token.Sign sign.Semicolon) (λ _. k (tree.call c))) r p h in (
+      tree.call w.0,
+      w.3.1,
+      rw cut (a_call_statement w.3.0 (t ∷ opening ∷ r) w.3.1 w.0
+          (subst (λ x. Call (t ∷ opening ∷ r) w.0 x) w.3.2 w.2) w.3.3),
+      w.3.4,
+    )
 
-block-finishes : (k : BlockTree → State) (ts : List Lexeme) (p : ProgramTree) → Finishes (block k) ts p → (b : BlockTree) × (rest : List Lexeme) × Block ts b rest × Finishes (k b) rest p
-block-finishes k ts p (opening, r, cut, opens, (b, r', in_list, (closing, rest, cut', closes, done))) =
-    (b, rest, rw cut (a_block opening closing r rest b opens (subst (λ x. Statements r b x) cut' in_list) closes), done)
+block-finishes : (k : BlockTree → State) (ts : List Lexeme) (p : ProgramTree) → Finishes (block k) ts p
+    → (b : BlockTree) × (rest : List Lexeme) × Block ts b rest × Finishes (k b) rest p
+block-finishes k ts p (opening, r, cut, opens, (b, r', in_list, (closing, rest, cut', closes, done))) = (
+  b,
+  rest,
+  rw cut (a_block opening closing r rest b opens (subst (λ x. Statements r b x) cut' in_list) closes),
+  done,
+)
 
 -- a conditional, read after its keyword
-conditional-finishes : (t : Lexeme) → t.kind ≡ token.Keyword If → (k : StatementTree → State) (ts : List Lexeme) (p : ProgramTree) → Finishes (conditioned t.place k) ts p → (s : StatementTree) × (rest : List Lexeme) × Conditional (t ∷ ts) s rest × Finishes (k s) rest p
-conditional-finishes t is k ts p (opening, r₁, cut₁, opens, (condition, r₂, in_condition, (closing, r₃, cut₂, closes, h))) =
+conditional-finishes : (t : Lexeme) → t.kind ≡ token.Keyword If
+    → (k : StatementTree → State) (ts : List Lexeme) (p : ProgramTree) → Finishes (conditioned t.place k) ts p
+    → (s : StatementTree) × (rest : List Lexeme) × Conditional (t ∷ ts) s rest × Finishes (k s) rest p
+conditional-finishes t is k ts p (
+  opening,
+  r₁,
+  cut₁,
+  opens,
+  (condition, r₂, in_condition, (closing, r₃, cut₂, closes, h)),
+) =
     let a = block-finishes (λ a. otherwise (λ b. k (tree.conditional t.place condition a b))) r₃ p h in (
       tree.conditional t.place condition a.0 a.3.0,
       a.3.1,
-      rw cut₁ (a_conditional t opening closing r₁ r₃ a.1 a.3.1 condition a.0 a.3.0 is opens (subst (λ x. ExprAt 1 r₁ condition x) cut₂ in_condition) closes a.2 a.3.2),
+      rw cut₁ (a_conditional t opening closing r₁ r₃ a.1 a.3.1 condition a.0 a.3.0 is opens
+          (subst (λ x. ExprAt 1 r₁ condition x) cut₂ in_condition) closes a.2 a.3.2),
       a.3.3,
     )
 
-after-else-finishes : (t : Lexeme) → t.kind ≡ token.Keyword Else → (k : BlockTree → State) (ts : List Lexeme) (p : ProgramTree) → Finishes (after_else k) ts p → (b : BlockTree) × (rest : List Lexeme) × Otherwise (t ∷ ts) b rest × Finishes (k b) rest p
+after-else-finishes : (t : Lexeme) → t.kind ≡ token.Keyword Else
+    → (k : BlockTree → State) (ts : List Lexeme) (p : ProgramTree) → Finishes (after_else k) ts p
+    → (b : BlockTree) × (rest : List Lexeme) × Otherwise (t ∷ ts) b rest × Finishes (k b) rest p
 after-else-finishes t is k ts p (inl h) =
     let w = block-finishes k ts p h in
     (w.0, w.1, an_else t ts w.1 w.0 is w.2, w.3)
@@ -182,113 +348,255 @@ after-else-finishes t is k ts p (inr (word, r, cut, is_if, h)) =
     (first w.0 nothing, w.1, rw cut (an_else_if t (word ∷ r) w.1 w.0 is w.2), w.3)
 
 -- a statement, read from its first token on
-statement-finishes : (start : Start) (t : Lexeme) → starts_with t.kind ≡ Some start → (k : StatementTree → State) (ts : List Lexeme) (p : ProgramTree) → Finishes (statement start t k) ts p → (s : StatementTree) × (rest : List Lexeme) × Statement (t ∷ ts) s rest × Finishes (k s) rest p
-statement-finishes (by_label label) t is k ts p h = declared-finishes t label (starts-by t.kind (by_label label) is) k ts p h
+statement-finishes : (start : Start) (t : Lexeme) → starts_with t.kind ≡ Some start
+    → (k : StatementTree → State) (ts : List Lexeme) (p : ProgramTree) → Finishes (statement start t k) ts p
+    → (s : StatementTree) × (rest : List Lexeme) × Statement (t ∷ ts) s rest × Finishes (k s) rest p
+statement-finishes (by_label label) t is k ts p h =
+    declared-finishes t label (starts-by t.kind (by_label label) is) k ts p h
 statement-finishes by_target t is k ts p h = targeted-finishes t (starts-by t.kind by_target is) k ts p h
 statement-finishes by_if t is k ts p h =
     let w = conditional-finishes t (starts-by t.kind by_if is) k ts p h in
     (w.0, w.1, a_conditional_statement (t ∷ ts) w.1 w.0 w.2, w.3)
-statement-finishes by_for t is k ts p (opening, r₁, cut₁, opens, (word, r₂, cut₂, is_word, (counter, r₃, cut₃, is_name, (from, r₄, cut₄, is_from, (low, r₅, in_low, (to, r₆, cut₆, is_to, (high, r₇, in_high, (closing, r₈, cut₈, closes, h)))))))) =
+statement-finishes by_for t is k ts p (
+  opening,
+  r₁,
+  cut₁,
+  opens,
+  (
+    word,
+    r₂,
+    cut₂,
+    is_word,
+    (
+      counter,
+      r₃,
+      cut₃,
+      is_name,
+      (
+        from,
+        r₄,
+        cut₄,
+        is_from,
+        (low, r₅, in_low, (to, r₆, cut₆, is_to, (high, r₇, in_high, (closing, r₈, cut₈, closes, h)))),
+      ),
+    ),
+  ),
+) =
     let w = block-finishes (λ b. k (tree.loop t.place counter.place counter.text low high b)) r₈ p h in (
       tree.loop t.place counter.place counter.text low high w.0,
       w.1,
-      rw cut₁ (rw cut₂ (rw cut₃ (rw cut₄ (a_loop t opening word counter from to closing r₄ r₆ r₈ w.1 low high w.0 (starts-by t.kind by_for is) opens is_word is_name is_from (subst (λ x. ExprAt 1 r₄ low x) cut₆ in_low) is_to (subst (λ x. ExprAt 1 r₆ high x) cut₈ in_high) closes w.2)))),
+      rw cut₁
+          (rw cut₂
+          (rw cut₃
+          (rw cut₄ (a_loop t opening word counter from to closing r₄ r₆ r₈ w.1 low high w.0
+          (starts-by t.kind by_for is) opens is_word is_name is_from
+          (subst (λ x. ExprAt 1 r₄ low x) cut₆ in_low) is_to (subst (λ x. ExprAt 1 r₆ high x) cut₈ in_high)
+          closes w.2)))),
       w.3,
     )
 
 -- a parameter, read from its label on
-labelled-finishes : (start : Lexeme) (label : Label) → label_of start.kind ≡ Some label → (k : ParameterTree → State) (ts : List Lexeme) (p : ProgramTree) → Finishes (labelled label k) ts p → (q : ParameterTree) × (rest : List Lexeme) × Parameter (start ∷ ts) q rest × Finishes (k q) rest p
+labelled-finishes : (start : Lexeme) (label : Label) → label_of start.kind ≡ Some label
+    → (k : ParameterTree → State) (ts : List Lexeme) (p : ProgramTree) → Finishes (labelled label k) ts p
+    → (q : ParameterTree) × (rest : List Lexeme) × Parameter (start ∷ ts) q rest × Finishes (k q) rest p
 labelled-finishes start label is k ts p (inl (second, r₁, kind, cut₁, is_kind, inl (t, rest, cut₂, is_name, done))) = (
   record { label = label; kind = kind; form = SingleWord; length = 1; place = t.place; name = t.text },
   rest,
   rw cut₁ (rw cut₂ (a_word start second t rest label kind is is_kind is_name)),
   done,
 )
-labelled-finishes start label is k ts p (inl (second, r₁, kind, cut₁, is_kind, inr (opening, r₂, cut₂, opens, (number, r₃, n, cut₃, is_length, (closing, r₄, cut₄, closes, (t, rest, cut₅, is_name, done)))))) = (
-  record { label = label; kind = kind; form = FixedArray; length = n; place = t.place; name = t.text },
-  rest,
-  rw cut₁ (rw cut₂ (rw cut₃ (rw cut₄ (rw cut₅ (a_fixed_array start t (second ∷ opening ∷ number ∷ closing ∷ t ∷ rest) rest label kind n is (an_array_type second opening number closing (t ∷ rest) kind n is_kind opens is_length closes) is_name))))),
-  done,
-)
-labelled-finishes start label is k ts p (inr (m, r₀, cut₀, is_mut, (second, r₁, kind, cut₁, is_kind, (opening, r₂, cut₂, opens, (number, r₃, n, cut₃, is_length, (closing, r₄, cut₄, closes, (t, rest, cut₅, is_name, done))))))) = (
-  record { label = label; kind = kind; form = MutableArray; length = n; place = t.place; name = t.text },
-  rest,
-  rw cut₀ (rw cut₁ (rw cut₂ (rw cut₃ (rw cut₄ (rw cut₅ (a_mutable_array start m t (second ∷ opening ∷ number ∷ closing ∷ t ∷ rest) rest label kind n is is_mut (an_array_type second opening number closing (t ∷ rest) kind n is_kind opens is_length closes) is_name)))))),
-  done,
-)
+labelled-finishes start label is k ts p
+    (inl (
+      second,
+      r₁,
+      kind,
+      cut₁,
+      is_kind,
+      inr (
+        opening,
+        r₂,
+        cut₂,
+        opens,
+        (number, r₃, n, cut₃, is_length, (closing, r₄, cut₄, closes, (t, rest, cut₅, is_name, done))),
+      ),
+    )) = (
+      record { label = label; kind = kind; form = FixedArray; length = n; place = t.place; name = t.text },
+      rest,
+      rw cut₁
+          (rw cut₂
+          (rw cut₃
+          (rw cut₄
+          (rw cut₅ (a_fixed_array start t (second ∷ opening ∷ number ∷ closing ∷ t ∷ rest) rest label kind n is
+          (an_array_type second opening number closing (t ∷ rest) kind n is_kind opens is_length closes)
+          is_name))))),
+      done,
+    )
+labelled-finishes start label is k ts p
+    (inr (
+      m,
+      r₀,
+      cut₀,
+      is_mut,
+      (
+        second,
+        r₁,
+        kind,
+        cut₁,
+        is_kind,
+        (
+          opening,
+          r₂,
+          cut₂,
+          opens,
+          (number, r₃, n, cut₃, is_length, (closing, r₄, cut₄, closes, (t, rest, cut₅, is_name, done))),
+        ),
+      ),
+    )) = (
+      record { label = label; kind = kind; form = MutableArray; length = n; place = t.place; name = t.text },
+      rest,
+      rw cut₀
+          (rw cut₁
+          (rw cut₂
+          (rw cut₃
+          (rw cut₄
+          (rw cut₅ (a_mutable_array start m t (second ∷ opening ∷ number ∷ closing ∷ t ∷ rest) rest label kind n
+          is is_mut (an_array_type second opening number closing (t ∷ rest) kind n is_kind opens is_length
+          closes) is_name)))))),
+      done,
+    )
 
-parameter-finishes : (k : ParameterTree → State) (ts : List Lexeme) (p : ProgramTree) → Finishes (parameter k) ts p → (q : ParameterTree) × (rest : List Lexeme) × Parameter ts q rest × Finishes (k q) rest p
+parameter-finishes : (k : ParameterTree → State) (ts : List Lexeme) (p : ProgramTree) → Finishes (parameter k) ts p
+    → (q : ParameterTree) × (rest : List Lexeme) × Parameter ts q rest × Finishes (k q) rest p
 parameter-finishes k ts p (start, r, label, cut, is, h) =
     let w = labelled-finishes start label is k r p h in
     (w.0, w.1, rw cut w.2, w.3)
 
-parameters-finishes : (k : List ParameterTree → State) (ts : List Lexeme) (p : ProgramTree) → Finishes (parameters k) ts p → (qs : List ParameterTree) × (rest : List Lexeme) × Parameters ts qs rest × Finishes (k qs) rest p
+parameters-finishes : (k : List ParameterTree → State) (ts : List Lexeme) (p : ProgramTree)
+    → Finishes (parameters k) ts p → (qs : List ParameterTree) × (rest : List Lexeme) × Parameters ts qs rest
+    × Finishes (k qs) rest p
 parameters-finishes k ts p (inl h) =
     let w = parameter-finishes (λ q. more_parameters (q ∷ []) k) ts p h in
     (w.0 ∷ w.3.0, w.3.1, some_parameters ts w.1 w.3.1 w.0 w.3.0 w.2 w.3.2, w.3.3)
-parameters-finishes k ts p (inr (closing, rest, cut, closes, done)) = ([], rest, rw cut (no_parameters closing rest closes), done)
+parameters-finishes k ts p (inr (closing, rest, cut, closes, done)) =
+    ([], rest, rw cut (no_parameters closing rest closes), done)
 
 -- the end of a body
-returned-finishes : (k : Option ReturnTree → State) (ts : List Lexeme) (p : ProgramTree) → Finishes (returned k) ts p → (r : Option ReturnTree) × (rest : List Lexeme) × BodyEnd ts r rest × Finishes (k r) rest p
-returned-finishes k ts p (inl (closing, rest, cut, closes, done)) = (None, rest, rw cut (no_return closing rest closes), done)
-returned-finishes k ts p (inr (t, r, cut, is, (e, r₁, in_e, (semicolon, r₂, cut₂, ends, (closing, rest, cut₃, closes, done))))) =
-    (Some (record { place = t.place; value = e }), rest, rw cut (a_return t semicolon closing r rest e is (subst (λ x. ExprAt 1 r e x) (cut₂ ∙ ap (λ x. semicolon ∷ x) cut₃) in_e) ends closes), done)
+returned-finishes : (k : Option ReturnTree → State) (ts : List Lexeme) (p : ProgramTree) → Finishes (returned k) ts p
+    → (r : Option ReturnTree) × (rest : List Lexeme) × BodyEnd ts r rest × Finishes (k r) rest p
+returned-finishes k ts p (inl (closing, rest, cut, closes, done)) =
+    (None, rest, rw cut (no_return closing rest closes), done)
+returned-finishes k ts p
+    (inr (t, r, cut, is, (e, r₁, in_e, (semicolon, r₂, cut₂, ends, (closing, rest, cut₃, closes, done))))) = (
+      Some (record { place = t.place; value = e }),
+      rest,
+      rw cut (a_return t semicolon closing r rest e is
+          (subst (λ x. ExprAt 1 r e x) (cut₂ ∙ ap (λ x. semicolon ∷ x) cut₃) in_e) ends closes),
+      done,
+    )
 
-result-finishes : (k : Option WordType → State) (ts : List Lexeme) (p : ProgramTree) → Finishes (result_type k) ts p → (r : Option WordType) × (rest : List Lexeme) × ResultType ts r rest × Finishes (k r) rest p
-result-finishes k ts p (inl (start, r, label, cut, is, (second, rest, kind, cut', is_kind, done))) = (Some (record { kind = kind; label = label }), rest, rw cut (rw cut' (a_type start second rest label kind is is_kind)), done)
+result-finishes : (k : Option WordType → State) (ts : List Lexeme) (p : ProgramTree) → Finishes (result_type k) ts p
+    → (r : Option WordType) × (rest : List Lexeme) × ResultType ts r rest × Finishes (k r) rest p
+result-finishes k ts p (inl (start, r, label, cut, is, (second, rest, kind, cut', is_kind, done))) = (
+  Some (record { kind = kind; label = label }),
+  rest,
+  rw cut (rw cut' (a_type start second rest label kind is is_kind)),
+  done,
+)
 result-finishes k ts p (inr (t, rest, cut, is, done)) = (None, rest, rw cut (a_void t rest is), done)
 
 -- a procedure, read after the type of its result
-procedure-from-finishes : (export : Option Place) (result : Option WordType) (list signature ts : List Lexeme) → Exported list export signature → ResultType signature result ts → (k : ProcedureTree → State) (p : ProgramTree) → Finishes (procedure_from export result k) ts p → (q : ProcedureTree) × (rest : List Lexeme) × Procedure list q rest × Finishes (k q) rest p
-procedure-from-finishes export result list signature ts is_export is_result k p (t, r₁, cut₁, is_name, (opening, r₂, cut₂, opens, h)) =
-    let made = λ (ps : List ParameterTree) (b : BlockTree) (r : Option ReturnTree). k (record { export = export; result = result; place = t.place; name = t.text; parameters = ps; body = b; returned = r }) in
-    let ps = parameters-finishes (λ ps. one (token.Sign sign.OpenCurly) (λ _. statements (λ b. returned (made ps b)))) r₂ p h in
+procedure-from-finishes : (export : Option Place) (result : Option WordType) (list signature ts : List Lexeme)
+    → Exported list export signature → ResultType signature result ts → (k : ProcedureTree → State) (p : ProgramTree)
+    → Finishes (procedure_from export result k) ts p → (q : ProcedureTree) × (rest : List Lexeme)
+    × Procedure list q rest × Finishes (k q) rest p
+procedure-from-finishes export result list signature ts is_export is_result k p
+    (t, r₁, cut₁, is_name, (opening, r₂, cut₂, opens, h)) =
+    let made = λ (ps : List ParameterTree) (b : BlockTree) (r : Option ReturnTree).
+    k (record {
+      export = export;
+      result = result;
+      place = t.place;
+      name = t.text;
+      parameters = ps;
+      body = b;
+      returned = r;
+    }) in
+    let ps = parameters-finishes (λ ps. one (token.Sign sign.OpenCurly) (λ _. statements (λ b. returned (made ps b))))
+    r₂ p h in
     let bs = ps.3.4 in
     let r = returned-finishes (made ps.0 bs.0) bs.1 p bs.3 in (
-      record { export = export; result = result; place = t.place; name = t.text; parameters = ps.0; body = bs.0; returned = r.0 },
+      record {
+        export = export;
+        result = result;
+        place = t.place;
+        name = t.text;
+        parameters = ps.0;
+        body = bs.0;
+        returned = r.0;
+      },
       r.1,
-      a_procedure t opening ps.3.0 list signature r₂ ps.3.1 bs.1 r.1 export result ps.0 bs.0 r.0 is_export (subst (λ x. ResultType signature result x) (cut₁ ∙ ap (λ x. t ∷ x) cut₂) is_result) is_name opens (subst (λ x. Parameters r₂ ps.0 x) ps.3.2 ps.2) ps.3.3 bs.2 r.2,
+      a_procedure t opening ps.3.0 list signature r₂ ps.3.1 bs.1 r.1 export result ps.0 bs.0 r.0 is_export
+          (subst (λ x. ResultType signature result x) (cut₁ ∙ ap (λ x. t ∷ x) cut₂) is_result) is_name opens
+          (subst (λ x. Parameters r₂ ps.0 x) ps.3.2 ps.2) ps.3.3 bs.2 r.2,
       r.3,
     )
 
-if_or : {A : Type 0} (b : Bool) (x : A) (o : Option A) (y : A) → (if b then Some x else o) ≡ Some y → ((b ≡ true) × (x ≡ y)) ⊎ (o ≡ Some y)
+if_or : {A : Type 0} (b : Bool) (x : A) (o : Option A) (y : A) → (if b then Some x else o) ≡ Some y
+    → ((b ≡ true) × (x ≡ y)) ⊎ (o ≡ Some y)
 if_or true x o y e = inl (refl, cc)
 if_or false x o y e = inr e
 
 -- the first token of a result's type
-result-step : (k : Option WordType → State) (t : Lexeme) (next : State) → step_result t.kind k ≡ Some next → (ts : List Lexeme) (p : ProgramTree) → Finishes next ts p → Finishes (result_type k) (t ∷ ts) p
+result-step : (k : Option WordType → State) (t : Lexeme) (next : State) → step_result t.kind k ≡ Some next
+    → (ts : List Lexeme) (p : ProgramTree) → Finishes next ts p → Finishes (result_type k) (t ∷ ts) p
 result-step k t next e ts p h =
     let f = λ (label : Label). a_kind (λ kind. k (Some (record { kind = kind; label = label }))) in
     elim (if_or (fits (token.Keyword keyword.Void) t.kind) (k None) (option_map f (label_of t.kind)) next e) [
-      | inl w ↦ inr (t, ts, refl, kind-fits (token.Keyword keyword.Void) t.kind w.0, subst (λ s. Finishes s ts p) (sym w.1) h)
-      | inr w ↦ let v = map_some f (label_of t.kind) next w in inl (t, ts, v.0, refl, v.1, subst (λ s. Finishes s ts p) (sym v.2) h)
+      | inl w ↦ inr (
+        t,
+        ts,
+        refl,
+        kind-fits (token.Keyword keyword.Void) t.kind w.0,
+        subst (λ s. Finishes s ts p) (sym w.1) h,
+      )
+      | inr w ↦ let v = map_some f (label_of t.kind) next w in
+          inl (t, ts, v.0, refl, v.1, subst (λ s. Finishes s ts p) (sym v.2) h)
     ]
 
 -- the first token of a procedure
-procedure-step : (k : ProcedureTree → State) (t : Lexeme) (next : State) → step (procedure k) t ≡ Some next → (ts : List Lexeme) (p : ProgramTree) → Finishes next ts p → (q : ProcedureTree) × (rest : List Lexeme) × Procedure (t ∷ ts) q rest × Finishes (k q) rest p
+procedure-step : (k : ProcedureTree → State) (t : Lexeme) (next : State) → step (procedure k) t ≡ Some next
+    → (ts : List Lexeme) (p : ProgramTree) → Finishes next ts p
+    → (q : ProcedureTree) × (rest : List Lexeme) × Procedure (t ∷ ts) q rest × Finishes (k q) rest p
 procedure-step k t next e ts p h =
     let k' = λ (export : Option Place) (result : Option WordType). procedure_from export result k in
-    elim (if_or (fits (token.Keyword keyword.Export) t.kind) (result_type (k' (Some t.place))) (step_result t.kind (k' None)) next e) [
+    elim (if_or (fits (token.Keyword keyword.Export) t.kind) (result_type (k' (Some t.place)))
+    (step_result t.kind (k' None)) next e) [
       | inl w ↦
           let r = result-finishes (k' (Some t.place)) ts p (subst (λ s. Finishes s ts p) (sym w.1) h) in
-          procedure-from-finishes (Some t.place) r.0 (t ∷ ts) ts r.1 (an_export t ts (kind-fits (token.Keyword keyword.Export) t.kind w.0)) r.2 k p r.3
+          procedure-from-finishes (Some t.place) r.0 (t ∷ ts) ts r.1
+          (an_export t ts (kind-fits (token.Keyword keyword.Export) t.kind w.0)) r.2 k p r.3
       | inr w ↦
           let r = result-finishes (k' None) (t ∷ ts) p (result-step (k' None) t next w ts p h) in
           procedure-from-finishes None r.0 (t ∷ ts) (t ∷ ts) r.1 (not_exported (t ∷ ts)) r.2 k p r.3
     ]
 
-started_some : (o : Option Start) (t : Lexeme) (k : StatementTree → State) (other : Option State) (next : State) → started o t k other ≡ Some next → ((start : Start) × (o ≡ Some start) × (statement start t k ≡ next)) ⊎ (other ≡ Some next)
+started_some : (o : Option Start) (t : Lexeme) (k : StatementTree → State) (other : Option State) (next : State)
+    → started o t k other ≡ Some next → ((start : Start) × (o ≡ Some start) × (statement start t k ≡ next))
+    ⊎ (other ≡ Some next)
 started_some None t k other next e = inr e
 started_some (Some start) t k other next e = inl (start, refl, cc)
 
-joined_some : (o : Option Link) (place : Place) (level : ℕ) (left : ExprTree) (k : ExprTree → State) (other : Option State) (next : State) → joined o place level left k other ≡ Some next → ((link : Link) × (o ≡ Some link) × (linked link place level left k ≡ next)) ⊎ (other ≡ Some next)
+joined_some : (o : Option Link) (place : Place) (level : ℕ) (left : ExprTree) (k : ExprTree
+    → State) (other : Option State) (next : State) → joined o place level left k other ≡ Some next
+    → ((link : Link) × (o ≡ Some link) × (linked link place level left k ≡ next)) ⊎ (other ≡ Some next)
 joined_some None place level left k other next e = inr e
 joined_some (Some link) place level left k other next e = inl (link, refl, cc)
 
 and_le : (level n m top : ℕ) → (nat_le level n && nat_le m top) ≡ true → (level ≤ n) × (m ≤ top)
 and_le level n m top e = (grind (arith, nat_tests), grind (arith, nat_tests))
 
-within_some : (level top : ℕ) (o : Option Link) (link : Link) → within level top o ≡ Some link → (o ≡ Some link) × (level ≤ link_level link) × (link_left_level link ≤ top)
+within_some : (level top : ℕ) (o : Option Link) (link : Link) → within level top o ≡ Some link
+    → (o ≡ Some link) × (level ≤ link_level link) × (link_left_level link ≤ top)
 within_some level top None link e = cc
 within_some level top (Some found) link e =
     let w = if_some (nat_le level (link_level found) && nat_le (link_left_level found) top) found link e in
@@ -296,53 +604,90 @@ within_some level top (Some found) link e =
     (ap Some w.1, subst (λ o. level ≤ link_level o) w.1 v.0, subst (λ o. link_left_level o ≤ top) w.1 v.1)
 
 -- an expression at a level is one at each weaker level
-pub weaken : (strong level : ℕ) (ts : List Lexeme) (e : ExprTree) (rest : List Lexeme) → level ≤ strong → ExprAt strong ts e rest → ExprAt level ts e rest
+pub weaken : (strong level : ℕ) (ts : List Lexeme) (e : ExprTree) (rest : List Lexeme) → level ≤ strong
+    → ExprAt strong ts e rest → ExprAt level ts e rest
 weaken _ level _ _ _ le (a_number strong t n suffix rest is) = a_number level t n suffix rest is
 weaken _ level _ _ _ le (a_true strong t rest is) = a_true level t rest is
 weaken _ level _ _ _ le (a_false strong t rest is) = a_false level t rest is
 weaken _ level _ _ _ le (a_name strong t rest is) = a_name level t rest is
-weaken _ level _ _ _ le (an_element strong t opening closing inner rest i is opens in_i closes) = an_element level t opening closing inner rest i is opens in_i closes
-weaken _ level _ _ _ le (in_brackets strong opening closing inner rest x opens e closes) = in_brackets level opening closing inner rest x opens e closes
-weaken _ level _ _ _ le (a_conversion strong t opening closing inner rest kind x is opens e closes) = a_conversion level t opening closing inner rest kind x is opens e closes
-weaken _ level _ _ _ le (a_select strong t opening comma comma' closing start second third rest a b c is opens in_a is_comma in_b is_comma' in_c closes) = a_select level t opening comma comma' closing start second third rest a b c is opens in_a is_comma in_b is_comma' in_c closes
+weaken _ level _ _ _ le (an_element strong t opening closing inner rest i is opens in_i closes) =
+    an_element level t opening closing inner rest i is opens in_i closes
+weaken _ level _ _ _ le (in_brackets strong opening closing inner rest x opens e closes) =
+    in_brackets level opening closing inner rest x opens e closes
+weaken _ level _ _ _ le (a_conversion strong t opening closing inner rest kind x is opens e closes) =
+    a_conversion level t opening closing inner rest kind x is opens e closes
+weaken _ level _ _ _ le (a_select strong t opening comma comma' closing start second third rest a b c is opens in_a
+    is_comma in_b is_comma' in_c closes) =
+    a_select level t opening comma comma' closing start second third rest a b c is opens in_a is_comma in_b is_comma'
+    in_c closes
 weaken _ level _ _ _ le (a_prefix strong t o inner rest x is e) = a_prefix level t o inner rest x is e
-weaken _ level _ _ _ le (a_rotation strong t number amount start rest x is at e is_amount) = a_rotation level t number amount start rest x is (omega arith) e is_amount
-weaken _ level _ _ _ le (a_binary strong t o start second rest left right is at in_left in_right) = a_binary level t o start second rest left right is (omega arith) in_left in_right
+weaken _ level _ _ _ le (a_rotation strong t number amount start rest x is at e is_amount) =
+    a_rotation level t number amount start rest x is (omega arith) e is_amount
+weaken _ level _ _ _ le (a_binary strong t o start second rest left right is at in_left in_right) =
+    a_binary level t o start second rest left right is (omega arith) in_left in_right
 
 -- a sign, its right side, and what follows
-link-finishes : (link : Link) (t : Lexeme) → link_of t.kind ≡ Some link → (level top : ℕ) → level ≤ link_level link → link_left_level link ≤ top → (left : ExprTree) (k : ExprTree → State) (ts : List Lexeme) (p : ProgramTree) → Finishes (linked link t.place level left k) ts p → (e : ExprTree) × (rest : List Lexeme) × Grows level top left (t ∷ ts) e rest × Finishes (k e) rest p
+link-finishes : (link : Link) (t : Lexeme) → link_of t.kind ≡ Some link → (level top : ℕ) → level ≤ link_level link
+    → link_left_level link ≤ top → (left : ExprTree) (k : ExprTree → State) (ts : List Lexeme) (p : ProgramTree)
+    → Finishes (linked link t.place level left k) ts p
+    → (e : ExprTree) × (rest : List Lexeme) × Grows level top left (t ∷ ts) e rest × Finishes (k e) rest p
 link-finishes (by_operator o) t is level top low high left k ts p (right, r, in_right, (e, rest, grows, done)) =
     let both = λ (start : List Lexeme) (above : ExprAt top start left (t ∷ ts)) (to : ℕ) (le : to ≤ level_of o).
-    a_binary to t o start ts r left right (links-by t.kind (by_operator o) is) le (weaken top (left_level_of o) start left (t ∷ ts) high above) in_right in
-    (e, rest, λ start above here. grows start (both start above (level_of o) (omega arith)) (both start above level low), done)
-link-finishes by_rotation t is level top low high left k ts p (number, r, amount, cut, is_amount, (e, rest, grows, done)) =
+    a_binary to t o start ts r left right (links-by t.kind (by_operator o) is) le
+    (weaken top (left_level_of o) start left (t ∷ ts) high above) in_right in (
+      e,
+      rest,
+      λ start above here. grows start (both start above (level_of o) (omega arith))
+          (both start above level low),
+      done,
+    )
+link-finishes by_rotation t is level top low high left k ts p
+    (number, r, amount, cut, is_amount, (e, rest, grows, done)) =
     let both = λ (start : List Lexeme) (above : ExprAt top start left (t ∷ ts)) (to : ℕ) (le : to ≤ 7).
-    a_rotation to t number amount start r left (links-by t.kind by_rotation is) le (subst (λ x. ExprAt 7 start left (t ∷ x)) cut (weaken top 7 start left (t ∷ ts) high above)) is_amount in
+    a_rotation to t number amount start r left (links-by t.kind by_rotation is) le
+    (subst (λ x. ExprAt 7 start left (t ∷ x)) cut (weaken top 7 start left (t ∷ ts) high above)) is_amount in
     (e, rest, λ start above here. grows start (both start above 7 (omega arith)) (both start above level low), done)
 
 -- a state and a token that leads on from it
-pub step-finishes : (s : State) (t : Lexeme) (next : State) → step s t ≡ Some next → (ts : List Lexeme) (p : ProgramTree) → Finishes next ts p → Finishes s (t ∷ ts) p
+pub step-finishes : (s : State) (t : Lexeme) (next : State) → step s t ≡ Some next
+    → (ts : List Lexeme) (p : ProgramTree) → Finishes next ts p → Finishes s (t ∷ ts) p
 step-finishes (procedures ps) t next e ts p h =
     let w = procedure-step (λ q. procedures (ps ++ q ∷ [])) t next e ts p h in
     (w.0 ∷ w.3.0, one_procedure (t ∷ ts) w.1 w.0 w.3.0 w.2 w.3.1, w.3.2 ∙ append_assoc ps (w.0 ∷ []) w.3.0)
-step-finishes (one what k) t next e ts p h = let w = if_some (fits what t.kind) (k t) next e in (t, ts, refl, kind-fits what t.kind w.0, subst (λ s. Finishes s ts p) (sym w.1) h)
+step-finishes (one what k) t next e ts p h = let w = if_some (fits what t.kind) (k t) next e in
+    (t, ts, refl, kind-fits what t.kind w.0, subst (λ s. Finishes s ts p) (sym w.1) h)
 step-finishes (either what after other) t next e ts p h =
     elim (if_or (fits what t.kind) (after t) (step other t) next e) [
       | inl w ↦ inr (t, ts, refl, kind-fits what t.kind w.0, subst (λ s. Finishes s ts p) (sym w.1) h)
       | inr w ↦ inl (step-finishes other t next w ts p h)
     ]
-step-finishes (a_label k) t next e ts p h = let w = map_some k (label_of t.kind) next e in (t, ts, w.0, refl, w.1, subst (λ s. Finishes s ts p) (sym w.2) h)
-step-finishes (a_kind k) t next e ts p h = let w = map_some k (word_of t.kind) next e in (t, ts, w.0, refl, w.1, subst (λ s. Finishes s ts p) (sym w.2) h)
-step-finishes (a_length k) t next e ts p h = let w = map_some k (length_of t.kind) next e in (t, ts, w.0, refl, w.1, subst (λ s. Finishes s ts p) (sym w.2) h)
-step-finishes (an_amount k) t next e ts p h = let w = map_some k (amount_of t.kind) next e in (t, ts, w.0, refl, w.1, subst (λ s. Finishes s ts p) (sym w.2) h)
+step-finishes (a_label k) t next e ts p h = let w = map_some k (label_of t.kind) next e in
+    (t, ts, w.0, refl, w.1, subst (λ s. Finishes s ts p) (sym w.2) h)
+step-finishes (a_kind k) t next e ts p h = let w = map_some k (word_of t.kind) next e in
+    (t, ts, w.0, refl, w.1, subst (λ s. Finishes s ts p) (sym w.2) h)
+step-finishes (a_length k) t next e ts p h = let w = map_some k (length_of t.kind) next e in
+    (t, ts, w.0, refl, w.1, subst (λ s. Finishes s ts p) (sym w.2) h)
+step-finishes (an_amount k) t next e ts p h = let w = map_some k (amount_of t.kind) next e in
+    (t, ts, w.0, refl, w.1, subst (λ s. Finishes s ts p) (sym w.2) h)
 step-finishes (more_parameters ps k) t next e ts p h =
-    elim (if_or (fits (token.Sign sign.Comma) t.kind) (parameter (λ q. more_parameters (ps ++ q ∷ []) k)) (if fits (token.Sign sign.CloseRound) t.kind then Some (k ps) else None) next e) [
+    elim (if_or (fits (token.Sign sign.Comma) t.kind) (parameter (λ q. more_parameters (ps ++ q ∷ []) k))
+    (if fits (token.Sign sign.CloseRound) t.kind then Some (k ps) else None) next e) [
       | inl w ↦
-          let u = parameter-finishes (λ q. more_parameters (ps ++ q ∷ []) k) ts p (subst (λ s. Finishes s ts p) (sym w.1) h) in
-          (u.0 ∷ u.3.0, u.3.1, one_more_parameter t ts u.1 u.3.1 u.0 u.3.0 (kind-fits (token.Sign sign.Comma) t.kind w.0) u.2 u.3.2, subst (λ qs. Finishes (k qs) u.3.1 p) (append_assoc ps (u.0 ∷ []) u.3.0) u.3.3)
+          let u = parameter-finishes (λ q. more_parameters (ps ++ q ∷ []) k) ts p
+          (subst (λ s. Finishes s ts p) (sym w.1) h) in (
+            u.0 ∷ u.3.0,
+            u.3.1,
+            one_more_parameter t ts u.1 u.3.1 u.0 u.3.0
+                (kind-fits (token.Sign sign.Comma) t.kind w.0) u.2 u.3.2,
+            subst (λ qs. Finishes (k qs) u.3.1 p) (append_assoc ps (u.0 ∷ []) u.3.0) u.3.3,
+          )
       | inr w ↦
-          let v = if_some (fits (token.Sign sign.CloseRound) t.kind) (k ps) next w in
-          ([], ts, no_more_parameters t ts (kind-fits (token.Sign sign.CloseRound) t.kind v.0), rw append-nil (subst (λ s. Finishes s ts p) (sym v.1) h))
+          let v = if_some (fits (token.Sign sign.CloseRound) t.kind) (k ps) next w in (
+            [],
+            ts,
+            no_more_parameters t ts (kind-fits (token.Sign sign.CloseRound) t.kind v.0),
+            rw append-nil (subst (λ s. Finishes s ts p) (sym v.1) h),
+          )
     ]
 step-finishes (expr level k) t next e ts p h =
     let f = λ (b : Begins). operand b t (λ x. more level 11 x k) in
@@ -357,10 +702,16 @@ step-finishes (more level top left k) t next e ts p h =
       | inr w ↦ (left, t ∷ ts, λ start above here. here, step-finishes (k left) t next w ts p h)
     ]
 step-finishes (more_exprs end es k) t next e ts p h =
-    elim (if_or (fits (token.Sign sign.Comma) t.kind) (expr 1 (λ x. more_exprs end (es ++ x ∷ []) k)) (if fits end t.kind then Some (k es) else None) next e) [
+    elim (if_or (fits (token.Sign sign.Comma) t.kind) (expr 1 (λ x. more_exprs end (es ++ x ∷ []) k))
+    (if fits end t.kind then Some (k es) else None) next e) [
       | inl w ↦
-          let d = subst (λ s. Finishes s ts p) (sym w.1) h in
-          (d.0 ∷ d.3.0, d.3.1, one_more t ts d.1 d.3.1 d.0 d.3.0 (kind-fits (token.Sign sign.Comma) t.kind w.0) d.2 d.3.2, subst (λ xs. Finishes (k xs) d.3.1 p) (append_assoc es (d.0 ∷ []) d.3.0) d.3.3)
+          let d = subst (λ s. Finishes s ts p) (sym w.1) h in (
+            d.0 ∷ d.3.0,
+            d.3.1,
+            one_more t ts d.1 d.3.1 d.0 d.3.0 (kind-fits (token.Sign sign.Comma) t.kind w.0) d.2
+                d.3.2,
+            subst (λ xs. Finishes (k xs) d.3.1 p) (append_assoc es (d.0 ∷ []) d.3.0) d.3.3,
+          )
       | inr w ↦
           let v = if_some (fits end t.kind) (k es) next w in
           ([], ts, no_more t ts (kind-fits end t.kind v.0), rw append-nil (subst (λ s. Finishes s ts p) (sym v.1) h))
@@ -375,13 +726,15 @@ step-finishes (statements k) t next e ts p h =
     ]
 step-finishes (otherwise k) t next e ts p h =
     elim (if_or (fits (token.Keyword keyword.Else) t.kind) (after_else k) (step (k nothing) t) next e) [
-      | inl w ↦ after-else-finishes t (kind-fits (token.Keyword keyword.Else) t.kind w.0) k ts p (subst (λ s. Finishes s ts p) (sym w.1) h)
+      | inl w ↦ after-else-finishes t (kind-fits (token.Keyword keyword.Else) t.kind w.0) k ts p
+          (subst (λ s. Finishes s ts p) (sym w.1) h)
       | inr w ↦ (nothing, t ∷ ts, no_else (t ∷ ts), step-finishes (k nothing) t next w ts p h)
     ]
 
 -- what finishes from the start is a program
 program-finishes : (ts : List Lexeme) (p : ProgramTree) → Finishes program ts p → IsProgram ts p
-program-finishes ts p (qs, in_list, is) = subst (λ xs. IsProgram ts (record { procedures = xs })) (sym is) (a_program ts qs in_list)
+program-finishes ts p (qs, in_list, is) =
+    subst (λ xs. IsProgram ts (record { procedures = xs })) (sym is) (a_program ts qs in_list)
 
 made : TokenKind → Lexeme
 made kind = record { kind = kind; place = origin; text = [] }
@@ -437,7 +790,8 @@ finish (otherwise k) =
     (f.0, f.1, (nothing, f.0, no_else f.0, f.2))
 
 at_end-finishes : (s : State) (p : ProgramTree) → at_end s ≡ Some p → Finishes s [] p
-at_end-finishes (procedures ps) p e = ([], no_procedure, ap (λ q. q.procedures) (sym (same_Some _ _ e)) ∙ sym (append-nil ps))
+at_end-finishes (procedures ps) p e =
+    ([], no_procedure, ap (λ q. q.procedures) (sym (same_Some _ _ e)) ∙ sym (append-nil ps))
 at_end-finishes (one what k) p e = cc
 at_end-finishes (either what next other) p e = inl (at_end-finishes other p e)
 at_end-finishes (a_label k) p e = cc
@@ -451,7 +805,8 @@ at_end-finishes (more_exprs end es k) p e = cc
 at_end-finishes (statements k) p e = (nothing, [], no_statement [], at_end-finishes (k nothing) p e)
 at_end-finishes (otherwise k) p e = (nothing, [], no_else [], at_end-finishes (k nothing) p e)
 
-run-finishes : (front : List Lexeme) (s next : State) → run s front ≡ Some next → (ts : List Lexeme) (p : ProgramTree) → Finishes next ts p → Finishes s (front ++ ts) p
+run-finishes : (front : List Lexeme) (s next : State) → run s front ≡ Some next → (ts : List Lexeme) (p : ProgramTree)
+    → Finishes next ts p → Finishes s (front ++ ts) p
 run-finishes [] s next e ts p h = let is : next ≡ s = cc in subst (λ x. Finishes x ts p) is h
 run-finishes (t ∷ front) s next e ts p h =
     let w = and_then_some (λ x. run x front) (step s t) next e in
@@ -459,8 +814,12 @@ run-finishes (t ∷ front) s next e ts p h =
 
 -- tokens that the machine takes begin a program
 pub begins_by_run : (front : List Lexeme) (s : State) → run program front ≡ Some s → IsBeginning front
-begins_by_run front s e = let f = finish s in (f.0, f.1, program-finishes (front ++ f.0) f.1 (run-finishes front program s e f.0 f.1 f.2))
+begins_by_run front s e = let f = finish s in
+    (f.0, f.1, program-finishes (front ++ f.0) f.1 (run-finishes front program s e f.0 f.1 f.2))
 
 -- tokens that the machine takes to an end are a program
-pub program_by_run : (ts : List Lexeme) (s : State) (p : ProgramTree) → run program ts ≡ Some s → at_end s ≡ Some p → IsProgram ts p
-program_by_run ts s p e last = subst (λ xs. IsProgram xs p) (append-nil ts) (program-finishes (ts ++ []) p (run-finishes ts program s e [] p (at_end-finishes s p last)))
+pub program_by_run : (ts : List Lexeme) (s : State) (p : ProgramTree) → run program ts ≡ Some s → at_end s ≡ Some p
+    → IsProgram ts p
+program_by_run ts s p e last =
+    subst (λ xs. IsProgram xs p) (append-nil ts)
+    (program-finishes (ts ++ []) p (run-finishes ts program s e [] p (at_end-finishes s p last)))

@@ -1,5 +1,6 @@
 -- What the parser's functions share: faults passed on, and single steps of the machine.
-use Rattle.std.proofs.Common.{◌≡◌, ℕ, ◌≤◌, true, false, List, [], ◌∷◌, ◌++◌, map, length, nat_eq, Option, Some, None, Result, Ok, Err, MatchResult, refl, sym, subst, ap, ◌∙◌, if◌then◌else◌}
+use Rattle.std.proofs.Common.{◌≡◌, ℕ, ◌≤◌, true, false, List, [], ◌∷◌, ◌++◌, map, length, nat_eq, Option, Some, None}
+use Rattle.std.proofs.Common.{Result, Ok, Err, MatchResult, refl, sym, subst, ap, ◌∙◌, if◌then◌else◌}
 use Rattle.std.specs.Result.{IsErrAnd}
 use Rattle.std.specs.Prelude.{is_some}
 use Rattle.std.specs.Option.{option_map}
@@ -15,7 +16,11 @@ use Rattle.syntax.specs.Grammar.{label_of, word_of, amount_of, length_of}
 use Rattle.syntax.specs.Lexeme.{Lexeme, lexeme, lexemes}
 use Rattle.syntax.specs.Nesting.{Nest, after}
 use Rattle.syntax.specs.Tokens.{Ending, ending}
-use Rattle.syntax.specs.private.Machine.{State, procedures, fits, one, either, statements, starts_with, statement, started, a_label, a_kind, a_length, an_amount, expr, more, more_exprs, more_parameters, otherwise, after_else, begins_of, operand, link_of, link_level, link_left_level, linked, within, joined, step, at_end, parameter, procedure, verdict, ending_answer, token_answer}
+use Rattle.syntax.specs.private.Machine.{State, procedures, fits, one, either, statements, starts_with, statement}
+use Rattle.syntax.specs.private.Machine.{started, a_label, a_kind, a_length, an_amount, expr, more, more_exprs}
+use Rattle.syntax.specs.private.Machine.{more_parameters, otherwise, after_else, begins_of, operand, link_of}
+use Rattle.syntax.specs.private.Machine.{link_level, link_left_level, linked, within, joined, step, at_end, parameter}
+use Rattle.syntax.specs.private.Machine.{procedure, verdict, ending_answer, token_answer}
 use Rattle.syntax.specs.private.ParserViews.{Leads, FaultIs, ahead, nest, taken}
 use Rattle.syntax.specs.Reading.{Answer}
 use Rattle.language.specs.Tree.{ExprTree, StatementTree, BlockTree, nothing, first, ParameterTree, ProcedureTree}
@@ -30,46 +35,60 @@ pub fault-back : (f : Fault) (a b : Answer) → a ≡ b → FaultIs f b → Faul
 fault-back f a b e h = subst (FaultIs f) (sym e) h
 
 -- a fault that is passed on
-pub passed : {T : Type 0} (s : State) (next : T → State) (r : Result T Fault) (f : Fault) (old new : Parser) → IsErrAnd r (λ e. e ≡ f) → FaultIs f (ahead s old) → Leads s next r old new
+pub passed : {T : Type 0} (s : State) (next : T → State) (r : Result T Fault) (f : Fault) (old new : Parser)
+    → IsErrAnd r (λ e. e ≡ f) → FaultIs f (ahead s old) → Leads s next r old new
 passed s next (Ok x) f old new h g = absurd h
 passed s next (Err e) f old new h g = subst (λ x. FaultIs x (ahead s old)) (sym h) g
 
 -- a fault that is passed on, after steps that lead there
-pub passed-after : {T : Type 0} (s s' : State) (next : T → State) (r : Result T Fault) (f : Fault) (old mid new : Parser) → IsErrAnd r (λ e. e ≡ f) → ahead s old ≡ ahead s' mid → FaultIs f (ahead s' mid) → Leads s next r old new
-passed-after s s' next r f old mid new h e g = passed s next r f old new h (fault-back f (ahead s old) (ahead s' mid) e g)
+pub passed-after : {T : Type 0} (s s' : State) (next : T
+    → State) (r : Result T Fault) (f : Fault) (old mid new : Parser) → IsErrAnd r (λ e. e ≡ f)
+    → ahead s old ≡ ahead s' mid → FaultIs f (ahead s' mid) → Leads s next r old new
+passed-after s s' next r f old mid new h e g =
+    passed s next r f old new h (fault-back f (ahead s old) (ahead s' mid) e g)
 
 -- a call at the end, after steps that lead there
-pub leads-after : {T : Type 0} (s s' : State) (next : T → State) (r : Result T Fault) (old mid new : Parser) → ahead s old ≡ ahead s' mid → Leads s' next r mid new → Leads s next r old new
+pub leads-after : {T : Type 0} (s s' : State) (next : T → State) (r : Result T Fault) (old mid new : Parser)
+    → ahead s old ≡ ahead s' mid → Leads s' next r mid new → Leads s next r old new
 leads-after s s' next (Ok x) old mid new e h = e ∙ h
 leads-after s s' next (Err f) old mid new e h = fault-back f (ahead s old) (ahead s' mid) e h
 
 -- a token that was taken, and one that was not there
-pub after-taken : (s : State) (next : Lexeme → State) (other : State) (o : Option Token) (t : Token) (old new : Parser) → ahead s old ≡ ahead (taken next other o) new → o ≡ Some t → ahead s old ≡ ahead (next (lexeme t)) new
+pub after-taken : (s : State) (next : Lexeme → State) (other : State) (o : Option Token) (t : Token)
+    (old new : Parser) → ahead s old ≡ ahead (taken next other o) new → o ≡ Some t
+    → ahead s old ≡ ahead (next (lexeme t)) new
 after-taken s next other o t old new e is = subst (λ x. ahead s old ≡ ahead (taken next other x) new) is e
 
-pub after-none : (s : State) (next : Lexeme → State) (other : State) (o : Option Token) (old new : Parser) → ahead s old ≡ ahead (taken next other o) new → o ≡ None → ahead s old ≡ ahead other new
+pub after-none : (s : State) (next : Lexeme → State) (other : State) (o : Option Token) (old new : Parser)
+    → ahead s old ≡ ahead (taken next other o) new → o ≡ None → ahead s old ≡ ahead other new
 after-none s next other o old new e is = subst (λ x. ahead s old ≡ ahead (taken next other x) new) is e
 
 -- the same, where only whether it was there is known
-pub some-taken : (s n other : State) (o : Option Token) (old new : Parser) → ahead s old ≡ ahead (taken (λ _. n) other o) new → is_some o ≡ true → ahead s old ≡ ahead n new
+pub some-taken : (s n other : State) (o : Option Token) (old new : Parser)
+    → ahead s old ≡ ahead (taken (λ _. n) other o) new → is_some o ≡ true → ahead s old ≡ ahead n new
 some-taken s n other (Some t) old new e is = e
 some-taken s n other None old new e is = cc
 
-pub none-taken : (s n other : State) (o : Option Token) (old new : Parser) → ahead s old ≡ ahead (taken (λ _. n) other o) new → is_some o ≡ false → ahead s old ≡ ahead other new
+pub none-taken : (s n other : State) (o : Option Token) (old new : Parser)
+    → ahead s old ≡ ahead (taken (λ _. n) other o) new → is_some o ≡ false → ahead s old ≡ ahead other new
 none-taken s n other (Some t) old new e is = cc
 none-taken s n other None old new e is = e
 
 -- single steps
-pub one-step : (what : TokenKind) (k : Lexeme → State) (t : Lexeme) → fits what t.kind ≡ true → step (one what k) t ≡ Some (k t)
+pub one-step : (what : TokenKind) (k : Lexeme → State) (t : Lexeme) → fits what t.kind ≡ true
+    → step (one what k) t ≡ Some (k t)
 one-step what k t is = ap (λ b. if b then Some (k t) else None) is
 
-pub either-step : (what : TokenKind) (next : Lexeme → State) (other : State) (t : Lexeme) → fits what t.kind ≡ true → step (either what next other) t ≡ Some (next t)
+pub either-step : (what : TokenKind) (next : Lexeme → State) (other : State) (t : Lexeme) → fits what t.kind ≡ true
+    → step (either what next other) t ≡ Some (next t)
 either-step what next other t is = ap (λ b. if b then Some (next t) else step other t) is
 
-pub label-step : (k : Label → State) (t : Lexeme) (label : Label) → label_of t.kind ≡ Some label → step (a_label k) t ≡ Some (k label)
+pub label-step : (k : Label → State) (t : Lexeme) (label : Label) → label_of t.kind ≡ Some label
+    → step (a_label k) t ≡ Some (k label)
 label-step k t label is = ap (option_map k) is
 
-pub kind-step : (k : Kind → State) (t : Lexeme) (kind : Kind) → word_of t.kind ≡ Some kind → step (a_kind k) t ≡ Some (k kind)
+pub kind-step : (k : Kind → State) (t : Lexeme) (kind : Kind) → word_of t.kind ≡ Some kind
+    → step (a_kind k) t ≡ Some (k kind)
 kind-step k t kind is = ap (option_map k) is
 
 pub length-step : (k : ℕ → State) (t : Lexeme) (n : ℕ) → length_of t.kind ≡ Some n → step (a_length k) t ≡ Some (k n)
@@ -78,21 +97,28 @@ length-step k t n is = ap (option_map k) is
 pub amount-step : (k : ℕ → State) (t : Lexeme) (n : ℕ) → amount_of t.kind ≡ Some n → step (an_amount k) t ≡ Some (k n)
 amount-step k t n is = ap (option_map k) is
 
-pub sign-step : (level top : ℕ) (left : ExprTree) (k : ExprTree → State) (t : Lexeme) (link : Link) → link_of t.kind ≡ Some link → level ≤ link_level link → link_left_level link ≤ top → step (more level top left k) t ≡ Some (linked link t.place level left k)
-sign-step level top left k t link is low high = ap (λ o. joined o t.place level left k (step (k left) t)) (ap (within level top) is ∙ within_level level top link low high)
+pub sign-step : (level top : ℕ) (left : ExprTree) (k : ExprTree → State) (t : Lexeme) (link : Link)
+    → link_of t.kind ≡ Some link → level ≤ link_level link → link_left_level link ≤ top
+    → step (more level top left k) t ≡ Some (linked link t.place level left k)
+sign-step level top left k t link is low high =
+    ap (λ o. joined o t.place level left k (step (k left) t)) (ap (within level top) is
+    ∙ within_level level top link low high)
 
-pub operand-step : (level : ℕ) (k : ExprTree → State) (t : Lexeme) (b : Begins) → begins_of t.kind ≡ Some b → step (expr level k) t ≡ Some (operand b t (λ e. more level 11 e k))
+pub operand-step : (level : ℕ) (k : ExprTree → State) (t : Lexeme) (b : Begins) → begins_of t.kind ≡ Some b
+    → step (expr level k) t ≡ Some (operand b t (λ e. more level 11 e k))
 operand-step level k t b is = ap (option_map (λ b. operand b t (λ e. more level 11 e k))) is
 
 -- after a statement
 abbrev pub more_statements : (BlockTree → State) → StatementTree → State
 more_statements k s = statements (λ b. k (first s b))
 
-pub start-step : (k : BlockTree → State) (t : Lexeme) (start : Start) → starts_with t.kind ≡ Some start → step (statements k) t ≡ Some (statement start t (more_statements k))
+pub start-step : (k : BlockTree → State) (t : Lexeme) (start : Start) → starts_with t.kind ≡ Some start
+    → step (statements k) t ≡ Some (statement start t (more_statements k))
 start-step k t start is = ap (λ o. started o t (more_statements k) (step (k nothing) t)) is
 
 -- states between which no token can tell
-same-verdict : (s s' : State) (n : Nest) (ts : List Lexeme) (e : Ending) → at_end s ≡ at_end s' → ((t : Lexeme) → step s t ≡ step s' t) → verdict s n ts e ≡ verdict s' n ts e
+same-verdict : (s s' : State) (n : Nest) (ts : List Lexeme) (e : Ending) → at_end s ≡ at_end s'
+    → ((t : Lexeme) → step s t ≡ step s' t) → verdict s n ts e ≡ verdict s' n ts e
 same-verdict s s' n [] e last h = ap (ending_answer e) last
 same-verdict s s' n (t ∷ ts) e last h =
     let n' = after t.kind n in
@@ -106,32 +132,43 @@ further end es k = expr 1 (λ e. more_exprs end (es ++ e ∷ []) k)
 abbrev pub after_exprs : TokenKind → List ExprTree → (List ExprTree → State) → State
 after_exprs end es k = either (token.Sign sign.Comma) (λ _. further end es k) (one end (λ _. k es))
 
-pub ahead-exprs : (end : TokenKind) (es : List ExprTree) (k : List ExprTree → State) (p : Parser) → ahead (more_exprs end es k) p ≡ ahead (after_exprs end es k) p
-ahead-exprs end es k p = same-verdict (more_exprs end es k) (after_exprs end es k) (nest p.nesting) (lexemes p.rest.now) (ending p.end) refl (λ t. refl)
+pub ahead-exprs : (end : TokenKind) (es : List ExprTree) (k : List ExprTree → State) (p : Parser)
+    → ahead (more_exprs end es k) p ≡ ahead (after_exprs end es k) p
+ahead-exprs end es k p = same-verdict (more_exprs end es k) (after_exprs end es k) (nest p.nesting)
+    (lexemes p.rest.now) (ending p.end) refl (λ t. refl)
 
 -- parameters: a comma and a further one, or the end
 abbrev pub further_parameter : List ParameterTree → (List ParameterTree → State) → State
 further_parameter ps k = parameter (λ p. more_parameters (ps ++ p ∷ []) k)
 
 abbrev pub after_parameters : List ParameterTree → (List ParameterTree → State) → State
-after_parameters ps k = either (token.Sign sign.Comma) (λ _. further_parameter ps k) (one (token.Sign sign.CloseRound) (λ _. k ps))
+after_parameters ps k = either (token.Sign sign.Comma) (λ _. further_parameter ps k)
+    (one (token.Sign sign.CloseRound) (λ _. k ps))
 
-pub ahead-parameters : (ps : List ParameterTree) (k : List ParameterTree → State) (p : Parser) → ahead (more_parameters ps k) p ≡ ahead (after_parameters ps k) p
-ahead-parameters ps k p = same-verdict (more_parameters ps k) (after_parameters ps k) (nest p.nesting) (lexemes p.rest.now) (ending p.end) refl (λ t. refl)
+pub ahead-parameters : (ps : List ParameterTree) (k : List ParameterTree → State) (p : Parser)
+    → ahead (more_parameters ps k) p ≡ ahead (after_parameters ps k) p
+ahead-parameters ps k p = same-verdict (more_parameters ps k) (after_parameters ps k) (nest p.nesting)
+    (lexemes p.rest.now) (ending p.end) refl (λ t. refl)
 
-pub ahead-otherwise : (k : BlockTree → State) (p : Parser) → ahead (otherwise k) p ≡ ahead (either (token.Keyword keyword.Else) (λ _. after_else k) (k nothing)) p
-ahead-otherwise k p = same-verdict (otherwise k) (either (token.Keyword keyword.Else) (λ _. after_else k) (k nothing)) (nest p.nesting) (lexemes p.rest.now) (ending p.end) refl (λ t. refl)
+pub ahead-otherwise : (k : BlockTree → State) (p : Parser)
+    → ahead (otherwise k) p ≡ ahead (either (token.Keyword keyword.Else) (λ _. after_else k) (k nothing)) p
+ahead-otherwise k p = same-verdict (otherwise k) (either (token.Keyword keyword.Else) (λ _. after_else k) (k nothing))
+    (nest p.nesting) (lexemes p.rest.now) (ending p.end) refl (λ t. refl)
 
 -- procedures: where a token is left, a further one
-ahead-procedure-at : (ps : List ProcedureTree) (n : Nest) (xs : List Token) (e : Ending) → nat_eq (length xs) 0 ≡ false → verdict (procedures ps) n (lexemes xs) e ≡ verdict (procedure (λ q. procedures (ps ++ q ∷ []))) n (lexemes xs) e
+ahead-procedure-at : (ps : List ProcedureTree) (n : Nest) (xs : List Token) (e : Ending)
+    → nat_eq (length xs) 0 ≡ false → verdict (procedures ps) n (lexemes xs) e
+    ≡ verdict (procedure (λ q. procedures (ps ++ q ∷ []))) n (lexemes xs) e
 ahead-procedure-at ps n [] e h = cc
 ahead-procedure-at ps n (x ∷ xs) e h = refl
 
-pub ahead-procedure : (ps : List ProcedureTree) (p : Parser) → nat_eq (length p.rest.now) 0 ≡ false → ahead (procedures ps) p ≡ ahead (procedure (λ q. procedures (ps ++ q ∷ []))) p
+pub ahead-procedure : (ps : List ProcedureTree) (p : Parser) → nat_eq (length p.rest.now) 0 ≡ false
+    → ahead (procedures ps) p ≡ ahead (procedure (λ q. procedures (ps ++ q ∷ []))) p
 ahead-procedure ps p h = ahead-procedure-at ps (nest p.nesting) p.rest.now (ending p.end) h
 
 -- a fault that is passed on as the answer
-pub passed-answer : {T : Type 0} (r : Result T Fault) (f : Fault) (P : T → Type 0) (a b : Answer) → IsErrAnd r (λ e. e ≡ f) → a ≡ b → FaultIs f b → MatchResult r P (λ g. FaultIs g a)
+pub passed-answer : {T : Type 0} (r : Result T Fault) (f : Fault) (P : T → Type 0) (a b : Answer)
+    → IsErrAnd r (λ e. e ≡ f) → a ≡ b → FaultIs f b → MatchResult r P (λ g. FaultIs g a)
 passed-answer (Ok x) f P a b h e g = absurd h
 passed-answer (Err x) f P a b h e g = subst (λ y. FaultIs y a) (sym h) (fault-back f a b e g)
 

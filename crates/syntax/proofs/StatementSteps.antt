@@ -12,7 +12,8 @@ abbrev pub followed_by : List Statement → BlockTree → BlockTree
 followed_by [] b = b
 followed_by (s ∷ ss) b = first (statement_tree s) (followed_by ss b)
 
-followed-push : (ss : List Statement) (s : Statement) (b : BlockTree) → followed_by (ss ++ s ∷ []) b ≡ followed_by ss (first (statement_tree s) b)
+followed-push : (ss : List Statement) (s : Statement) (b : BlockTree)
+    → followed_by (ss ++ s ∷ []) b ≡ followed_by ss (first (statement_tree s) b)
 followed-push [] s b = refl
 followed-push (x ∷ ss) s b = ap (first (statement_tree x)) (followed-push ss s b)
 
@@ -21,5 +22,8 @@ followed-nothing [] = refl
 followed-nothing (x ∷ ss) = ap (first (statement_tree x)) (followed-nothing ss)
 
 -- the machine after one statement more
-pub ahead-push : (k : BlockTree → State) (ss : List Statement) (s : Statement) (p : Parser) → ahead (statements (λ b. k (followed_by ss (first (statement_tree s) b)))) p ≡ ahead (statements (λ b. k (followed_by (ss ++ s ∷ []) b))) p
-ahead-push k ss s p = ap (λ (f : BlockTree → BlockTree). ahead (statements (λ b. k (f b))) p) (fun_ext (λ b. sym (followed-push ss s b)))
+pub ahead-push : (k : BlockTree → State) (ss : List Statement) (s : Statement) (p : Parser)
+    → ahead (statements (λ b. k (followed_by ss (first (statement_tree s) b)))) p
+    ≡ ahead (statements (λ b. k (followed_by (ss ++ s ∷ []) b))) p
+ahead-push k ss s p = ap (λ (f : BlockTree → BlockTree). ahead (statements (λ b. k (f b))) p)
+    (fun_ext (λ b. sym (followed-push ss s b)))

@@ -1,5 +1,6 @@
 -- A text spells one list of tokens.
-use Rattle.std.proofs.Common.{◌≡◌, ℕ, ◌<◌, ◌≤◌, Bool, true, false, cond, List, [], ◌∷◌, ◌++◌, length, take, drop, Option, Some, refl, sym, ap, ◌∙◌, subst, arith}
+use Rattle.std.proofs.Common.{◌≡◌, ℕ, ◌<◌, ◌≤◌, Bool, true, false, cond, List, [], ◌∷◌, ◌++◌, length, take, drop}
+use Rattle.std.proofs.Common.{Option, Some, refl, sym, ap, ◌∙◌, subst, arith}
 use Rattle.std.specs.Prelude.{nat_eq, codes, not}
 use Rattle.std.specs.Char.{is_ascii_digit}
 use Rattle.std.specs.List.{find, starts_with}
@@ -7,23 +8,29 @@ use Rattle.std.specs.Str.{bytes_eq}
 use Rattle.std.proofs.lemmas.List.{take_at, drop_at}
 use Rattle.word.specs.declared.place.Place.{Place}
 use Rattle.syntax.specs.declared.token.Keyword.{Keyword}
-use Rattle.syntax.specs.declared.token.Keyword.TheVariants.{Export, Void, Public, Secret, Mut, Bool as BoolWord, Uint8, Uint16, Uint32, True, False, If, Else, For, From, To, Return, Select}
+use Rattle.syntax.specs.declared.token.Keyword.TheVariants.{Export, Void, Public, Secret, Mut, Bool as BoolWord}
+use Rattle.syntax.specs.declared.token.Keyword.TheVariants.{Uint8, Uint16, Uint32, True, False, If, Else, For, From}
+use Rattle.syntax.specs.declared.token.Keyword.TheVariants.{To, Return, Select}
 use Rattle.syntax.specs.declared.token.Sign.{Sign}
 use Rattle.syntax.specs.declared.token.Sign.TheVariants.{RotateLeft}
-use Rattle.syntax.specs.declared.token.TokenKind.TheVariants.{Keyword as KeywordToken, Number as NumberToken, Sign as SignToken}
+use Rattle.syntax.specs.declared.token.TokenKind.TheVariants.{Keyword as KeywordToken, Number as NumberToken}
+use Rattle.syntax.specs.declared.token.TokenKind.TheVariants.{Sign as SignToken}
 use Rattle.syntax.specs.declared.lexer.piece.Piece.{Piece}
 use Rattle.syntax.specs.declared.lexer.piece.Piece.TheVariants.{Token}
 use Rattle.syntax.specs.declared.lexer.sign.TheConstants.{SIGNS}
 use Rattle.syntax.specs.Lexeme.{Lexeme}
-use Rattle.syntax.specs.Spelling.{Spells, blank, comment, keyword, name, number, bad_number, sign, keyword_text, sign_text, is_blank, is_word_byte, is_name_or_keyword, is_number_or_bad, IsNumber}
-use Rattle.syntax.specs.Tokens.{BeginsWith, Ending, LexesFrom, at_end, past_space, past_token, at_bad_number, at_unknown_character, place_after, OneList}
+use Rattle.syntax.specs.Spelling.{Spells, blank, comment, keyword, name, number, bad_number, sign, keyword_text}
+use Rattle.syntax.specs.Spelling.{sign_text, is_blank, is_word_byte, is_name_or_keyword, is_number_or_bad, IsNumber}
+use Rattle.syntax.specs.Tokens.{BeginsWith, Ending, LexesFrom, at_end, past_space, past_token, at_bad_number}
+use Rattle.syntax.specs.Tokens.{at_unknown_character, place_after, OneList}
 use Rattle.syntax.proofs.TokenBytes.{blank_is_no_word_byte}
 use Rattle.syntax.proofs.TokenRuns.{and_true}
 use Rattle.syntax.proofs.TokenNumbers.{number_unique}
 use Rattle.syntax.proofs.TokenSigns.{begins}
 
 abbrev keywords : List Keyword
-keywords = Export ∷ Void ∷ Public ∷ Secret ∷ Mut ∷ BoolWord ∷ Uint8 ∷ Uint16 ∷ Uint32 ∷ True ∷ False ∷ If ∷ Else ∷ For ∷ From ∷ To ∷ Return ∷ Select ∷ []
+keywords = Export ∷ Void ∷ Public ∷ Secret ∷ Mut ∷ BoolWord ∷ Uint8 ∷ Uint16 ∷ Uint32 ∷ True ∷ False ∷ If ∷ Else ∷ For
+    ∷ From ∷ To ∷ Return ∷ Select ∷ []
 
 abbrev keyword_named : List ℕ → Option Keyword
 keyword_named text = find (λ word. bytes_eq text (keyword_text word)) keywords
@@ -47,7 +54,8 @@ sign_unique m n e =
 -- the sort of a spelling, by its first bytes: 0 space, 1 a number or a bad one, 2 a name or a keyword, 3 a sign
 abbrev sort : List ℕ → ℕ
 sort [] = 4
-sort (b ∷ bytes) = cond (is_word_byte b) (cond (is_ascii_digit b) 1 2) (cond (is_blank b) 0 (cond (starts_with nat_eq (b ∷ bytes) (codes "//")) 0 3))
+sort (b ∷ bytes) = cond (is_word_byte b) (cond (is_ascii_digit b) 1 2)
+    (cond (is_blank b) 0 (cond (starts_with nat_eq (b ∷ bytes) (codes "//")) 0 3))
 
 abbrev sort_by_rule : {piece : Piece} {bytes : List ℕ} → Spells piece bytes → ℕ
 sort_by_rule (blank b e) = 0
@@ -64,7 +72,9 @@ name_sort (b ∷ bytes) e =
     let both = and_true _ _ e in
     let word : is_word_byte b ≡ true = (and_true _ _ both.1).0 in
     let no_digit : is_ascii_digit b ≡ false = from_not (is_ascii_digit b) both.0 in
-    ap (λ v. cond v (cond (is_ascii_digit b) 1 2) (cond (is_blank b) 0 (cond (starts_with nat_eq (b ∷ bytes) (codes "//")) 0 3))) word ∙ ap (λ v. cond v 1 2) no_digit
+    ap (λ v. cond v (cond (is_ascii_digit b) 1 2)
+    (cond (is_blank b) 0 (cond (starts_with nat_eq (b ∷ bytes) (codes "//")) 0 3))) word
+    ∙ ap (λ v. cond v 1 2) no_digit
   where
     from_not : (v : Bool) → not v ≡ true → v ≡ false
     from_not true h = absurd (cc)
@@ -75,11 +85,14 @@ number_sort [] e = absurd (cc)
 number_sort (b ∷ bytes) e =
     let both = and_true _ _ e in
     let word : is_word_byte b ≡ true = (and_true _ _ both.1).0 in
-    ap (λ v. cond v (cond (is_ascii_digit b) 1 2) (cond (is_blank b) 0 (cond (starts_with nat_eq (b ∷ bytes) (codes "//")) 0 3))) word ∙ ap (λ v. cond v 1 2) both.0
+    ap (λ v. cond v (cond (is_ascii_digit b) 1 2)
+    (cond (is_blank b) 0 (cond (starts_with nat_eq (b ∷ bytes) (codes "//")) 0 3))) word
+    ∙ ap (λ v. cond v 1 2) both.0
 
 blank_sort : (b : ℕ) → is_blank b ≡ true → sort (b ∷ []) ≡ 0
 blank_sort b e =
-    ap (λ v. cond v (cond (is_ascii_digit b) 1 2) (cond (is_blank b) 0 (cond (starts_with nat_eq (b ∷ []) (codes "//")) 0 3))) (blank_is_no_word_byte b e)
+    ap (λ v. cond v (cond (is_ascii_digit b) 1 2)
+    (cond (is_blank b) 0 (cond (starts_with nat_eq (b ∷ []) (codes "//")) 0 3))) (blank_is_no_word_byte b e)
     ∙ ap (λ v. cond v 0 (cond (starts_with nat_eq (b ∷ []) (codes "//")) 0 3)) e
 
 keyword_sort : (word : Keyword) → sort (keyword_text word) ≡ 2
@@ -115,19 +128,22 @@ one_piece (number bytes v r e n) (number others w s f m) same =
     let both = number_unique bytes v w r s n (subst (λ l. IsNumber l w s) (sym same) m) in
     (λ i. Token (NumberToken (both.0 i) (both.1 i)))
 one_piece (number bytes v r e n) (bad_number others f m) same = absurd (m v r (subst (λ l. IsNumber l v r) same n))
-one_piece (bad_number others f m) (number bytes v r e n) same = absurd (m v r (subst (λ l. IsNumber l v r) (sym same) n))
+one_piece (bad_number others f m) (number bytes v r e n) same =
+    absurd (m v r (subst (λ l. IsNumber l v r) (sym same) n))
 one_piece (bad_number bytes e n) (bad_number others f m) same = refl
 one_piece (sign m) (sign n) same = ap (λ k. Token (SignToken k)) (sign_unique m n same)
 one_piece h g same = absurd (let bad : sort_by_rule h ≡ sort_by_rule g = same_sort h g same in omega arith)
 
 -- a text begins with one piece
-pub begins_unique : (text : List ℕ) (p q : Piece) (s r t u : List ℕ) → BeginsWith text p s r → BeginsWith text q t u → (p ≡ q) × (s ≡ t) × (r ≡ u)
+pub begins_unique : (text : List ℕ) (p q : Piece) (s r t u : List ℕ) → BeginsWith text p s r → BeginsWith text q t u
+    → (p ≡ q) × (s ≡ t) × (r ≡ u)
 begins_unique text p q s r t u a b =
     let short : length s ≤ length t = b.longest p s r a.spelled a.parts in
     let long : length t ≤ length s = a.longest q t u b.spelled b.parts in
     let equal : length t ≡ length s = omega arith in
     let both : s ++ r ≡ t ++ u = sym a.parts ∙ b.parts in
-    let front : s ≡ t = sym (take_at s r (length s) refl) ∙ ap (take (length s)) both ∙ take_at t u (length s) equal in
+    let front : s ≡ t = sym (take_at s r (length s) refl) ∙ ap (take (length s)) both
+    ∙ take_at t u (length s) equal in
     let rest : r ≡ u = sym (drop_at s r (length s) refl) ∙ ap (drop (length s)) both ∙ drop_at t u (length s) equal in
     (one_piece a.spelled b.spelled front, front, rest)
 
@@ -155,7 +171,8 @@ nothing_begins {p} {s} {r} a = none s (spelled_some a.spelled) a.parts
     none [] some e = absurd (omega arith)
     none (x ∷ l) some e = absurd (cc)
 
-pub lexes_unique : {place : Place} {text : List ℕ} {xs ys : List Lexeme} {e f : Ending} → LexesFrom place text xs e → LexesFrom place text ys f → (xs ≡ ys) × (e ≡ f)
+pub lexes_unique : {place : Place} {text : List ℕ} {xs ys : List Lexeme} {e f : Ending} → LexesFrom place text xs e
+    → LexesFrom place text ys f → (xs ≡ ys) × (e ≡ f)
 lexes_unique (at_end place) (at_end place') = (refl, refl)
 lexes_unique (at_end place) (past_space place' text s r xs e a h) = absurd (nothing_begins a)
 lexes_unique (at_end place) (past_token place' text s r k xs e a h) = absurd (nothing_begins a)
@@ -163,27 +180,42 @@ lexes_unique (at_end place) (at_bad_number place' text s r a) = absurd (nothing_
 lexes_unique (past_space place text s r xs e a h) (at_end place') = absurd (nothing_begins a)
 lexes_unique (past_space place text s r xs e a h) (past_space place' text' t u ys f b g) =
     let same = begins_unique _ _ _ _ _ _ _ a b in
-    lexes_unique h (subst (λ l. LexesFrom (place_after place l) r ys f) (sym same.1) (subst (λ l. LexesFrom (place_after place t) l ys f) (sym same.2) g))
-lexes_unique (past_space place text s r xs e a h) (past_token place' text' t u k ys f b g) = absurd (let same = (begins_unique _ _ _ _ _ _ _ a b).0 in cc)
-lexes_unique (past_space place text s r xs e a h) (at_bad_number place' text' t u b) = absurd (let same = (begins_unique _ _ _ _ _ _ _ a b).0 in cc)
-lexes_unique (past_space place text s r xs e a h) (at_unknown_character place' c rest none) = absurd (none _ s r a.spelled a.parts)
+    lexes_unique h (subst (λ l. LexesFrom (place_after place l) r ys f) (sym same.1)
+    (subst (λ l. LexesFrom (place_after place t) l ys f) (sym same.2) g))
+lexes_unique (past_space place text s r xs e a h) (past_token place' text' t u k ys f b g) =
+    absurd (let same = (begins_unique _ _ _ _ _ _ _ a b).0 in cc)
+lexes_unique (past_space place text s r xs e a h) (at_bad_number place' text' t u b) =
+    absurd (let same = (begins_unique _ _ _ _ _ _ _ a b).0 in cc)
+lexes_unique (past_space place text s r xs e a h) (at_unknown_character place' c rest none) =
+    absurd (none _ s r a.spelled a.parts)
 lexes_unique (past_token place text s r k xs e a h) (at_end place') = absurd (nothing_begins a)
-lexes_unique (past_token place text s r k xs e a h) (past_space place' text' t u ys f b g) = absurd (let same = (begins_unique _ _ _ _ _ _ _ a b).0 in cc)
+lexes_unique (past_token place text s r k xs e a h) (past_space place' text' t u ys f b g) =
+    absurd (let same = (begins_unique _ _ _ _ _ _ _ a b).0 in cc)
 lexes_unique (past_token place text s r k xs e a h) (past_token place' text' t u l ys f b g) =
     let same = begins_unique _ _ _ _ _ _ _ a b in
     let kinds : k ≡ l = let pieces : Token k ≡ Token l = same.0 in cc in
-    let both = lexes_unique h (subst (λ z. LexesFrom (place_after place z) r ys f) (sym same.1) (subst (λ z. LexesFrom (place_after place t) z ys f) (sym same.2) g)) in
+    let both =
+    lexes_unique h (subst (λ z. LexesFrom (place_after place z) r ys f) (sym same.1)
+    (subst (λ z. LexesFrom (place_after place t) z ys f) (sym same.2) g)) in
     ((λ i. record { kind = kinds i; place = place; text = same.1 i } ∷ both.0 i), both.1)
-lexes_unique (past_token place text s r k xs e a h) (at_bad_number place' text' t u b) = absurd (let same = (begins_unique _ _ _ _ _ _ _ a b).0 in cc)
-lexes_unique (past_token place text s r k xs e a h) (at_unknown_character place' c rest none) = absurd (none _ s r a.spelled a.parts)
+lexes_unique (past_token place text s r k xs e a h) (at_bad_number place' text' t u b) =
+    absurd (let same = (begins_unique _ _ _ _ _ _ _ a b).0 in cc)
+lexes_unique (past_token place text s r k xs e a h) (at_unknown_character place' c rest none) =
+    absurd (none _ s r a.spelled a.parts)
 lexes_unique (at_bad_number place text s r a) (at_end place') = absurd (nothing_begins a)
-lexes_unique (at_bad_number place text s r a) (past_space place' text' t u ys f b g) = absurd (let same = (begins_unique _ _ _ _ _ _ _ a b).0 in cc)
-lexes_unique (at_bad_number place text s r a) (past_token place' text' t u l ys f b g) = absurd (let same = (begins_unique _ _ _ _ _ _ _ a b).0 in cc)
+lexes_unique (at_bad_number place text s r a) (past_space place' text' t u ys f b g) =
+    absurd (let same = (begins_unique _ _ _ _ _ _ _ a b).0 in cc)
+lexes_unique (at_bad_number place text s r a) (past_token place' text' t u l ys f b g) =
+    absurd (let same = (begins_unique _ _ _ _ _ _ _ a b).0 in cc)
 lexes_unique (at_bad_number place text s r a) (at_bad_number place' text' t u b) = (refl, refl)
-lexes_unique (at_bad_number place text s r a) (at_unknown_character place' c rest none) = absurd (none _ s r a.spelled a.parts)
-lexes_unique (at_unknown_character place c rest none) (past_space place' text' t u ys f b g) = absurd (none _ t u b.spelled b.parts)
-lexes_unique (at_unknown_character place c rest none) (past_token place' text' t u l ys f b g) = absurd (none _ t u b.spelled b.parts)
-lexes_unique (at_unknown_character place c rest none) (at_bad_number place' text' t u b) = absurd (none _ t u b.spelled b.parts)
+lexes_unique (at_bad_number place text s r a) (at_unknown_character place' c rest none) =
+    absurd (none _ s r a.spelled a.parts)
+lexes_unique (at_unknown_character place c rest none) (past_space place' text' t u ys f b g) =
+    absurd (none _ t u b.spelled b.parts)
+lexes_unique (at_unknown_character place c rest none) (past_token place' text' t u l ys f b g) =
+    absurd (none _ t u b.spelled b.parts)
+lexes_unique (at_unknown_character place c rest none) (at_bad_number place' text' t u b) =
+    absurd (none _ t u b.spelled b.parts)
 lexes_unique (at_unknown_character place c rest none) (at_unknown_character place' c' rest' none') = (refl, refl)
 
 pub one_list : OneList

@@ -7,7 +7,9 @@ use Rattle.syntax.specs.declared.token.Keyword.TheVariants.{Export}
 use Rattle.syntax.specs.declared.token.Sign.{Sign}
 use Rattle.syntax.specs.declared.token.Sign.TheVariants.{RotateLeft, Slash}
 use Rattle.syntax.specs.declared.lexer.piece.Piece.{Piece}
-use Rattle.syntax.specs.Spelling.{Spells, blank, comment, keyword, name, number, bad_number, sign, keyword_text, sign_text, is_blank, is_line_feed, is_word_byte, is_name_or_keyword, is_number_or_bad}
+use Rattle.syntax.specs.Spelling.{Spells, blank, comment, keyword, name, number, bad_number, sign, keyword_text}
+use Rattle.syntax.specs.Spelling.{sign_text, is_blank, is_line_feed, is_word_byte, is_name_or_keyword}
+use Rattle.syntax.specs.Spelling.{is_number_or_bad}
 use Rattle.syntax.specs.private.Splitting.{is_no_word_byte, IsEmptyOrBeginsWith}
 use Rattle.syntax.proofs.TokenBytes.{blank_is_no_word_byte}
 use Rattle.syntax.proofs.TokenRuns.{or_false, and_true, run_longest}
@@ -44,20 +46,25 @@ first_passes p [] = false
 first_passes p (b ∷ bytes) = p b
 
 sign_is_no_word : (mark : Sign) (others : List ℕ) → first_passes is_word_byte (sign_text mark ++ others) ≡ false
-sign_is_no_word mark others = elim mark as (λ m. first_passes is_word_byte (sign_text m ++ others) ≡ false) [ RotateLeft ↦ refl | _ ↦ refl ]
+sign_is_no_word mark others =
+    elim mark as (λ m. first_passes is_word_byte (sign_text m ++ others) ≡ false) [ RotateLeft ↦ refl | _ ↦ refl ]
 
 sign_is_no_blank : (mark : Sign) (others : List ℕ) → first_passes is_blank (sign_text mark ++ others) ≡ false
-sign_is_no_blank mark others = elim mark as (λ m. first_passes is_blank (sign_text m ++ others) ≡ false) [ RotateLeft ↦ refl | _ ↦ refl ]
+sign_is_no_blank mark others =
+    elim mark as (λ m. first_passes is_blank (sign_text m ++ others) ≡ false) [ RotateLeft ↦ refl | _ ↦ refl ]
 
 -- the one sign that begins with `/` is that byte
-slash_is_short : (mark : Sign) (others : List ℕ) → first_passes (λ b. nat_eq b 47) (sign_text mark ++ others) ≡ true → length (sign_text mark) ≤ 1
-slash_is_short mark others = elim mark as (λ m. first_passes (λ b. nat_eq b 47) (sign_text m ++ others) ≡ true → length (sign_text m) ≤ 1) [ Slash ↦ λ e. omega arith | _ ↦ λ e. absurd (let bad : false ≡ true = e in cc) ]
+slash_is_short : (mark : Sign) (others : List ℕ) → first_passes (λ b. nat_eq b 47) (sign_text mark ++ others) ≡ true
+    → length (sign_text mark) ≤ 1
+slash_is_short mark others = elim mark as (λ m. first_passes (λ b. nat_eq b 47) (sign_text m ++ others) ≡ true
+    → length (sign_text m) ≤ 1) [ Slash ↦ λ e. omega arith | _ ↦ λ e. absurd (let bad : false ≡ true = e in cc) ]
 
 clash : (b : Bool) → b ≡ true → b ≡ false → ⊥
 clash b e f = let bad : true ≡ false = sym e ∙ f in cc
 
 -- no spelling that a text begins with is longer than its first byte, if that is a blank
-pub blank_longest : {front : List ℕ} → Shape front → (b : ℕ) (rest others : List ℕ) → is_blank b ≡ true → b ∷ rest ≡ front ++ others → length front ≤ 1
+pub blank_longest : {front : List ℕ} → Shape front → (b : ℕ) (rest others : List ℕ) → is_blank b ≡ true
+    → b ∷ rest ≡ front ++ others → length front ≤ 1
 blank_longest (a_blank c f) b rest others e parts = omega arith
 blank_longest (a_comment bytes f) b rest others e parts =
     absurd (clash (is_blank b) e (let same : b ≡ 47 = cc in ap is_blank same))
@@ -68,7 +75,9 @@ blank_longest (a_sign mark) b rest others e parts =
     absurd (clash (is_blank b) e (ap (first_passes is_blank) parts ∙ sign_is_no_blank mark others))
 
 -- nor than a comment's line
-pub comment_longest : {front : List ℕ} → Shape front → (line rest others : List ℕ) → IsEmptyOrBeginsWith is_line_feed rest → 47 ∷ 47 ∷ line ++ rest ≡ front ++ others → length front ≤ length (47 ∷ 47 ∷ line)
+pub comment_longest : {front : List ℕ} → Shape front → (line rest others : List ℕ)
+    → IsEmptyOrBeginsWith is_line_feed rest → 47 ∷ 47 ∷ line ++ rest ≡ front ++ others
+    → length front ≤ length (47 ∷ 47 ∷ line)
 comment_longest (a_blank c f) line rest others stops parts = omega arith
 comment_longest (a_comment bytes f) line rest others stops parts =
     let tails : line ++ rest ≡ bytes ++ others = cc in
@@ -77,7 +86,8 @@ comment_longest (a_comment bytes f) line rest others stops parts =
 comment_longest (a_word c bytes f) line rest others stops parts =
     absurd (clash (is_word_byte c) (and_true _ _ f).0 (let same : c ≡ 47 = cc in ap is_word_byte same))
 comment_longest (a_sign mark) line rest others stops parts =
-    let short : length (sign_text mark) ≤ 1 = slash_is_short mark others (sym (ap (first_passes (λ b. nat_eq b 47)) parts)) in
+    let short : length (sign_text mark) ≤ 1 =
+    slash_is_short mark others (sym (ap (first_passes (λ b. nat_eq b 47)) parts)) in
     omega arith
 
 all_from_none : (bytes : List ℕ) → list_all is_word_byte bytes ≡ true → list_any is_no_word_byte bytes ≡ false
@@ -97,17 +107,23 @@ none_from_all (b ∷ bytes) e =
     from_not false e = absurd (cc)
 
 -- nor than a word that ends where no word byte stands
-pub word_longest : {front : List ℕ} → Shape front → (b : ℕ) (word rest others : List ℕ) → list_any is_no_word_byte (b ∷ word) ≡ false → IsEmptyOrBeginsWith is_no_word_byte rest → b ∷ word ++ rest ≡ front ++ others → length front ≤ length (b ∷ word)
+pub word_longest : {front : List ℕ} → Shape front → (b : ℕ) (word rest others : List ℕ)
+    → list_any is_no_word_byte (b ∷ word) ≡ false → IsEmptyOrBeginsWith is_no_word_byte rest
+    → b ∷ word ++ rest ≡ front ++ others → length front ≤ length (b ∷ word)
 word_longest (a_blank c f) b word rest others none stops parts = omega arith
 word_longest (a_comment bytes f) b word rest others none stops parts =
-    absurd (clash (is_word_byte b) (and_true _ _ (none_from_all (b ∷ word) none)).0 (let same : b ≡ 47 = cc in ap is_word_byte same))
+    absurd (clash (is_word_byte b) (and_true _ _ (none_from_all (b ∷ word) none)).0 (let same : b ≡ 47 = cc in
+    ap is_word_byte same))
 word_longest (a_word c bytes f) b word rest others none stops parts =
     run_longest is_no_word_byte (c ∷ bytes) others (b ∷ word) rest (all_from_none (c ∷ bytes) f) stops parts
 word_longest (a_sign mark) b word rest others none stops parts =
-    absurd (clash (is_word_byte b) (and_true _ _ (none_from_all (b ∷ word) none)).0 (ap (first_passes is_word_byte) parts ∙ sign_is_no_word mark others))
+    absurd (clash (is_word_byte b) (and_true _ _ (none_from_all (b ∷ word) none)).0
+    (ap (first_passes is_word_byte) parts ∙ sign_is_no_word mark others))
 
 -- what begins with no blank, no word and no comment begins with signs alone
-pub sign_alone : {front : List ℕ} → Shape front → (b : ℕ) (rest others : List ℕ) → is_blank b ≡ false → is_word_byte b ≡ false → starts_with nat_eq (b ∷ rest) (codes "//") ≡ false → b ∷ rest ≡ front ++ others → (mark : Sign) × (front ≡ sign_text mark)
+pub sign_alone : {front : List ℕ} → Shape front → (b : ℕ) (rest others : List ℕ) → is_blank b ≡ false
+    → is_word_byte b ≡ false → starts_with nat_eq (b ∷ rest) (codes "//") ≡ false → b ∷ rest ≡ front ++ others
+    → (mark : Sign) × (front ≡ sign_text mark)
 sign_alone (a_blank c f) b rest others no_blank no_word no_comment parts =
     absurd (clash (is_blank c) f (let same : c ≡ b = cc in ap is_blank same ∙ no_blank))
 sign_alone (a_comment bytes f) b rest others no_blank no_word no_comment parts =

@@ -4,15 +4,18 @@ use Rattle.std.specs.Prelude.{◌≡◌, ℕ, ◌+◌, ◌≤◌, List, [], ◌�
 use Rattle.language.specs.declared.signature.Kind.{Kind}
 use Rattle.language.specs.declared.signature.Label.{Label}
 use Rattle.syntax.specs.declared.token.Keyword.{Keyword}
-use Rattle.syntax.specs.declared.token.Keyword.TheVariants.{Export, Void, Mut, Uint32, True, False, If, Else, For, From, To, Return, Select}
+use Rattle.syntax.specs.declared.token.Keyword.TheVariants.{Export, Void, Mut, Uint32, True, False, If, Else, For}
+use Rattle.syntax.specs.declared.token.Keyword.TheVariants.{From, To, Return, Select}
 use Rattle.syntax.specs.declared.token.Sign.{Sign}
-use Rattle.syntax.specs.declared.token.Sign.TheVariants.{RotateLeft, OpenRound, CloseRound, OpenCurly, CloseCurly, OpenSquare, CloseSquare, Comma, Semicolon, Assign}
+use Rattle.syntax.specs.declared.token.Sign.TheVariants.{RotateLeft, OpenRound, CloseRound, OpenCurly, CloseCurly}
+use Rattle.syntax.specs.declared.token.Sign.TheVariants.{OpenSquare, CloseSquare, Comma, Semicolon, Assign}
 use Rattle.syntax.specs.declared.token.Suffix.{Suffix}
 use Rattle.syntax.specs.declared.token.TokenKind.{TokenKind}
 use Rattle.syntax.specs.declared.token.TokenKind.TheVariants as token
 use Rattle.language.specs.declared.tree.BinaryOperator.{BinaryOperator}
 use Rattle.language.specs.declared.tree.PrefixOperator.{PrefixOperator}
-use Rattle.syntax.specs.Grammar.{prefix_of, operator_of, level_of, left_level_of, rotation_level, prefix_level, label_of, word_of, conversion_of, amount_of, length_of}
+use Rattle.syntax.specs.Grammar.{prefix_of, operator_of, level_of, left_level_of, rotation_level, prefix_level}
+use Rattle.syntax.specs.Grammar.{label_of, word_of, conversion_of, amount_of, length_of}
 use Rattle.syntax.specs.Lexeme.{Lexeme}
 
 -- what one token may have to be
@@ -87,11 +90,17 @@ pub data Case : Phrase → List Part → Type 0 where
   a_name : (level : ℕ) → Case (expr level) (name ∷ [])
   an_element : (level : ℕ) → Case (expr level) (name ∷ sign OpenSquare ∷ all (expr 1) ∷ sign CloseSquare ∷ [])
   in_brackets : (level : ℕ) → Case (expr level) (sign OpenRound ∷ all (expr 1) ∷ sign CloseRound ∷ [])
-  a_conversion : (level : ℕ) → Case (expr level) (one any_conversion ∷ sign OpenRound ∷ all (expr 1) ∷ sign CloseRound ∷ [])
-  a_select : (level : ℕ) → Case (expr level) (keyword Select ∷ sign OpenRound ∷ all (expr 1) ∷ sign Comma ∷ all (expr 1) ∷ sign Comma ∷ all (expr 1) ∷ sign CloseRound ∷ [])
+  a_conversion : (level : ℕ)
+      → Case (expr level) (one any_conversion ∷ sign OpenRound ∷ all (expr 1) ∷ sign CloseRound ∷ [])
+  a_select : (level : ℕ)
+      → Case (expr level) (keyword Select ∷ sign OpenRound ∷ all (expr 1) ∷ sign Comma ∷ all (expr 1) ∷ sign Comma
+      ∷ all (expr 1) ∷ sign CloseRound ∷ [])
   a_prefix : (level : ℕ) → Case (expr level) (one any_prefix ∷ all (expr prefix_level) ∷ [])
-  a_rotation : (level : ℕ) → level ≤ rotation_level → Case (expr level) (all (expr rotation_level) ∷ sign RotateLeft ∷ one any_amount ∷ [])
-  a_binary : (level : ℕ) (operator : BinaryOperator) → level ≤ level_of operator → Case (expr level) (all (expr (left_level_of operator)) ∷ one (the_operator operator) ∷ all (expr (level_of operator + 1)) ∷ [])
+  a_rotation : (level : ℕ) → level ≤ rotation_level
+      → Case (expr level) (all (expr rotation_level) ∷ sign RotateLeft ∷ one any_amount ∷ [])
+  a_binary : (level : ℕ) (operator : BinaryOperator) → level ≤ level_of operator
+      → Case (expr level) (all (expr (left_level_of operator)) ∷ one (the_operator operator)
+      ∷ all (expr (level_of operator + 1)) ∷ [])
   -- what stands after an expression of a list, with the token that ends the list
   no_more : (end : TokenKind) → Case (more_exprs end) (one (of_kind end) ∷ [])
   one_more : (end : TokenKind) → Case (more_exprs end) (sign Comma ∷ all (expr 1) ∷ all (more_exprs end) ∷ [])
@@ -114,15 +123,20 @@ pub data Case : Phrase → List Part → Type 0 where
   no_values : Case first_values []
   some_values : Case first_values (sign Assign ∷ sign OpenCurly ∷ all (expr_list (token.Sign CloseCurly)) ∷ [])
   -- a statement
-  a_declaration : Case statement (one any_label ∷ all mutable ∷ one any_word ∷ name ∷ sign Assign ∷ all right_side ∷ sign Semicolon ∷ [])
-  an_array : Case statement (one any_label ∷ all mutable ∷ all array_type ∷ name ∷ all first_values ∷ sign Semicolon ∷ [])
+  a_declaration : Case statement (one any_label ∷ all mutable ∷ one any_word ∷ name ∷ sign Assign ∷ all right_side
+      ∷ sign Semicolon ∷ [])
+  an_array : Case statement (one any_label ∷ all mutable ∷ all array_type ∷ name ∷ all first_values
+      ∷ sign Semicolon ∷ [])
   an_assignment : Case statement (name ∷ sign Assign ∷ all right_side ∷ sign Semicolon ∷ [])
-  an_element_assignment : Case statement (name ∷ sign OpenSquare ∷ all (expr 1) ∷ sign CloseSquare ∷ sign Assign ∷ all right_side ∷ sign Semicolon ∷ [])
+  an_element_assignment : Case statement (name ∷ sign OpenSquare ∷ all (expr 1) ∷ sign CloseSquare ∷ sign Assign
+      ∷ all right_side ∷ sign Semicolon ∷ [])
   a_call_statement : Case statement (all call ∷ sign Semicolon ∷ [])
   a_conditional_statement : Case statement (all conditional ∷ [])
-  a_loop : Case statement (keyword For ∷ sign OpenRound ∷ keyword Uint32 ∷ name ∷ keyword From ∷ all (expr 1) ∷ keyword To ∷ all (expr 1) ∷ sign CloseRound ∷ all block ∷ [])
+  a_loop : Case statement (keyword For ∷ sign OpenRound ∷ keyword Uint32 ∷ name ∷ keyword From ∷ all (expr 1)
+      ∷ keyword To ∷ all (expr 1) ∷ sign CloseRound ∷ all block ∷ [])
   -- a conditional
-  a_conditional : Case conditional (keyword If ∷ sign OpenRound ∷ all (expr 1) ∷ sign CloseRound ∷ all block ∷ all otherwise ∷ [])
+  a_conditional : Case conditional (keyword If ∷ sign OpenRound ∷ all (expr 1) ∷ sign CloseRound ∷ all block
+      ∷ all otherwise ∷ [])
   -- statements in their order
   no_statement : Case statements []
   one_statement : Case statements (all statement ∷ all statements ∷ [])
@@ -152,7 +166,8 @@ pub data Case : Phrase → List Part → Type 0 where
   not_exported : Case exported []
   an_export : Case exported (keyword Export ∷ [])
   -- a procedure
-  a_procedure : Case procedure (all exported ∷ all result_type ∷ name ∷ sign OpenRound ∷ all parameters ∷ sign OpenCurly ∷ all statements ∷ all body_end ∷ [])
+  a_procedure : Case procedure (all exported ∷ all result_type ∷ name ∷ sign OpenRound ∷ all parameters
+      ∷ sign OpenCurly ∷ all statements ∷ all body_end ∷ [])
   -- procedures in their order
   no_procedure : Case procedures []
   one_procedure : Case procedures (all procedure ∷ all procedures ∷ [])

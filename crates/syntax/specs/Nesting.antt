@@ -1,12 +1,14 @@
 -- How deeply each token of a text is nested.
-use Rattle.std.specs.Prelude.{ℕ, ◌+◌, ◌-◌, ◌≤◌, Bool, true, false, List, [], ◌∷◌, ◌++◌, length, take, slice_index, if◌then◌else◌}
+use Rattle.std.specs.Prelude.{ℕ, ◌+◌, ◌-◌, ◌≤◌, Bool, true, false, List, [], ◌∷◌, ◌++◌, length, take, slice_index}
+use Rattle.std.specs.Prelude.{if◌then◌else◌}
 use Rattle.syntax.specs.Limits.{nesting_limit}
 use Rattle.syntax.specs.declared.nesting.Effect.{Effect}
 use Rattle.syntax.specs.declared.nesting.Effect.TheVariants.{Opens, Closes, Raises, SetsBack, Stays}
 use Rattle.syntax.specs.declared.token.TokenKind.{TokenKind}
 use Rattle.syntax.specs.declared.token.TokenKind.TheVariants as token
 use Rattle.syntax.specs.declared.token.Keyword.TheVariants.{Else, From, To, Return}
-use Rattle.syntax.specs.declared.token.Sign.TheVariants.{OpenRound, CloseRound, OpenCurly, CloseCurly, OpenSquare, CloseSquare, Comma, Semicolon, Assign}
+use Rattle.syntax.specs.declared.token.Sign.TheVariants.{OpenRound, CloseRound, OpenCurly, CloseCurly, OpenSquare}
+use Rattle.syntax.specs.declared.token.Sign.TheVariants.{CloseSquare, Comma, Semicolon, Assign}
 use Rattle.syntax.specs.Lexeme.{Lexeme}
 
 -- brackets open and close, operator signs and `else` raise, and what ends a part or begins `return` sets back
@@ -27,7 +29,8 @@ effect_of (token.Keyword To) = SetsBack
 effect_of (token.Keyword Return) = SetsBack
 effect_of _ = Stays
 
--- the count after some tokens, the counts just after each open bracket, the innermost last, and whether a `}` came last
+-- the count after some tokens, the counts just after each open bracket, the innermost last, and whether a `}` came
+-- last
 pub record Nest : Type 0 where
   pub count : ℕ
   pub bases : List ℕ
@@ -51,7 +54,8 @@ is_else _ = false
 
 -- the count that a token finds: after `}` each token but `else` begins a statement, which sets the count back
 abbrev pub count_before : TokenKind → Nest → ℕ
-count_before kind nest = if nest.after_block then (if is_else kind then nest.count else base_of nest.bases) else nest.count
+count_before kind nest = if nest.after_block then (if is_else kind then nest.count else base_of nest.bases)
+    else nest.count
 
 -- the count of a token, from the count that it finds
 abbrev pub changed_count : Effect → ℕ → List ℕ → ℕ
@@ -84,7 +88,8 @@ after_all (t ∷ tokens) nest = after_all tokens (after t.kind nest)
 -- no token's count is above the limit
 abbrev pub AreWithinFrom : Nest → List Lexeme → Type 0
 AreWithinFrom nest [] = Unit {0}
-AreWithinFrom nest (t ∷ tokens) = ((after t.kind nest).count ≤ nesting_limit) × AreWithinFrom (after t.kind nest) tokens
+AreWithinFrom nest (t ∷ tokens) = ((after t.kind nest).count ≤ nesting_limit)
+    × AreWithinFrom (after t.kind nest) tokens
 
 abbrev pub AreWithin : List Lexeme → Type 0
 AreWithin tokens = AreWithinFrom outside tokens

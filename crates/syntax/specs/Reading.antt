@@ -21,24 +21,34 @@ pub data Answer : Type 0 where
 -- the answer to a list of tokens that ends so
 pub data Answers : List Lexeme → Ending → Answer → Type 0 where
   -- the tokens are a program and none is nested too deeply
-  a_program : (tokens : List Lexeme) (end : Place) (tree : ProgramTree) → IsProgram tokens tree → AreWithin tokens → Answers tokens (ends_at end) (accepted tree)
+  a_program : (tokens : List Lexeme) (end : Place) (tree : ProgramTree) → IsProgram tokens tree → AreWithin tokens
+      → Answers tokens (ends_at end) (accepted tree)
   -- no program begins with the tokens up to this one
-  unexpected : (front rest : List Lexeme) (t : Lexeme) (ending : Ending) → IsBeginning front → ¬ IsBeginning (front ++ t ∷ []) → AreWithin front → Answers (front ++ t ∷ rest) ending (refused UnexpectedToken t.place)
+  unexpected : (front rest : List Lexeme) (t : Lexeme) (ending : Ending) → IsBeginning front
+      → ¬ IsBeginning (front ++ t ∷ []) → AreWithin front
+      → Answers (front ++ t ∷ rest) ending (refused UnexpectedToken t.place)
   -- a program begins so, but the text ends here
-  unexpected_end : (tokens : List Lexeme) (end : Place) → IsBeginning tokens → ((tree : ProgramTree) → ¬ IsProgram tokens tree) → AreWithin tokens → Answers tokens (ends_at end) (refused UnexpectedToken end)
+  unexpected_end : (tokens : List Lexeme) (end : Place) → IsBeginning tokens
+      → ((tree : ProgramTree) → ¬ IsProgram tokens tree) → AreWithin tokens
+      → Answers tokens (ends_at end) (refused UnexpectedToken end)
   -- a program begins with the tokens up to this one, which is nested too deeply
-  too_deep : (front rest : List Lexeme) (t : Lexeme) (ending : Ending) → IsBeginning (front ++ t ∷ []) → AreWithin front → nesting_limit < (after t.kind (after_all front outside)).count → Answers (front ++ t ∷ rest) ending (refused Nesting t.place)
+  too_deep : (front rest : List Lexeme) (t : Lexeme) (ending : Ending) → IsBeginning (front ++ t ∷ [])
+      → AreWithin front → nesting_limit < (after t.kind (after_all front outside)).count
+      → Answers (front ++ t ∷ rest) ending (refused Nesting t.place)
   -- a program begins so, and a bad character or number stands next
-  bad_token : (tokens : List Lexeme) (rule : Rule) (place : Place) → IsBeginning tokens → AreWithin tokens → Answers tokens (stops rule place) (refused rule place)
+  bad_token : (tokens : List Lexeme) (rule : Rule) (place : Place) → IsBeginning tokens → AreWithin tokens
+      → Answers tokens (stops rule place) (refused rule place)
 
 -- the answer to a text
 pub data Reads : List ℕ → Answer → Type 0 where
   too_long : (text : List ℕ) → text_limit < length text → Reads text (refused TextTooLong origin)
-  by_tokens : (text : List ℕ) (tokens : List Lexeme) (ending : Ending) (answer : Answer) → length text ≤ text_limit → Lexes text tokens ending → Answers tokens ending answer → Reads text answer
+  by_tokens : (text : List ℕ) (tokens : List Lexeme) (ending : Ending) (answer : Answer) → length text ≤ text_limit
+      → Lexes text tokens ending → Answers tokens ending answer → Reads text answer
 
 -- a list of tokens has one answer at most
 abbrev pub OneAnswerForTokens : Type 0
-OneAnswerForTokens = (tokens : List Lexeme) (ending : Ending) (one two : Answer) → Answers tokens ending one → Answers tokens ending two → one ≡ two
+OneAnswerForTokens = (tokens : List Lexeme) (ending : Ending) (one two : Answer) → Answers tokens ending one
+    → Answers tokens ending two → one ≡ two
 
 -- a text has one answer at most, so one tree at most, and it is not both accepted and refused
 abbrev pub OneAnswer : Type 0
@@ -50,4 +60,5 @@ OneProgram = (tokens : List Lexeme) (one two : ProgramTree) → IsProgram tokens
 
 -- the refusal says out of memory, and has no place, or it has a place and is an answer
 abbrev pub IsRefusedAs : (Answer → Type 0) → Refusal → Type 0
-IsRefusedAs P refusal = IsWantOfMemory refusal.rule refusal.place ⊎ ((place : Place) × (refusal.place ≡ Some place) × P (refused refusal.rule place))
+IsRefusedAs P refusal = IsWantOfMemory refusal.rule refusal.place
+    ⊎ ((place : Place) × (refusal.place ≡ Some place) × P (refused refusal.rule place))

@@ -1,15 +1,23 @@
 -- How the pieces of a text are spelled, each by its bytes: blanks, comments, keywords, names, numbers and signs.
-use Rattle.std.specs.Prelude.{◌≡◌, ◌≢◌, ℕ, ◌<◌, ◌^◌, ◌==◌, ◌||◌, ◌&&◌, ◌⊎◌, Bool, true, false, not, List, [], ◌∷◌, ◌++◌, Option, Some, None, codes}
+use Rattle.std.specs.Prelude.{◌≡◌, ◌≢◌, ℕ, ◌<◌, ◌^◌, ◌==◌, ◌||◌, ◌&&◌, ◌⊎◌, Bool, true, false, not, List, [], ◌∷◌}
+use Rattle.std.specs.Prelude.{◌++◌, Option, Some, None, codes}
 use Rattle.std.specs.Char.{is_ascii_alphanumeric, is_ascii_digit}
 use Rattle.std.specs.List.{list_all, list_any}
 use Rattle.std.specs.Str.Parse.{IsNumeral, digits_value}
 use Rattle.syntax.specs.declared.token.Keyword.{Keyword}
-use Rattle.syntax.specs.declared.token.Keyword.TheVariants.{Export, Void, Public, Secret, Mut, Bool as BoolWord, Uint8, Uint16, Uint32, True, False, If, Else, For, From, To, Return, Select}
+use Rattle.syntax.specs.declared.token.Keyword.TheVariants.{Export, Void, Public, Secret, Mut, Bool as BoolWord}
+use Rattle.syntax.specs.declared.token.Keyword.TheVariants.{Uint8, Uint16, Uint32, True, False, If, Else, For, From}
+use Rattle.syntax.specs.declared.token.Keyword.TheVariants.{To, Return, Select}
 use Rattle.syntax.specs.declared.token.Sign.{Sign}
-use Rattle.syntax.specs.declared.token.Sign.TheVariants.{RotateLeft, ShiftLeft, ShiftRight, AtMost, AtLeast, Equals, Differs, AndAlso, OrElse, OpenRound, CloseRound, OpenCurly, CloseCurly, OpenSquare, CloseSquare, Comma, Semicolon, Assign, Plus, Minus, Star, Slash, Percent, Ampersand, Bar, Caret, Tilde, Bang, Below, Above}
+use Rattle.syntax.specs.declared.token.Sign.TheVariants.{RotateLeft, ShiftLeft, ShiftRight, AtMost, AtLeast, Equals}
+use Rattle.syntax.specs.declared.token.Sign.TheVariants.{Differs, AndAlso, OrElse, OpenRound, CloseRound, OpenCurly}
+use Rattle.syntax.specs.declared.token.Sign.TheVariants.{CloseCurly, OpenSquare, CloseSquare, Comma, Semicolon}
+use Rattle.syntax.specs.declared.token.Sign.TheVariants.{Assign, Plus, Minus, Star, Slash, Percent, Ampersand, Bar}
+use Rattle.syntax.specs.declared.token.Sign.TheVariants.{Caret, Tilde, Bang, Below, Above}
 use Rattle.syntax.specs.declared.token.Suffix.{Suffix}
 use Rattle.syntax.specs.declared.token.Suffix.TheVariants.{U8, U16, U32}
-use Rattle.syntax.specs.declared.token.TokenKind.TheVariants.{Keyword as KeywordToken, Name as NameToken, Number as NumberToken, Sign as SignToken}
+use Rattle.syntax.specs.declared.token.TokenKind.TheVariants.{Keyword as KeywordToken, Name as NameToken}
+use Rattle.syntax.specs.declared.token.TokenKind.TheVariants.{Number as NumberToken, Sign as SignToken}
 use Rattle.syntax.specs.declared.lexer.piece.Piece.{Piece}
 use Rattle.syntax.specs.declared.lexer.piece.Piece.TheVariants.{Space, Token, BadNumber}
 
@@ -97,7 +105,8 @@ is_number_or_bad (b ∷ bytes) = is_ascii_digit b && list_all is_word_byte (b �
 abbrev pub WritesValue : List ℕ → ℕ → Type 0
 WritesValue digits value =
     (IsNumeral 10 digits × (value ≡ digits_value 10 digits)) ⊎
-    ((hexadecimal : List ℕ) × (digits ≡ codes "0x" ++ hexadecimal) × IsNumeral 16 hexadecimal × (value ≡ digits_value 16 hexadecimal))
+    ((hexadecimal : List ℕ) × (digits ≡ codes "0x" ++ hexadecimal) × IsNumeral 16 hexadecimal
+    × (value ≡ digits_value 16 hexadecimal))
 
 -- a number is digits and perhaps a suffix; its value is below 2 ^ 32
 pub record IsNumber (bytes : List ℕ) (value : ℕ) (suffix : Option Suffix) : Type 0 where
@@ -111,7 +120,10 @@ pub data Spells : Piece → List ℕ → Type 0 where
   blank : (b : ℕ) → is_blank b ≡ true → Spells Space (b ∷ [])
   comment : (bytes : List ℕ) → list_any is_line_feed bytes ≡ false → Spells Space (codes "//" ++ bytes)
   keyword : (word : Keyword) → Spells (Token (KeywordToken word)) (keyword_text word)
-  name : (bytes : List ℕ) → is_name_or_keyword bytes ≡ true → ((word : Keyword) → bytes ≢ keyword_text word) → Spells (Token NameToken) bytes
-  number : (bytes : List ℕ) (value : ℕ) (suffix : Option Suffix) → is_number_or_bad bytes ≡ true → IsNumber bytes value suffix → Spells (Token (NumberToken value suffix)) bytes
-  bad_number : (bytes : List ℕ) → is_number_or_bad bytes ≡ true → ((value : ℕ) (suffix : Option Suffix) → IsNumber bytes value suffix → ⊥) → Spells BadNumber bytes
+  name : (bytes : List ℕ) → is_name_or_keyword bytes ≡ true → ((word : Keyword) → bytes ≢ keyword_text word)
+      → Spells (Token NameToken) bytes
+  number : (bytes : List ℕ) (value : ℕ) (suffix : Option Suffix) → is_number_or_bad bytes ≡ true
+      → IsNumber bytes value suffix → Spells (Token (NumberToken value suffix)) bytes
+  bad_number : (bytes : List ℕ) → is_number_or_bad bytes ≡ true
+      → ((value : ℕ) (suffix : Option Suffix) → IsNumber bytes value suffix → ⊥) → Spells BadNumber bytes
   sign : (mark : Sign) → Spells (Token (SignToken mark)) (sign_text mark)

@@ -39,7 +39,8 @@ place_after place (b ∷ bytes) = place_after (next_place place b) bytes
 pub record BeginsWith (text : List ℕ) (piece : Piece) (spelling rest : List ℕ) : Type 0 where
   pub parts : text ≡ spelling ++ rest
   pub spelled : Spells piece spelling
-  pub longest : (other : Piece) (front others : List ℕ) → Spells other front → text ≡ front ++ others → length front ≤ length spelling
+  pub longest : (other : Piece) (front others : List ℕ) → Spells other front → text ≡ front ++ others
+      → length front ≤ length spelling
 
 -- the text begins with no spelling of a piece
 abbrev pub BeginsWithNone : List ℕ → Type 0
@@ -48,10 +49,16 @@ BeginsWithNone text = (piece : Piece) (front others : List ℕ) → Spells piece
 -- what stands from a place on spells these tokens
 pub data LexesFrom : Place → List ℕ → List Lexeme → Ending → Type 0 where
   at_end : (place : Place) → LexesFrom place [] [] (ends_at place)
-  past_space : (place : Place) (text spelling rest : List ℕ) (tokens : List Lexeme) (end : Ending) → BeginsWith text Space spelling rest → LexesFrom (place_after place spelling) rest tokens end → LexesFrom place text tokens end
-  past_token : (place : Place) (text spelling rest : List ℕ) (kind : TokenKind) (tokens : List Lexeme) (end : Ending) → BeginsWith text (Token kind) spelling rest → LexesFrom (place_after place spelling) rest tokens end → LexesFrom place text (record { kind = kind; place = place; text = spelling } ∷ tokens) end
-  at_bad_number : (place : Place) (text spelling rest : List ℕ) → BeginsWith text BadNumber spelling rest → LexesFrom place text [] (stops BadNumberRule place)
-  at_unknown_character : (place : Place) (b : ℕ) (text : List ℕ) → BeginsWithNone (b ∷ text) → LexesFrom place (b ∷ text) [] (stops UnknownCharacter place)
+  past_space : (place : Place) (text spelling rest : List ℕ) (tokens : List Lexeme) (end : Ending)
+      → BeginsWith text Space spelling rest → LexesFrom (place_after place spelling) rest tokens end
+      → LexesFrom place text tokens end
+  past_token : (place : Place) (text spelling rest : List ℕ) (kind : TokenKind) (tokens : List Lexeme) (end : Ending)
+      → BeginsWith text (Token kind) spelling rest → LexesFrom (place_after place spelling) rest tokens end
+      → LexesFrom place text (record { kind = kind; place = place; text = spelling } ∷ tokens) end
+  at_bad_number : (place : Place) (text spelling rest : List ℕ) → BeginsWith text BadNumber spelling rest
+      → LexesFrom place text [] (stops BadNumberRule place)
+  at_unknown_character : (place : Place) (b : ℕ) (text : List ℕ) → BeginsWithNone (b ∷ text)
+      → LexesFrom place (b ∷ text) [] (stops UnknownCharacter place)
 
 -- the text spells these tokens, with their places, and the list of them ends so
 abbrev pub Lexes : List ℕ → List Lexeme → Ending → Type 0
@@ -59,7 +66,8 @@ Lexes text tokens end = LexesFrom origin text tokens end
 
 -- a text has one list of tokens
 abbrev pub OneList : Type 0
-OneList = (text : List ℕ) (xs ys : List Lexeme) (e f : Ending) → Lexes text xs e → Lexes text ys f → (xs ≡ ys) × (e ≡ f)
+OneList = (text : List ℕ) (xs ys : List Lexeme) (e f : Ending) → Lexes text xs e → Lexes text ys f
+    → (xs ≡ ys) × (e ≡ f)
 
 -- the token's text is what stands in the text at its offset
 abbrev pub IsSliceOf : List ℕ → Lexeme → Type 0

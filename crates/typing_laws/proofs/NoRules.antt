@@ -29,7 +29,8 @@ is_met true rule h = refl
 is_met false rule h = cc
 
 -- a node with a type violates no rule, and has the type that its rules give
-pub met : (rules : List Rule) (type whole : ValueType) → unless rules type ≡ Some whole → (rules ≡ []) × (type ≡ whole)
+pub met : (rules : List Rule) (type whole : ValueType) → unless rules type ≡ Some whole
+    → (rules ≡ []) × (type ≡ whole)
 met [] type whole h = (refl, same_Some type whole h)
 met (rule ∷ rules) type whole h = absurd (none-some whole h)
 

@@ -10,7 +10,8 @@ use Rattle.language.specs.declared.typing.ValueType.{ValueType}
 use Rattle.language.specs.declared.typing.ValueType.TheVariants.{Word, Array, Nothing}
 use Rattle.language.specs.declared.typing.WordType.{WordType}
 use Rattle.language.specs.Grammatical.{IsNumberKind}
-use Rattle.language.specs.Types.{word, is_number, is_numeric, is_bool, is_narrow, same_kind, is_secret, widths_differ, are_alike}
+use Rattle.language.specs.Types.{word, is_number, is_numeric, is_bool, is_narrow, same_kind, is_secret, widths_differ}
+use Rattle.language.specs.Types.{are_alike}
 use Rattle.language.specs.WellTyped.{FlowsTo, public_flows, secret_flows}
 
 -- Kinds.
@@ -59,7 +60,8 @@ same_as_itself Uint16 = refl
 same_as_itself Uint32 = refl
 
 -- two numbers of one width
-pub one_width : (k l : Kind) (m n : Label) → widths_differ (word k m) (word l n) ≡ false → (is_number k && is_number l) ≡ true → l ≡ k
+pub one_width : (k l : Kind) (m n : Label) → widths_differ (word k m) (word l n) ≡ false
+    → (is_number k && is_number l) ≡ true → l ≡ k
 one_width k l m n even numbers = one_kind k l (by (is_number k && is_number l) (same_kind k l) even numbers)
   where
     by : (b c : Bool) → (b && not c) ≡ false → b ≡ true → c ≡ true
@@ -68,15 +70,19 @@ one_width k l m n even numbers = one_kind k l (by (is_number k && is_number l) (
     by false c h e = absurd (true≢false (sym e))
 
 -- or two bools
-pub alike_kinds : (k l : Kind) (m n : Label) → widths_differ (word k m) (word l n) ≡ false → are_alike (word k m) (word l n) ≡ true → l ≡ k
+pub alike_kinds : (k l : Kind) (m n : Label) → widths_differ (word k m) (word l n) ≡ false
+    → are_alike (word k m) (word l n) ≡ true → l ≡ k
 alike_kinds k l m n even alike = by (is_number k && is_number l) refl alike
   where
-    by : (b : Bool) → (is_number k && is_number l) ≡ b → (b || (not (is_number k) && not (is_number l))) ≡ true → l ≡ k
+    by : (b : Bool) → (is_number k && is_number l) ≡ b
+        → (b || (not (is_number k) && not (is_number l))) ≡ true → l ≡ k
     by true e h = one_width k l m n even e
-    by false e h = let bools = and_parts (not (is_number k)) (not (is_number l)) h in a_bool l bools.1 ∙ sym (a_bool k bools.0)
+    by false e h = let bools = and_parts (not (is_number k)) (not (is_number l)) h in
+        a_bool l bools.1 ∙ sym (a_bool k bools.0)
 
 -- a `uint32`
-pub a_full_word : (kind : Kind) (label : Label) → is_narrow (word kind label) ≡ false → is_number kind ≡ true → kind ≡ Uint32
+pub a_full_word : (kind : Kind) (label : Label) → is_narrow (word kind label) ≡ false → is_number kind ≡ true
+    → kind ≡ Uint32
 a_full_word Uint32 label h e = refl
 a_full_word Uint8 label h e = absurd (true≢false h)
 a_full_word Uint16 label h e = absurd (true≢false h)
@@ -99,7 +105,8 @@ flowing secret_flows = refl
 
 -- Words.
 
-pub numeric_word : (type : ValueType) → is_numeric type ≡ true → (w : WordType) × (type ≡ Word w) × IsNumberKind w.kind
+pub numeric_word : (type : ValueType) → is_numeric type ≡ true
+    → (w : WordType) × (type ≡ Word w) × IsNumberKind w.kind
 numeric_word (Word w) h = (w, refl, a_number w.kind h)
 numeric_word (Array a) h = absurd (true≢false (sym h))
 numeric_word Nothing h = absurd (true≢false (sym h))

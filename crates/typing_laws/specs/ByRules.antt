@@ -11,7 +11,8 @@ use Rattle.word.specs.declared.profile.Profile.{Profile}
 
 -- an expression violates no rule exactly where the rules give it a type, and that is its type
 pub record ExpressionsByRules : Type 0 where
-  pub none : (scope : Scope) (e : ExprTree) → (expr_violations scope e ≡ []) ↔ ((type : ValueType) × HasType scope e type)
+  pub none : (scope : Scope) (e : ExprTree)
+      → (expr_violations scope e ≡ []) ↔ ((type : ValueType) × HasType scope e type)
   pub type : (scope : Scope) (e : ExprTree) (type : ValueType) → (type_of scope e ≡ Some type) ↔ HasType scope e type
 
 -- statements violate no rule exactly where they are well typed by the rules
@@ -21,4 +22,5 @@ BlocksByRules = (earlier : List ProcedureTree) (scope : Scope) (control : Label)
 
 -- so does a program, for each observer
 abbrev pub ProgramsByRules : Type 0
-ProgramsByRules = (profile : Profile) (program : ProgramTree) → (violations profile program ≡ []) ↔ IsTypedProgram profile program
+ProgramsByRules = (profile : Profile) (program : ProgramTree)
+    → (violations profile program ≡ []) ↔ IsTypedProgram profile program

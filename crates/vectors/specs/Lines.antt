@@ -1,5 +1,6 @@
 -- The vectors that the lines of a text say, each `NAME: ARG .. = OUTCOME ..`.
-use Rattle.std.specs.Prelude.{ℕ, ◌+◌, Bool, not, ◌||◌, ◌==◌, nat_eq, if◌then◌else◌, List, [], ◌∷◌, length, take, drop, codes, Option, Some, None, Result, Ok, Err}
+use Rattle.std.specs.Prelude.{ℕ, ◌+◌, Bool, not, ◌||◌, ◌==◌, nat_eq, if◌then◌else◌, List, [], ◌∷◌, length, take, drop}
+use Rattle.std.specs.Prelude.{codes, Option, Some, None, Result, Ok, Err}
 use Rattle.std.specs.List.{filter, list_all, position, slice_split, starts_with}
 use Rattle.std.specs.Option.{option_map, option_and_then}
 use Rattle.std.specs.Str.Lines.{lines}
@@ -22,10 +23,16 @@ cut_at cut text = option_map (λ at. (take at text, drop (at + 1) text)) (positi
 abbrev pub fields_of : List ℕ → List (List ℕ)
 fields_of text = filter (λ field. not (length field == 0)) (slice_split (λ byte. byte == 32) text)
 
--- the vector that a line says, if it has the form of one: the name ends at the first `:` (58), and the arguments at the first `=` (61) behind it
+-- the vector that a line says, if it has the form of one: the name ends at the first `:` (58), and the arguments at
+-- the first `=` (61) behind it
 abbrev pub vector_of : List ℕ → Option NamedVector
 vector_of line =
-    option_and_then (λ named. option_map (λ sides. record { name = named.0; given = fields_of sides.0; wanted = fields_of sides.1 }) (cut_at 61 named.1)) (cut_at 58 line)
+    option_and_then
+    (λ named. option_map (λ sides. record {
+      name = named.0;
+      given = fields_of sides.0;
+      wanted = fields_of sides.1;
+    }) (cut_at 61 named.1)) (cut_at 58 line)
 
 -- a vector and those of the later lines; or the number of this line, which says none
 abbrev pub with_vector : ℕ → Option NamedVector → Result (List NamedVector) ℕ → Result (List NamedVector) ℕ
@@ -37,7 +44,8 @@ with_vector number (Some vector) (Err line) = Err line
 abbrev pub vectors_from : ℕ → List (List ℕ) → Result (List NamedVector) ℕ
 vectors_from number [] = Ok []
 vectors_from number (line ∷ later) =
-    if says_nothing line then vectors_from (number + 1) later else with_vector number (vector_of line) (vectors_from (number + 1) later)
+    if says_nothing line then vectors_from (number + 1) later
+    else with_vector number (vector_of line) (vectors_from (number + 1) later)
 
 -- the vectors that a text says; or the number of its first line, counted from 1, that says something else
 abbrev pub vectors_in : List ℕ → Result (List NamedVector) ℕ

@@ -1,5 +1,6 @@
 -- What the texts of a vector stand for, and how lists of numbers are written beside them.
-use Rattle.std.specs.Prelude.{ℕ, Bool, ◌&&◌, nat_eq, nat_lt, if◌then◌else◌, List, [], ◌∷◌, ◌++◌, drop, codes, Result, Ok, Err}
+use Rattle.std.specs.Prelude.{ℕ, Bool, ◌&&◌, nat_eq, nat_lt, if◌then◌else◌, List, [], ◌∷◌, ◌++◌, drop, codes, Result}
+use Rattle.std.specs.Prelude.{Ok, Err}
 use Rattle.std.specs.Fmt.{decimal}
 use Rattle.std.specs.List.{flat_map, list_all, starts_with}
 use Rattle.hex.specs.Hex.{decode_of, encode_lower}
@@ -29,7 +30,8 @@ are_bytes numbers = list_all (λ number. nat_lt number 256) numbers
 
 -- numbers, written as a text is: as bytes where it is, and each of them is a byte
 abbrev pub shown : List ℕ → List ℕ → List ℕ
-shown text numbers = if is_bytes text && are_bytes numbers then codes "hex:" ++ encode_lower numbers else numbers_text numbers
+shown text numbers = if is_bytes text && are_bytes numbers then codes "hex:" ++ encode_lower numbers
+    else numbers_text numbers
 
 -- lists of numbers, each with a blank before it, written as texts are
 abbrev pub all_shown : List (List ℕ) → List (List ℕ) → List ℕ
@@ -39,4 +41,5 @@ all_shown (text ∷ texts) (numbers ∷ lists) = codes " " ++ shown text numbers
 
 -- that lists of numbers are not those which texts ask for
 abbrev pub difference_text : List (List ℕ) → List (List ℕ) → List ℕ
-difference_text wanted lists = codes "expected" ++ flat_map (λ text. codes " " ++ text) wanted ++ codes ", got" ++ all_shown wanted lists
+difference_text wanted lists = codes "expected" ++ flat_map (λ text. codes " " ++ text) wanted ++ codes ", got"
+    ++ all_shown wanted lists

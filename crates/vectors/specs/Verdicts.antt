@@ -1,4 +1,5 @@
--- What is said of a vector, by what the source means and what an observer sees of its image; and of all vectors of a file.
+-- What is said of a vector, by what the source means and what an observer sees of its image; and of all vectors of a
+-- file.
 use Rattle.std.specs.Prelude.{◌≡◌, ℕ, ◌+◌, List, [], ◌∷◌, ◌++◌, map, codes, Option, Some, None, Ok}
 use Rattle.std.specs.Fmt.{decimal}
 use Rattle.arguments.specs.Text.{fault_text}
@@ -47,10 +48,11 @@ module _ (program : ProgramTree) (image : Fields) (vector : NamedVector) where
   abbrev pub Asks : Results → Type 0
   Asks results = Spell (map plain vector.wanted) (lists_of results)
 
-  -- what is said of the vector, if something is wrong: its texts spell no arguments; or the program means something else on them; or an
-  -- observer may see something else for other secrets. A vector of which nothing is said passes
+  -- what is said of the vector, if something is wrong: its texts spell no arguments; or the program means something
+  -- else on them; or an observer may see something else for other secrets. A vector of which nothing is said passes
   pub data IsVerdict : Option (List ℕ) → Type 0 where
-    no_arguments : {fault : ArgumentFault} → fault_of_texts (params_of image) (map plain vector.given) ≡ Some fault → IsVerdict (Some (fault_text fault))
+    no_arguments : {fault : ArgumentFault} → fault_of_texts (params_of image) (map plain vector.given) ≡ Some fault
+        → IsVerdict (Some (fault_text fault))
     another_outcome : {args : List Arg} {results : Results} → Gives args results → (Asks results → ⊥)
         → IsVerdict (Some (difference_text vector.wanted (lists_of results)))
     right_outcome : {args : List Arg} {results : Results} {end : CertifiedEnd} → Gives args results → Asks results
@@ -59,21 +61,26 @@ module _ (program : ProgramTree) (image : Fields) (vector : NamedVector) where
 -- of these vectors so many passed and so many failed, each of which has a line
 pub data Tried (program : ProgramTree) (image : Fields) : List NamedVector → ℕ → ℕ → List ℕ → Type 0 where
   none : Tried program image [] 0 0 []
-  passed : {vectors : List NamedVector} {vector : NamedVector} {m n : ℕ} {text : List ℕ} → Tried program image vectors m n text
+  passed : {vectors : List NamedVector} {vector : NamedVector} {m n : ℕ} {text : List ℕ}
+      → Tried program image vectors m n text
       → IsVerdict program image vector None → Tried program image (vectors ++ vector ∷ []) (m + 1) n text
-  failed : {vectors : List NamedVector} {vector : NamedVector} {m n : ℕ} {text wrong : List ℕ} → Tried program image vectors m n text
+  failed : {vectors : List NamedVector} {vector : NamedVector} {m n : ℕ} {text wrong : List ℕ}
+      → Tried program image vectors m n text
       → IsVerdict program image vector (Some wrong)
-      → Tried program image (vectors ++ vector ∷ []) m (n + 1) (text ++ vector.name ++ codes ": " ++ wrong ++ codes "\n")
+      → Tried program image (vectors ++ vector ∷ []) m (n + 1)
+      (text ++ vector.name ++ codes ": " ++ wrong ++ codes "\n")
 
 -- what is printed of these vectors: the lines of those that failed, and how many passed and failed
-pub record IsTally (program : ProgramTree) (image : Fields) (vectors : List NamedVector) (text : List ℕ) (failures : ℕ) : Type 0 where
+pub record IsTally (program : ProgramTree) (image : Fields) (vectors : List NamedVector) (text : List ℕ)
+    (failures : ℕ) : Type 0 where
   pub passes : ℕ
   pub lines : List ℕ
   pub tried : Tried program image vectors passes failures lines
   pub printed : text ≡ lines ++ decimal passes ++ codes " passed, " ++ decimal failures ++ codes " failed\n"
 
 -- the same of the vectors of a source
-pub record IsReport (profile : Profile) (source : List ℕ) (vectors : List NamedVector) (text : List ℕ) (failures : ℕ) : Type 0 where
+pub record IsReport (profile : Profile) (source : List ℕ) (vectors : List NamedVector) (text : List ℕ)
+    (failures : ℕ) : Type 0 where
   pub program : ProgramTree
   pub image : Fields
   pub is_source : IsSource profile source program image

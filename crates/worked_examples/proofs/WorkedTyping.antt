@@ -4,12 +4,18 @@ use Rattle.word.specs.declared.place.Place.{Place}
 use Rattle.word.specs.declared.profile.Profile.{Profile}
 use Rattle.word.specs.declared.profile.Profile.TheVariants.{P1, P2}
 use Rattle.language.specs.declared.rule.Rule.{Rule}
-use Rattle.language.specs.declared.rule.Rule.TheVariants.{NotExactlyOneExport, WidthsDiffer, LiteralOutOfRange, ArrayPassedTwice, PublicAssignedUnderSecretControl, SecretDivisionOperand, CallAssignsPublicUnderSecretControl, SecretMultiplicationOperand}
+use Rattle.language.specs.declared.rule.Rule.TheVariants.{NotExactlyOneExport, WidthsDiffer, LiteralOutOfRange}
+use Rattle.language.specs.declared.rule.Rule.TheVariants.{ArrayPassedTwice, PublicAssignedUnderSecretControl}
+use Rattle.language.specs.declared.rule.Rule.TheVariants.{SecretDivisionOperand, CallAssignsPublicUnderSecretControl}
+use Rattle.language.specs.declared.rule.Rule.TheVariants.{SecretMultiplicationOperand}
 use Rattle.language.specs.declared.signature.Kind.TheVariants.{Uint8}
 use Rattle.language.specs.declared.signature.Label.TheVariants.{Public, Secret}
 use Rattle.language.specs.Tree.{ProgramTree, number}
 use Rattle.language.specs.Typing.{violations}
-use Rattle.worked_examples.proofs.WorkedTrees.{on, at, plain, program, adds, condition_changes, element_under_both, no_turns, public_under_secret, call_under_secret, divides_secret, divides_public, divides_by_three, multiplies, array_given_twice, nested_arms, sums_under_secret}
+use Rattle.worked_examples.proofs.WorkedTrees.{on, at, plain, program, adds, condition_changes, element_under_both}
+use Rattle.worked_examples.proofs.WorkedTrees.{no_turns, public_under_secret, call_under_secret, divides_secret}
+use Rattle.worked_examples.proofs.WorkedTrees.{divides_public, divides_by_three, multiplies, array_given_twice}
+use Rattle.worked_examples.proofs.WorkedTrees.{nested_arms, sums_under_secret}
 
 -- for an observer it violates one rule, at one place
 abbrev ViolatesFor : Profile → ProgramTree → Place → Rule → Type 0
@@ -37,7 +43,8 @@ too_large_added = (refl, refl)
 narrow_added : Violates (adds (number (at 54) 1 Uint8)) (at 52) WidthsDiffer
 narrow_added = (refl, refl)
 
-well_typed : IsWellTyped condition_changes × IsWellTyped element_under_both × IsWellTyped no_turns × IsWellTyped nested_arms × IsWellTyped sums_under_secret
+well_typed : IsWellTyped condition_changes × IsWellTyped element_under_both × IsWellTyped no_turns
+    × IsWellTyped nested_arms × IsWellTyped sums_under_secret
 well_typed = ((refl, refl), (refl, refl), (refl, refl), (refl, refl), (refl, refl))
 
 public_assigned : Violates public_under_secret (on 65 3 12) PublicAssignedUnderSecretControl
@@ -53,7 +60,8 @@ public_divided : IsWellTyped divides_public × IsWellTyped divides_by_three
 public_divided = ((refl, refl), (refl, refl))
 
 -- a product of something secret, for the observer who does not see it and the one who does
-secret_multiplied : IsWellTypedFor P1 (multiplies Secret) × ViolatesFor P2 (multiplies Secret) (at 52) SecretMultiplicationOperand
+secret_multiplied : IsWellTypedFor P1 (multiplies Secret)
+    × ViolatesFor P2 (multiplies Secret) (at 52) SecretMultiplicationOperand
 secret_multiplied = (refl, refl)
 
 public_multiplied : IsWellTyped (multiplies Public)

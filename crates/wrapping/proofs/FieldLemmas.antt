@@ -1,8 +1,10 @@
 -- The fields that are asked for are allowed, where no rule is broken.
-use Rattle.std.proofs.Common.{◌≡◌, ℕ, ◌*◌, ◌/◌, ◌%◌, ◌<◌, ◌≤◌, ◌^◌, Bool, true, false, ◌&&◌, ◌==◌, nat_le, if◌then◌else◌, List, length, map, Option, None, Some, IfSome, refl, sym, ap, ◌∙◌, arith}
+use Rattle.std.proofs.Common.{◌≡◌, ℕ, ◌*◌, ◌/◌, ◌%◌, ◌<◌, ◌≤◌, ◌^◌, Bool, true, false, ◌&&◌, ◌==◌, nat_le}
+use Rattle.std.proofs.Common.{if◌then◌else◌, List, length, map, Option, None, Some, IfSome, refl, sym, ap, ◌∙◌, arith}
 use Rattle.std.specs.List.{AllByRecursion}
 use Rattle.std.proofs.lemmas.Bool.{and_parts, eqb-true, leb-true}
-use Rattle.codegen.proofs.ImageLemmas.{length-slots_from, count_in_words, slots_are, slots_end-slots_from, slots_inside}
+use Rattle.codegen.proofs.ImageLemmas.{length-slots_from, count_in_words, slots_are, slots_end-slots_from}
+use Rattle.codegen.proofs.ImageLemmas.{slots_inside}
 use Rattle.expression_code.specs.Layout.{slots_from}
 use Rattle.image.specs.Reading.{is_frame_size, is_step_limit, is_word_count, layout_end}
 use Rattle.image_fields.specs.Fields.{Fields, IsImage, IsResultSlot, result_end, slots_end}
@@ -24,9 +26,11 @@ use Rattle.wrapping.proofs.WordLemmas.{AreSmall, length-bytes_of}
 
 -- which rule is named by three tests
 abbrev named : Bool → Bool → Bool → Option CodeRule
-named length frame steps = if length then if frame then if steps then None else Some Steps else Some Frame else Some Length
+named length frame steps = if length then if frame then if steps then None else Some Steps else Some Frame
+    else Some Length
 
-none_named : (length frame steps : Bool) → named length frame steps ≡ None → (length ≡ true) × (frame ≡ true) × (steps ≡ true)
+none_named : (length frame steps : Bool) → named length frame steps ≡ None
+    → (length ≡ true) × (frame ≡ true) × (steps ≡ true)
 none_named true true true is = (refl, refl, refl)
 none_named true true false is = absurd cc
 none_named true false steps is = absurd cc
@@ -45,10 +49,12 @@ pub record Unbroken (low bytes : ℕ) (asked : Asked) : Type 0 where
 
 pub unbroken : (low bytes : ℕ) (asked : Asked) → broken_rule low bytes asked ≡ None → Unbroken low bytes asked
 unbroken low bytes asked is =
-    let all = none_named (is_code_length bytes) (is_frame_size low asked.frame_bytes) (is_step_limit asked.max_steps) is in
+    let all = none_named (is_code_length bytes) (is_frame_size low asked.frame_bytes)
+    (is_step_limit asked.max_steps) is in
     let code = and_parts (bytes % 4 == 0) (is_word_count (bytes / 4)) all.0 in
     let count = and_parts _ _ code.1 in
-    let frame = and_parts (asked.frame_bytes % 4 == 0) (nat_le asked.frame_bytes most_frame_bytes && nat_le low asked.frame_bytes) all.1 in
+    let frame = and_parts (asked.frame_bytes % 4 == 0) (nat_le asked.frame_bytes most_frame_bytes
+    && nat_le low asked.frame_bytes) all.1 in
     let size = and_parts _ _ frame.1 in
     let steps = and_parts (nat_le 1 asked.max_steps) (nat_le asked.max_steps most_steps) all.2 in
     record {
@@ -64,11 +70,13 @@ unbroken low bytes asked is =
 
 -- ---- the result's slot
 
-result_is : (low : ℕ) (returned : Option WordType) → low % 4 ≡ 0 → low < 2 ^ 32 → IfSome (result_behind low returned) (λ slot. IsResultSlot low slot)
+result_is : (low : ℕ) (returned : Option WordType) → low % 4 ≡ 0 → low < 2 ^ 32
+    → IfSome (result_behind low returned) (λ slot. IsResultSlot low slot)
 result_is low None aligned fits = tt
 result_is low (Some word) aligned fits = record { aligned = aligned; above = omega arith; fits = fits }
 
-result_inside : (low frame : ℕ) (returned : Option WordType) → layout_end low (result_behind low returned) ≤ frame → IfSome (result_behind low returned) (λ slot. result_end slot ≤ frame)
+result_inside : (low frame : ℕ) (returned : Option WordType) → layout_end low (result_behind low returned) ≤ frame
+    → IfSome (result_behind low returned) (λ slot. result_end slot ≤ frame)
 result_inside low frame None room = tt
 result_inside low frame (Some word) room = room
 
@@ -90,7 +98,8 @@ low_of params limits =
     let end = slots_end-slots_from 0 params in
     omega (arith, given, end)
 
-module _ (params : List Param) (returned : Option WordType) (code : List ℕ) (asked : Asked) (limits : AreWithinLimits params) (none : broken_rule (end_of params returned) (length code) asked ≡ None) where
+module _ (params : List Param) (returned : Option WordType) (code : List ℕ) (asked : Asked)
+    (limits : AreWithinLimits params) (none : broken_rule (end_of params returned) (length code) asked ≡ None) where
   facts : Unbroken (end_of params returned) (length code) asked
   facts = unbroken (end_of params returned) (length code) asked none
 
@@ -99,7 +108,14 @@ module _ (params : List Param) (returned : Option WordType) (code : List ℕ) (a
 
   -- the fields with these words
   abbrev made : List ℕ → Fields
-  made words = record { profile = asked.profile; slots = slots_from 0 params; returned = result_behind (slots_end 0 (slots_from 0 params)) returned; frame_bytes = asked.frame_bytes; max_steps = asked.max_steps; words = words }
+  made words = record {
+    profile = asked.profile;
+    slots = slots_from 0 params;
+    returned = result_behind (slots_end 0 (slots_from 0 params)) returned;
+    frame_bytes = asked.frame_bytes;
+    max_steps = asked.max_steps;
+    words = words;
+  }
 
   made_allowed : (words : List ℕ) → AreWordsOf code words → AreSmall words → IsImage (made words)
   made_allowed words are fit =
@@ -126,7 +142,16 @@ module _ (params : List Param) (returned : Option WordType) (code : List ℕ) (a
       }
 
   -- so are fields that are equal to them, one by one
-  pub fields_allowed : (slots : List Slot) (result : Option ResultSlot) (frame : ℕ) (words : List ℕ) → slots ≡ slots_from 0 params → result ≡ result_behind (slots_end 0 (slots_from 0 params)) returned
+  pub fields_allowed : (slots : List Slot) (result : Option ResultSlot) (frame : ℕ) (words : List ℕ)
+      → slots ≡ slots_from 0 params → result ≡ result_behind (slots_end 0 (slots_from 0 params)) returned
       → frame ≡ asked.frame_bytes → AreWordsOf code words → AreSmall words
-      → IsImage (record { profile = asked.profile; slots = slots; returned = result; frame_bytes = frame; max_steps = asked.max_steps; words = words })
-  fields_allowed slots result frame words a b d are fit = let allowed = made_allowed words are fit in rw (a, b, d) allowed
+      → IsImage (record {
+        profile = asked.profile;
+        slots = slots;
+        returned = result;
+        frame_bytes = frame;
+        max_steps = asked.max_steps;
+        words = words;
+      })
+  fields_allowed slots result frame words a b d are fit = let allowed = made_allowed words are fit in
+      rw (a, b, d) allowed

@@ -1,5 +1,7 @@
--- Code that was made elsewhere, as an image: the fields that are asked for, and the first rule that code, frame and steps break.
-use Rattle.std.specs.Prelude.{◌≡◌, ℕ, ◌%◌, ◌/◌, Bool, ◌&&◌, ◌==◌, if◌then◌else◌, List, length, map, Option, Some, None}
+-- Code that was made elsewhere, as an image: the fields that are asked for, and the first rule that code, frame and
+-- steps break.
+use Rattle.std.specs.Prelude.{◌≡◌, ℕ, ◌%◌, ◌/◌, Bool, ◌&&◌, ◌==◌, if◌then◌else◌, List, length, map, Option, Some}
+use Rattle.std.specs.Prelude.{None}
 use Rattle.std.specs.List.{flat_map}
 use Rattle.std.specs.Option.{option_map}
 use Rattle.byteorder.specs.Endian.{little_bytes}
@@ -26,7 +28,8 @@ AreWordsOf code words = flat_map (λ word. little_bytes 4 word) words ≡ code
 
 -- the result's slot, where there is a result, behind slots that end at `low`
 abbrev pub result_behind : ℕ → Option WordType → Option ResultSlot
-result_behind low returned = option_map (λ word. record { kind = word.kind; label = word.label; offset = low }) returned
+result_behind low returned =
+    option_map (λ word. record { kind = word.kind; label = word.label; offset = low }) returned
 
 -- where all slots end: those of the parameters, from 0 on as `build` lays them out, and the result's behind them
 abbrev pub end_of : List Param → Option WordType → ℕ
@@ -41,10 +44,12 @@ is_code_length bytes = (bytes % 4 == 0) && is_word_count (bytes / 4)
 -- the first rule that is broken by code of so many bytes, frame and steps, the slots ending at `low`
 abbrev pub broken_rule : ℕ → ℕ → Asked → Option CodeRule
 broken_rule low bytes asked =
-    if is_code_length bytes then if is_frame_size low asked.frame_bytes then if is_step_limit asked.max_steps then None else Some Steps else Some Frame else Some Length
+    if is_code_length bytes then if is_frame_size low asked.frame_bytes then if is_step_limit asked.max_steps
+    then None else Some Steps else Some Frame else Some Length
 
 -- the fields that are asked for, of an export with these parameters and this result
-pub record IsAskedFor (params : List Param) (returned : Option WordType) (code : List ℕ) (asked : Asked) (image : Fields) : Type 0 where
+pub record IsAskedFor (params : List Param) (returned : Option WordType) (code : List ℕ) (asked : Asked)
+    (image : Fields) : Type 0 where
   pub unbroken : broken_rule (end_of params returned) (length code) asked ≡ None
   pub observed : image.profile ≡ asked.profile
   pub slots : image.slots ≡ slots_from 0 params
@@ -54,7 +59,8 @@ pub record IsAskedFor (params : List Param) (returned : Option WordType) (code :
   pub words : AreWordsOf code image.words
   pub allowed : IsImage image
 
--- the bytes are the image that is asked for, of code for the export of an accepted text: they spell the fields asked for
+-- the bytes are the image that is asked for, of code for the export of an accepted text: they spell the fields asked
+-- for
 pub record IsWrapped (text code : List ℕ) (asked : Asked) (bytes : List ℕ) : Type 0 where
   pub program : ProgramTree
   pub before : List ProcedureTree

@@ -1,9 +1,11 @@
--- How branches on secrets are removed: each condition is taken into control values, and both arms follow. Branches on what is
--- public stay, and loops do: what they go by is public.
+-- How branches on secrets are removed: each condition is taken into control values, and both arms follow. Branches on
+-- what is public stay, and loops do: what they go by is public.
 use Rattle.std.specs.Prelude.{ℕ, ◌+◌, List, [], ◌∷◌, Option, None, Some, max}
-use Rattle.branch_removal.specs.Straight.{StraightTree, set, clear, fill, put, take, set_under, put_under, repeats, StraightBlock, nothing, first, chain, StraightProgram}
+use Rattle.branch_removal.specs.Straight.{StraightTree, set, clear, fill, put, take, set_under, put_under, repeats}
+use Rattle.branch_removal.specs.Straight.{StraightBlock, nothing, first, chain, StraightProgram}
 use Rattle.branch_removal.specs.Straight as straight
-use Rattle.inline.specs.Flat.{TermTree, FlatTree, declare, array, assign, hold, skip, branch, loop, FlatBlock, FlatProgram}
+use Rattle.inline.specs.Flat.{TermTree, FlatTree, declare, array, assign, hold, skip, branch, loop, FlatBlock}
+use Rattle.inline.specs.Flat.{FlatProgram}
 use Rattle.inline.specs.Flat as flat
 use Rattle.intervals.specs.Ranged.{RangedProgram}
 use Rattle.language.specs.declared.signature.Label.{Label}
@@ -51,7 +53,8 @@ abbrev mutual
 
   pub removed_all : Option ℕ → ℕ → FlatBlock → StraightBlock
   removed_all within control flat.nothing = nothing
-  removed_all within control (flat.first statement rest) = chain (removed within control statement) (removed_all within control rest)
+  removed_all within control (flat.first statement rest) =
+      chain (removed within control statement) (removed_all within control rest)
 
 -- how many control values a conditional takes by itself
 abbrev pub own_controls : Label → ℕ
@@ -67,7 +70,8 @@ abbrev mutual
   controls_in (flat.put place x size index value) = 0
   controls_in (hold x place size index) = 0
   controls_in skip = 0
-  controls_in (branch label condition accepted otherwise) = own_controls label + max (controls_in_all accepted) (controls_in_all otherwise)
+  controls_in (branch label condition accepted otherwise) =
+      own_controls label + max (controls_in_all accepted) (controls_in_all otherwise)
   controls_in (loop x low high body) = controls_in_all body
 
   pub controls_in_all : FlatBlock → ℕ

@@ -13,7 +13,8 @@ use Rattle.language.specs.declared.typing.WordType.{WordType}
 use Rattle.word.specs.contracts.place.Place as place
 use Rattle.word.specs.contracts.profile.Profile as profile
 use Rattle.word.specs.declared.profile.Profile.{Profile}
-use Rattle.branch_removal.specs.Straight.{StraightTree, set, clear, fill, put, take, set_under, put_under, branch, repeats, StraightBlock, nothing, first, StraightProgram}
+use Rattle.branch_removal.specs.Straight.{StraightTree, set, clear, fill, put, take, set_under, put_under, branch}
+use Rattle.branch_removal.specs.Straight.{repeats, StraightBlock, nothing, first, StraightProgram}
 
 abbrev head : Gv → Gv
 head gnil = gnil
@@ -37,13 +38,18 @@ abbrev mutual
   tree_code (clear x n) = gcons (gnum 1) (gcons (coded_ℕ.code x) (coded_ℕ.code n))
   tree_code (fill x vs) = gcons (gnum 2) (gcons (coded_ℕ.code x) (terms.code vs))
   tree_code (put p x n i v) =
-      gcons (gnum 3) (gcons (place.the_row.coded.code p) (gcons (coded_ℕ.code x) (gcons (coded_ℕ.code n) (gcons (coded_term.code i) (coded_term.code v)))))
+      gcons (gnum 3) (gcons (place.the_row.coded.code p)
+      (gcons (coded_ℕ.code x) (gcons (coded_ℕ.code n) (gcons (coded_term.code i) (coded_term.code v)))))
   tree_code (take c w e) = gcons (gnum 4) (gcons (coded_ℕ.code c) (gcons (control_within.code w) (coded_term.code e)))
   tree_code (set_under c x v) = gcons (gnum 5) (gcons (coded_ℕ.code c) (gcons (coded_ℕ.code x) (coded_term.code v)))
   tree_code (put_under c p x n i v) =
-      gcons (gnum 6) (gcons (coded_ℕ.code c) (gcons (place.the_row.coded.code p) (gcons (coded_ℕ.code x) (gcons (coded_ℕ.code n) (gcons (coded_term.code i) (coded_term.code v))))))
+      gcons (gnum 6)
+      (gcons (coded_ℕ.code c)
+      (gcons (place.the_row.coded.code p)
+      (gcons (coded_ℕ.code x) (gcons (coded_ℕ.code n) (gcons (coded_term.code i) (coded_term.code v))))))
   tree_code (branch e a b) = gcons (gnum 7) (gcons (coded_term.code e) (gcons (block_code a) (block_code b)))
-  tree_code (repeats x l h b) = gcons (gnum 8) (gcons (coded_ℕ.code x) (gcons (coded_term.code l) (gcons (coded_term.code h) (block_code b))))
+  tree_code (repeats x l h b) =
+      gcons (gnum 8) (gcons (coded_ℕ.code x) (gcons (coded_term.code l) (gcons (coded_term.code h) (block_code b))))
 
   pub block_code : StraightBlock → Gv
   block_code nothing = gnil
@@ -51,9 +57,12 @@ abbrev mutual
 
 mutual
   pub tree_inj : (x y : StraightTree) → tree_code x ≡ tree_code y → x ≡ y
-  tree_inj (set x v) (set x' v') p = λ i. set (coded_ℕ.inj x x' (ap (λ g. head (tail g)) p) i) (coded_term.inj v v' (ap (λ g. tail (tail g)) p) i)
-  tree_inj (clear x n) (clear x' n') p = λ i. clear (coded_ℕ.inj x x' (ap (λ g. head (tail g)) p) i) (coded_ℕ.inj n n' (ap (λ g. tail (tail g)) p) i)
-  tree_inj (fill x vs) (fill x' vs') p = λ i. fill (coded_ℕ.inj x x' (ap (λ g. head (tail g)) p) i) (terms.inj vs vs' (ap (λ g. tail (tail g)) p) i)
+  tree_inj (set x v) (set x' v') p =
+      λ i. set (coded_ℕ.inj x x' (ap (λ g. head (tail g)) p) i) (coded_term.inj v v' (ap (λ g. tail (tail g)) p) i)
+  tree_inj (clear x n) (clear x' n') p =
+      λ i. clear (coded_ℕ.inj x x' (ap (λ g. head (tail g)) p) i) (coded_ℕ.inj n n' (ap (λ g. tail (tail g)) p) i)
+  tree_inj (fill x vs) (fill x' vs') p =
+      λ i. fill (coded_ℕ.inj x x' (ap (λ g. head (tail g)) p) i) (terms.inj vs vs' (ap (λ g. tail (tail g)) p) i)
   tree_inj (put q x n j v) (put q' x' n' j' v') p =
       λ i. put (place.the_row.coded.inj q q' (ap (λ g. head (tail g)) p) i)
       (coded_ℕ.inj x x' (ap (λ g. head (tail (tail g))) p) i)
@@ -88,7 +97,8 @@ mutual
 
   pub block_inj : (x y : StraightBlock) → block_code x ≡ block_code y → x ≡ y
   block_inj nothing nothing p = refl
-  block_inj (first s rest) (first s' rest') p = λ i. first (tree_inj s s' (ap head p) i) (block_inj rest rest' (ap tail p) i)
+  block_inj (first s rest) (first s' rest') p =
+      λ i. first (tree_inj s s' (ap head p) i) (block_inj rest rest' (ap tail p) i)
   block_inj x y p = cc
 
 abbrev pub coded_block : Coded StraightBlock
@@ -97,8 +107,34 @@ coded_block = record { code = block_code; inj = block_inj }
 -- a program is stored as the tuple of its parts
 abbrev pub coded_straight : Coded StraightProgram
 coded_straight =
-    code_by (Profile × (List Param × (Option WordType × (ℕ × (ℕ × (List ℕ × (List FlatVariable × (ℕ × (StraightBlock × Option TermTree)))))))))
-    (coded× profile.the_row.coded (coded× (coded_list param.the_row.coded) (coded× (coded_option word.the_row.coded) (coded× coded_ℕ (coded× coded_ℕ (coded× (coded_list coded_ℕ) (coded× (coded_list variable.the_row.coded) (coded× coded_ℕ (coded× coded_block (coded_option coded_term))))))))))
-    (λ p. (p.profile, (p.parameters, (p.returned, (p.nodes, (p.work, (p.turns, (p.declared, (p.controls, (p.body, p.value))))))))))
-    (λ t. record { profile = t.0; parameters = t.1.0; returned = t.1.1.0; nodes = t.1.1.1.0; work = t.1.1.1.1.0; turns = t.1.1.1.1.1.0; declared = t.1.1.1.1.1.1.0; controls = t.1.1.1.1.1.1.1.0; body = t.1.1.1.1.1.1.1.1.0; value = t.1.1.1.1.1.1.1.1.1 })
+    code_by (Profile
+    × (List Param
+    × (Option WordType
+    × (ℕ × (ℕ × (List ℕ × (List FlatVariable × (ℕ × (StraightBlock × Option TermTree)))))))))
+    (coded× profile.the_row.coded
+    (coded× (coded_list param.the_row.coded)
+    (coded× (coded_option word.the_row.coded)
+    (coded× coded_ℕ
+    (coded× coded_ℕ (coded× (coded_list coded_ℕ)
+    (coded× (coded_list variable.the_row.coded)
+    (coded× coded_ℕ (coded× coded_block (coded_option coded_term))))))))))
+    (λ p. (
+      p.profile,
+      (
+        p.parameters,
+        (p.returned, (p.nodes, (p.work, (p.turns, (p.declared, (p.controls, (p.body, p.value))))))),
+      ),
+    ))
+    (λ t. record {
+      profile = t.0;
+      parameters = t.1.0;
+      returned = t.1.1.0;
+      nodes = t.1.1.1.0;
+      work = t.1.1.1.1.0;
+      turns = t.1.1.1.1.1.0;
+      declared = t.1.1.1.1.1.1.0;
+      controls = t.1.1.1.1.1.1.1.0;
+      body = t.1.1.1.1.1.1.1.1.0;
+      value = t.1.1.1.1.1.1.1.1.1;
+    })
     (λ _. refl)

@@ -13,18 +13,25 @@ push_statement-returns-in_ok-push_calls-in-If t c =
     let before : List Place = c.args.places.now.items in
     let one = calls_in_all name (block_tree c.as_slice.result.now) in
     let other = calls_in_all name (block_tree c.as_slice-in-If.result.now) in
-    let whole = conditional_calls name c.args.statement.now c.in-If.field-0 c.in-If.field-1 c.in-If.accepted c.in-If.otherwise c.as_slice.result.now c.as_slice-in-If.result.now c.in-If.is c.as_slice.ensures.value c.as_slice-in-If.ensures.value in
-    let both : c.push_calls.new.places.items ++ other ≡ before ++ calls_in name (statement_tree c.args.statement.now) =
+    let whole = conditional_calls name c.args.statement.now c.in-If.field-0 c.in-If.field-1 c.in-If.accepted
+    c.in-If.otherwise c.as_slice.result.now c.as_slice-in-If.result.now c.in-If.is c.as_slice.ensures.value
+    c.as_slice-in-If.ensures.value in
+    let both : c.push_calls.new.places.items ++ other ≡ before
+    ++ calls_in name (statement_tree c.args.statement.now) =
     ap (λ (front : List Place). front ++ other) c.in_ok-push_calls-in-If.ensures
     ∙ append_assoc before one other
     ∙ ap (λ (calls : List Place). before ++ calls) (sym whole) in
-    subst (λ (calls : List Place). OnOk c.push_calls-in-If.result (c.push_calls-in-If.new.places.items ≡ calls)) both c.push_calls-in-If.ensures
+    subst (λ (calls : List Place). OnOk c.push_calls-in-If.result (c.push_calls-in-If.new.places.items ≡ calls)) both
+    c.push_calls-in-If.ensures
 
 pub push_statement-returns-in-For : goal.push_statement-returns-in-For
 push_statement-returns-in-For t c =
     let name = c.args.name.now in
     let before : List Place = c.args.places.now.items in
-    let whole = loop_calls name c.args.statement.now c.in-For.field-0 c.in-For.field-1 c.in-For.field-2 c.in-For.field-3 c.in-For.body c.as_slice-in-For.result.now c.in-For.is c.as_slice-in-For.ensures.value in
-    let body : before ++ calls_in_all name (block_tree c.as_slice-in-For.result.now) ≡ before ++ calls_in name (statement_tree c.args.statement.now) =
+    let whole = loop_calls name c.args.statement.now c.in-For.field-0 c.in-For.field-1 c.in-For.field-2
+    c.in-For.field-3 c.in-For.body c.as_slice-in-For.result.now c.in-For.is c.as_slice-in-For.ensures.value in
+    let body : before ++ calls_in_all name (block_tree c.as_slice-in-For.result.now) ≡ before
+    ++ calls_in name (statement_tree c.args.statement.now) =
     ap (λ (calls : List Place). before ++ calls) (sym whole) in
-    subst (λ (calls : List Place). OnOk c.push_calls-in-For.result (c.push_calls-in-For.new.places.items ≡ calls)) body c.push_calls-in-For.ensures
+    subst (λ (calls : List Place). OnOk c.push_calls-in-For.result (c.push_calls-in-For.new.places.items ≡ calls))
+    body c.push_calls-in-For.ensures

@@ -6,4 +6,5 @@ use Rattle.call_places.proofs.call_places.Given as goal
 -- what is there so far, and the calls in the procedures that are left, are all
 abbrev pub invariant-loop-procedure : goal.invariant-loop-procedure
 invariant-loop-procedure l =
-    l.places.items ++ call_places l.name (map procedure_tree (drop l.procedure-index l.procedures)) ≡ call_places l.fn.name (map procedure_tree l.fn.program)
+    l.places.items ++ call_places l.name (map procedure_tree (drop l.procedure-index l.procedures))
+    ≡ call_places l.fn.name (map procedure_tree l.fn.program)

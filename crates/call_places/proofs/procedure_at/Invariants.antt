@@ -7,5 +7,6 @@ use Rattle.call_places.proofs.procedure_at.Given as goal
 -- the last one among those that are left, or else the last so far, is the last of all
 abbrev pub invariant-loop-procedure : goal.invariant-loop-procedure
 invariant-loop-procedure l =
-    option_or (procedure_at l.at (map procedure_tree (drop l.procedure-index l.procedures))) (option_map (λ found. procedure_tree found.now) l.last)
+    option_or (procedure_at l.at (map procedure_tree (drop l.procedure-index l.procedures)))
+    (option_map (λ found. procedure_tree found.now) l.last)
     ≡ procedure_at l.fn.at (map procedure_tree l.fn.program)

@@ -14,7 +14,8 @@ accessed _ regs = 0
 
 -- the bytes that an instruction stores at this address, if it stores, are data
 abbrev pub StoresData : ByteMap → Instr → ℕ → Type 0
-StoresData bytes (Store operation rs2 rs1 offset) a = is_some (number_at bytes (byte_count (store_size operation)) a) ≡ true
+StoresData bytes (Store operation rs2 rs1 offset) a =
+    is_some (number_at bytes (byte_count (store_size operation)) a) ≡ true
 StoresData bytes _ a = Unit {0}
 
 -- the mark of a byte, and so of each byte of a number

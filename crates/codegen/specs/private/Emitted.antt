@@ -1,11 +1,16 @@
 -- The instructions that are emitted for statements.
 use Rattle.std.specs.Prelude.{ℕ, ◌+◌, ◌*◌, List, [], ◌∷◌, ◌++◌, Option, None, Some, max, if◌then◌else◌}
-use Rattle.branch_removal.specs.Straight.{StraightTree, set, clear, fill, put, take, set_under, put_under, branch, repeats, StraightBlock, nothing, first}
+use Rattle.branch_removal.specs.Straight.{StraightTree, set, clear, fill, put, take, set_under, put_under, branch}
+use Rattle.branch_removal.specs.Straight.{repeats, StraightBlock, nothing, first}
 use Rattle.codegen.specs.private.Jumps.{branch_code, loop_code}
 use Rattle.expression_code.specs.Allocation.{Allocation, home_of}
-use Rattle.expression_code.specs.Layout.{variable_offset, variable_location, control_offset, next_offset, temporaries_offset}
-use Rattle.expression_code.specs.Registers.{zero_register, frame_register, value_register, second_register, third_register, address_register, first_spare}
-use Rattle.expression_code.specs.TermCode.{is_near, upper_part, lower_part, load_code, store_code, constant_code, address_code, load_by, kind_at, near_element, near_code, code_by, move_code, into_code, height_of}
+use Rattle.expression_code.specs.Layout.{variable_offset, variable_location, control_offset, next_offset}
+use Rattle.expression_code.specs.Layout.{temporaries_offset}
+use Rattle.expression_code.specs.Registers.{zero_register, frame_register, value_register, second_register}
+use Rattle.expression_code.specs.Registers.{third_register, address_register, first_spare}
+use Rattle.expression_code.specs.TermCode.{is_near, upper_part, lower_part, load_code, store_code, constant_code}
+use Rattle.expression_code.specs.TermCode.{address_code, load_by, kind_at, near_element, near_code, code_by}
+use Rattle.expression_code.specs.TermCode.{move_code, into_code, height_of}
 use Rattle.expression_code.specs.declared.locations.Location.{Location}
 use Rattle.expression_code.specs.declared.locations.Location.TheVariants.{InRegister, InSlot}
 use Rattle.inline.specs.declared.flat.FlatVariable.{FlatVariable}
@@ -41,14 +46,15 @@ abbrev pub within_code : List FlatVariable → Option ℕ → List Instr
 within_code declared None = []
 within_code declared (Some control) = join_code (control_offset declared control)
 
--- of three registers, the new word where the mask is all ones, and the old one where it is 0, into another; t is written too
+-- of three registers, the new word where the mask is all ones, and the old one where it is 0, into another; t is
+-- written too
 abbrev pub merge_code : ℕ → ℕ → ℕ → ℕ → ℕ → List Instr
 merge_code d t new old mask = Register Xor t new old ∷ Register And t t mask ∷ Register Xor d old t ∷ []
 
 -- Words.
 
--- The value of an expression, read where it is: in its home, where it is a variable that has one, and else in the register
--- that it is brought into.
+-- The value of an expression, read where it is: in its home, where it is a variable that has one, and else in the
+-- register that it is brought into.
 
 -- the home of an expression
 abbrev pub home_of_term : Allocation → TermTree → Option ℕ
@@ -76,7 +82,8 @@ read_register allocation register e = home_or (home_of_term allocation e) regist
 -- the value of an expression into a slot
 abbrev pub assign_code : List FlatVariable → Allocation → ℕ → TermTree → ℕ → List Instr
 assign_code declared allocation free e offset =
-    read_code declared allocation free value_register 0 e ++ store_code (read_register allocation value_register e) offset
+    read_code declared allocation free value_register 0 e
+    ++ store_code (read_register allocation value_register e) offset
 
 -- a register into a variable: its home, or its slot
 abbrev pub put_word_code : ℕ → Location → List Instr
@@ -110,7 +117,8 @@ abbrev pub element_store_code : ℕ → Kind → ℕ → List Instr
 element_store_code value kind offset =
     if is_near offset
     then Store (store_by kind) value frame_register offset ∷ []
-    else Upper Lui address_register (upper_part offset) ∷ Register Add address_register address_register frame_register
+    else Upper Lui address_register (upper_part offset)
+    ∷ Register Add address_register address_register frame_register
     ∷ Store (store_by kind) value address_register (lower_part offset) ∷ []
 
 -- all words of an array become 0: from the address in one register up to that in another
@@ -135,12 +143,14 @@ fill_code declared allocation free kind offset (e ∷ es) =
 -- an index and a value, the first two temporaries where they are not at home
 abbrev pub index_code : List FlatVariable → Allocation → ℕ → TermTree → TermTree → List Instr
 index_code declared allocation free index value =
-    read_code declared allocation free value_register 0 index ++ read_code declared allocation free second_register 1 value
+    read_code declared allocation free value_register 0 index
+    ++ read_code declared allocation free second_register 1 value
 
 -- of an index and a value in registers, the value into the element at the index
 abbrev pub put_code : ℕ → ℕ → Kind → ℕ → List Instr
 put_code index value kind offset =
-    address_code value_register index kind offset ++ Store (store_by kind) value value_register (lower_part offset) ∷ []
+    address_code value_register index kind offset
+    ++ Store (store_by kind) value value_register (lower_part offset) ∷ []
 
 -- the value of an expression into the element at an index, of which the store may hold the offset
 abbrev pub put_element_code : List FlatVariable → Allocation → ℕ → ℕ → TermTree → TermTree → List Instr
@@ -155,7 +165,8 @@ put_element_code declared allocation free x index value =
 -- the value where the control value is true, and else the old one, into the element
 abbrev pub put_under_code : ℕ → ℕ → ℕ → Kind → ℕ → List Instr
 put_under_code index value control kind offset =
-    address_code value_register index kind offset ++ Load (load_by kind) third_register value_register (lower_part offset) ∷ []
+    address_code value_register index kind offset
+    ++ Load (load_by kind) third_register value_register (lower_part offset) ∷ []
     ++ load_code first_spare control
     ++ merge_code second_register second_register value third_register first_spare
     ++ Store (store_by kind) second_register value_register (lower_part offset) ∷ []
@@ -165,7 +176,8 @@ abbrev pub put_under_near_code : List FlatVariable → Allocation → ℕ → �
 put_under_near_code declared allocation free control kind offset value =
     read_code declared allocation free value_register 0 value ++ near_code second_register kind offset
     ++ load_code third_register control
-    ++ merge_code value_register value_register (read_register allocation value_register value) second_register third_register
+    ++ merge_code value_register value_register (read_register allocation value_register value) second_register
+    third_register
     ++ element_store_code value_register kind offset
 
 -- and into the element at an index
@@ -192,10 +204,11 @@ test_code next =
 -- the next number into the counter, and one more for the turn after this one
 abbrev pub count_code : ℕ → Location → List Instr
 count_code next counter =
-    put_word_code second_register counter ++ Immediate Addi second_register second_register 1 ∷ [] ++ store_code second_register next
+    put_word_code second_register counter ++ Immediate Addi second_register second_register 1 ∷ []
+    ++ store_code second_register next
 
--- Statements of a program with these variables, with registers given out so, so many control values, and room for so many
--- loops, one in the other.
+-- Statements of a program with these variables, with registers given out so, so many control values, and room for so
+-- many loops, one in the other.
 module _ (declared : List FlatVariable) (allocation : Allocation) (controls depths : ℕ) where
   -- where a variable is
   abbrev pub location : ℕ → Location
@@ -212,7 +225,8 @@ module _ (declared : List FlatVariable) (allocation : Allocation) (controls dept
     statement_code depth (clear x size) = clear_code (variable_offset declared x) (array_words (kind_at declared x) size)
     statement_code depth (fill x values) =
         fill_code declared allocation free_slots (kind_at declared x) (variable_offset declared x) values
-    statement_code depth (put place x size index value) = put_element_code declared allocation free_slots x index value
+    statement_code depth (put place x size index value) =
+        put_element_code declared allocation free_slots x index value
     statement_code depth (take control within condition) =
         read_code declared allocation free_slots value_register 0 condition
         ++ masks_code (read_register allocation value_register condition) ++ within_code declared within
@@ -220,12 +234,14 @@ module _ (declared : List FlatVariable) (allocation : Allocation) (controls dept
         ++ store_code value_register (control_offset declared (control + 1))
     statement_code depth (set_under control x value) =
         read_code declared allocation free_slots value_register 0 value
-        ++ set_under_code (read_register allocation value_register value) (location x) (control_offset declared control)
+        ++ set_under_code (read_register allocation value_register value) (location x)
+        (control_offset declared control)
     statement_code depth (put_under control place x size index value) =
         put_element_under_code declared allocation free_slots (control_offset declared control) x index value
     statement_code depth (branch condition accepted otherwise) =
         read_code declared allocation free_slots value_register 0 condition
-        ++ branch_code (read_register allocation value_register condition) (block_code depth accepted) (block_code depth otherwise)
+        ++ branch_code (read_register allocation value_register condition) (block_code depth accepted)
+        (block_code depth otherwise)
     statement_code depth (repeats x low high body) =
         bounds_code declared allocation (next_offset declared controls depth) free_slots low high
         ++ loop_code
@@ -256,7 +272,8 @@ abbrev mutual
   height_in (take control within condition) = height_of condition
   height_in (set_under control x value) = height_of value
   height_in (put_under control place x size index value) = height_of_put index value
-  height_in (branch condition accepted otherwise) = max (height_of condition) (max (height_in_all accepted) (height_in_all otherwise))
+  height_in (branch condition accepted otherwise) =
+      max (height_of condition) (max (height_in_all accepted) (height_in_all otherwise))
   height_in (repeats x low high body) = max (max (height_of low) (height_of high)) (height_in_all body)
 
   pub height_in_all : StraightBlock → ℕ

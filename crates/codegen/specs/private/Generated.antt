@@ -41,7 +41,8 @@ home_count (Some home ∷ homes) = 1 + home_count homes
 abbrev pub body_of : Allocation → StraightProgram → List Instr
 body_of a p =
     entry_code p.declared 0 a.homes
-    ++ (block_code p.declared a p.controls (depth_in_all p.body) 0 p.body ++ result_code p.declared a (program_base p) p.value)
+    ++ (block_code p.declared a p.controls (depth_in_all p.body) 0 p.body
+    ++ result_code p.declared a (program_base p) p.value)
 
 -- and the end
 abbrev pub program_code : Allocation → StraightProgram → List Instr

@@ -1,6 +1,8 @@
--- Statements whose variables and control values are there, whose temporaries lie in the frame, and whose arms a jump reaches.
+-- Statements whose variables and control values are there, whose temporaries lie in the frame, and whose arms a jump
+-- reaches.
 use Rattle.std.specs.Prelude.{ℕ, ◌+◌, ◌*◌, ◌^◌, ◌<◌, ◌≤◌, List, [], ◌∷◌, ◌++◌, length}
-use Rattle.branch_removal.specs.Straight.{StraightTree, set, clear, fill, put, take, set_under, put_under, branch, repeats, StraightBlock, nothing, first}
+use Rattle.branch_removal.specs.Straight.{StraightTree, set, clear, fill, put, take, set_under, put_under, branch}
+use Rattle.branch_removal.specs.Straight.{repeats, StraightBlock, nothing, first}
 use Rattle.branch_removal.specs.StraightTyping.{IsAmong as IsControl}
 use Rattle.codegen.specs.private.Emitted.{test_code, count_code, block_code}
 use Rattle.expression_code.specs.Allocation.{Allocation, slots_to}
@@ -9,8 +11,8 @@ use Rattle.expression_code.specs.TermCode.{IsAmong, height_of}
 use Rattle.inline.specs.declared.flat.FlatVariable.{FlatVariable}
 use Rattle.inline.specs.Flat.{TermTree}
 
--- an expression over the first so many variables into a place, where so many temporaries have registers, and the slots of
--- the others begin at an offset
+-- an expression over the first so many variables into a place, where so many temporaries have registers, and the
+-- slots of the others begin at an offset
 abbrev pub IsPlaced : ℕ → ℕ → ℕ → ℕ → TermTree → Type 0
 IsPlaced known count free place e = IsAmong known e × (free + 4 * slots_to count (height_of e + place) ≤ 65536)
 
@@ -30,26 +32,35 @@ module _ (declared : List FlatVariable) (allocation : Allocation) (controls dept
   abbrev mutual
     -- a statement that so many loops are around
     pub HasPlace : ℕ → StraightTree → Type 0
-    HasPlace depth (set x value) = (x < length declared) × IsPlaced (length declared) allocation.count free_from 0 value
+    HasPlace depth (set x value) = (x < length declared)
+        × IsPlaced (length declared) allocation.count free_from 0 value
     HasPlace depth (clear x size) = (x < length declared) × (size ≤ 65536)
     HasPlace depth (fill x values) =
-        (x < length declared) × ArePlacedTerms (length declared) allocation.count free_from values × (variable_offset declared x + 4 * length values ≤ 262144)
+        (x < length declared) × ArePlacedTerms (length declared) allocation.count free_from values
+        × (variable_offset declared x + 4 * length values ≤ 262144)
     HasPlace depth (put place x size index value) =
-        (x < length declared) × IsPlaced (length declared) allocation.count free_from 0 index × IsPlaced (length declared) allocation.count free_from 1 value
+        (x < length declared) × IsPlaced (length declared) allocation.count free_from 0 index
+        × IsPlaced (length declared) allocation.count free_from 1 value
     HasPlace depth (take control within condition) =
-        (control + 1 < controls) × IsControl controls within × IsPlaced (length declared) allocation.count free_from 0 condition
+        (control + 1 < controls) × IsControl controls within
+        × IsPlaced (length declared) allocation.count free_from 0 condition
     HasPlace depth (set_under control x value) =
         (control < controls) × (x < length declared) × IsPlaced (length declared) allocation.count free_from 0 value
     HasPlace depth (put_under control place x size index value) =
-        (control < controls) × (x < length declared) × IsPlaced (length declared) allocation.count free_from 0 index × IsPlaced (length declared) allocation.count free_from 1 value
+        (control < controls) × (x < length declared) × IsPlaced (length declared) allocation.count free_from 0 index
+        × IsPlaced (length declared) allocation.count free_from 1 value
     HasPlace depth (branch condition accepted otherwise) =
-        IsPlaced (length declared) allocation.count free_from 0 condition × HavePlaces depth accepted × HavePlaces depth otherwise
-        × AreNear (length (block_code declared allocation controls depths depth accepted)) (length (block_code declared allocation controls depths depth otherwise))
+        IsPlaced (length declared) allocation.count free_from 0 condition × HavePlaces depth accepted
+        × HavePlaces depth otherwise
+        × AreNear (length (block_code declared allocation controls depths depth accepted))
+        (length (block_code declared allocation controls depths depth otherwise))
     HasPlace depth (repeats x low high body) =
-        (x < length declared) × (depth < depths) × IsPlaced (length declared) allocation.count free_from 0 low × IsPlaced (length declared) allocation.count free_from 0 high
+        (x < length declared) × (depth < depths) × IsPlaced (length declared) allocation.count free_from 0 low
+        × IsPlaced (length declared) allocation.count free_from 0 high
         × HavePlaces (depth + 1) body
         × AreNear (length (test_code (next_offset declared controls depth)))
-        (length (count_code (next_offset declared controls depth) (variable_location declared allocation x) ++ block_code declared allocation controls depths (depth + 1) body))
+        (length (count_code (next_offset declared controls depth) (variable_location declared allocation x)
+        ++ block_code declared allocation controls depths (depth + 1) body))
 
     pub HavePlaces : ℕ → StraightBlock → Type 0
     HavePlaces depth nothing = Unit {0}

@@ -1,7 +1,9 @@
--- How much each word variable of a program is used: the sum, over the places in which it is read, set or a loop's counter,
--- of 8 to the number of loops around; no weight goes beyond the greatest number of 64 bits.
-use Rattle.std.specs.Prelude.{ℕ, ◌+◌, ◌-◌, ◌*◌, ◌^◌, List, [], ◌∷◌, Option, None, Some, length, min, replicate, slice_index, slice_set}
-use Rattle.branch_removal.specs.Straight.{StraightTree, set, clear, fill, put, take, set_under, put_under, branch, repeats, StraightBlock, nothing, first, StraightProgram}
+-- How much each word variable of a program is used: the sum, over the places in which it is read, set or a loop's
+-- counter, of 8 to the number of loops around; no weight goes beyond the greatest number of 64 bits.
+use Rattle.std.specs.Prelude.{ℕ, ◌+◌, ◌-◌, ◌*◌, ◌^◌, List, [], ◌∷◌, Option, None, Some, length, min, replicate}
+use Rattle.std.specs.Prelude.{slice_index, slice_set}
+use Rattle.branch_removal.specs.Straight.{StraightTree, set, clear, fill, put, take, set_under, put_under, branch}
+use Rattle.branch_removal.specs.Straight.{repeats, StraightBlock, nothing, first, StraightProgram}
 use Rattle.inline.specs.Flat.{TermTree, number, truth, variable, prefix, binary, rotate, convert, select, element}
 
 abbrev pub greatest_weight : ℕ
@@ -41,7 +43,8 @@ abbrev mutual
   used_by weight (put place x size index value) weights = used_in weight value (used_in weight index weights)
   used_by weight (take control within condition) weights = used_in weight condition weights
   used_by weight (set_under control x value) weights = used weight x (used_in weight value weights)
-  used_by weight (put_under control place x size index value) weights = used_in weight value (used_in weight index weights)
+  used_by weight (put_under control place x size index value) weights =
+      used_in weight value (used_in weight index weights)
   used_by weight (branch condition accepted otherwise) weights =
       used_by_all weight otherwise (used_by_all weight accepted (used_in weight condition weights))
   used_by weight (repeats x low high body) weights =

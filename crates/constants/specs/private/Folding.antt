@@ -1,5 +1,5 @@
--- Expressions in which what is known is a number: an operator between numbers is what it comes to. Operators that may meet a
--- fault, or whose operands an observer may see, stay.
+-- Expressions in which what is known is a number: an operator between numbers is what it comes to. Operators that may
+-- meet a fault, or whose operands an observer may see, stay.
 use Rattle.std.specs.Prelude.{ℕ, ◌==◌, ◌&&◌, ◌||◌, Bool, true, false, not, nat_le, Option, None, Some, if◌then◌else◌}
 use Rattle.std.specs.Option.{option_map}
 use Rattle.inline.specs.Flat.{TermTree, number, truth, variable, prefix, binary, rotate, convert, select, element}
@@ -58,14 +58,17 @@ is_quiet (element place x size index) = false
 
 abbrev pub prefixed : PrefixOperator → Width → TermTree → TermTree
 prefixed operator width operand =
-    known_or (option_map (λ c. constant (prefix_value operator width c.value) c.kind) (constant_of operand)) (prefix operator width operand)
+    known_or (option_map (λ c. constant (prefix_value operator width c.value) c.kind) (constant_of operand))
+    (prefix operator width operand)
 
 -- the value between two numbers
 abbrev pub folded : BinaryOperator → Width → ℕ → ℕ → Option ℕ
 folded operator width a b = if is_marked operator then None else Some (operated operator width a b)
 
 abbrev pub between : BinaryOperator → Width → Option Constant → Option Constant → Option Constant
-between operator width (Some a) (Some b) = option_map (λ v. constant v (operation_kind (operation_of operator) a.kind)) (folded operator width a.value b.value)
+between operator width (Some a) (Some b) =
+    option_map (λ v. constant v (operation_kind (operation_of operator) a.kind))
+    (folded operator width a.value b.value)
 between operator width _ _ = None
 
 abbrev pub operated_on : Place → BinaryOperator → Width → TermTree → TermTree → TermTree
@@ -74,17 +77,21 @@ operated_on place operator width left right =
 
 abbrev pub rotated : Width → TermTree → ℕ → TermTree
 rotated width operand amount =
-    known_or (option_map (λ c. constant (rotated_left width c.value amount) c.kind) (constant_of operand)) (rotate width operand amount)
+    known_or (option_map (λ c. constant (rotated_left width c.value amount) c.kind) (constant_of operand))
+    (rotate width operand amount)
 
 abbrev pub converted_to : Kind → TermTree → TermTree
 converted_to kind operand =
-    known_or (option_map (λ c. constant (converted (width_of kind) c.value) kind) (constant_of operand)) (convert kind operand)
+    known_or (option_map (λ c. constant (converted (width_of kind) c.value) kind) (constant_of operand))
+    (convert kind operand)
 
 -- of two operands the one that is chosen, where the other one shows nothing
 abbrev pub chosen : Option Bool → TermTree → TermTree → TermTree → TermTree
 chosen None condition accepted otherwise = select condition accepted otherwise
-chosen (Some true) condition accepted otherwise = if is_quiet otherwise then accepted else select condition accepted otherwise
-chosen (Some false) condition accepted otherwise = if is_quiet accepted then otherwise else select condition accepted otherwise
+chosen (Some true) condition accepted otherwise = if is_quiet otherwise then accepted
+    else select condition accepted otherwise
+chosen (Some false) condition accepted otherwise = if is_quiet accepted then otherwise
+    else select condition accepted otherwise
 
 -- an expression, where this is known of the variables
 abbrev pub simple : Words → TermTree → TermTree
@@ -92,11 +99,13 @@ simple words (number value kind) = number value kind
 simple words (truth value) = truth value
 simple words (variable x) = known_or (known words x) (variable x)
 simple words (prefix operator width operand) = prefixed operator width (simple words operand)
-simple words (binary place operator width left right) = operated_on place operator width (simple words left) (simple words right)
+simple words (binary place operator width left right) =
+    operated_on place operator width (simple words left) (simple words right)
 simple words (rotate width operand amount) = rotated width (simple words operand) amount
 simple words (convert kind operand) = converted_to kind (simple words operand)
 simple words (select condition accepted otherwise) =
-    chosen (decision (simple words condition)) (simple words condition) (simple words accepted) (simple words otherwise)
+    chosen (decision (simple words condition)) (simple words condition) (simple words accepted)
+    (simple words otherwise)
 simple words (element place x size index) = element place x size (simple words index)
 
 -- both bounds of a loop are known, and it makes no turn

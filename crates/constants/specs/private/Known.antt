@@ -1,6 +1,7 @@
 -- What is known of the variables, and what statements leave of it.
 use Rattle.std.specs.Prelude.{ℕ, List, Option, None, slice_get, slice_set, unwrap_or}
-use Rattle.branch_removal.specs.Straight.{StraightTree, set, clear, fill, put, take, set_under, put_under, branch, repeats, StraightBlock, nothing, first}
+use Rattle.branch_removal.specs.Straight.{StraightTree, set, clear, fill, put, take, set_under, put_under, branch}
+use Rattle.branch_removal.specs.Straight.{repeats, StraightBlock, nothing, first}
 use Rattle.constants.specs.declared.known.Constant.{Constant}
 
 -- a word for each variable whose word is known, at its number

@@ -6,4 +6,7 @@ use Rattle.explained_refusals.proofs.row_of.Goals as goal
 
 pub unreachable-requires : goal.unreachable-requires
 unreachable-requires c =
-    true≢false (sym (c.in-None.ensures.listed.1 (subst (λ (code : List ℕ). Contains listed code) (sym c.code.ensures) (is_listed c.args.rule))))
+    true≢false
+    (sym
+    (c.in-None.ensures.listed.1
+    (subst (λ (code : List ℕ). Contains listed code) (sym c.code.ensures) (is_listed c.args.rule))))

@@ -36,7 +36,11 @@ given_to reader = record {
 
 -- what is given with one hart or turns more
 abbrev pub given_also : Given → Said → Given
-given_also given (a_hart hart) = record { harts = given.harts ++ hart ∷ []; has_turns = given.has_turns; schedule = given.schedule }
+given_also given (a_hart hart) = record {
+  harts = given.harts ++ hart ∷ [];
+  has_turns = given.has_turns;
+  schedule = given.schedule;
+}
 given_also given (some_turns turns) = record {
   harts = given.harts;
   has_turns = true;

@@ -9,9 +9,11 @@ returns-in_default-clause-said c = nowhere c.in_default.is c.new.ensures.bytes
 
 pub returns-in-Ok-clause-said : goal.returns-in-Ok-clause-said
 returns-in-Ok-clause-said c =
-    where_ok c.program_lines.result (λ lines is. of_program c.in-Some.is c.in-Ok.ensures.accepted is) c.program_lines.ensures.said
+    where_ok c.program_lines.result (λ lines is. of_program c.in-Some.is c.in-Ok.ensures.accepted is)
+    c.program_lines.ensures.said
 
 pub returns-in-Some-place-clause-said : goal.returns-in-Some-place-clause-said
 returns-in-Some-place-clause-said c =
-    let answer = placed (Reads c.args.source.now) c.in-Err.unread c.in-Some-place.field-0 c.in-Some-place.is c.in-Err.ensures.refused in
+    let answer = placed (Reads c.args.source.now) c.in-Err.unread c.in-Some-place.field-0 c.in-Some-place.is
+    c.in-Err.ensures.refused in
     where_ok c.text_lines.result (λ lines is. of_text c.in-Some.is answer.1 is) c.text_lines.ensures.said

@@ -1,14 +1,19 @@
 -- A machine that reads a program token by token. A state is what may stand next, and carries the trees so far.
-use Rattle.std.specs.Prelude.{ℕ, ◌+◌, Bool, true, false, ◌&&◌, ◌==◌, List, [], ◌∷◌, ◌++◌, Option, Some, None, if◌then◌else◌}
+use Rattle.std.specs.Prelude.{ℕ, ◌+◌, Bool, true, false, ◌&&◌, ◌==◌, List, [], ◌∷◌, ◌++◌, Option, Some, None}
+use Rattle.std.specs.Prelude.{if◌then◌else◌}
 use Rattle.std.specs.Prelude.{nat_le, nat_lt}
 use Rattle.std.specs.Option.{option_map, option_and_then}
 use Rattle.std.specs.Str.{bytes_eq}
 use Rattle.syntax.specs.declared.parser.operator.Begins.{Begins}
-use Rattle.syntax.specs.declared.parser.operator.Begins.TheVariants.{Number as by_number, Truth as by_truth, Name as by_name, Bracket as by_bracket, Prefix as by_prefix, Conversion as by_conversion, Select as by_select}
+use Rattle.syntax.specs.declared.parser.operator.Begins.TheVariants.{Number as by_number, Truth as by_truth}
+use Rattle.syntax.specs.declared.parser.operator.Begins.TheVariants.{Name as by_name, Bracket as by_bracket}
+use Rattle.syntax.specs.declared.parser.operator.Begins.TheVariants.{Prefix as by_prefix, Conversion as by_conversion}
+use Rattle.syntax.specs.declared.parser.operator.Begins.TheVariants.{Select as by_select}
 use Rattle.syntax.specs.declared.parser.operator.Link.{Link}
 use Rattle.syntax.specs.declared.parser.operator.Link.TheVariants.{Operator as by_operator, Rotation as by_rotation}
 use Rattle.syntax.specs.declared.parser.statement.Start.{Start}
-use Rattle.syntax.specs.declared.parser.statement.Start.TheVariants.{Declaration as by_label, Target as by_target, Conditional as by_if, Loop as by_for}
+use Rattle.syntax.specs.declared.parser.statement.Start.TheVariants.{Declaration as by_label, Target as by_target}
+use Rattle.syntax.specs.declared.parser.statement.Start.TheVariants.{Conditional as by_if, Loop as by_for}
 use Rattle.word.specs.declared.place.Place.{Place}
 use Rattle.language.specs.declared.signature.Form.{Form}
 use Rattle.language.specs.declared.signature.Form.TheVariants.{SingleWord, FixedArray, MutableArray}
@@ -17,17 +22,23 @@ use Rattle.language.specs.declared.signature.Label.{Label}
 use Rattle.language.specs.declared.rule.Rule.TheVariants.{UnexpectedToken, Nesting}
 use Rattle.syntax.specs.declared.token.TokenKind.{TokenKind}
 use Rattle.syntax.specs.declared.token.TokenKind.TheVariants as token
-use Rattle.syntax.specs.declared.token.Keyword.TheVariants.{Export, Void, Mut, Uint32, If, Else, For, From, To, Return, Select, True, False}
-use Rattle.syntax.specs.declared.token.Sign.TheVariants.{RotateLeft, OpenRound, CloseRound, OpenCurly, CloseCurly, OpenSquare, CloseSquare, Comma, Semicolon, Assign}
+use Rattle.syntax.specs.declared.token.Keyword.TheVariants.{Export, Void, Mut, Uint32, If, Else, For, From, To}
+use Rattle.syntax.specs.declared.token.Keyword.TheVariants.{Return, Select, True, False}
+use Rattle.syntax.specs.declared.token.Sign.TheVariants.{RotateLeft, OpenRound, CloseRound, OpenCurly, CloseCurly}
+use Rattle.syntax.specs.declared.token.Sign.TheVariants.{OpenSquare, CloseSquare, Comma, Semicolon, Assign}
 use Rattle.language.specs.declared.typing.WordType.{WordType}
-use Rattle.syntax.specs.Grammar.{prefix_of, operator_of, level_of, left_level_of, rotation_level, prefix_level, label_of, word_of, conversion_of, suffix_kind, amount_of, length_of}
+use Rattle.syntax.specs.Grammar.{prefix_of, operator_of, level_of, left_level_of, rotation_level, prefix_level}
+use Rattle.syntax.specs.Grammar.{label_of, word_of, conversion_of, suffix_kind, amount_of, length_of}
 use Rattle.syntax.specs.Lexeme.{Lexeme}
 use Rattle.syntax.specs.Nesting.{Nest, after}
 use Rattle.syntax.specs.Limits.{nesting_limit}
 use Rattle.syntax.specs.Reading.{Answer, accepted, refused}
 use Rattle.syntax.specs.Spelling.{keyword_text, sign_text, suffix_text}
 use Rattle.syntax.specs.Tokens.{Ending, ends_at, stops}
-use Rattle.language.specs.Tree.{ExprTree, number, truth, name, prefix, binary, rotate, convert, select, element, CallTree, RightTree, called, computed, StatementTree, declaration, array, assignment, element_assignment, call, conditional, loop, BlockTree, nothing, first, ParameterTree, ReturnTree, ProcedureTree, ProgramTree}
+use Rattle.language.specs.Tree.{ExprTree, number, truth, name, prefix, binary, rotate, convert, select, element}
+use Rattle.language.specs.Tree.{CallTree, RightTree, called, computed, StatementTree, declaration, array, assignment}
+use Rattle.language.specs.Tree.{element_assignment, call, conditional, loop, BlockTree, nothing, first, ParameterTree}
+use Rattle.language.specs.Tree.{ReturnTree, ProcedureTree, ProgramTree}
 use Rattle.syntax.specs.declared.token.Keyword.TheVariants as keyword
 use Rattle.syntax.specs.declared.token.Sign.TheVariants as sign
 
@@ -36,7 +47,8 @@ abbrev pub fits : TokenKind → TokenKind → Bool
 fits token.Name token.Name = true
 fits (token.Keyword one) (token.Keyword other) = bytes_eq (keyword_text one) (keyword_text other)
 fits (token.Sign one) (token.Sign other) = bytes_eq (sign_text one) (sign_text other)
-fits (token.Number value suffix) (token.Number other written) = (value == other) && bytes_eq (suffix_text suffix) (suffix_text written)
+fits (token.Number value suffix) (token.Number other written) =
+    (value == other) && bytes_eq (suffix_text suffix) (suffix_text written)
 fits _ _ = false
 
 -- how an operand that begins with such a token begins
@@ -113,15 +125,21 @@ ended end k = expr 1 (λ e. one end (λ _. k e))
 
 -- a name's value, or an element's, after the name
 abbrev pub named : Lexeme → (ExprTree → State) → State
-named t k = either (token.Sign sign.OpenSquare) (λ opening. ended (token.Sign sign.CloseSquare) (λ e. k (element opening.place t.place t.text e))) (k (name t.place t.text))
+named t k = either (token.Sign sign.OpenSquare)
+    (λ opening. ended (token.Sign sign.CloseSquare) (λ e. k (element opening.place t.place t.text e)))
+    (k (name t.place t.text))
 
 -- what follows the keyword of a `select`
 abbrev pub after_select : Place → (ExprTree → State) → State
-after_select place k = one (token.Sign sign.OpenRound) (λ _. ended (token.Sign sign.Comma) (λ a. ended (token.Sign sign.Comma) (λ b. ended (token.Sign sign.CloseRound) (λ c. k (select place a b c)))))
+after_select place k =
+    one (token.Sign sign.OpenRound)
+    (λ _. ended (token.Sign sign.Comma)
+    (λ a. ended (token.Sign sign.Comma) (λ b. ended (token.Sign sign.CloseRound) (λ c. k (select place a b c)))))
 
 -- what follows the keyword of a conversion
 abbrev pub converted : Place → Kind → (ExprTree → State) → State
-converted place kind k = one (token.Sign sign.OpenRound) (λ _. ended (token.Sign sign.CloseRound) (λ e. k (convert place kind e)))
+converted place kind k =
+    one (token.Sign sign.OpenRound) (λ _. ended (token.Sign sign.CloseRound) (λ e. k (convert place kind e)))
 
 -- what follows the first token of an operand
 abbrev pub operand : Begins → Lexeme → (ExprTree → State) → State
@@ -135,12 +153,14 @@ operand by_select t k = after_select t.place k
 
 -- what follows a sign between operands
 abbrev pub linked : Link → Place → ℕ → ExprTree → (ExprTree → State) → State
-linked (by_operator operator) place level left k = expr (level_of operator + 1) (λ right. more level (level_of operator) (binary place operator left right) k)
+linked (by_operator operator) place level left k =
+    expr (level_of operator + 1) (λ right. more level (level_of operator) (binary place operator left right) k)
 linked by_rotation place level left k = an_amount (λ amount. more level rotation_level (rotate place left amount) k)
 
 -- a right side that begins with a name, after the name
 abbrev pub right_from : Lexeme → (RightTree → State) → State
-right_from t k = either (token.Sign sign.OpenRound) (λ _. call_of t (λ c. k (called c))) (named t (λ e. more 1 11 e (λ e. k (computed e))))
+right_from t k = either (token.Sign sign.OpenRound) (λ _. call_of t (λ c. k (called c)))
+    (named t (λ e. more 1 11 e (λ e. k (computed e))))
 
 abbrev pub right : (RightTree → State) → State
 right k = either token.Name (λ t. right_from t k) (expr 1 (λ e. k (computed e)))
@@ -151,19 +171,29 @@ right_end k = right (λ r. one (token.Sign sign.Semicolon) (λ _. k r))
 
 -- an array's first values, where they are written
 abbrev pub first_values : (Option (List ExprTree) → State) → State
-first_values k = either (token.Sign sign.Assign) (λ _. one (token.Sign sign.OpenCurly) (λ _. some_exprs (token.Sign sign.CloseCurly) (λ es. k (Some es)))) (k None)
+first_values k =
+    either (token.Sign sign.Assign)
+    (λ _. one (token.Sign sign.OpenCurly) (λ _. some_exprs (token.Sign sign.CloseCurly) (λ es. k (Some es))))
+    (k None)
 
 -- a declaration of an array, after its type
 abbrev pub declared_array : Label → Bool → Kind → ℕ → (StatementTree → State) → State
-declared_array label mutable kind length k = one token.Name (λ t. first_values (λ vs. one (token.Sign sign.Semicolon) (λ _. k (array t.place label mutable kind length t.text vs))))
+declared_array label mutable kind length k =
+    one token.Name
+    (λ t. first_values (λ vs. one (token.Sign sign.Semicolon)
+    (λ _. k (array t.place label mutable kind length t.text vs))))
 
 -- a declaration of a word, after its type
 abbrev pub declared_word : Label → Bool → Kind → (StatementTree → State) → State
-declared_word label mutable kind k = one token.Name (λ t. one (token.Sign sign.Assign) (λ _. right_end (λ r. k (declaration t.place label mutable kind t.text r))))
+declared_word label mutable kind k =
+    one token.Name (λ t. one (token.Sign sign.Assign)
+    (λ _. right_end (λ r. k (declaration t.place label mutable kind t.text r))))
 
 -- a declaration, after its label and `mut`
 abbrev pub declared_as : Label → Bool → (StatementTree → State) → State
-declared_as label mutable k = a_kind (λ kind. either (token.Sign sign.OpenSquare) (λ _. sized (λ length. declared_array label mutable kind length k)) (declared_word label mutable kind k))
+declared_as label mutable k =
+    a_kind (λ kind. either (token.Sign sign.OpenSquare)
+    (λ _. sized (λ length. declared_array label mutable kind length k)) (declared_word label mutable kind k))
 
 -- a declaration, after its label
 abbrev pub declared : Label → (StatementTree → State) → State
@@ -175,15 +205,20 @@ assigned t equals k = right_end (λ r. k (assignment equals t.place t.text r))
 
 -- an assignment to an element, after its name and `[`
 abbrev pub element_assigned : Lexeme → Place → (StatementTree → State) → State
-element_assigned t opening k = ended (token.Sign sign.CloseSquare) (λ i. one (token.Sign sign.Assign) (λ equals. right_end (λ r. k (element_assignment equals.place opening t.place t.text i r))))
+element_assigned t opening k =
+    ended (token.Sign sign.CloseSquare)
+    (λ i. one (token.Sign sign.Assign)
+    (λ equals. right_end (λ r. k (element_assignment equals.place opening t.place t.text i r))))
 
 -- a call as a statement, after its name
 abbrev pub called_alone : Lexeme → (StatementTree → State) → State
-called_alone t k = one (token.Sign sign.OpenRound) (λ _. call_of t (λ c. one (token.Sign sign.Semicolon) (λ _. k (call c))))
+called_alone t k =
+    one (token.Sign sign.OpenRound) (λ _. call_of t (λ c. one (token.Sign sign.Semicolon) (λ _. k (call c))))
 
 -- a statement that begins with a name, after the name
 abbrev pub targeted : Lexeme → (StatementTree → State) → State
-targeted t k = either (token.Sign sign.Assign) (λ equals. assigned t equals.place k) (either (token.Sign sign.OpenSquare) (λ opening. element_assigned t opening.place k) (called_alone t k))
+targeted t k = either (token.Sign sign.Assign) (λ equals. assigned t equals.place k)
+    (either (token.Sign sign.OpenSquare) (λ opening. element_assigned t opening.place k) (called_alone t k))
 
 -- statements in curly brackets
 abbrev pub block : (BlockTree → State) → State
@@ -191,7 +226,9 @@ block k = one (token.Sign sign.OpenCurly) (λ _. statements (λ b. one (token.Si
 
 -- a conditional, after its keyword
 abbrev pub conditioned : Place → (StatementTree → State) → State
-conditioned place k = one (token.Sign sign.OpenRound) (λ _. ended (token.Sign sign.CloseRound) (λ e. block (λ a. otherwise (λ b. k (conditional place e a b)))))
+conditioned place k =
+    one (token.Sign sign.OpenRound)
+    (λ _. ended (token.Sign sign.CloseRound) (λ e. block (λ a. otherwise (λ b. k (conditional place e a b)))))
 
 -- what follows `else`
 abbrev pub after_else : (BlockTree → State) → State
@@ -199,11 +236,16 @@ after_else k = either (token.Keyword keyword.If) (λ word. conditioned word.plac
 
 -- the counter of a loop, after its keyword
 abbrev pub counter : (Lexeme → State) → State
-counter k = one (token.Sign sign.OpenRound) (λ _. one (token.Keyword keyword.Uint32) (λ _. one token.Name (λ t. one (token.Keyword keyword.From) (λ _. k t))))
+counter k =
+    one (token.Sign sign.OpenRound)
+    (λ _. one (token.Keyword keyword.Uint32)
+    (λ _. one token.Name (λ t. one (token.Keyword keyword.From) (λ _. k t))))
 
 -- a loop, after its keyword
 abbrev pub looped : Place → (StatementTree → State) → State
-looped place k = counter (λ t. ended (token.Keyword keyword.To) (λ low. ended (token.Sign sign.CloseRound) (λ high. block (λ b. k (loop place t.place t.text low high b)))))
+looped place k =
+    counter (λ t. ended (token.Keyword keyword.To)
+    (λ low. ended (token.Sign sign.CloseRound) (λ high. block (λ b. k (loop place t.place t.text low high b)))))
 
 -- what follows the first token of a statement
 abbrev pub statement : Start → Lexeme → (StatementTree → State) → State
@@ -214,14 +256,19 @@ statement by_for t k = looped t.place k
 
 -- a parameter's name, after its type
 abbrev pub parameter_name : Label → Kind → Form → ℕ → (ParameterTree → State) → State
-parameter_name label kind form length k = one token.Name (λ t. k (record { label = label; kind = kind; form = form; length = length; place = t.place; name = t.text }))
+parameter_name label kind form length k =
+    one token.Name
+    (λ t. k (record { label = label; kind = kind; form = form; length = length; place = t.place; name = t.text }))
 
 -- a parameter, after its label
 abbrev pub labelled : Label → (ParameterTree → State) → State
 labelled label k =
     either (token.Keyword keyword.Mut)
-    (λ _. a_kind (λ kind. one (token.Sign sign.OpenSquare) (λ _. sized (λ length. parameter_name label kind MutableArray length k))))
-    (a_kind (λ kind. either (token.Sign sign.OpenSquare) (λ _. sized (λ length. parameter_name label kind FixedArray length k)) (parameter_name label kind SingleWord 1 k)))
+    (λ _. a_kind (λ kind. one (token.Sign sign.OpenSquare)
+    (λ _. sized (λ length. parameter_name label kind MutableArray length k))))
+    (a_kind (λ kind. either (token.Sign sign.OpenSquare)
+    (λ _. sized (λ length. parameter_name label kind FixedArray length k))
+    (parameter_name label kind SingleWord 1 k)))
 
 abbrev pub parameter : (ParameterTree → State) → State
 parameter k = a_label (λ label. labelled label k)
@@ -232,15 +279,34 @@ parameters k = either (token.Sign sign.CloseRound) (λ _. k []) (parameter (λ p
 
 -- the end of a body
 abbrev pub returned : (Option ReturnTree → State) → State
-returned k = either (token.Keyword keyword.Return) (λ t. ended (token.Sign sign.Semicolon) (λ e. one (token.Sign sign.CloseCurly) (λ _. k (Some (record { place = t.place; value = e }))))) (one (token.Sign sign.CloseCurly) (λ _. k None))
+returned k = either (token.Keyword keyword.Return)
+    (λ t. ended (token.Sign sign.Semicolon)
+    (λ e. one (token.Sign sign.CloseCurly) (λ _. k (Some (record { place = t.place; value = e })))))
+    (one (token.Sign sign.CloseCurly) (λ _. k None))
 
 -- a procedure, after the type of its result
 abbrev pub procedure_from : Option Place → Option WordType → (ProcedureTree → State) → State
-procedure_from export result k = one token.Name (λ t. one (token.Sign sign.OpenRound) (λ _. parameters (λ ps. one (token.Sign sign.OpenCurly) (λ _. statements (λ b. returned (λ r. k (record { export = export; result = result; place = t.place; name = t.text; parameters = ps; body = b; returned = r })))))))
+procedure_from export result k =
+    one token.Name (λ t. one (token.Sign sign.OpenRound)
+    (λ _. parameters (λ ps. one (token.Sign sign.OpenCurly)
+    (λ _.
+    statements
+    (λ b.
+    returned
+    (λ r. k (record {
+      export = export;
+      result = result;
+      place = t.place;
+      name = t.text;
+      parameters = ps;
+      body = b;
+      returned = r;
+    })))))))
 
 -- a result's type
 abbrev pub result_type : (Option WordType → State) → State
-result_type k = either (token.Keyword keyword.Void) (λ _. k None) (a_label (λ label. a_kind (λ kind. k (Some (record { kind = kind; label = label })))))
+result_type k = either (token.Keyword keyword.Void) (λ _. k None)
+    (a_label (λ label. a_kind (λ kind. k (Some (record { kind = kind; label = label })))))
 
 abbrev pub exported : (Option Place → State) → State
 exported k = either (token.Keyword keyword.Export) (λ t. k (Some t.place)) (k None)
@@ -261,7 +327,8 @@ started (Some start) t k other = Some (statement start t k)
 -- the sign, where it may follow the operand
 abbrev pub within : ℕ → ℕ → Option Link → Option Link
 within level top None = None
-within level top (Some link) = if nat_le level (link_level link) && nat_le (link_left_level link) top then Some link else None
+within level top (Some link) = if nat_le level (link_level link) && nat_le (link_left_level link) top
+    then Some link else None
 
 -- after a sign its right side follows, without one what else may stand there
 abbrev pub joined : Option Link → Place → ℕ → ExprTree → (ExprTree → State) → Option State → Option State
@@ -270,23 +337,29 @@ joined (Some link) place level left k other = Some (linked link place level left
 
 -- the state after the first token of a result's type
 abbrev pub step_result : TokenKind → (Option WordType → State) → Option State
-step_result kind k = if fits (token.Keyword keyword.Void) kind then Some (k None) else option_map (λ label. a_kind (λ kind. k (Some (record { kind = kind; label = label })))) (label_of kind)
+step_result kind k = if fits (token.Keyword keyword.Void) kind then Some (k None)
+    else option_map (λ label. a_kind (λ kind. k (Some (record { kind = kind; label = label })))) (label_of kind)
 
 -- the state after a token, where it may stand
 abbrev pub step : State → Lexeme → Option State
 step (procedures ps) t =
     let k = λ (p : ProcedureTree). procedures (ps ++ p ∷ []) in
-    if fits (token.Keyword keyword.Export) t.kind then Some (result_type (λ result. procedure_from (Some t.place) result k)) else step_result t.kind (λ result. procedure_from None result k)
+    if fits (token.Keyword keyword.Export) t.kind
+    then Some (result_type (λ result. procedure_from (Some t.place) result k))
+    else step_result t.kind (λ result. procedure_from None result k)
 step (one wanted k) t = if fits wanted t.kind then Some (k t) else None
 step (either wanted next other) t = if fits wanted t.kind then Some (next t) else step other t
 step (a_label k) t = option_map k (label_of t.kind)
 step (a_kind k) t = option_map k (word_of t.kind)
 step (a_length k) t = option_map k (length_of t.kind)
 step (an_amount k) t = option_map k (amount_of t.kind)
-step (more_parameters ps k) t = if fits (token.Sign sign.Comma) t.kind then Some (parameter (λ p. more_parameters (ps ++ p ∷ []) k)) else (if fits (token.Sign sign.CloseRound) t.kind then Some (k ps) else None)
+step (more_parameters ps k) t = if fits (token.Sign sign.Comma) t.kind
+    then Some (parameter (λ p. more_parameters (ps ++ p ∷ []) k))
+    else (if fits (token.Sign sign.CloseRound) t.kind then Some (k ps) else None)
 step (expr level k) t = option_map (λ b. operand b t (λ e. more level 11 e k)) (begins_of t.kind)
 step (more level top left k) t = joined (within level top (link_of t.kind)) t.place level left k (step (k left) t)
-step (more_exprs end es k) t = if fits (token.Sign sign.Comma) t.kind then Some (expr 1 (λ e. more_exprs end (es ++ e ∷ []) k)) else (if fits end t.kind then Some (k es) else None)
+step (more_exprs end es k) t = if fits (token.Sign sign.Comma) t.kind
+    then Some (expr 1 (λ e. more_exprs end (es ++ e ∷ []) k)) else (if fits end t.kind then Some (k es) else None)
 step (statements k) t = started (starts_with t.kind) t (λ s. statements (λ b. k (first s b))) (step (k nothing) t)
 step (otherwise k) t = if fits (token.Keyword keyword.Else) t.kind then Some (after_else k) else step (k nothing) t
 
@@ -316,4 +389,5 @@ token_answer (Some s) t nest k = if nat_lt nesting_limit nest.count then refused
 -- the answer from a state on
 abbrev pub verdict : State → Nest → List Lexeme → Ending → Answer
 verdict s nest [] ending = ending_answer ending (at_end s)
-verdict s nest (t ∷ ts) ending = token_answer (step s t) t (after t.kind nest) (λ next. verdict next (after t.kind nest) ts ending)
+verdict s nest (t ∷ ts) ending =
+    token_answer (step s t) t (after t.kind nest) (λ next. verdict next (after t.kind nest) ts ending)

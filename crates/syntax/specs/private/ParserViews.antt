@@ -29,7 +29,8 @@ FaultIs Memory answer = Unit {0}
 
 -- the answer from the state on is that from the next one on, after the call
 abbrev pub Leads : {T : Type 0} → State → (T → State) → Result T Fault → Parser → Parser → Type 0
-Leads s next result old new = MatchResult result (λ x. ahead s old ≡ ahead (next x) new) (λ f. FaultIs f (ahead s old))
+Leads s next result old new =
+    MatchResult result (λ x. ahead s old ≡ ahead (next x) new) (λ f. FaultIs f (ahead s old))
 
 -- after a token that may stand there, and without it
 abbrev pub taken : (Lexeme → State) → State → Option Token → State

@@ -4,4 +4,5 @@ use Rattle.arguments.proofs.bounds.first_fault.Given as goal
 
 -- the first fault is in what is left
 abbrev pub invariant-loop-index : goal.invariant-loop-index
-invariant-loop-index l = fault_from rule_of 0 l.params l.args ≡ fault_from rule_of l.index (drop l.index l.params) (drop l.index l.args)
+invariant-loop-index l = fault_from rule_of 0 l.params l.args
+    ≡ fault_from rule_of l.index (drop l.index l.params) (drop l.index l.args)

@@ -7,4 +7,6 @@ use Rattle.arguments.proofs.bounds.first_fault_of.Given as goal
 -- the first fault is in what is left
 abbrev pub invariant-loop-index : goal.invariant-loop-index
 invariant-loop-index l =
-    fault_from rule_of 0 (map param_of (map parameter_tree l.parameters)) l.args ≡ fault_from rule_of l.index (drop l.index (map param_of (map parameter_tree l.parameters))) (drop l.index l.args)
+    fault_from rule_of 0 (map param_of (map parameter_tree l.parameters)) l.args
+    ≡ fault_from rule_of l.index (drop l.index (map param_of (map parameter_tree l.parameters)))
+    (drop l.index l.args)

@@ -7,5 +7,6 @@ use Rattle.arguments.proofs.numerals.number_from_digits.Given as goal
 abbrev pub invariant-loop-byte : goal.invariant-loop-byte
 invariant-loop-byte l = record {
   fits : l.number < 2 ^ 64;
-  goes_on : option_map (λ n. min n (2 ^ 64 - 1)) (number_after l.base l.number (drop l.byte-index l.byte-items)) ≡ option_map (λ n. min n (2 ^ 64 - 1)) (number_after l.base 0 l.byte-items);
+  goes_on : option_map (λ n. min n (2 ^ 64 - 1)) (number_after l.base l.number (drop l.byte-index l.byte-items))
+      ≡ option_map (λ n. min n (2 ^ 64 - 1)) (number_after l.base 0 l.byte-items);
 }

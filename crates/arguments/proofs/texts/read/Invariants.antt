@@ -8,5 +8,6 @@ abbrev pub invariant-loop-index : goal.invariant-loop-index
 invariant-loop-index l = record {
   spelled : map (λ arg. Some (words_of arg)) l.args.items ≡ map (λ text. numbers_of text.now) (take l.index l.texts);
   within : AreWithin (take l.index l.params) l.args.items;
-  left : fault_from (λ param text. rule_of_text param text.now) l.index (drop l.index l.params) (drop l.index l.texts) ≡ None;
+  left : fault_from (λ param text. rule_of_text param text.now) l.index (drop l.index l.params) (drop l.index l.texts)
+      ≡ None;
 }

@@ -10,7 +10,8 @@ abbrev pub invariant-push_removed_all-loop-statement : goal.invariant-push_remov
 invariant-push_removed_all-loop-statement l =
     let rest = flat_block (drop l.statement-index l.body) in
     record {
-      code : chain (straight_block l.code.items) (removed_all l.within l.control rest) ≡ chain (straight_block l.fn.code.items) (removed_all l.fn.within l.fn.control (flat_block l.fn.body));
+      code : chain (straight_block l.code.items) (removed_all l.within l.control rest)
+          ≡ chain (straight_block l.fn.code.items) (removed_all l.fn.within l.fn.control (flat_block l.fn.body));
       numbered : l.control + controls_in_all rest < 2 ^ 32;
       within : l.within ≡ l.fn.within;
       control : l.control ≡ l.fn.control;

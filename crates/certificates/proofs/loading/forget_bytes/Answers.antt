@@ -18,7 +18,9 @@ loop-index-preserved g c =
     let i = c.loop-index.index in
     let place = c.args.at + i in
     let begun = known_bytes (g.M.Memory.bytes c.args.known.now.marks) in
-    let there = number_there (g.M.Memory.bytes c.loop-index.known.marks) 1 place (λ x from to. c.loop-index.invariant.data_there x ∙ c.requires.data x (omega (arith, from)) (omega (arith, to, c.loop-index-test.true))) in
+    let there = number_there (g.M.Memory.bytes c.loop-index.known.marks) 1 place
+    (λ x from to. c.loop-index.invariant.data_there x
+    ∙ c.requires.data x (omega (arith, from)) (omega (arith, to, c.loop-index-test.true))) in
     record {
       unknown =
           c.set_bytes.ensures.set (c.set_bytes.ensures.answer ∙ there)

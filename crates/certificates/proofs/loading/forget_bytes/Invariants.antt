@@ -8,7 +8,8 @@ abbrev pub invariant-loop-index : goal.invariant-loop-index
 invariant-loop-index g l =
     let bytes = g.M.Memory.bytes in
     record {
-      unknown : known_bytes (bytes l.known.marks) ≡ with_bytes_known (known_bytes (bytes l.fn.known.marks)) l.index l.at false;
+      unknown : known_bytes (bytes l.known.marks)
+          ≡ with_bytes_known (known_bytes (bytes l.fn.known.marks)) l.index l.at false;
       data_there : (x : ℕ) → is_some (bytes l.known.marks x) ≡ is_some (bytes l.fn.known.marks x);
       registers : l.known.registers ≡ l.fn.known.registers;
       shifts : l.known.shifts ≡ l.fn.known.shifts;

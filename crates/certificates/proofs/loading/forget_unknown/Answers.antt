@@ -1,4 +1,5 @@
-use Rattle.std.proofs.Common.{◌≡◌, ℕ, ◌+◌, ◌<◌, Bool, false, length, drop, slice_index_or, Option, is_some, ap, sym, ◌∙◌, arith}
+use Rattle.std.proofs.Common.{◌≡◌, ℕ, ◌+◌, ◌<◌, Bool, false, length, drop, slice_index_or, Option, is_some, ap, sym}
+use Rattle.std.proofs.Common.{◌∙◌, arith}
 use Rattle.certified_runs.specs.Known.{with_bytes_known}
 use Rattle.certified_runs.specs.Parts.{known_bytes}
 use Rattle.certificates.proofs.Below.{no_slot}
@@ -24,11 +25,14 @@ loop-index-preserved g c =
           ap (λ k. known_bytes (g.M.Memory.bytes k.marks)) w.known-is ∙ w.forget_bytes.ensures.bytes
           ∙ ap (λ n. with_bytes_known before n (frame + slot.offset) false) w.argument_bytes.ensures
           ∙ forgotten frame before slot one c.is_none.result c.is_none.ensures w.if-is_none.true
-      | else-is_none w ↦ ap (λ k. known_bytes (g.M.Memory.bytes k.marks)) w.known-is ∙ left_known frame before slot one c.is_none.result c.is_none.ensures w.if-is_none.false
+      | else-is_none w ↦ ap (λ k. known_bytes (g.M.Memory.bytes k.marks)) w.known-is
+          ∙ left_known frame before slot one c.is_none.result c.is_none.ensures w.if-is_none.false
     ] in
-    let extent : (x : ℕ) → is_some (g.M.Memory.bytes c.if-is_none.known.marks x) ≡ is_some (g.M.Memory.bytes c.loop-index.known.marks x) =
+    let extent : (x : ℕ) → is_some (g.M.Memory.bytes c.if-is_none.known.marks x)
+    ≡ is_some (g.M.Memory.bytes c.loop-index.known.marks x) =
     elim c.if-is_none.branch [
-      | then-is_none w ↦ λ x. ap (λ k. is_some (g.M.Memory.bytes k.marks x)) w.known-is ∙ w.forget_bytes.ensures.extent x
+      | then-is_none w ↦ λ x. ap (λ k. is_some (g.M.Memory.bytes k.marks x)) w.known-is
+          ∙ w.forget_bytes.ensures.extent x
       | else-is_none w ↦ λ x. ap (λ k. is_some (g.M.Memory.bytes k.marks x)) w.known-is
     ] in
     let registers : c.if-is_none.known.registers ≡ c.loop-index.known.registers =
@@ -44,7 +48,8 @@ loop-index-preserved g c =
     record {
       rest =
           ap (λ (k : ℕ → Bool). known_with_given frame k (drop (i + 1) slots) (drop (i + 1) given)) known
-          ∙ (ap (λ (o : Option Arg). known_with_given frame (known_with_one frame before slot o) (drop (i + 1) slots) (drop (i + 1) given)) c.index-given-index.is
+          ∙ (ap (λ (o : Option Arg). known_with_given frame (known_with_one frame before slot o) (drop (i + 1) slots)
+          (drop (i + 1) given)) c.index-given-index.is
           ∙ (sym (known_with_given-next frame before slots given i no_slot one c.loop-index-test.true below)
           ∙ c.loop-index.invariant.rest));
       data_there = λ x. extent x ∙ c.loop-index.invariant.data_there x;

@@ -8,7 +8,8 @@ abbrev pub invariant-loop-index : goal.invariant-loop-index
 invariant-loop-index g l =
     let bytes = g.M.Memory.bytes in
     record {
-      rest : known_with_given l.frame (known_bytes (bytes l.known.marks)) (drop l.index l.slots) (drop l.index l.given) ≡ known_with_given l.frame (known_bytes (bytes l.fn.known.marks)) l.slots l.given;
+      rest : known_with_given l.frame (known_bytes (bytes l.known.marks)) (drop l.index l.slots)
+          (drop l.index l.given) ≡ known_with_given l.frame (known_bytes (bytes l.fn.known.marks)) l.slots l.given;
       data_there : (x : ℕ) → is_some (bytes l.known.marks x) ≡ is_some (bytes l.fn.known.marks x);
       registers : l.known.registers ≡ l.fn.known.registers;
       shifts : l.known.shifts ≡ l.fn.known.shifts;

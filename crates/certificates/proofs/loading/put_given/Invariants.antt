@@ -9,7 +9,9 @@ abbrev pub invariant-loop-index : goal.invariant-loop-index
 invariant-loop-index g l =
     let bytes = g.M.Memory.bytes in
     record {
-      rest : with_given l.frame (bytes l.memory) (drop l.index l.slots) (drop l.index l.given) ≡ with_given l.frame (bytes l.fn.memory) l.slots l.given;
+      rest : with_given l.frame (bytes l.memory) (drop l.index l.slots) (drop l.index l.given)
+          ≡ with_given l.frame (bytes l.fn.memory) l.slots l.given;
       data_there : (x : ℕ) → is_some (bytes l.memory x) ≡ is_some (bytes l.fn.memory x);
-      faultless : fault_from rule_of_given l.index (drop l.index (map (λ slot. slot.param) l.slots)) (drop l.index l.given) ≡ None;
+      faultless : fault_from rule_of_given l.index (drop l.index (map (λ slot. slot.param) l.slots))
+          (drop l.index l.given) ≡ None;
     }

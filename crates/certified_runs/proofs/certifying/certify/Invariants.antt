@@ -12,8 +12,10 @@ invariant-loop-run g l =
     let bytes = g.M.Memory.bytes in
     record {
       led : HasLed (code_of l.code)
-          l.fn.run.turns_left (known_of (state_of l.fn.run.hart (bytes l.fn.run.memory)) l.fn.known.registers (bytes l.fn.known.marks) l.fn.known.shifts)
-          l.run.turns_left (known_of (state_of l.run.hart (bytes l.run.memory)) l.known.registers (bytes l.known.marks) l.known.shifts)
+          l.fn.run.turns_left (known_of (state_of l.fn.run.hart (bytes l.fn.run.memory)) l.fn.known.registers
+          (bytes l.fn.known.marks) l.fn.known.shifts)
+          l.run.turns_left (known_of (state_of l.run.hart (bytes l.run.memory)) l.known.registers
+          (bytes l.known.marks) l.known.shifts)
           l.entries;
       extent : HaveOneExtent (bytes l.known.marks) (bytes l.run.memory);
       few : l.entries + 2 * l.run.turns_left ≤ 2 * l.fn.run.turns_left;

@@ -5,4 +5,5 @@ pub returns-clause-some : goal.returns-clause-some
 returns-clause-some c = λ code budget k s seen stop run covers. same_run run covers
 
 pub returns-clause-every : goal.returns-clause-every
-returns-clause-every c = λ code budget k s t seen shown stop other run covers ran quiet. every_run run covers ran quiet
+returns-clause-every c = λ code budget k s t seen shown stop other run covers ran quiet.
+    every_run run covers ran quiet

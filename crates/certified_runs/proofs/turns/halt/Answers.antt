@@ -16,7 +16,8 @@ returns-clause-stops g c =
     let step = c.step_unrecorded-seen in
     let t = state_of step.new.hart (g.M.Memory.bytes step.new.memory) in
     let shown = followed_by step.result.0 [] in
-    let turn = subst (λ (a : Option Stop). Stepped (code_of c.args.code.now) true s [] a t shown) c.in-Some.is step.ensures.turn in
+    let turn = subst (λ (a : Option Stop). Stepped (code_of c.args.code.now) true s [] a t shown) c.in-Some.is
+    step.ensures.turn in
     let calm = subst (λ (a : Option Stop). a ≢ Some RecorderRefused) c.in-Some.is step.ensures.calm in
     let many = sym (c.entries_in.ensures ∙ ap (λ (xs : List Observation). length (entries_of xs)) turn.2.2) in
     (turn.2.0, stopped_so turn.1 turn.2.1 calm, many)

@@ -26,8 +26,11 @@ returns-then-not-decides-clause-turned g c =
     let code = code_of c.args.code.now in
     let registers = known_registers c.args.known.now.registers in
     let i = c.in-Some.instr.now in
-    let at = subst (λ p. IsAt code p i) c.pc.ensures c.in-Some.ensures.there in
-    (undecided i at (ap (λ p. decides p c.args.known.now.shifts i registers) (sym c.profile.ensures) ∙ sym c.decides.ensures ∙ c.if-not-decides.true), refl)
+    let at = subst (λ p. IsAt code p i) c.pc.ensures c.in-Some.ensures.there in (
+      undecided i at (ap (λ p. decides p c.args.known.now.shifts i registers) (sym c.profile.ensures)
+          ∙ sym c.decides.ensures ∙ c.if-not-decides.true),
+      refl,
+    )
 
 pub returns-in-Some-stop-clause-turned : goal.returns-in-Some-stop-clause-turned
 returns-in-Some-stop-clause-turned g c =
@@ -36,14 +39,16 @@ returns-in-Some-stop-clause-turned g c =
     let k = known_of s c.args.known.now.registers (g.M.Memory.bytes c.args.known.now.marks) c.args.known.now.shifts in
     let i = c.in-Some.instr.now in
     let at = subst (λ p. IsAt code p i) c.pc.ensures c.in-Some.ensures.there in
-    let sure = ap (λ p. decides p k.shifts i k.registers) (sym c.profile.ensures) ∙ sym c.decides.ensures ∙ c.if-not-decides.false in
+    let sure = ap (λ p. decides p k.shifts i k.registers) (sym c.profile.ensures) ∙ sym c.decides.ensures
+    ∙ c.if-not-decides.false in
     let step = c.step_unrecorded-seen in
     let t = state_of step.new.hart (g.M.Memory.bytes step.new.memory) in
     let shown = followed_by step.result.0 [] in
     let turn = subst (λ (a : Option Stop). Stepped code true s [] a t shown) c.in-Some-stop.is step.ensures.turn in
     let calm = subst (λ (a : Option Stop). a ≢ Some RecorderRefused) c.in-Some-stop.is step.ensures.calm in
     let many = sym (c.entries_in-entries.ensures ∙ ap (λ (xs : List Observation). length (entries_of xs)) turn.2.2) in
-    has_stopped code k i at sure t k turn.0 c.in-Some-stop.stop turn.2.0 c.entries_in-entries.result turn.1 turn.2.1 calm many
+    has_stopped code k i at sure t k turn.0 c.in-Some-stop.stop turn.2.0 c.entries_in-entries.result turn.1
+    turn.2.1 calm many
 
 pub change-requires : goal.change-requires
 change-requires g c =
@@ -53,7 +58,8 @@ change-requires g c =
     let k = known_of s c.args.known.now.registers marks c.args.known.now.shifts in
     let i = c.in-Some.instr.now in
     let at = subst (λ p. IsAt code p i) c.pc.ensures c.in-Some.ensures.there in
-    let sure = ap (λ p. decides p k.shifts i k.registers) (sym c.profile.ensures) ∙ sym c.decides.ensures ∙ c.if-not-decides.false in
+    let sure = ap (λ p. decides p k.shifts i k.registers) (sym c.profile.ensures) ∙ sym c.decides.ensures
+    ∙ c.if-not-decides.false in
     let step = c.step_unrecorded-seen in
     let t = state_of step.new.hart (g.M.Memory.bytes step.new.memory) in
     let shown = followed_by step.result.0 [] in
@@ -68,7 +74,8 @@ returns-clause-turned g c =
     let k = known_of s c.args.known.now.registers (g.M.Memory.bytes c.args.known.now.marks) c.args.known.now.shifts in
     let i = c.in-Some.instr.now in
     let at = subst (λ p. IsAt code p i) c.pc.ensures c.in-Some.ensures.there in
-    let sure = ap (λ p. decides p k.shifts i k.registers) (sym c.profile.ensures) ∙ sym c.decides.ensures ∙ c.if-not-decides.false in
+    let sure = ap (λ p. decides p k.shifts i k.registers) (sym c.profile.ensures) ∙ sym c.decides.ensures
+    ∙ c.if-not-decides.false in
     let step = c.step_unrecorded-seen in
     let t = state_of step.new.hart (g.M.Memory.bytes step.new.memory) in
     let shown = followed_by step.result.0 [] in
@@ -77,7 +84,8 @@ returns-clause-turned g c =
     let after = c.change.new.known in
     let registers = c.change.ensures.registers s c.accessed-a.ensures in
     let bytes = c.change.ensures.bytes s c.accessed-a.ensures in
-    has_led code k i at sure t (known_registers after.registers) (known_bytes (g.M.Memory.bytes after.marks)) after.shifts turn.0 turn.2.0
+    has_led code k i at sure t (known_registers after.registers) (known_bytes (g.M.Memory.bytes after.marks))
+    after.shifts turn.0 turn.2.0
     c.entries_in-entries.result turn.1 turn.2.1 registers bytes c.change.ensures.shifts many
 
 pub returns-clause-extent : goal.returns-clause-extent

@@ -7,7 +7,8 @@ abbrev pub invariant-loop-number : goal.invariant-loop-number
 invariant-loop-number l =
     let rest = drop l.number l.fn.layout.allocation.homes in
     record {
-      code : l.code.items ++ entry_code l.fn.layout.declared l.number rest ≡ l.fn.code.items ++ entry_code l.fn.layout.declared 0 l.fn.layout.allocation.homes;
+      code : l.code.items ++ entry_code l.fn.layout.declared l.number rest ≡ l.fn.code.items
+          ++ entry_code l.fn.layout.declared 0 l.fn.layout.allocation.homes;
       within : l.number + length rest ≤ length l.fn.layout.declared;
       layout : l.layout ≡ l.fn.layout;
     }

@@ -9,10 +9,11 @@ pub generate_with-requires : goal.generate_with-requires
 generate_with-requires c =
     let p = c.args.straight.now in
     let eight : List (Option ℕ) → Allocation = λ homes. record { count = 8; homes = homes; immediates = true } in
-    let with_numbers : Allocation → Allocation = λ a. record { count = a.count; homes = a.homes; immediates = true } in
+    let with_numbers : Allocation → Allocation =
+    λ a. record { count = a.count; homes = a.homes; immediates = true } in
     let is : c.with_immediates.result ≡ word_homes p =
-        c.with_immediates.ensures
-        ∙ (ap with_numbers c.new.ensures ∙ ap eight (c.as_slice.ensures.value ∙ c.in_ok-homes.ensures)) in
+    c.with_immediates.ensures
+    ∙ (ap with_numbers c.new.ensures ∙ ap eight (c.as_slice.ensures.value ∙ c.in_ok-homes.ensures)) in
     subst (IsFitting p) (sym is) (word_homes_fit p)
 
 pub returns-clause-exact : goal.returns-clause-exact
@@ -20,8 +21,10 @@ unfolding optimised_fields_of
 returns-clause-exact c =
     let p = c.args.straight.now in
     let eight : List (Option ℕ) → Allocation = λ homes. record { count = 8; homes = homes; immediates = true } in
-    let with_numbers : Allocation → Allocation = λ a. record { count = a.count; homes = a.homes; immediates = true } in
+    let with_numbers : Allocation → Allocation =
+    λ a. record { count = a.count; homes = a.homes; immediates = true } in
     let is : c.with_immediates.result ≡ word_homes p =
-        c.with_immediates.ensures
-        ∙ (ap with_numbers c.new.ensures ∙ ap eight (c.as_slice.ensures.value ∙ c.in_ok-homes.ensures)) in
-    subst (λ (a : Allocation). IfOk c.generate_with.result (λ code. code ≡ image_of a p)) is c.generate_with.ensures.exact
+    c.with_immediates.ensures
+    ∙ (ap with_numbers c.new.ensures ∙ ap eight (c.as_slice.ensures.value ∙ c.in_ok-homes.ensures)) in
+    subst (λ (a : Allocation). IfOk c.generate_with.result (λ code. code ≡ image_of a p)) is
+    c.generate_with.ensures.exact

@@ -8,9 +8,14 @@ pub new-requires : goal.new-requires
 new-requires c =
     let p = c.args.straight.now in
     let a = c.args.layout.now.allocation in
-    let start = c.temporaries.ensures ∙ ap (λ (f : Frame). temporaries_offset f.declared f.controls f.depths) c.requires.frame in
+    let start = c.temporaries.ensures
+    ∙ ap (λ (f : Frame). temporaries_offset f.declared f.controls f.depths) c.requires.frame in
     let slots = c.in_ok-slots.ensures ∙ ap (λ ps. slots_from 0 ps) c.parameters.ensures in
-    let frame : c.temporaries.result + 4 * c.temporaries-2.result ≡ program_base p + 4 * program_slots a p = ap₂ (λ m n. m + 4 * n) start c.temporaries-2.ensures in
+    let frame : c.temporaries.result + 4 * c.temporaries-2.result ≡ program_base p + 4 * program_slots a p =
+    ap₂ (λ m n. m + 4 * n) start c.temporaries-2.ensures in
     let steps = c.step_limit-max_steps.ensures ∙ ap step_limit c.work.ensures in
-    let words = c.in_ok-words.ensures.words ∙ ap (λ code. map word_of code) (c.as_slice.ensures.value ∙ c.in_ok-code.ensures) in
-    fields_allowed a p c.requires.room c.requires.fitting _ c.in_ok-slots.slots.items c.result_slot-returned.result (c.temporaries.result + 4 * c.temporaries-2.result) c.step_limit-max_steps.result c.in_ok-words.words.items slots c.result_slot-returned.ensures frame steps words c.in_ok-words.ensures.fit
+    let words = c.in_ok-words.ensures.words
+    ∙ ap (λ code. map word_of code) (c.as_slice.ensures.value ∙ c.in_ok-code.ensures) in
+    fields_allowed a p c.requires.room c.requires.fitting _ c.in_ok-slots.slots.items c.result_slot-returned.result
+    (c.temporaries.result + 4 * c.temporaries-2.result) c.step_limit-max_steps.result c.in_ok-words.words.items
+    slots c.result_slot-returned.ensures frame steps words c.in_ok-words.ensures.fit

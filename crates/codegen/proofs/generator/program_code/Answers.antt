@@ -12,8 +12,10 @@ statements-requires c =
     let body = straight_block c.body.result.now in
     record {
       placed =
-          subst (λ (frame : Frame). HavePlaces frame.declared a frame.controls frame.depths 0 body) (sym c.requires.frame)
-          (subst (λ (b : StraightBlock). HavePlaces p.declared a p.controls (depth_in_all p.body) 0 b) (sym c.body.ensures.body) (body_placed a p c.requires.room));
+          subst (λ (frame : Frame). HavePlaces frame.declared a frame.controls frame.depths 0 body)
+          (sym c.requires.frame)
+          (subst (λ (b : StraightBlock). HavePlaces p.declared a p.controls (depth_in_all p.body) 0 b)
+          (sym c.body.ensures.body) (body_placed a p c.requires.room));
     }
 
 pub assign-requires-clause-among : goal.assign-requires-clause-among
@@ -21,4 +23,5 @@ assign-requires-clause-among c =
     let p = c.args.straight.now in
     let e = term_tree c.in-Some.value.now in
     let is : p.value ≡ Some e = sym c.value.ensures ∙ ap (option_map (λ term. term_tree term.now)) c.in-Some.is in
-    subst (λ (frame : Frame). IsAmong (length frame.declared) e) (sym c.requires.frame) (result_among p.profile p.declared p.returned p.value c.requires.room.typed.result e is)
+    subst (λ (frame : Frame). IsAmong (length frame.declared) e) (sym c.requires.frame)
+    (result_among p.profile p.declared p.returned p.value c.requires.room.typed.result e is)

@@ -6,7 +6,8 @@ use Rattle.codegen.proofs.heights.+heights.Given as goal
 -- the most so far and what is left give what all statements take
 abbrev pub invariant-greatest_height-loop-statement : goal.invariant-greatest_height-loop-statement
 invariant-greatest_height-loop-statement l =
-    max l.greatest (height_in_all (straight_block (drop l.statement-index l.statements))) ≡ height_in_all (straight_block l.fn.statements)
+    max l.greatest (height_in_all (straight_block (drop l.statement-index l.statements)))
+    ≡ height_in_all (straight_block l.fn.statements)
 
 abbrev pub decreases-height_in : goal.decreases-height_in
 decreases-height_in l = 2 * statement_nodes (straight_tree l.statement.now)

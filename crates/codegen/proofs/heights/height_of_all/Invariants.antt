@@ -4,4 +4,5 @@ use Rattle.inline.specs.Flat.{term_tree}
 use Rattle.codegen.proofs.heights.height_of_all.Given as goal
 
 abbrev pub invariant-loop-value : goal.invariant-loop-value
-invariant-loop-value l = max l.greatest (height_of_all (map term_tree (drop l.value-index l.values))) ≡ height_of_all (map term_tree l.values)
+invariant-loop-value l = max l.greatest (height_of_all (map term_tree (drop l.value-index l.values)))
+    ≡ height_of_all (map term_tree l.values)

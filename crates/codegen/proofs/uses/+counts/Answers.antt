@@ -1,27 +1,40 @@
 use Rattle.std.proofs.Common.{rules, ℕ, List, refl, sym, ap, ◌∙◌}
 use Rattle.codegen.specs.private.Uses.{used, used_in, used_by, used_by_all}
 use Rattle.codegen.proofs.Language.{StraightTree, straight_block, term_tree}
-use Rattle.codegen.proofs.StatementCode.{tree_of_branch, tree_of_loop, accepted_smaller, otherwise_smaller, body_smaller, item_here, smaller_here}
+use Rattle.codegen.proofs.StatementCode.{tree_of_branch, tree_of_loop, accepted_smaller, otherwise_smaller}
+use Rattle.codegen.proofs.StatementCode.{body_smaller, item_here, smaller_here}
 use Rattle.codegen.proofs.uses.+counts.Goals as goal
 
 pub count_by-count_by_all-requires : goal.count_by-count_by_all-requires
-count_by-count_by_all-requires t c = search (rules, accepted_smaller c.in-Branch.accepted c.in-Branch.otherwise c.in-Branch.is c.deref-in-Branch.ensures.value refl)
+count_by-count_by_all-requires t c =
+    search (
+      rules,
+      accepted_smaller c.in-Branch.accepted c.in-Branch.otherwise c.in-Branch.is
+          c.deref-in-Branch.ensures.value refl,
+    )
 
 pub count_by-count_by_all-requires-in-Branch : goal.count_by-count_by_all-requires-in-Branch
 count_by-count_by_all-requires-in-Branch t c =
-    search (rules, otherwise_smaller c.in-Branch.accepted c.in-Branch.otherwise c.in-Branch.is refl c.deref-in-Branch-2.ensures.value)
+    search (
+      rules,
+      otherwise_smaller c.in-Branch.accepted c.in-Branch.otherwise c.in-Branch.is refl
+          c.deref-in-Branch-2.ensures.value,
+    )
 
 pub count_by-count_by_all-requires-in-Repeat : goal.count_by-count_by_all-requires-in-Repeat
-count_by-count_by_all-requires-in-Repeat t c = search (rules, body_smaller c.in-Repeat.body c.in-Repeat.is c.deref-in-Repeat.ensures.value)
+count_by-count_by_all-requires-in-Repeat t c =
+    search (rules, body_smaller c.in-Repeat.body c.in-Repeat.is c.deref-in-Repeat.ensures.value)
 
 pub count_by-returns-in-Branch : goal.count_by-returns-in-Branch
 count_by-returns-in-Branch t c =
     let w = c.args.weight in
     let one = straight_block c.deref-in-Branch.result.now in
     let other = straight_block c.deref-in-Branch-2.result.now in
-    let tree = tree_of_branch c.in-Branch.accepted c.in-Branch.otherwise c.in-Branch.is c.deref-in-Branch.ensures.value c.deref-in-Branch-2.ensures.value in
+    let tree = tree_of_branch c.in-Branch.accepted c.in-Branch.otherwise c.in-Branch.is
+    c.deref-in-Branch.ensures.value c.deref-in-Branch-2.ensures.value in
     c.count_by_all-in-Branch.ensures
-    ∙ (ap (λ (weights : List ℕ). used_by_all w other weights) (c.count_by_all.ensures ∙ ap (λ (weights : List ℕ). used_by_all w one weights) c.count_in-in-Branch.ensures)
+    ∙ (ap (λ (weights : List ℕ). used_by_all w other weights) (c.count_by_all.ensures
+    ∙ ap (λ (weights : List ℕ). used_by_all w one weights) c.count_in-in-Branch.ensures)
     ∙ sym (ap (λ (s : StraightTree). used_by w s c.args.weights.now) tree))
 
 pub count_by-returns-in-Repeat : goal.count_by-returns-in-Repeat
@@ -32,11 +45,15 @@ count_by-returns-in-Repeat t c =
     let low = term_tree c.in-Repeat.low in
     let high = term_tree c.in-Repeat.high in
     let body = straight_block c.deref-in-Repeat.result.now in
-    let before = c.count_in-in-Repeat-2.ensures ∙ ap (λ (weights : List ℕ). used_in w high weights) c.count_in-in-Repeat.ensures in
+    let before = c.count_in-in-Repeat-2.ensures
+    ∙ ap (λ (weights : List ℕ). used_in w high weights) c.count_in-in-Repeat.ensures in
     c.count_by_all-in-Repeat.ensures
-    ∙ (ap (λ (weights : List ℕ). used_by_all inside body weights) (c.count_use.ensures ∙ ap (λ (weights : List ℕ). used inside x weights) before)
-    ∙ (ap (λ (v : ℕ). used_by_all v body (used v x (used_in w high (used_in w low c.args.weights.now)))) c.weight_inside-inside.ensures
-    ∙ sym (ap (λ (s : StraightTree). used_by w s c.args.weights.now) (tree_of_loop c.in-Repeat.body c.in-Repeat.is c.deref-in-Repeat.ensures.value))))
+    ∙ (ap (λ (weights : List ℕ). used_by_all inside body weights) (c.count_use.ensures
+    ∙ ap (λ (weights : List ℕ). used inside x weights) before)
+    ∙ (ap (λ (v : ℕ). used_by_all v body (used v x (used_in w high (used_in w low c.args.weights.now))))
+    c.weight_inside-inside.ensures
+    ∙ sym (ap (λ (s : StraightTree). used_by w s c.args.weights.now)
+    (tree_of_loop c.in-Repeat.body c.in-Repeat.is c.deref-in-Repeat.ensures.value))))
 
 pub count_by_all-count_by-requires : goal.count_by_all-count_by-requires
 count_by_all-count_by-requires t c =

@@ -6,7 +6,8 @@ use Rattle.codegen.proofs.uses.+counts.Given as goal
 -- with those in the statements that are left, the weights are those of all
 abbrev pub invariant-count_by_all-loop-statement : goal.invariant-count_by_all-loop-statement
 invariant-count_by_all-loop-statement l =
-    used_by_all l.weight (straight_block (drop l.statement-index l.statements)) l.weights ≡ used_by_all l.weight (straight_block l.fn.statements) l.fn.weights
+    used_by_all l.weight (straight_block (drop l.statement-index l.statements)) l.weights
+    ≡ used_by_all l.weight (straight_block l.fn.statements) l.fn.weights
 
 abbrev pub decreases-count_by : goal.decreases-count_by
 decreases-count_by l = 2 * statement_nodes (straight_tree l.statement.now)

@@ -17,22 +17,27 @@ use Rattle.commands.proofs.certifying.certify_image.Goals as goal
 pub returns-in_err-image-clause-refused : goal.returns-in_err-image-clause-refused
 returns-in_err-image-clause-refused g c = λ tells.
     let p = err_from_is_err_and c.from_residual.result c.from_residual.ensures.1 in
-    handed_on (RefusesCertificate (shifts_seen c.args.shifts) (g.F.Files.contents c.args.files.now) c.args.path.now (map (λ word. word.now) c.args.arguments.now)) c.from_residual.result p.0 c.in_err-image.field-0.0 p.1 p.2
+    handed_on (RefusesCertificate (shifts_seen c.args.shifts) (g.F.Files.contents c.args.files.now) c.args.path.now
+    (map (λ word. word.now) c.args.arguments.now)) c.from_residual.result p.0 c.in_err-image.field-0.0 p.1 p.2
     (no_image (c.in_err-image.ensures.refused tells))
 
 pub returns-in_err-params-clause-refused : goal.returns-in_err-params-clause-refused
 returns-in_err-params-clause-refused g c = λ tells.
     let p = err_from_is_err_and c.from_residual-in_err-params.result c.from_residual-in_err-params.ensures.1 in
-    memory_on (RefusesCertificate (shifts_seen c.args.shifts) (g.F.Files.contents c.args.files.now) c.args.path.now (map (λ word. word.now) c.args.arguments.now)) c.from_residual-in_err-params.result p.0 p.1 (out_of_memory p.2)
+    memory_on (RefusesCertificate (shifts_seen c.args.shifts) (g.F.Files.contents c.args.files.now) c.args.path.now
+    (map (λ word. word.now) c.args.arguments.now)) c.from_residual-in_err-params.result p.0 p.1
+    (out_of_memory p.2)
 
 pub returns-in_err-given-clause-refused : goal.returns-in_err-given-clause-refused
 returns-in_err-given-clause-refused g c = λ tells.
     let words = map (λ word. word.now) c.args.arguments.now in
     let why = c.in_err-given.field-0.0 in
     let p = err_from_is_err_and c.from_residual-in_err-given.result c.from_residual-in_err-given.ensures.1 in
-    handed_on (RefusesCertificate (shifts_seen c.args.shifts) (g.F.Files.contents c.args.files.now) c.args.path.now words) c.from_residual-in_err-given.result p.0 (Run why) p.1 p.2
+    handed_on (RefusesCertificate (shifts_seen c.args.shifts) (g.F.Files.contents c.args.files.now) c.args.path.now
+    words) c.from_residual-in_err-given.result p.0 (Run why) p.1 p.2
     (no_arguments (c.in_ok-image.ensures.said tells)
-    (subst (λ (params : List Param). IsFaultOfWords (fault_of_given_texts params words) why) (c.as_slice.ensures.value ∙ c.in_ok-params.ensures.params)
+    (subst (λ (params : List Param). IsFaultOfWords (fault_of_given_texts params words) why) (c.as_slice.ensures.value
+    ∙ c.in_ok-params.ensures.params)
     (fault_of_words _ why (Err why) refl c.in_err-given.ensures.fault c.in_err-given.ensures.unstopped)))
 
 pub returns-in_err-certificate-clause-refused : goal.returns-in_err-certificate-clause-refused
@@ -40,18 +45,32 @@ returns-in_err-certificate-clause-refused g c = λ tells.
     let words = map (λ word. word.now) c.args.arguments.now in
     let image = c.in_ok-image.image in
     let why = c.in_err-certificate.field-0.0 in
-    let p = err_from_is_err_and c.from_residual-in_err-certificate.result c.from_residual-in_err-certificate.ensures.1 in
-    let given = given_from c.args.arguments.now (λ word. word.now) (c.as_slice.ensures.value ∙ c.in_ok-params.ensures.params) c.in_ok-given.ensures.faultless c.in_ok-given.ensures.found in
-    memory_on (RefusesCertificate (shifts_seen c.args.shifts) (g.F.Files.contents c.args.files.now) c.args.path.now words) c.from_residual-in_err-certificate.result p.0 p.1
-    (no_answer (c.in_ok-image.ensures.said tells) (c.in_ok-given.given.items, why, given, subst (λ (s : Shifts). Certified image c.in_ok-given.given.items s (Err why)) c.shifts_seen.ensures (subst (λ (xs : List (Option Arg)). Certified image xs c.shifts_seen.result (Err why)) c.as_slice-2.ensures.value c.in_err-certificate.ensures), p.2))
+    let p = err_from_is_err_and c.from_residual-in_err-certificate.result
+    c.from_residual-in_err-certificate.ensures.1 in
+    let given = given_from c.args.arguments.now (λ word. word.now) (c.as_slice.ensures.value
+    ∙ c.in_ok-params.ensures.params) c.in_ok-given.ensures.faultless c.in_ok-given.ensures.found in
+    memory_on (RefusesCertificate (shifts_seen c.args.shifts) (g.F.Files.contents c.args.files.now) c.args.path.now
+    words) c.from_residual-in_err-certificate.result p.0 p.1
+    (no_answer (c.in_ok-image.ensures.said tells) (
+      c.in_ok-given.given.items,
+      why,
+      given,
+      subst (λ (s : Shifts). Certified image c.in_ok-given.given.items s (Err why)) c.shifts_seen.ensures
+          (subst (λ (xs : List (Option Arg)). Certified image xs c.shifts_seen.result (Err why))
+          c.as_slice-2.ensures.value c.in_err-certificate.ensures),
+      p.2,
+    ))
 
 pub text_of-requires : goal.text_of-requires
-text_of-requires g c = stands_in_code c.in_ok-image.image c.as_slice-2.result.now c.shifts_seen.result c.in_ok-certificate.certificate c.in_ok-certificate.ensures
+text_of-requires g c = stands_in_code c.in_ok-image.image c.as_slice-2.result.now c.shifts_seen.result
+    c.in_ok-certificate.certificate c.in_ok-certificate.ensures
 
 pub returns-in_err-text-clause-refused : goal.returns-in_err-text-clause-refused
 returns-in_err-text-clause-refused g c = λ tells.
     let p = err_from_is_err_and c.from_residual-in_err-text.result c.from_residual-in_err-text.ensures.1 in
-    memory_on (RefusesCertificate (shifts_seen c.args.shifts) (g.F.Files.contents c.args.files.now) c.args.path.now (map (λ word. word.now) c.args.arguments.now)) c.from_residual-in_err-text.result p.0 p.1 (out_of_memory p.2)
+    memory_on (RefusesCertificate (shifts_seen c.args.shifts) (g.F.Files.contents c.args.files.now) c.args.path.now
+    (map (λ word. word.now) c.args.arguments.now)) c.from_residual-in_err-text.result p.0 p.1
+    (out_of_memory p.2)
 
 pub returns-clause-said : goal.returns-clause-said
 returns-clause-said g c = λ tells.
@@ -62,8 +81,12 @@ returns-clause-said g c = λ tells.
       given = c.in_ok-given.given.items;
       certificate = certificate;
       held = c.in_ok-image.ensures.said tells;
-      as_said = given_from c.args.arguments.now (λ word. word.now) (c.as_slice.ensures.value ∙ c.in_ok-params.ensures.params) c.in_ok-given.ensures.faultless c.in_ok-given.ensures.found;
-      certified = subst (λ (s : Shifts). Certified image c.in_ok-given.given.items s (Ok certificate)) c.shifts_seen.ensures (subst (λ (xs : List (Option Arg)). Certified image xs c.shifts_seen.result (Ok certificate)) c.as_slice-2.ensures.value c.in_ok-certificate.ensures);
+      as_said = given_from c.args.arguments.now (λ word. word.now) (c.as_slice.ensures.value
+          ∙ c.in_ok-params.ensures.params) c.in_ok-given.ensures.faultless c.in_ok-given.ensures.found;
+      certified = subst (λ (s : Shifts). Certified image c.in_ok-given.given.items s (Ok certificate))
+          c.shifts_seen.ensures
+          (subst (λ (xs : List (Option Arg)). Certified image xs c.shifts_seen.result (Ok certificate))
+          c.as_slice-2.ensures.value c.in_ok-certificate.ensures);
       printed = c.in_ok-text.ensures;
       ended = c.status_of_certificate.ensures.exact;
     }

@@ -13,15 +13,19 @@ returns-in_err-write_file-clause-cut_off g c = λ tells.
     let after = g.F.Files.contents c.write_file.new.files in
     let texts = c.args.texts.now in
     let p = err_from_is_err_and c.from_residual.result c.from_residual.ensures.1 in
-    handed_on (AreCutOff c.args.one.now c.args.other.now (string_bytes texts.assembler) (string_bytes texts.header) before after) c.from_residual.result p.0 c.in_err-write_file.field-0.0 p.1 p.2
-    (in_first (subst (λ (bytes : List ℕ). IsCutOff c.args.one.now bytes before after) c.as_bytes.ensures.value (c.in_err-write_file.ensures.cut_off tells)) c.in_err-write_file.ensures.fault)
+    handed_on (AreCutOff c.args.one.now c.args.other.now (string_bytes texts.assembler) (string_bytes texts.header)
+    before after) c.from_residual.result p.0 c.in_err-write_file.field-0.0 p.1 p.2
+    (in_first (subst (λ (bytes : List ℕ). IsCutOff c.args.one.now bytes before after) c.as_bytes.ensures.value
+    (c.in_err-write_file.ensures.cut_off tells)) c.in_err-write_file.ensures.fault)
 
 pub returns-clause-cut_off : goal.returns-clause-cut_off
 returns-clause-cut_off g c = λ tells.
     let before = g.F.Files.contents c.args.files.now in
     let between = g.F.Files.contents c.write_file.new.files in
     let after = g.F.Files.contents c.write_file-2.new.files in
-    let first = subst (λ (bytes : List ℕ). IsWritten c.args.one.now bytes before between) c.as_bytes.ensures.value (c.in_ok-write_file.ensures.written tells) in
+    let first = subst (λ (bytes : List ℕ). IsWritten c.args.one.now bytes before between) c.as_bytes.ensures.value
+    (c.in_ok-write_file.ensures.written tells) in
     err_both _ _ _ c.write_file-2.result
-    (subst (λ (bytes : List ℕ). OnErr c.write_file-2.result (IsCutOff c.args.other.now bytes between after)) c.as_bytes-2.ensures.value (c.write_file-2.ensures.cut_off tells))
+    (subst (λ (bytes : List ℕ). OnErr c.write_file-2.result (IsCutOff c.args.other.now bytes between after))
+    c.as_bytes-2.ensures.value (c.write_file-2.ensures.cut_off tells))
     c.write_file-2.ensures.fault (λ fault cut why. in_second first cut why)

@@ -11,7 +11,9 @@ pub returns-in_err-texts-clause-refused : goal.returns-in_err-texts-clause-refus
 returns-in_err-texts-clause-refused g c = λ tells.
     let files = g.F.Files.contents c.args.files.now in
     let p = err_from_is_err_and c.from_residual.result c.from_residual.ensures.1 in
-    handed_on (FailsToWriteTwo c.args.assembler.now c.args.header.now (AreFunctionTexts c.args.options.optimisation c.args.options.profile files c.args.file.now) (RefusesFunction c.args.options.explain c.args.options.profile files c.args.file.now) files files)
+    handed_on (FailsToWriteTwo c.args.assembler.now c.args.header.now
+    (AreFunctionTexts c.args.options.optimisation c.args.options.profile files c.args.file.now)
+    (RefusesFunction c.args.options.explain c.args.options.profile files c.args.file.now) files files)
     c.from_residual.result p.0 c.in_err-texts.field-0.0 p.1 p.2 (refused (c.in_err-texts.ensures.refused tells) refl)
 
 pub returns-clause-said : goal.returns-clause-said
@@ -27,4 +29,5 @@ returns-clause-said g c = λ tells.
 
 pub returns-clause-refused : goal.returns-clause-refused
 returns-clause-refused g c = λ tells.
-    err_both _ _ _ c.write_both.result (c.write_both.ensures.cut_off tells) c.write_both.ensures.fault (λ fault cut why. cut_off (c.in_ok-texts.ensures.said tells) cut)
+    err_both _ _ _ c.write_both.result (c.write_both.ensures.cut_off tells) c.write_both.ensures.fault
+    (λ fault cut why. cut_off (c.in_ok-texts.ensures.said tells) cut)

@@ -5,7 +5,8 @@ use Rattle.std.specs.Option.{option_map}
 use Rattle.arguments.specs.Texts.{fault_of_texts}
 use Rattle.hepurita.specs.Paired.{shifted}
 use Rattle.commands.specs.Words.{fault_of_both, AreSpelled, IsFaultOfWords}
-use Rattle.commands.proofs.WordLemmas.{fault_of_words, fault_of_first, fault_of_second, passed_on, first_words, second_words, count_of_words, spelled_from}
+use Rattle.commands.proofs.WordLemmas.{fault_of_words, fault_of_first, fault_of_second, passed_on, first_words}
+use Rattle.commands.proofs.WordLemmas.{second_words, count_of_words, spelled_from}
 use Rattle.commands.proofs.images.both_args.Goals as goal
 
 pub returns-in_err-first-in-Some-clause-refused : goal.returns-in_err-first-in-Some-clause-refused
@@ -15,21 +16,34 @@ returns-in_err-first-in-Some-clause-refused c =
     let why = c.in_err-first-in-Some.field-0.0 in
     let p = err_from_is_err_and c.from_residual.result c.from_residual.ensures.1 in
     passed_on (IsFaultOfWords (fault_of_both params words)) c.from_residual.result p.0 why p.1 p.2
-    (fault_of_first params words why (count_of_words (λ word. word.now) (length params) c.args.arguments.now c.in-Some.second.now c.if-second-params.true c.in-Some.ensures.cases.4)
-    (subst (λ (texts : List (List ℕ)). IsFaultOfWords (fault_of_texts params texts) why) (first_words (λ word. word.now) (length params) c.args.arguments.now c.in-Some.first.now c.in-Some.ensures.cases.1)
-    (fault_of_words _ why (Err why) refl c.in_err-first-in-Some.ensures.fault c.in_err-first-in-Some.ensures.unstopped)))
+    (fault_of_first params words why
+    (count_of_words (λ word. word.now) (length params) c.args.arguments.now c.in-Some.second.now
+    c.if-second-params.true c.in-Some.ensures.cases.4)
+    (subst (λ (texts : List (List ℕ)). IsFaultOfWords (fault_of_texts params texts) why)
+    (first_words (λ word. word.now) (length params) c.args.arguments.now c.in-Some.first.now
+    c.in-Some.ensures.cases.1)
+    (fault_of_words _ why (Err why) refl c.in_err-first-in-Some.ensures.fault
+    c.in_err-first-in-Some.ensures.unstopped)))
 
 pub returns-in_err-second-in-Some-clause-refused : goal.returns-in_err-second-in-Some-clause-refused
 returns-in_err-second-in-Some-clause-refused c =
     let params = c.args.params.now in
     let words = map (λ word. word.now) c.args.arguments.now in
     let why = c.in_err-second-in-Some.field-0.0 in
-    let p = err_from_is_err_and c.from_residual-in_err-second-in-Some.result c.from_residual-in_err-second-in-Some.ensures.1 in
+    let p = err_from_is_err_and c.from_residual-in_err-second-in-Some.result
+    c.from_residual-in_err-second-in-Some.ensures.1 in
     let both = c.in-Some.ensures.cases in
-    passed_on (IsFaultOfWords (fault_of_both params words)) c.from_residual-in_err-second-in-Some.result p.0 why p.1 p.2
-    (fault_of_second params words why (count_of_words (λ word. word.now) (length params) c.args.arguments.now c.in-Some.second.now c.if-second-params.true both.4)
-    (subst (λ (texts : List (List ℕ)). fault_of_texts params texts ≡ None) (first_words (λ word. word.now) (length params) c.args.arguments.now c.in-Some.first.now both.1) c.in_ok-first-in-Some.ensures.only)
-    (subst (λ (texts : List (List ℕ)). IsFaultOfWords (option_map (shifted (length params)) (fault_of_texts params texts)) why) (second_words (λ word. word.now) (length params) c.args.arguments.now c.in-Some.second.now both.2)
+    passed_on (IsFaultOfWords (fault_of_both params words)) c.from_residual-in_err-second-in-Some.result p.0
+    why p.1 p.2
+    (fault_of_second params words why
+    (count_of_words (λ word. word.now) (length params) c.args.arguments.now c.in-Some.second.now
+    c.if-second-params.true both.4)
+    (subst (λ (texts : List (List ℕ)). fault_of_texts params texts ≡ None)
+    (first_words (λ word. word.now) (length params) c.args.arguments.now c.in-Some.first.now both.1)
+    c.in_ok-first-in-Some.ensures.only)
+    (subst (λ (texts : List (List ℕ)).
+    IsFaultOfWords (option_map (shifted (length params)) (fault_of_texts params texts)) why)
+    (second_words (λ word. word.now) (length params) c.args.arguments.now c.in-Some.second.now both.2)
     c.in_err-second-in-Some.ensures.refused))
 
 pub returns-in_ok-second-in-Some-clause-found : goal.returns-in_ok-second-in-Some-clause-found
@@ -37,8 +51,11 @@ returns-in_ok-second-in-Some-clause-found c =
     let params = c.args.params.now in
     let both = c.in-Some.ensures.cases in
     record {
-      first = subst (λ (texts : List (List ℕ)). AreSpelled params texts c.in_ok-first-in-Some.first) (first_words (λ word. word.now) (length params) c.args.arguments.now c.in-Some.first.now both.1)
-          (spelled_from c.in-Some.first.now (λ word. word.now) refl c.in_ok-first-in-Some.ensures.within c.in_ok-first-in-Some.ensures.found);
-      second = subst (λ (texts : List (List ℕ)). AreSpelled params texts c.in_ok-second-in-Some.second) (second_words (λ word. word.now) (length params) c.args.arguments.now c.in-Some.second.now both.2)
+      first = subst (λ (texts : List (List ℕ)). AreSpelled params texts c.in_ok-first-in-Some.first)
+          (first_words (λ word. word.now) (length params) c.args.arguments.now c.in-Some.first.now both.1)
+          (spelled_from c.in-Some.first.now (λ word. word.now) refl c.in_ok-first-in-Some.ensures.within
+          c.in_ok-first-in-Some.ensures.found);
+      second = subst (λ (texts : List (List ℕ)). AreSpelled params texts c.in_ok-second-in-Some.second)
+          (second_words (λ word. word.now) (length params) c.args.arguments.now c.in-Some.second.now both.2)
           c.in_ok-second-in-Some.ensures.found;
     }

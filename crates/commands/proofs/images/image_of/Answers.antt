@@ -18,9 +18,11 @@ returns-in_err-image-clause-refused g c = λ tells.
     let p = err_from_is_err_and c.from_residual.result c.from_residual.ensures.1 in
     handed_on (NoImage files path) c.from_residual.result p.0 (Image fault) p.1 p.2
     (image_refused files path c.in-Ok.bytes.items fault (c.in-Ok.ensures.begins tells)
-    (subst (λ (bytes : List ℕ). IsUnlessMemory {A = Fields} (Err fault) (reading bytes)) c.as_slice.ensures.value c.in_err-image.ensures.exact))
+    (subst (λ (bytes : List ℕ). IsUnlessMemory {A = Fields} (Err fault) (reading bytes)) c.as_slice.ensures.value
+    c.in_err-image.ensures.exact))
 
 pub returns-clause-said : goal.returns-clause-said
 returns-clause-said g c = λ tells.
-    image_held (g.F.Files.contents c.args.files.now) c.args.path.now c.in-Ok.bytes.items c.in_ok-image.image (c.in-Ok.ensures.begins tells)
+    image_held (g.F.Files.contents c.args.files.now) c.args.path.now c.in-Ok.bytes.items c.in_ok-image.image
+    (c.in-Ok.ensures.begins tells)
     (ap reading (sym c.as_slice.ensures.value) ∙ c.in_ok-image.ensures.exact) c.in_ok-image.ensures.allowed

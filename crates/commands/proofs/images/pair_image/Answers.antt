@@ -13,43 +13,62 @@ use Rattle.commands.proofs.images.pair_image.Goals as goal
 pub returns-in_err-image-clause-refused : goal.returns-in_err-image-clause-refused
 returns-in_err-image-clause-refused g c = λ tells.
     let p = err_from_is_err_and c.from_residual.result c.from_residual.ensures.1 in
-    handed_on (RefusesPair (g.F.Files.contents c.args.files.now) c.args.path.now (map (λ word. word.now) c.args.arguments.now)) c.from_residual.result p.0 c.in_err-image.field-0.0 p.1 p.2
+    handed_on (RefusesPair (g.F.Files.contents c.args.files.now) c.args.path.now
+    (map (λ word. word.now) c.args.arguments.now)) c.from_residual.result p.0 c.in_err-image.field-0.0 p.1 p.2
     (no_image (c.in_err-image.ensures.refused tells))
 
 pub returns-in_err-params-clause-refused : goal.returns-in_err-params-clause-refused
 returns-in_err-params-clause-refused g c = λ tells.
     let p = err_from_is_err_and c.from_residual-in_err-params.result c.from_residual-in_err-params.ensures.1 in
-    memory_on (RefusesPair (g.F.Files.contents c.args.files.now) c.args.path.now (map (λ word. word.now) c.args.arguments.now)) c.from_residual-in_err-params.result p.0 p.1 (out_of_memory p.2)
+    memory_on (RefusesPair (g.F.Files.contents c.args.files.now) c.args.path.now
+    (map (λ word. word.now) c.args.arguments.now)) c.from_residual-in_err-params.result p.0 p.1
+    (out_of_memory p.2)
 
 pub returns-in_err-first-clause-refused : goal.returns-in_err-first-clause-refused
 returns-in_err-first-clause-refused g c = λ tells.
     let words = map (λ word. word.now) c.args.arguments.now in
     let why = c.in_err-first.field-0.0 in
     let p = err_from_is_err_and c.from_residual-in_err-first.result c.from_residual-in_err-first.ensures.1 in
-    handed_on (RefusesPair (g.F.Files.contents c.args.files.now) c.args.path.now words) c.from_residual-in_err-first.result p.0 (Run why) p.1 p.2
+    handed_on (RefusesPair (g.F.Files.contents c.args.files.now) c.args.path.now words)
+    c.from_residual-in_err-first.result p.0 (Run why) p.1 p.2
     (no_arguments (c.in_ok-image.ensures.said tells)
-    (subst (λ (params : List Param). IsFaultOfWords (fault_of_both params words) why) (c.as_slice.ensures.value ∙ c.in_ok-params.ensures.params) c.in_err-first.ensures.refused))
+    (subst (λ (params : List Param). IsFaultOfWords (fault_of_both params words) why) (c.as_slice.ensures.value
+    ∙ c.in_ok-params.ensures.params) c.in_err-first.ensures.refused))
 
 pub returns-in_err-pairing-clause-refused : goal.returns-in_err-pairing-clause-refused
 returns-in_err-pairing-clause-refused g c = λ tells.
     let words = map (λ word. word.now) c.args.arguments.now in
     let p = err_from_is_err_and c.from_residual-in_err-pairing.result c.from_residual-in_err-pairing.ensures.1 in
-    let spelled = subst (λ (params : List Param). AreBothSpelled params words c.in_ok-first.first c.in_ok-first.second) (c.as_slice.ensures.value ∙ c.in_ok-params.ensures.params) c.in_ok-first.ensures.found in
-    memory_on (RefusesPair (g.F.Files.contents c.args.files.now) c.args.path.now words) c.from_residual-in_err-pairing.result p.0 p.1
-    (no_answer (c.in_ok-image.ensures.said tells) (c.in_ok-first.first, c.in_ok-first.second, c.in_err-pairing.field-0.0, spelled, c.in_err-pairing.ensures, p.2))
+    let spelled =
+    subst (λ (params : List Param). AreBothSpelled params words c.in_ok-first.first c.in_ok-first.second)
+    (c.as_slice.ensures.value ∙ c.in_ok-params.ensures.params) c.in_ok-first.ensures.found in
+    memory_on (RefusesPair (g.F.Files.contents c.args.files.now) c.args.path.now words)
+    c.from_residual-in_err-pairing.result p.0 p.1
+    (no_answer (c.in_ok-image.ensures.said tells) (
+      c.in_ok-first.first,
+      c.in_ok-first.second,
+      c.in_err-pairing.field-0.0,
+      spelled,
+      c.in_err-pairing.ensures,
+      p.2,
+    ))
 
 pub pairing_lines-requires-clause-first : goal.pairing_lines-requires-clause-first
 pairing_lines-requires-clause-first g c =
-    subst (λ (params : List Param). AreWithin params c.in_ok-first.first) (c.as_slice.ensures.value ∙ c.in_ok-params.ensures.params) c.in_ok-first.ensures.found.first.within
+    subst (λ (params : List Param). AreWithin params c.in_ok-first.first) (c.as_slice.ensures.value
+    ∙ c.in_ok-params.ensures.params) c.in_ok-first.ensures.found.first.within
 
 pub pairing_lines-requires-clause-second : goal.pairing_lines-requires-clause-second
 pairing_lines-requires-clause-second g c =
-    subst (λ (params : List Param). AreWithin params c.in_ok-first.second) (c.as_slice.ensures.value ∙ c.in_ok-params.ensures.params) c.in_ok-first.ensures.found.second.within
+    subst (λ (params : List Param). AreWithin params c.in_ok-first.second) (c.as_slice.ensures.value
+    ∙ c.in_ok-params.ensures.params) c.in_ok-first.ensures.found.second.within
 
 pub returns-in_err-text-clause-refused : goal.returns-in_err-text-clause-refused
 returns-in_err-text-clause-refused g c = λ tells.
     let p = err_from_is_err_and c.from_residual-in_err-text.result c.from_residual-in_err-text.ensures.1 in
-    memory_on (RefusesPair (g.F.Files.contents c.args.files.now) c.args.path.now (map (λ word. word.now) c.args.arguments.now)) c.from_residual-in_err-text.result p.0 p.1 (out_of_memory p.2)
+    memory_on (RefusesPair (g.F.Files.contents c.args.files.now) c.args.path.now
+    (map (λ word. word.now) c.args.arguments.now)) c.from_residual-in_err-text.result p.0 p.1
+    (out_of_memory p.2)
 
 pub returns-clause-said : goal.returns-clause-said
 returns-clause-said g c = λ tells.
@@ -62,7 +81,8 @@ returns-clause-said g c = λ tells.
       other = other;
       pairing = c.in_ok-pairing.pairing;
       held = c.in_ok-image.ensures.said tells;
-      spelled = subst (λ (params : List Param). AreBothSpelled params words one other) (c.as_slice.ensures.value ∙ c.in_ok-params.ensures.params) c.in_ok-first.ensures.found;
+      spelled = subst (λ (params : List Param). AreBothSpelled params words one other) (c.as_slice.ensures.value
+          ∙ c.in_ok-params.ensures.params) c.in_ok-first.ensures.found;
       paired = c.in_ok-pairing.ensures;
       printed = c.in_ok-text.ensures;
     }

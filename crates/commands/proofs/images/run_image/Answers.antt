@@ -14,36 +14,51 @@ use Rattle.commands.proofs.images.run_image.Goals as goal
 pub returns-in_err-image-clause-refused : goal.returns-in_err-image-clause-refused
 returns-in_err-image-clause-refused g c = λ tells.
     let p = err_from_is_err_and c.from_residual.result c.from_residual.ensures.1 in
-    handed_on (RefusesRun (g.F.Files.contents c.args.files.now) c.args.path.now (map (λ word. word.now) c.args.arguments.now)) c.from_residual.result p.0 c.in_err-image.field-0.0 p.1 p.2
+    handed_on (RefusesRun (g.F.Files.contents c.args.files.now) c.args.path.now
+    (map (λ word. word.now) c.args.arguments.now)) c.from_residual.result p.0 c.in_err-image.field-0.0 p.1 p.2
     (no_image (c.in_err-image.ensures.refused tells))
 
 pub returns-in_err-params-clause-refused : goal.returns-in_err-params-clause-refused
 returns-in_err-params-clause-refused g c = λ tells.
     let p = err_from_is_err_and c.from_residual-in_err-params.result c.from_residual-in_err-params.ensures.1 in
-    memory_on (RefusesRun (g.F.Files.contents c.args.files.now) c.args.path.now (map (λ word. word.now) c.args.arguments.now)) c.from_residual-in_err-params.result p.0 p.1 (out_of_memory p.2)
+    memory_on (RefusesRun (g.F.Files.contents c.args.files.now) c.args.path.now
+    (map (λ word. word.now) c.args.arguments.now)) c.from_residual-in_err-params.result p.0 p.1
+    (out_of_memory p.2)
 
 pub returns-in_err-args-clause-refused : goal.returns-in_err-args-clause-refused
 returns-in_err-args-clause-refused g c = λ tells.
     let words = map (λ word. word.now) c.args.arguments.now in
     let why = c.in_err-args.field-0.0 in
     let p = err_from_is_err_and c.from_residual-in_err-args.result c.from_residual-in_err-args.ensures.1 in
-    handed_on (RefusesRun (g.F.Files.contents c.args.files.now) c.args.path.now words) c.from_residual-in_err-args.result p.0 (Run why) p.1 p.2
+    handed_on (RefusesRun (g.F.Files.contents c.args.files.now) c.args.path.now words)
+    c.from_residual-in_err-args.result p.0 (Run why) p.1 p.2
     (no_arguments (c.in_ok-image.ensures.said tells)
-    (subst (λ (params : List Param). IsFaultOfWords (fault_of_texts params words) why) (c.as_slice.ensures.value ∙ c.in_ok-params.ensures.params)
+    (subst (λ (params : List Param). IsFaultOfWords (fault_of_texts params words) why) (c.as_slice.ensures.value
+    ∙ c.in_ok-params.ensures.params)
     (fault_of_words _ why (Err why) refl c.in_err-args.ensures.fault c.in_err-args.ensures.unstopped)))
 
 pub returns-in_err-outcome-clause-refused : goal.returns-in_err-outcome-clause-refused
 returns-in_err-outcome-clause-refused g c = λ tells.
     let words = map (λ word. word.now) c.args.arguments.now in
     let p = err_from_is_err_and c.from_residual-in_err-outcome.result c.from_residual-in_err-outcome.ensures.1 in
-    let spelled = spelled_from c.args.arguments.now (λ word. word.now) (c.as_slice.ensures.value ∙ c.in_ok-params.ensures.params) c.in_ok-args.ensures.within c.in_ok-args.ensures.found in
-    memory_on (RefusesRun (g.F.Files.contents c.args.files.now) c.args.path.now words) c.from_residual-in_err-outcome.result p.0 p.1
-    (no_answer (c.in_ok-image.ensures.said tells) (c.in_ok-args.args, c.in_err-outcome.field-0.0, spelled, c.in_err-outcome.ensures.executed, p.2))
+    let spelled = spelled_from c.args.arguments.now (λ word. word.now) (c.as_slice.ensures.value
+    ∙ c.in_ok-params.ensures.params) c.in_ok-args.ensures.within c.in_ok-args.ensures.found in
+    memory_on (RefusesRun (g.F.Files.contents c.args.files.now) c.args.path.now words)
+    c.from_residual-in_err-outcome.result p.0 p.1
+    (no_answer (c.in_ok-image.ensures.said tells) (
+      c.in_ok-args.args,
+      c.in_err-outcome.field-0.0,
+      spelled,
+      c.in_err-outcome.ensures.executed,
+      p.2,
+    ))
 
 pub returns-in_err-text-clause-refused : goal.returns-in_err-text-clause-refused
 returns-in_err-text-clause-refused g c = λ tells.
     let p = err_from_is_err_and c.from_residual-in_err-text.result c.from_residual-in_err-text.ensures.1 in
-    memory_on (RefusesRun (g.F.Files.contents c.args.files.now) c.args.path.now (map (λ word. word.now) c.args.arguments.now)) c.from_residual-in_err-text.result p.0 p.1 (out_of_memory p.2)
+    memory_on (RefusesRun (g.F.Files.contents c.args.files.now) c.args.path.now
+    (map (λ word. word.now) c.args.arguments.now)) c.from_residual-in_err-text.result p.0 p.1
+    (out_of_memory p.2)
 
 pub returns-clause-said : goal.returns-clause-said
 returns-clause-said g c = λ tells. record {
@@ -51,7 +66,10 @@ returns-clause-said g c = λ tells. record {
   args = c.in_ok-args.args;
   outcome = c.in_ok-outcome.outcome;
   held = c.in_ok-image.ensures.said tells;
-  spelled = spelled_from c.args.arguments.now (λ word. word.now) (c.as_slice.ensures.value ∙ c.in_ok-params.ensures.params) c.in_ok-args.ensures.within c.in_ok-args.ensures.found;
+  spelled = spelled_from c.args.arguments.now (λ word. word.now) (c.as_slice.ensures.value
+      ∙ c.in_ok-params.ensures.params) c.in_ok-args.ensures.within c.in_ok-args.ensures.found;
   executed = c.in_ok-outcome.ensures.executed;
-  printed = c.in_ok-text.ensures ∙ ap (λ (params : List Param). outcome_text params c.in_ok-outcome.outcome) (c.as_slice-2.ensures.value ∙ c.in_ok-params.ensures.params);
+  printed = c.in_ok-text.ensures
+      ∙ ap (λ (params : List Param). outcome_text params c.in_ok-outcome.outcome) (c.as_slice-2.ensures.value
+      ∙ c.in_ok-params.ensures.params);
 }

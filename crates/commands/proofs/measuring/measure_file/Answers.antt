@@ -25,7 +25,8 @@ returns-in_err-lines-clause-refused g c = λ tells.
 pub returns-in-Some-clause-said : goal.returns-in-Some-clause-said
 returns-in-Some-clause-said g c = λ tells.
     let lines = string_bytes c.in-Some.lines in
-    let shown = subst (λ o. IfSome o (λ text. SaysFields c.as_slice.result.now (string_bytes text))) c.in-Some.is c.in_ok-lines.ensures.said in
+    let shown = subst (λ o. IfSome o (λ text. SaysFields c.as_slice.result.now (string_bytes text))) c.in-Some.is
+    c.in_ok-lines.ensures.said in
     let said = subst (λ (b : List ℕ). SaysFields b lines) c.as_slice.ensures.value shown in
     image_costs c.args.profile (g.F.Files.contents c.args.files.now) c.args.file.now c.in-Ok.bytes.items lines
     (c.in-Ok.ensures.begins tells) said
@@ -36,7 +37,8 @@ returns-clause-said g c = λ tells.
     let read = c.in-Ok.ensures.begins tells in
     let other = subst BeginsOtherwise c.as_slice.ensures.value (c.in_ok-lines.ensures.other (ap Ok c.in-None.is)) in
     let held = other_held files c.args.file.now c.in-Ok.bytes.items read other in
-    if_ok_so c.source_costs.result (λ text said. of_source held said) (c.source_costs.ensures.said files read.whole read.held read.begun)
+    if_ok_so c.source_costs.result (λ text said. of_source held said)
+    (c.source_costs.ensures.said files read.whole read.held read.begun)
 
 pub returns-clause-refused : goal.returns-clause-refused
 returns-clause-refused g c = λ tells.
@@ -44,4 +46,5 @@ returns-clause-refused g c = λ tells.
     let read = c.in-Ok.ensures.begins tells in
     let other = subst BeginsOtherwise c.as_slice.ensures.value (c.in_ok-lines.ensures.other (ap Ok c.in-None.is)) in
     let held = other_held files c.args.file.now c.in-Ok.bytes.items read other in
-    if_err_so c.source_costs.result (λ fault why. no_source held why) (c.source_costs.ensures.refused files read.whole read.held read.begun)
+    if_err_so c.source_costs.result (λ fault why. no_source held why)
+    (c.source_costs.ensures.refused files read.whole read.held read.begun)

@@ -11,7 +11,8 @@ use Rattle.commands.proofs.measuring.source_costs.Goals as goal
 
 pub returns-in-Err-clause-refused : goal.returns-in-Err-clause-refused
 returns-in-Err-clause-refused c = λ files whole held begun.
-    no_text (c.text_fault.ensures files whole held (c.in-Err.ensures.fault whole (cut_shorter whole _ _ begun c.truncate.ensures.items)))
+    no_text (c.text_fault.ensures files whole held
+    (c.in-Err.ensures.fault whole (cut_shorter whole _ _ begun c.truncate.ensures.items)))
 
 pub returns-in_err-lines-clause-refused : goal.returns-in_err-lines-clause-refused
 returns-in_err-lines-clause-refused c = λ files whole held begun.
@@ -20,9 +21,14 @@ returns-in_err-lines-clause-refused c = λ files whole held begun.
     let source = string_bytes c.in-Ok.text in
     let all = c.in-Ok.ensures.whole whole (cut_shorter whole _ _ begun c.truncate.ensures.items) in
     let text : HoldsText files c.args.file.now source =
-    record { held = held ∙ ap Some (sym all); is_text = (c.in-Ok.ensures.within, IsUtf8-string_bytes c.in-Ok.text) } in
+    record {
+      held = held ∙ ap Some (sym all);
+      is_text =
+          (c.in-Ok.ensures.within, IsUtf8-string_bytes c.in-Ok.text);
+    } in
     let why : IsRefusal (Judges c.args.profile source) refusal =
-    subst (λ (t : List ℕ). IsRefusal (Judges c.args.profile t) refusal) c.as_str.ensures.value c.in_err-lines.ensures.refused in
+    subst (λ (t : List ℕ). IsRefusal (Judges c.args.profile t) refusal) c.as_str.ensures.value
+    c.in_err-lines.ensures.refused in
     rw (p.1, p.2) (not_accepted refusal text why refl)
 
 pub returns-clause-said : goal.returns-clause-said
@@ -31,6 +37,10 @@ returns-clause-said c = λ files whole held begun.
     let all = c.in-Ok.ensures.whole whole (cut_shorter whole _ _ begun c.truncate.ensures.items) in
     record {
       source = string_bytes c.in-Ok.text;
-      held = record { held = held ∙ ap Some (sym all); is_text = (c.in-Ok.ensures.within, IsUtf8-string_bytes c.in-Ok.text) };
-      said = subst (λ (t : List ℕ). SaysCosts c.args.profile t lines) c.as_str.ensures.value c.in_ok-lines.ensures.said;
+      held = record {
+        held = held ∙ ap Some (sym all);
+        is_text = (c.in-Ok.ensures.within, IsUtf8-string_bytes c.in-Ok.text);
+      };
+      said = subst (λ (t : List ℕ). SaysCosts c.args.profile t lines) c.as_str.ensures.value
+          c.in_ok-lines.ensures.said;
     }

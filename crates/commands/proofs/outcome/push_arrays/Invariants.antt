@@ -6,4 +6,5 @@ use Rattle.commands.proofs.outcome.push_arrays.Given as goal
 
 abbrev pub invariant-loop-number : goal.invariant-loop-number
 invariant-loop-number l =
-    string_bytes l.text ++ array_lines l.number (drop l.number l.params) l.left ≡ string_bytes l.fn.text ++ array_lines 0 l.params l.arrays
+    string_bytes l.text ++ array_lines l.number (drop l.number l.params) l.left ≡ string_bytes l.fn.text
+    ++ array_lines 0 l.params l.arrays

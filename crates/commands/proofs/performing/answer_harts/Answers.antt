@@ -7,14 +7,18 @@ use Rattle.commands.proofs.RequestLemmas.{harts_refused, printed_by, unprinted_b
 use Rattle.commands.proofs.performing.answer_harts.Goals as goal
 
 pub returns-in_err-text-clause-failed : goal.returns-in_err-text-clause-failed
-returns-in_err-text-clause-failed g c = λ files out. harts_refused c.args.file (g.F.Files.contents c.args.files.now) (g.O.Sink.taken c.args.out.now) c.from_residual.result
+returns-in_err-text-clause-failed g c =
+    λ files out. harts_refused c.args.file (g.F.Files.contents c.args.files.now) (g.O.Sink.taken c.args.out.now)
+    c.from_residual.result
 
 pub returns-in_err-lines-clause-failed : goal.returns-in_err-lines-clause-failed
 returns-in_err-lines-clause-failed g c = λ files out.
-    harts_refused c.args.file (g.F.Files.contents c.args.files.now) (g.O.Sink.taken c.args.out.now) c.from_residual-in_err-lines.result
+    harts_refused c.args.file (g.F.Files.contents c.args.files.now) (g.O.Sink.taken c.args.out.now)
+    c.from_residual-in_err-lines.result
 
 -- what the lines say of the string's text they say of the file's
-says : (files : Contents) (path : List ℕ) (plan : String Global) (as_str items as_slice : List ℕ) (status : ℕ) → files path ≡ Some (string_bytes plan) → as_str ≡ string_bytes plan → as_slice ≡ items
+says : (files : Contents) (path : List ℕ) (plan : String Global) (as_str items as_slice : List ℕ) (status : ℕ)
+    → files path ≡ Some (string_bytes plan) → as_str ≡ string_bytes plan → as_slice ≡ items
     → SaysPlan files as_str items status → SaysHarts files path as_slice status
 says files path plan as_str items as_slice status held same_text same_lines said = record {
   plan = string_bytes plan;
@@ -27,12 +31,18 @@ says files path plan as_str items as_slice status held same_text same_lines said
 
 pub returns-clause-failed : goal.returns-clause-failed
 returns-clause-failed g c = λ files out.
-    let said = says (g.F.Files.contents c.args.files.now) c.args.file.now c.in_ok-text.field-0 c.as_str.result.now c.in_ok-lines.lines.items c.as_slice.result.now c.in_ok-lines.status
-    (c.in_ok-text.ensures.said files) c.as_str.ensures.value c.as_slice.ensures.value (c.in_ok-lines.ensures.said files) in
-    unprinted_by _ _ _ _ _ c.as_slice.result.now c.in_ok-lines.status c.print.result said refl (c.print.ensures.beginning out) c.print.ensures.fault
+    let said = says (g.F.Files.contents c.args.files.now) c.args.file.now c.in_ok-text.field-0 c.as_str.result.now
+    c.in_ok-lines.lines.items c.as_slice.result.now c.in_ok-lines.status
+    (c.in_ok-text.ensures.said files) c.as_str.ensures.value c.as_slice.ensures.value
+    (c.in_ok-lines.ensures.said files) in
+    unprinted_by _ _ _ _ _ c.as_slice.result.now c.in_ok-lines.status c.print.result said refl
+    (c.print.ensures.beginning out) c.print.ensures.fault
 
 pub returns-clause-done : goal.returns-clause-done
 returns-clause-done g c = λ files out.
-    let said = says (g.F.Files.contents c.args.files.now) c.args.file.now c.in_ok-text.field-0 c.as_str.result.now c.in_ok-lines.lines.items c.as_slice.result.now c.in_ok-lines.status
-    (c.in_ok-text.ensures.said files) c.as_str.ensures.value c.as_slice.ensures.value (c.in_ok-lines.ensures.said files) in
-    printed_by _ _ _ _ _ c.as_slice.result.now c.in_ok-lines.status c.print.result said refl c.print.ensures.answer (c.print.ensures.whole out)
+    let said = says (g.F.Files.contents c.args.files.now) c.args.file.now c.in_ok-text.field-0 c.as_str.result.now
+    c.in_ok-lines.lines.items c.as_slice.result.now c.in_ok-lines.status
+    (c.in_ok-text.ensures.said files) c.as_str.ensures.value c.as_slice.ensures.value
+    (c.in_ok-lines.ensures.said files) in
+    printed_by _ _ _ _ _ c.as_slice.result.now c.in_ok-lines.status c.print.result said refl c.print.ensures.answer
+    (c.print.ensures.whole out)

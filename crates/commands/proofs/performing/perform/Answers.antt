@@ -6,4 +6,5 @@ pub returns-in-Ok-clause-performed : goal.returns-in-Ok-clause-performed
 returns-in-Ok-clause-performed g c = λ files out err. done (c.in-Ok.ensures.done files out) refl
 
 pub returns-clause-performed : goal.returns-clause-performed
-returns-clause-performed g c = λ files out err. failed (c.in-Err.ensures.failed files out) (c.report.ensures.reported err)
+returns-clause-performed g c = λ files out err.
+    failed (c.in-Err.ensures.failed files out) (c.report.ensures.reported err)

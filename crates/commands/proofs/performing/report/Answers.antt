@@ -9,8 +9,10 @@ returns-in-Ok-clause-reported g c = λ tells.
     let fault = c.args.fault.now in
     let before = g.E.Sink.taken c.args.err.now in
     let after = g.E.Sink.taken c.put_all.new.sink in
-    let line : c.as_bytes.result.now ≡ fault_line fault ++ codes "\n" = c.as_bytes.ensures.value ∙ c.in-Ok.ensures.ok in
-    let put = is_put c.as_bytes.result.now before after c.put_all.result (c.put_all.ensures.whole tells) (c.put_all.ensures.beginning tells) in
+    let line : c.as_bytes.result.now ≡ fault_line fault ++ codes "\n" = c.as_bytes.ensures.value
+    ∙ c.in-Ok.ensures.ok in
+    let put = is_put c.as_bytes.result.now before after c.put_all.result (c.put_all.ensures.whole tells)
+    (c.put_all.ensures.beginning tells) in
     subst (λ (status : ℕ). Reports fault before after status) (sym c.status.ensures.status)
     (by_line (subst (λ (bytes : List ℕ). IsPut bytes before after) line put))
 
@@ -18,5 +20,6 @@ pub returns-in-Err-clause-reported : goal.returns-in-Err-clause-reported
 returns-in-Err-clause-reported g c = λ tells.
     let before = g.E.Sink.taken c.args.err.now in
     let after = g.E.Sink.taken c.put_all-in-Err.new.sink in
-    let put = is_put c.as_bytes-in-Err.result.now before after c.put_all-in-Err.result (c.put_all-in-Err.ensures.whole tells) (c.put_all-in-Err.ensures.beginning tells) in
+    let put = is_put c.as_bytes-in-Err.result.now before after c.put_all-in-Err.result
+    (c.put_all-in-Err.ensures.whole tells) (c.put_all-in-Err.ensures.beginning tells) in
     no_memory (subst (λ (bytes : List ℕ). IsPut bytes before after) c.as_bytes-in-Err.ensures.value put)

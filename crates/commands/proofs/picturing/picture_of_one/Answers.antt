@@ -23,7 +23,8 @@ returns-in_err-given-clause-refused c =
     (fault_of_words _ why (Err why) refl c.in_err-given.ensures.fault c.in_err-given.ensures.unstopped)))
 
 pub text_of-requires : goal.text_of-requires
-text_of-requires c = stands_in_code c.args.image.now c.as_slice.result.now Hidden c.in_ok-certificate.certificate c.in_ok-certificate.ensures
+text_of-requires c = stands_in_code c.args.image.now c.as_slice.result.now Hidden c.in_ok-certificate.certificate
+    c.in_ok-certificate.ensures
 
 pub returns-clause-said : goal.returns-clause-said
 returns-clause-said c =
@@ -33,15 +34,20 @@ returns-clause-said c =
     let told = c.in_ok-told.told.items in
     let page = c.in_ok-page.page.items in
     let whole : c.as_slice-4.result.now ≡ before_certificate ++ told =
-    c.as_slice-4.ensures.value ∙ c.in_ok-extend_from_slice.ensures.items ∙ ap₂ (λ (a b : List ℕ). a ++ b) c.in_ok-said.ensures.items c.as_slice-2.ensures.value in
+    c.as_slice-4.ensures.value ∙ c.in_ok-extend_from_slice.ensures.items
+    ∙ ap₂ (λ (a b : List ℕ). a ++ b) c.in_ok-said.ensures.items c.as_slice-2.ensures.value in
     record {
       given = given;
       certificate = certificate;
       told = told;
-      as_said = given_from c.args.arguments.now (λ word. word.now) c.requires.params c.in_ok-given.ensures.faultless c.in_ok-given.ensures.found;
-      certified = subst (λ (xs : List (Option Arg)). Certified image xs Hidden (Ok certificate)) c.as_slice.ensures.value c.in_ok-certificate.ensures;
+      as_said = given_from c.args.arguments.now (λ word. word.now) c.requires.params c.in_ok-given.ensures.faultless
+          c.in_ok-given.ensures.found;
+      certified = subst (λ (xs : List (Option Arg)). Certified image xs Hidden (Ok certificate))
+          c.as_slice.ensures.value c.in_ok-certificate.ensures;
       printed = c.in_ok-told.ensures;
       drawn =
-          subst (λ (xs : List (Option Arg)). DrawsOne image xs (before_certificate ++ told) page) c.as_slice-3.ensures.value
-          (subst (λ (said : List ℕ). DrawsOne image c.as_slice-3.result.now said page) whole c.in_ok-page.ensures.exact);
+          subst (λ (xs : List (Option Arg)). DrawsOne image xs (before_certificate ++ told) page)
+          c.as_slice-3.ensures.value
+          (subst (λ (said : List ℕ). DrawsOne image c.as_slice-3.result.now said page) whole
+          c.in_ok-page.ensures.exact);
     }

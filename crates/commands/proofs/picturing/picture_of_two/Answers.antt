@@ -21,7 +21,8 @@ returns-clause-said c =
       one = one;
       other = other;
       pairing = pairing;
-      spelled = subst (λ (params : List Param). AreBothSpelled params words one other) c.requires.params c.in_ok-one.ensures.found;
+      spelled = subst (λ (params : List Param). AreBothSpelled params words one other) c.requires.params
+          c.in_ok-one.ensures.found;
       paired = c.in_ok-pairing.ensures;
       drawn = subst (λ (said : List ℕ). DrawsTwo image one other said page) whole c.in_ok-page.ensures.exact;
     }

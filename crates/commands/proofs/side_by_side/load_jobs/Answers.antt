@@ -10,9 +10,13 @@ loop-job-preserved g c = record {
   said = λ tells.
       let files = g.F.Files.contents c.args.files.now in
       let texts = c.as_slice-in-loop-job.result.now in
-      let spelled = spelled_from texts (λ text. text.now) (c.as_slice.ensures.value ∙ c.in_ok-params.ensures.params) c.in_ok-args.ensures.within c.in_ok-args.ensures.found in
-      one_job_more files c.args.jobs.now c.loop-job.job-index c.job-item.result c.loop-job.loaded.items c.push.new.self.items c.in_ok-image.image c.in_ok-args.args c.loop-job-test.true c.job-item.is c.in_ok-push.ensures.items
+      let spelled = spelled_from texts (λ text. text.now) (c.as_slice.ensures.value ∙ c.in_ok-params.ensures.params)
+      c.in_ok-args.ensures.within c.in_ok-args.ensures.found in
+      one_job_more files c.args.jobs.now c.loop-job.job-index c.job-item.result c.loop-job.loaded.items
+      c.push.new.self.items c.in_ok-image.image c.in_ok-args.args c.loop-job-test.true c.job-item.is
+      c.in_ok-push.ensures.items
       (job_from files c.job-item.result c.in_ok-image.image c.in_ok-args.args (c.in_ok-image.ensures.said tells)
-      (spelled_by texts c.job-item.result.arguments.items (λ text. text.now) c.as_slice-in-loop-job.ensures.value spelled))
+      (spelled_by texts c.job-item.result.arguments.items (λ text. text.now)
+      c.as_slice-in-loop-job.ensures.value spelled))
       (c.loop-job.invariant.said tells);
 }

@@ -9,5 +9,7 @@ use Rattle.commands.proofs.side_by_side.load_jobs.Given as goal
 abbrev pub invariant-loop-job : goal.invariant-loop-job
 invariant-loop-job g l = record {
   count : vec_len l.loaded ≡ l.job-index;
-  said : IsTrue g.F.Files.TELLS → AllZip (IsJobOf (g.F.Files.contents l.files)) (map hart_of (take l.job-index l.jobs)) (map job_of l.loaded.items);
+  said : IsTrue g.F.Files.TELLS
+      → AllZip (IsJobOf (g.F.Files.contents l.files)) (map hart_of (take l.job-index l.jobs))
+      (map job_of l.loaded.items);
 }

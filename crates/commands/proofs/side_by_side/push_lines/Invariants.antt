@@ -6,4 +6,5 @@ use Rattle.commands.proofs.side_by_side.push_lines.Given as goal
 
 abbrev pub invariant-loop-byte : goal.invariant-loop-byte
 invariant-loop-byte l =
-    l.text.items ++ with_fronts (string_bytes l.front) l.begins (drop l.byte-index l.lines) ≡ l.fn.text.items ++ with_fronts (string_bytes l.front) true l.lines
+    l.text.items ++ with_fronts (string_bytes l.front) l.begins (drop l.byte-index l.lines) ≡ l.fn.text.items
+    ++ with_fronts (string_bytes l.front) true l.lines

@@ -12,8 +12,13 @@ pub returns-clause-said : goal.returns-clause-said
 returns-clause-said g c = λ tells.
     let files = g.F.Files.contents c.args.files.now in
     let jobs = map job_of c.in_ok-jobs.jobs.items in
-    let loaded = subst (λ (named : List Job). AllZip (IsJobOf files) (map hart_of named) jobs) c.as_slice.ensures.value (c.in_ok-jobs.ensures.said tells) in
-    plan_said files c.args.text.now (map hart_of c.in_ok-plan.plan.jobs.items) c.in_ok-plan.plan.schedule.items c.as_slice-3.result.now jobs (map job_of c.as_slice-2.result.now) (map job_of c.as_slice-4.result.now)
-    c.new-recorder.result.kept c.run_harts.new.recorder.kept c.list.result.now c.in_ok-ends.ends.items c.as_slice-5.result.now c.as_slice-6.result.now c.in_ok-lines.lines.items c.status_of.result
-    c.in_ok-plan.ensures.plan loaded c.in_ok-ends.ensures.ran c.new-recorder.ensures.empty (ap (map job_of) c.as_slice-2.ensures.value) c.as_slice-3.ensures.value
-    c.in_ok-lines.ensures (ap (map job_of) c.as_slice-4.ensures.value) c.list.ensures c.as_slice-5.ensures.value c.status_of.ensures.exact c.as_slice-6.ensures.value
+    let loaded = subst (λ (named : List Job). AllZip (IsJobOf files) (map hart_of named) jobs)
+    c.as_slice.ensures.value (c.in_ok-jobs.ensures.said tells) in
+    plan_said files c.args.text.now (map hart_of c.in_ok-plan.plan.jobs.items) c.in_ok-plan.plan.schedule.items
+    c.as_slice-3.result.now jobs (map job_of c.as_slice-2.result.now) (map job_of c.as_slice-4.result.now)
+    c.new-recorder.result.kept c.run_harts.new.recorder.kept c.list.result.now c.in_ok-ends.ends.items
+    c.as_slice-5.result.now c.as_slice-6.result.now c.in_ok-lines.lines.items c.status_of.result
+    c.in_ok-plan.ensures.plan loaded c.in_ok-ends.ensures.ran c.new-recorder.ensures.empty
+    (ap (map job_of) c.as_slice-2.ensures.value) c.as_slice-3.ensures.value
+    c.in_ok-lines.ensures (ap (map job_of) c.as_slice-4.ensures.value) c.list.ensures c.as_slice-5.ensures.value
+    c.status_of.ensures.exact c.as_slice-6.ensures.value

@@ -9,5 +9,7 @@ use Rattle.commands.proofs.side_by_side.status_of.Goals as goal
 
 pub returns-then-all-clause-exact : goal.returns-then-all-clause-exact
 returns-then-all-clause-exact c =
-    let e : c.all.result ≡ list_all (λ (end : HartEnd). is_well end.stop) c.args.ends.now = all_from_yields_List (λ (end : HartEnd). is_well end.stop) _ _ _ c.all.ensures.ran (YieldsList-from_slice c.args.ends.now cc) (λ x b q k. search (rules, tests)) in
+    let e : c.all.result ≡ list_all (λ (end : HartEnd). is_well end.stop) c.args.ends.now =
+    all_from_yields_List (λ (end : HartEnd). is_well end.stop) _ _ _ c.all.ensures.ran
+    (YieldsList-from_slice c.args.ends.now cc) (λ x b q k. search (rules, tests)) in
     ap (λ b. if b then 0 else 5) (sym c.if-all.true ∙ e)

@@ -13,12 +13,14 @@ returns-in-Ok-from_utf8-clause-said g c = λ tells.
     let read = c.in-Ok.ensures.begins tells in
     let bytes = c.in-Ok.bytes in
     let fewer : length bytes.items < 18446744073709551615 = omega (arith, bytes.ok.0, bytes.ok.1, bytes.small) in
-    read.held ∙ ap Some (all_of_it 18446744073709551615 read.whole bytes.items read.begun fewer ∙ ap (λ (v : Vec ℕ Global). v.items) (sym c.in-Ok-from_utf8.ensures.ok))
+    read.held ∙ ap Some (all_of_it 18446744073709551615 read.whole bytes.items read.begun fewer
+    ∙ ap (λ (v : Vec ℕ Global). v.items) (sym c.in-Ok-from_utf8.ensures.ok))
 
 pub returns-clause-refused : goal.returns-clause-refused
 returns-clause-refused g c = λ tells.
     let read = c.in-Ok.ensures.begins tells in
     let bytes = c.in-Ok.bytes in
     let fewer : length bytes.items < 18446744073709551615 = omega (arith, bytes.ok.0, bytes.ok.1, bytes.small) in
-    let held : g.F.Files.contents c.args.files.now c.args.file.now ≡ Some bytes.items = read.held ∙ ap Some (all_of_it 18446744073709551615 read.whole bytes.items read.begun fewer) in
+    let held : g.F.Files.contents c.args.files.now c.args.file.now ≡ Some bytes.items = read.held
+    ∙ ap Some (all_of_it 18446744073709551615 read.whole bytes.items read.begun fewer) in
     not_utf8_whole held (λ utf8. false≢true (c.in-Err-from_utf8.ensures.succeeds utf8)) refl

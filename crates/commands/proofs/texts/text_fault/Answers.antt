@@ -10,7 +10,8 @@ use Rattle.stream_build.specs.Faults.{IsTooLong}
 use Rattle.stream_build.specs.declared.fault.BuildFault.TheVariants.{NotUtf8}
 use Rattle.commands.proofs.texts.text_fault.Goals as goal
 
-by_refusal : (files : Contents) (path bytes : List ℕ) (refusal : Refusal) → files path ≡ Some bytes → (IsWantOfMemory refusal.rule refusal.place ⊎ IsTooLong bytes refusal) → NoText files path (Text refusal)
+by_refusal : (files : Contents) (path bytes : List ℕ) (refusal : Refusal) → files path ≡ Some bytes
+    → (IsWantOfMemory refusal.rule refusal.place ⊎ IsTooLong bytes refusal) → NoText files path (Text refusal)
 by_refusal files path bytes refusal held (inl memory) = not_read (out_of_memory memory)
 by_refusal files path bytes refusal held (inr long) = too_long held long
 

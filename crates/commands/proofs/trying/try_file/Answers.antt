@@ -15,21 +15,26 @@ use Rattle.commands.proofs.trying.try_file.Goals as goal
 pub returns-in_err-source-clause-refused : goal.returns-in_err-source-clause-refused
 returns-in_err-source-clause-refused g c = λ tells.
     let p = err_from_is_err_and c.from_residual.result c.from_residual.ensures.1 in
-    handed_on (RefusesVectors c.args.profile (g.F.Files.contents c.args.files.now) c.args.file.now c.args.list.now) c.from_residual.result p.0 c.in_err-source.field-0.0 p.1 p.2
+    handed_on (RefusesVectors c.args.profile (g.F.Files.contents c.args.files.now) c.args.file.now c.args.list.now)
+    c.from_residual.result p.0 c.in_err-source.field-0.0 p.1 p.2
     (no_source (c.in_err-source.ensures.refused tells))
 
 pub returns-in_err-lines-clause-refused : goal.returns-in_err-lines-clause-refused
 returns-in_err-lines-clause-refused g c = λ tells.
     let p = err_from_is_err_and c.from_residual-in_err-lines.result c.from_residual-in_err-lines.ensures.1 in
-    handed_on (RefusesVectors c.args.profile (g.F.Files.contents c.args.files.now) c.args.file.now c.args.list.now) c.from_residual-in_err-lines.result p.0 c.in_err-lines.field-0.0 p.1 p.2
+    handed_on (RefusesVectors c.args.profile (g.F.Files.contents c.args.files.now) c.args.file.now c.args.list.now)
+    c.from_residual-in_err-lines.result p.0 c.in_err-lines.field-0.0 p.1 p.2
     (no_lines (c.in_ok-source.ensures.said tells) (c.in_err-lines.ensures.refused tells))
 
 pub returns-in_err-vectors-clause-refused : goal.returns-in_err-vectors-clause-refused
 returns-in_err-vectors-clause-refused g c = λ tells.
     let fault = c.in_err-vectors.field-0.0 in
     let p = err_from_is_err_and c.from_residual-in_err-vectors.result c.from_residual-in_err-vectors.ensures.1 in
-    handed_on (RefusesVectors c.args.profile (g.F.Files.contents c.args.files.now) c.args.file.now c.args.list.now) c.from_residual-in_err-vectors.result p.0 (Vectors fault) p.1 p.2
-    (unsaid c.args.profile (g.F.Files.contents c.args.files.now) c.args.file.now c.args.list.now (string_bytes c.in_ok-source.source) (string_bytes c.in_ok-lines.lines) fault (c.in_ok-source.ensures.said tells) (c.in_ok-lines.ensures.said tells)
+    handed_on (RefusesVectors c.args.profile (g.F.Files.contents c.args.files.now) c.args.file.now c.args.list.now)
+    c.from_residual-in_err-vectors.result p.0 (Vectors fault) p.1 p.2
+    (unsaid c.args.profile (g.F.Files.contents c.args.files.now) c.args.file.now c.args.list.now
+    (string_bytes c.in_ok-source.source) (string_bytes c.in_ok-lines.lines) fault
+    (c.in_ok-source.ensures.said tells) (c.in_ok-lines.ensures.said tells)
     (λ line is. rw (sym c.as_str.ensures.value) (c.in_err-vectors.ensures.fault line (ap Err is))))
 
 pub returns-in_err-report-clause-refused : goal.returns-in_err-report-clause-refused
@@ -39,10 +44,14 @@ returns-in_err-report-clause-refused g c = λ tells.
     let lines = string_bytes c.in_ok-lines.lines in
     let p = err_from_is_err_and c.from_residual-in_err-report.result c.from_residual-in_err-report.ensures.1 in
     let why : IsRefusal (Judges c.args.profile source) refusal =
-    subst (λ (t : List ℕ). IsRefusal (Judges c.args.profile t) refusal) c.as_str-2.ensures.value c.in_err-report.ensures.refused in
-    handed_on (RefusesVectors c.args.profile (g.F.Files.contents c.args.files.now) c.args.file.now c.args.list.now) c.from_residual-in_err-report.result p.0 (Text refusal) p.1 p.2
+    subst (λ (t : List ℕ). IsRefusal (Judges c.args.profile t) refusal) c.as_str-2.ensures.value
+    c.in_err-report.ensures.refused in
+    handed_on (RefusesVectors c.args.profile (g.F.Files.contents c.args.files.now) c.args.file.now c.args.list.now)
+    c.from_residual-in_err-report.result p.0 (Text refusal) p.1 p.2
     (not_accepted
-    (both_held (g.F.Files.contents c.args.files.now) c.args.file.now c.args.list.now source lines c.as_str.result.now (map named c.in_ok-vectors.vectors.items) (c.in_ok-source.ensures.said tells) (c.in_ok-lines.ensures.said tells)
+    (both_held (g.F.Files.contents c.args.files.now) c.args.file.now c.args.list.now source lines c.as_str.result.now
+    (map named c.in_ok-vectors.vectors.items) (c.in_ok-source.ensures.said tells)
+    (c.in_ok-lines.ensures.said tells)
     (IsUtf8-string_bytes c.in_ok-lines.lines) c.as_str.ensures.value c.in_ok-vectors.ensures.vectors)
     why)
 
@@ -55,9 +64,15 @@ returns-clause-said g c = λ tells.
       source = source;
       vectors = map named c.in_ok-vectors.vectors.items;
       failures = report.failures;
-      held = both_held (g.F.Files.contents c.args.files.now) c.args.file.now c.args.list.now source lines c.as_str.result.now (map named c.in_ok-vectors.vectors.items) (c.in_ok-source.ensures.said tells) (c.in_ok-lines.ensures.said tells)
+      held = both_held (g.F.Files.contents c.args.files.now) c.args.file.now c.args.list.now source lines
+          c.as_str.result.now (map named c.in_ok-vectors.vectors.items) (c.in_ok-source.ensures.said tells)
+          (c.in_ok-lines.ensures.said tells)
           (IsUtf8-string_bytes c.in_ok-lines.lines) c.as_str.ensures.value c.in_ok-vectors.ensures.vectors;
-      report = subst (λ (t : List ℕ). IsReport c.args.profile t (map named c.in_ok-vectors.vectors.items) (string_bytes report.text) report.failures) c.as_str-2.ensures.value
-          (subst (λ (vs : List NamedVector). IsReport c.args.profile c.as_str-2.result.now vs (string_bytes report.text) report.failures) (ap (map named) c.as_slice.ensures.value) c.in_ok-report.ensures.report);
+      report =
+          subst (λ (t : List ℕ). IsReport c.args.profile t (map named c.in_ok-vectors.vectors.items)
+          (string_bytes report.text) report.failures) c.as_str-2.ensures.value
+          (subst (λ (vs : List NamedVector). IsReport c.args.profile c.as_str-2.result.now vs
+          (string_bytes report.text) report.failures) (ap (map named) c.as_slice.ensures.value)
+          c.in_ok-report.ensures.report);
       ended = c.status_of-status.ensures.exact;
     }

@@ -4,13 +4,15 @@ use Rattle.branch_removal.specs.Straight.{chain, straight_block, straight_tree}
 use Rattle.constants.specs.private.Simplification.{knowing_all, simplified_all}
 use Rattle.constants.proofs.statements.+simplification.Given as goal
 
--- the code so far and that of what is left are the code of all statements, and what is known in the end is what is left to learn
+-- the code so far and that of what is left are the code of all statements, and what is known in the end is what is
+-- left to learn
 abbrev pub invariant-statements-loop-each : goal.invariant-statements-loop-each
 invariant-statements-loop-each l =
     let rest = straight_block (drop l.each-index l.body) in
     let all = straight_block l.fn.body in
     record {
-      code : chain (straight_block l.code.items) (simplified_all l.known.words.items rest) ≡ chain (straight_block l.fn.code.items) (simplified_all l.fn.known.words.items all);
+      code : chain (straight_block l.code.items) (simplified_all l.known.words.items rest)
+          ≡ chain (straight_block l.fn.code.items) (simplified_all l.fn.known.words.items all);
       known : knowing_all l.known.words.items rest ≡ knowing_all l.fn.known.words.items all;
     }
 
@@ -26,7 +28,8 @@ abbrev pub decreases-part : goal.decreases-part
 decreases-part l = 4 * block_nodes (straight_block l.body.now) + 2
 
 abbrev pub decreases-branch : goal.decreases-branch
-decreases-branch l = 4 * (block_nodes (straight_block l.accepted.now) + block_nodes (straight_block l.otherwise.now)) + 3
+decreases-branch l = 4 * (block_nodes (straight_block l.accepted.now) + block_nodes (straight_block l.otherwise.now))
+    + 3
 
 abbrev pub decreases-repeat : goal.decreases-repeat
 decreases-repeat l = 4 * block_nodes (straight_block l.body.now) + 3

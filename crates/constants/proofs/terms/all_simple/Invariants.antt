@@ -5,4 +5,5 @@ use Rattle.constants.proofs.terms.all_simple.Given as goal
 
 -- the expressions before this one are done
 abbrev pub invariant-loop-term : goal.invariant-loop-term
-invariant-loop-term l = map term_tree l.simpler.items ≡ map (simple l.known.words.items) (map term_tree (take l.term-index l.terms))
+invariant-loop-term l = map term_tree l.simpler.items
+    ≡ map (simple l.known.words.items) (map term_tree (take l.term-index l.terms))

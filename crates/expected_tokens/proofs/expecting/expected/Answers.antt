@@ -17,9 +17,12 @@ loop-name-preserved c =
     let tried = c.in_ok-may_stand.ensures.known in
     elim c.if-branch.branch [
       | then-branch+in_ok-push w ↦
-          with_one (λ both. (both.0.now, both.1.now)) (λ name. name.now) c.args.front.now items i _ (omega (arith, c.loop-name-test.true))
-          names c.if-branch.names.items _ can w.if-branch.true (rw (sym w.names-is) at w.in_ok-push.ensures.items) refl known tried
+          with_one (λ both. (both.0.now, both.1.now)) (λ name. name.now) c.args.front.now items i _
+          (omega (arith, c.loop-name-test.true))
+          names c.if-branch.names.items _ can w.if-branch.true (rw (sym w.names-is) at w.in_ok-push.ensures.items)
+          refl known tried
       | else-branch w ↦
-          without_it (λ both. (both.0.now, both.1.now)) (λ name. name.now) c.args.front.now items i _ (omega (arith, c.loop-name-test.true))
+          without_it (λ both. (both.0.now, both.1.now)) (λ name. name.now) c.args.front.now items i _
+          (omega (arith, c.loop-name-test.true))
           names c.if-branch.names.items can w.if-branch.false (rw w.names-is refl) known tried
     ]

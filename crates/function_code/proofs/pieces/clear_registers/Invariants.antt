@@ -4,4 +4,5 @@ use Rattle.function_code.proofs.pieces.clear_registers.Given as goal
 
 abbrev pub invariant-loop-register : goal.invariant-loop-register
 invariant-loop-register l =
-    l.code.items ++ clear_registers_code (drop l.register-index l.registers) ≡ l.fn.code.items ++ clear_registers_code l.fn.registers
+    l.code.items ++ clear_registers_code (drop l.register-index l.registers) ≡ l.fn.code.items
+    ++ clear_registers_code l.fn.registers

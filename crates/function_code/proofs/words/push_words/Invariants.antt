@@ -3,4 +3,5 @@ use Rattle.rv_code.specs.Words.{word_of}
 use Rattle.function_code.proofs.words.push_words.Given as goal
 
 abbrev pub invariant-loop-instruction : goal.invariant-loop-instruction
-invariant-loop-instruction l = l.words.items ++ map word_of (drop l.instruction-index l.code) ≡ l.fn.words.items ++ map word_of l.fn.code
+invariant-loop-instruction l = l.words.items ++ map word_of (drop l.instruction-index l.code) ≡ l.fn.words.items
+    ++ map word_of l.fn.code

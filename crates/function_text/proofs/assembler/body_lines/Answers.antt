@@ -19,4 +19,5 @@ loop-word-preserved c =
     let all = take-suc words i 0 (omega arith) in
     subst (λ (n : ℕ). ListsWords (take n words) after) more
     (subst (λ (l : List ℕ). ListsWords l after) (sym all)
-    (one_word_more (slice_index words i) pushed.0 (take i words) (string_bytes c.loop-word.lines) after c.loop-word.invariant pushed.1 pushed.2))
+    (one_word_more (slice_index words i) pushed.0 (take i words) (string_bytes c.loop-word.lines) after
+    c.loop-word.invariant pushed.1 pushed.2))

@@ -10,6 +10,7 @@ returns c =
     let lines = string_bytes c.in_ok-lines.lines in (
       lines,
       subst (λ (words : List ℕ). ListsWords words lines) c.body.ensures c.in_ok-lines.ensures,
-      c.in_ok-push_str-2.ensures.bytes ∙ ap (λ (t : List ℕ). string_bytes c.push_str.new.self ++ t) c.as_str.ensures.value
+      c.in_ok-push_str-2.ensures.bytes
+          ∙ ap (λ (t : List ℕ). string_bytes c.push_str.new.self ++ t) c.as_str.ensures.value
           ∙ ap (λ (t : List ℕ). t ++ lines) c.in_ok-push_str.ensures.bytes ∙ append_assoc start title lines,
     )

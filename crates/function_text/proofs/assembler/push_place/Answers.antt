@@ -8,7 +8,9 @@ pub returns : goal.returns
 returns c =
     let old = string_bytes c.args.text.now in
     let t0 = string_bytes c.push_str.new.self in
-    let p0 = codes "    .option push\n    .option norvc\n    .option norelax\n    .cfi_sections .debug_frame\n    .section .text." in
+    let p0 =
+    codes
+    "    .option push\n    .option norvc\n    .option norelax\n    .cfi_sections .debug_frame\n    .section .text." in
     let t1 = string_bytes c.push_str-2.new.self in
     let p1 = c.args.function.now.name.now in
     let t2 = string_bytes c.push_str-3.new.self in

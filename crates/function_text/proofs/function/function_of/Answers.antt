@@ -12,21 +12,24 @@ export_of-requires c =
     let built = c.in_ok-bytes.ensures.accepted in (
       built.before,
       built.export,
-      export_in c.one_answer_for_a_text.ensures c.args.profile c.args.text.now (program_tree c.in_ok-program.program) built.program built.before built.export
+      export_in c.one_answer_for_a_text.ensures c.args.profile c.args.text.now (program_tree c.in_ok-program.program)
+          built.program built.before built.export
           c.in_ok-program.ensures.accepted built.judged,
     )
 
 pub returns-in_err-program-clause-fault : goal.returns-in_err-program-clause-fault
 returns-in_err-program-clause-fault c =
     let p = err_from_is_err_and c.from_residual-in_err-program.result c.from_residual-in_err-program.ensures.1 in
-    rw (p.1, p.2) (refusal_of_text c.args.profile c.args.text.now c.in_err-program.field-0.0 c.in_err-program.ensures.refused)
+    rw (p.1, p.2) (refusal_of_text c.args.profile c.args.text.now c.in_err-program.field-0.0
+    c.in_err-program.ensures.refused)
 
 pub returns-clause-made : goal.returns-clause-made
 returns-clause-made c =
     let built = c.in_ok-bytes.ensures.accepted in
     let bytes = c.in_ok-bytes.bytes.items in
     let export = procedure_tree c.export_of.result.now in
-    let same = built_export c.one_answer_for_a_text.ensures c.args.optimisation c.args.profile c.args.text.now bytes (program_tree c.in_ok-program.program) c.export_of.ensures.0 export built
+    let same = built_export c.one_answer_for_a_text.ensures c.args.optimisation c.args.profile c.args.text.now bytes
+    (program_tree c.in_ok-program.program) c.export_of.ensures.0 export built
     c.in_ok-program.ensures.accepted c.export_of.ensures.1 in
     IfOk-weaker c.of_export.result _ _
     (λ f is. made c.args.optimisation c.args.profile c.args.text.now bytes built export same (parts_of f)
@@ -38,6 +41,9 @@ returns-clause-fault c =
     let built = c.in_ok-bytes.ensures.accepted in
     let bytes = c.in_ok-bytes.bytes.items in
     let export = procedure_tree c.export_of.result.now in
-    let same = built_export c.one_answer_for_a_text.ensures c.args.optimisation c.args.profile c.args.text.now bytes (program_tree c.in_ok-program.program) c.export_of.ensures.0 export built
+    let same = built_export c.one_answer_for_a_text.ensures c.args.optimisation c.args.profile c.args.text.now bytes
+    (program_tree c.in_ok-program.program) c.export_of.ensures.0 export built
     c.in_ok-program.ensures.accepted c.export_of.ensures.1 in
-    IfErr-weaker c.of_export.result _ _ (fault_of c.args.optimisation c.args.profile c.args.text.now bytes built export same) c.of_export.ensures.fault
+    IfErr-weaker c.of_export.result _ _
+    (fault_of c.args.optimisation c.args.profile c.args.text.now bytes built export same)
+    c.of_export.ensures.fault

@@ -15,5 +15,6 @@ returns-clause-made c =
       parameters =
           c.in_ok-parameters.ensures
           ∙ ap (λ (name : List ℕ). map (written_parameter name) (map parameter_tree given)) c.in_ok-macros.ensures
-          ∙ ap (λ (ps : List Parameter). map (written_parameter c.args.export.now.name.now) (map parameter_tree ps)) c.as_slice.ensures.value;
+          ∙ ap (λ (ps : List Parameter). map (written_parameter c.args.export.now.name.now) (map parameter_tree ps))
+          c.as_slice.ensures.value;
     }

@@ -5,5 +5,6 @@ use Rattle.function_text.proofs.function.named_params.Given as goal
 
 abbrev pub invariant-loop-parameter : goal.invariant-loop-parameter
 invariant-loop-parameter l =
-    map named l.params.items ++ map (written_parameter l.macros.function.now) (map parameter_tree (drop l.parameter-index l.parameters))
+    map named l.params.items ++ map (written_parameter l.macros.function.now)
+    (map parameter_tree (drop l.parameter-index l.parameters))
     ≡ map (written_parameter l.fn.macros.function.now) (map parameter_tree l.fn.parameters)

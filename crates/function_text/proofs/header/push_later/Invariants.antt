@@ -6,4 +6,5 @@ use Rattle.function_text.proofs.header.push_later.Given as goal
 
 abbrev pub invariant-loop-parameter : goal.invariant-loop-parameter
 invariant-loop-parameter l =
-    string_bytes l.text ++ later_text (map named (drop l.parameter-index l.later)) ≡ string_bytes l.fn.text ++ later_text (map named l.fn.later)
+    string_bytes l.text ++ later_text (map named (drop l.parameter-index l.later)) ≡ string_bytes l.fn.text
+    ++ later_text (map named l.fn.later)

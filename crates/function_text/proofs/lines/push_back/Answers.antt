@@ -15,6 +15,7 @@ returns c =
     let t2 = string_bytes c.push_str-2.new.self in
     let p2 = codes "\n" in
     let e0 = c.in_ok-push_str.ensures.bytes in
-    let e1 = put-more old t0 t1 p0 p1 e0 (c.in_ok-push_number.ensures ∙ ap (λ (n : ℕ). t0 ++ decimal n) c.from.ensures) in
+    let e1 = put-more old t0 t1 p0 p1 e0 (c.in_ok-push_number.ensures
+    ∙ ap (λ (n : ℕ). t0 ++ decimal n) c.from.ensures) in
     on_ok_weaker c.push_str-2.result (λ last. put-more old t1 t2 (p0 ++ p1) p2 e1 last)
     (where_ok c.push_str-2.result t2 (t1 ++ p2) t1 c.push_str-2.ensures.bytes)

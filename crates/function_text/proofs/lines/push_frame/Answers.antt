@@ -19,8 +19,10 @@ returns c =
     let t4 = string_bytes c.push_str-3.new.self in
     let p4 = codes "\n" in
     let e0 = c.in_ok-push_str.ensures.bytes in
-    let e1 = put-more old t0 t1 p0 p1 e0 (c.in_ok-push_number.ensures ∙ ap (λ (n : ℕ). t0 ++ decimal n) c.from.ensures) in
+    let e1 = put-more old t0 t1 p0 p1 e0 (c.in_ok-push_number.ensures
+    ∙ ap (λ (n : ℕ). t0 ++ decimal n) c.from.ensures) in
     let e2 = put-more old t1 t2 (p0 ++ p1) p2 e1 (c.in_ok-push_str-2.ensures.bytes) in
-    let e3 = put-more old t2 t3 (p0 ++ p1 ++ p2) p3 e2 (c.in_ok-push_number-2.ensures ∙ ap (λ (n : ℕ). t2 ++ decimal n) c.from-2.ensures) in
+    let e3 = put-more old t2 t3 (p0 ++ p1 ++ p2) p3 e2 (c.in_ok-push_number-2.ensures
+    ∙ ap (λ (n : ℕ). t2 ++ decimal n) c.from-2.ensures) in
     on_ok_weaker c.push_str-3.result (λ last. put-more old t3 t4 (p0 ++ p1 ++ p2 ++ p3) p4 e3 last)
     (where_ok c.push_str-3.result t4 (t3 ++ p4) t3 c.push_str-3.ensures.bytes)

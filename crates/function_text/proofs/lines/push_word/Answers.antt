@@ -14,4 +14,8 @@ returns-in-Some c =
 pub returns-in-None : goal.returns-in-None
 returns-in-None c =
     on_ok_weaker c.push_illegal.result
-    (λ told. (codes "illegal", of_no_instruction (λ i in_range is. none-some _ (c.in-None.ensures.only i in_range is)), told)) c.push_illegal.ensures
+    (λ told. (
+      codes "illegal",
+      of_no_instruction (λ i in_range is. none-some _ (c.in-None.ensures.only i in_range is)),
+      told,
+    )) c.push_illegal.ensures

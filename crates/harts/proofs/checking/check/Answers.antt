@@ -11,12 +11,17 @@ pub returns-in_err-check_count-clause-refused : goal.returns-in_err-check_count-
 returns-in_err-check_count-clause-refused c =
     let p = err_from_is_err_and c.from_residual.result c.from_residual.ensures.1 in
     let fault = c.in_err-check_count.field-0.0 in
-    rw (p.1, p.2) (by_count (subst (λ n. RefusesCount n fault) (sym (length-map c.args.jobs.now job_of)) c.in_err-check_count.ensures.refused))
+    rw (p.1, p.2)
+    (by_count (subst (λ n. RefusesCount n fault) (sym (length-map c.args.jobs.now job_of))
+    c.in_err-check_count.ensures.refused))
 
 pub returns-in_err-check_arguments-clause-refused : goal.returns-in_err-check_arguments-clause-refused
 returns-in_err-check_arguments-clause-refused c =
-    let p = err_from_is_err_and c.from_residual-in_err-check_arguments.result c.from_residual-in_err-check_arguments.ensures.1 in
-    rw (p.1, p.2) (by_arguments (subst AreFew (sym (length-map c.args.jobs.now job_of)) c.in_ok-check_count.ensures.few) c.in_err-check_arguments.ensures.refused)
+    let p = err_from_is_err_and c.from_residual-in_err-check_arguments.result
+    c.from_residual-in_err-check_arguments.ensures.1 in
+    rw (p.1, p.2)
+    (by_arguments (subst AreFew (sym (length-map c.args.jobs.now job_of)) c.in_ok-check_count.ensures.few)
+    c.in_err-check_arguments.ensures.refused)
 
 pub returns-clause-refused : goal.returns-clause-refused
 returns-clause-refused c =
@@ -25,5 +30,6 @@ returns-clause-refused c =
     let count = sym (length-map c.args.jobs.now job_of) in
     let few = subst AreFew count c.in_ok-check_count.ensures.few in
     if_err_so (RefusesSchedule (length c.args.jobs.now) schedule) (Refuses all schedule)
-    (λ fault refuses. by_schedule few c.in_ok-check_arguments.ensures.faultless (subst (λ n. RefusesSchedule n schedule fault) count refuses))
+    (λ fault refuses. by_schedule few c.in_ok-check_arguments.ensures.faultless
+    (subst (λ n. RefusesSchedule n schedule fault) count refuses))
     c.check_schedule.result c.check_schedule.ensures.refused

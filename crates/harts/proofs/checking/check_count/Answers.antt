@@ -1,6 +1,7 @@
 use Rattle.std.proofs.Common.{inl, inr}
 use Rattle.harts.specs.Refused.{of_count}
-use Rattle.harts.proofs.checking.check_count.Goals.{then-harts-eq0-via-then-harts-eq0, then-harts-eq0-via-else-harts-eq0+then-harts-gt-MOST_IMAGES}
+use Rattle.harts.proofs.checking.check_count.Goals.{then-harts-eq0-via-then-harts-eq0}
+use Rattle.harts.proofs.checking.check_count.Goals.{then-harts-eq0-via-else-harts-eq0+then-harts-gt-MOST_IMAGES}
 use Rattle.harts.proofs.checking.check_count.Goals as goal
 
 pub returns-then-harts-eq0-clause-refused : goal.returns-then-harts-eq0-clause-refused

@@ -1,5 +1,6 @@
 -- The end of one hart more.
-use Rattle.std.proofs.Common.{◌≡◌, ◌<◌, ◌≤◌, List, [], Some, length, map, take, drop, refl, sym, ap, subst, ◌∙◌, vec_len, arith}
+use Rattle.std.proofs.Common.{◌≡◌, ◌<◌, ◌≤◌, List, [], Some, length, map, take, drop, refl, sym, ap, subst, ◌∙◌}
+use Rattle.std.proofs.Common.{vec_len, arith}
 use Rattle.std.specs.List.{AllZip}
 use Rattle.std.specs.Prelude.{slice_get}
 use Rattle.std.specs.Option.{option_map}
@@ -21,8 +22,11 @@ pub end-requires-clause-allowed : goal.end-requires-clause-allowed
 end-requires-clause-allowed c =
     let jobs = c.args.jobs.now in
     let all = map job_of jobs in
-    let within = number_within all (vec_len c.loop-space.ends) c.len-number.result c.len-number.ensures c.in-Some.space (into_iter_items c.next.new.self) (into_iter_items c.loop-space.space-iterator) c.loop-space.invariant.each c.in-Some.ensures.steps.0 in
-    at_job job_of jobs c.len-number.result c.index-jobs-number.result (omega (arith, within, length-map jobs job_of)) c.index-jobs-number.is HasImage c.requires.allowed
+    let within = number_within all (vec_len c.loop-space.ends) c.len-number.result c.len-number.ensures
+    c.in-Some.space (into_iter_items c.next.new.self) (into_iter_items c.loop-space.space-iterator)
+    c.loop-space.invariant.each c.in-Some.ensures.steps.0 in
+    at_job job_of jobs c.len-number.result c.index-jobs-number.result (omega (arith, within, length-map jobs job_of))
+    c.index-jobs-number.is HasImage c.requires.allowed
 
 pub end-requires-clause-space : goal.end-requires-clause-space
 end-requires-clause-space c =
@@ -33,9 +37,12 @@ end-requires-clause-space c =
     let one = c.index-jobs-number.result in
     let left = into_iter_items c.next.new.self in
     let spaces = into_iter_items c.loop-space.space-iterator in
-    let within = number_within all n number c.len-number.ensures c.in-Some.space left spaces c.loop-space.invariant.each c.in-Some.ensures.steps.0 in
-    space_for all n number c.len-number.ensures c.in-Some.space left spaces c.loop-space.invariant.each c.in-Some.ensures.steps.0
-    (job_of one) (job_got job_of jobs number one (omega (arith, within, length-map jobs job_of)) c.index-jobs-number.is)
+    let within = number_within all n number c.len-number.ensures c.in-Some.space left spaces
+    c.loop-space.invariant.each c.in-Some.ensures.steps.0 in
+    space_for all n number c.len-number.ensures c.in-Some.space left spaces c.loop-space.invariant.each
+    c.in-Some.ensures.steps.0
+    (job_of one) (job_got job_of jobs number one (omega (arith, within, length-map jobs job_of))
+    c.index-jobs-number.is)
 
 pub loop-space-preserved : goal.loop-space-preserved
 loop-space-preserved c =
@@ -52,18 +59,30 @@ loop-space-preserved c =
     let spaces = into_iter_items at.space-iterator in
     let gone = c.in-Some.ensures.steps.1 in
     let short = ap length c.in-Some.ensures.steps.0 in
-    let within = number_within all n number c.len-number.ensures c.in-Some.space left spaces at.invariant.each c.in-Some.ensures.steps.0 in
+    let within = number_within all n number c.len-number.ensures c.in-Some.space left spaces at.invariant.each
+    c.in-Some.ensures.steps.0 in
     let inside : number < length jobs = omega (arith, within, length-map jobs job_of) in
     let hart : number < length harts = subst (λ k. number < k) (sym c.requires.count) inside in
-    let found : slice_get harts number ≡ Some got = slice_get_read harts (length harts) number got refl hart c.index.ensures in
-    let there : slice_get (map member_now harts) number ≡ Some (member_now got) = slice_get-map member_now harts number ∙ ap (option_map member_now) found in
+    let found : slice_get harts number ≡ Some got =
+    slice_get_read harts (length harts) number got refl hart c.index.ensures in
+    let there : slice_get (map member_now harts) number ≡ Some (member_now got) =
+    slice_get-map member_now harts number ∙ ap (option_map member_now) found in
     let here = job_got job_of jobs number one inside c.index-jobs-number.is in
     record {
-      so_far = one_end_more all (map member_now harts) bytes n number (vec_len c.push_reserved.new.self) (job_of one) (member_now got) c.end.result at.ends.items c.push_reserved.new.self.items
-          c.len-number.ensures c.push_reserved.ensures.len here there (c.end.ensures one.1) at.invariant.so_far c.push_reserved.ensures.items;
-      each = spaces_left all n number c.len-number.ensures c.in-Some.space left spaces at.invariant.each c.in-Some.ensures.steps.0 (vec_len c.push_reserved.new.self) c.push_reserved.ensures.len;
+      so_far = one_end_more all (map member_now harts) bytes n number (vec_len c.push_reserved.new.self) (job_of one)
+          (member_now got) c.end.result at.ends.items c.push_reserved.new.self.items
+          c.len-number.ensures c.push_reserved.ensures.len here there (c.end.ensures one.1) at.invariant.so_far
+          c.push_reserved.ensures.items;
+      each = spaces_left all n number c.len-number.ensures c.in-Some.space left spaces at.invariant.each
+          c.in-Some.ensures.steps.0 (vec_len c.push_reserved.new.self) c.push_reserved.ensures.len;
       len = omega (arith, at.invariant.len, gone, short);
-      enough = omega (arith, at.invariant.enough, gone, c.push_reserved.ensures.len, c.push_reserved.ensures.capacity);
+      enough = omega (
+        arith,
+        at.invariant.enough,
+        gone,
+        c.push_reserved.ensures.len,
+        c.push_reserved.ensures.capacity,
+      );
     }
 
 pub returns : goal.returns
@@ -77,7 +96,14 @@ returns c =
     let left = into_iter_items at.space-iterator in
     let none : left ≡ [] = nil_from_length left (sym at.invariant.len ∙ c.in-None.ensures.steps.0) in
     let past : length all ≤ n = no_space all n (subst (AllZip HasSpace (drop n all)) none at.invariant.each) in
-    let past' : length members ≤ n = omega (arith, past, length-map jobs job_of, length-map c.args.running.now.harts.items member_now, c.requires.count) in
+    let past' : length members ≤ n =
+    omega (
+      arith,
+      past,
+      length-map jobs job_of,
+      length-map c.args.running.now.harts.items member_now,
+      c.requires.count,
+    ) in
     at.invariant.so_far
     ∙ ap (λ (js : List Job). ends_from 0 js (take n members) bytes) (take_all n all past)
     ∙ ap (λ (ms : List Member). ends_from 0 all ms bytes) (take_all n members past')

@@ -13,7 +13,8 @@ abbrev pub invariant-loop-space : goal.invariant-loop-space
 invariant-loop-space l =
     let n = vec_len l.ends in
     record {
-      so_far : l.ends.items ≡ ends_from 0 (take n (map job_of l.jobs)) (take n (map member_now l.running.harts.items)) (paged_bytes l.running.memory);
+      so_far : l.ends.items ≡ ends_from 0 (take n (map job_of l.jobs)) (take n (map member_now l.running.harts.items))
+          (paged_bytes l.running.memory);
       each : AllZip HasSpace (drop n (map job_of l.jobs)) (into_iter_items l.space-iterator);
       len : into_iter_len l.space-iterator ≡ length (into_iter_items l.space-iterator);
       enough : vec_len l.ends + into_iter_len l.space-iterator ≤ vec_capacity l.ends;

@@ -12,18 +12,22 @@ new-requires c =
     let jobs = map job_of c.args.jobs.now in
     let few : length jobs ≤ 8 = subst (λ n. n ≤ 8) (sym (length-map c.args.jobs.now job_of)) c.requires.few in
     let is = c.as_slice.ensures.value ∙ c.in_ok-ranges.ensures.frames in
-    subst (λ (xs : List AddressRange). All (λ (range : AddressRange). range.end ≤ 2 ^ 32) xs) (sym is) (frames_below 0 jobs (omega (arith, few)) c.in_ok-ranges.ensures.allowed)
+    subst (λ (xs : List AddressRange). All (λ (range : AddressRange). range.end ≤ 2 ^ 32) xs) (sym is)
+    (frames_below 0 jobs (omega (arith, few)) c.in_ok-ranges.ensures.allowed)
 
 pub put_all-requires-clause-data : goal.put_all-requires-clause-data
 put_all-requires-clause-data c =
     let jobs = map job_of c.args.jobs.now in
     let few : length jobs ≤ 8 = subst (λ n. n ≤ 8) (sym (length-map c.args.jobs.now job_of)) c.requires.few in
-    let is : paged_bytes c.in_ok-memory.memory ≡ zeros_in (each_from frame_of 0 jobs) = c.in_ok-memory.ensures ∙ ap zeros_in (c.as_slice.ensures.value ∙ c.in_ok-ranges.ensures.frames) in
+    let is : paged_bytes c.in_ok-memory.memory ≡ zeros_in (each_from frame_of 0 jobs) = c.in_ok-memory.ensures
+    ∙ ap zeros_in (c.as_slice.ensures.value ∙ c.in_ok-ranges.ensures.frames) in
     frames_held jobs (paged_bytes c.in_ok-memory.memory) is few c.in_ok-ranges.ensures.allowed
 
 pub returns-clause-bytes : goal.returns-clause-bytes
 returns-clause-bytes c =
     let jobs = map job_of c.args.jobs.now in
     let few : length jobs ≤ 8 = subst (λ n. n ≤ 8) (sym (length-map c.args.jobs.now job_of)) c.requires.few in
-    let is : paged_bytes c.in_ok-memory.memory ≡ zeros_in (each_from frame_of 0 jobs) = c.in_ok-memory.ensures ∙ ap zeros_in (c.as_slice.ensures.value ∙ c.in_ok-ranges.ensures.frames) in
-    c.put_all.ensures ∙ frames_loaded jobs (paged_bytes c.in_ok-memory.memory) is few c.in_ok-ranges.ensures.allowed c.requires.within
+    let is : paged_bytes c.in_ok-memory.memory ≡ zeros_in (each_from frame_of 0 jobs) = c.in_ok-memory.ensures
+    ∙ ap zeros_in (c.as_slice.ensures.value ∙ c.in_ok-ranges.ensures.frames) in
+    c.put_all.ensures ∙ frames_loaded jobs (paged_bytes c.in_ok-memory.memory) is few c.in_ok-ranges.ensures.allowed
+    c.requires.within

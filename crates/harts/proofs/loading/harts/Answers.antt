@@ -23,4 +23,6 @@ loop-number-preserved c =
 pub returns : goal.returns
 returns c =
     let jobs = c.args.jobs.now in
-    c.loop-number.invariant ∙ (ap (each_from member_of 0) (all_taken job_of jobs c.loop-number.number c.loop-number-test.false) ∙ members_from-each 0 (map job_of jobs))
+    c.loop-number.invariant
+    ∙ (ap (each_from member_of 0) (all_taken job_of jobs c.loop-number.number c.loop-number-test.false)
+    ∙ members_from-each 0 (map job_of jobs))

@@ -17,15 +17,18 @@ use Rattle.harts.proofs.loading.put_all.Goals as goal
 pub put_arguments-requires-clause-count : goal.put_arguments-requires-clause-count
 put_arguments-requires-clause-count g c =
     let one = c.index-jobs-number.result in
-    let within = at_job job_of c.args.jobs.now c.loop-number.number one c.loop-number-test.true c.index-jobs-number.is IsRunnable c.requires.within in
+    let within = at_job job_of c.args.jobs.now c.loop-number.number one c.loop-number-test.true c.index-jobs-number.is
+    IsRunnable c.requires.within in
     ap length c.as_slice.ensures ∙ (length-within (params_of one.0) one.1 within
     ∙ (length-map one.0.slots (λ (slot : Slot). slot.param) ∙ ap length (sym c.slots.ensures.slots)))
 
 pub put_arguments-requires-clause-within : goal.put_arguments-requires-clause-within
 put_arguments-requires-clause-within g c =
     let one = c.index-jobs-number.result in
-    let within = at_job job_of c.args.jobs.now c.loop-number.number one c.loop-number-test.true c.index-jobs-number.is IsRunnable c.requires.within in
-    subst (λ (xs : List Slot). AreWithin (map (λ (slot : Slot). slot.param) xs) c.as_slice.result.now) (sym c.slots.ensures.slots)
+    let within = at_job job_of c.args.jobs.now c.loop-number.number one c.loop-number-test.true c.index-jobs-number.is
+    IsRunnable c.requires.within in
+    subst (λ (xs : List Slot). AreWithin (map (λ (slot : Slot). slot.param) xs) c.as_slice.result.now)
+    (sym c.slots.ensures.slots)
     (subst (λ (xs : List Arg). AreWithin (params_of one.0) xs) (sym c.as_slice.ensures) within)
 
 pub put_arguments-requires-clause-data : goal.put_arguments-requires-clause-data
@@ -34,7 +37,9 @@ put_arguments-requires-clause-data g c =
     let i = c.loop-number.number in
     let old = g.M.Memory.bytes c.args.memory.now in
     let now = g.M.Memory.bytes c.loop-number.memory in
-    let begun = c.requires.data i (job_of one) (job_got job_of c.args.jobs.now i one c.loop-number-test.true c.index-jobs-number.is) in
+    let begun =
+    c.requires.data i (job_of one)
+    (job_got job_of c.args.jobs.now i one c.loop-number-test.true c.index-jobs-number.is) in
     let held = all_held (frame_base_of i) old now one.0.slots c.loop-number.invariant.data_there begun in
     subst (λ (n : ℕ). All (HoldsSlot n now) c.slots.result.now) (sym c.frame_base.ensures)
     (subst (λ (xs : List Slot). All (HoldsSlot (frame_base_of i) now) xs) (sym c.slots.ensures.slots) held)
@@ -51,7 +56,8 @@ loop-number-preserved g c =
     let now = g.M.Memory.bytes c.loop-number.memory in
     let new = g.M.Memory.bytes c.put_arguments.new.memory in
     let within = at_job job_of jobs i one inside is IsRunnable c.requires.within in
-    let held = all_held (frame_base_of i) old now one.0.slots c.loop-number.invariant.data_there (c.requires.data i (job_of one) (job_got job_of jobs i one inside is)) in
+    let held = all_held (frame_base_of i) old now one.0.slots c.loop-number.invariant.data_there
+    (c.requires.data i (job_of one) (job_got job_of jobs i one inside is)) in
     let written : new ≡ with_arguments (frame_base_of i) now one.0.slots one.1 =
     c.put_arguments.ensures
     ∙ (ap (λ (n : ℕ). with_arguments n now c.slots.result.now c.as_slice.result.now) c.frame_base.ensures
@@ -60,6 +66,9 @@ loop-number-preserved g c =
     record {
       rest =
           ap (with_all_arguments (i + 1) (drop (i + 1) all)) written
-          ∙ (sym (with_all-next all i (job_of one) now (many job_of jobs i one inside is) (job_there job_of jobs i one inside is (job_of one))) ∙ c.loop-number.invariant.rest);
-      data_there = λ x. ap (λ (b : ByteMap). is_some (b x)) written ∙ (still_there (frame_base_of i) now one.0.slots one.1 held within x ∙ c.loop-number.invariant.data_there x);
+          ∙ (sym (with_all-next all i (job_of one) now (many job_of jobs i one inside is)
+          (job_there job_of jobs i one inside is (job_of one))) ∙ c.loop-number.invariant.rest);
+      data_there = λ x. ap (λ (b : ByteMap). is_some (b x)) written
+          ∙ (still_there (frame_base_of i) now one.0.slots one.1 held within x
+          ∙ c.loop-number.invariant.data_there x);
     }

@@ -7,6 +7,7 @@ abbrev pub invariant-loop-number : goal.invariant-loop-number
 invariant-loop-number g l =
     let bytes = g.M.Memory.bytes in
     record {
-      rest : with_all_arguments l.number (drop l.number (map job_of l.jobs)) (bytes l.memory) ≡ with_all_arguments 0 (map job_of l.jobs) (bytes l.fn.memory);
+      rest : with_all_arguments l.number (drop l.number (map job_of l.jobs)) (bytes l.memory)
+          ≡ with_all_arguments 0 (map job_of l.jobs) (bytes l.fn.memory);
       data_there : (x : ℕ) → is_some (bytes l.memory x) ≡ is_some (bytes l.fn.memory x);
     }

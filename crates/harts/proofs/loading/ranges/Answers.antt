@@ -24,5 +24,6 @@ loop-number-preserved c =
           ∙ (ap (λ (n : ℕ). items ++ range (frame_base_of i) n ∷ []) size
           ∙ (ap (λ (xs : List AddressRange). xs ++ frame_of i (job_of one) ∷ []) c.loop-number.invariant.frames
           ∙ sym (each_more job_of jobs i one inside is frame_of))));
-      allowed = all_more job_of jobs i one inside is HasImage c.loop-number.invariant.allowed c.frame_bytes.ensures.allowed;
+      allowed = all_more job_of jobs i one inside is HasImage c.loop-number.invariant.allowed
+          c.frame_bytes.ensures.allowed;
     }

@@ -29,20 +29,25 @@ pub follow-requires : goal.follow-requires
 follow-requires g c =
     let jobs = map job_of c.args.jobs.now in
     let harts = c.in_ok-running.running.harts.items in
-    let count : length harts ≡ length jobs = sym (length-map harts member_now) ∙ (ap (λ (s : System). length s.members) c.in_ok-running.ensures.loaded ∙ members_from-count 0 jobs) in
+    let count : length harts ≡ length jobs = sym (length-map harts member_now)
+    ∙ (ap (λ (s : System). length s.members) c.in_ok-running.ensures.loaded ∙ members_from-count 0 jobs) in
     subst (λ n. All (λ number. number < n) c.args.schedule.now) (sym count) c.in_ok-check.ensures.allowed.named
 
 pub returns-in_err-follow-clause-ran : goal.returns-in_err-follow-clause-ran
 returns-in_err-follow-clause-ran g c =
     let p = err_from_is_err_and c.from_residual-in_err-follow.result c.from_residual-in_err-follow.ensures.1 in
-    let short = subst (λ (s : System). CutShort g.R.HartRecorder.KEEPS c.args.schedule.now s (g.R.HartRecorder.list c.args.recorder.now) (g.R.HartRecorder.list c.follow.new.recorder)) c.in_ok-running.ensures.loaded c.in_err-follow.ensures.cut_short in
+    let short =
+    subst (λ (s : System). CutShort g.R.HartRecorder.KEEPS c.args.schedule.now s
+    (g.R.HartRecorder.list c.args.recorder.now) (g.R.HartRecorder.list c.follow.new.recorder))
+    c.in_ok-running.ensures.loaded c.in_err-follow.ensures.cut_short in
     rw (p.1, p.2) (cut_short c.in_ok-check.ensures.allowed short)
 
 pub ends-requires-clause-count : goal.ends-requires-clause-count
 ends-requires-clause-count g c =
     let jobs = map job_of c.args.jobs.now in
     let harts = c.in_ok-running.running.harts.items in
-    let count : length harts ≡ length jobs = sym (length-map harts member_now) ∙ (ap (λ (s : System). length s.members) c.in_ok-running.ensures.loaded ∙ members_from-count 0 jobs) in
+    let count : length harts ≡ length jobs = sym (length-map harts member_now)
+    ∙ (ap (λ (s : System). length s.members) c.in_ok-running.ensures.loaded ∙ members_from-count 0 jobs) in
     c.follow.ensures.count ∙ (count ∙ length-map c.args.jobs.now job_of)
 
 pub returns-in_err-follow-clause-memory : goal.returns-in_err-follow-clause-memory
@@ -51,5 +56,8 @@ returns-in_err-follow-clause-memory g c = λ _. inr c.in_err-follow.ensures.refu
 pub returns-clause-ran : goal.returns-clause-ran
 returns-clause-ran g c =
     let end = system_now c.follow.new.self.harts.items (paged_bytes c.follow.new.self.memory) in
-    let whole = subst (λ (s : System). Followed g.R.HartRecorder.KEEPS c.args.schedule.now s (g.R.HartRecorder.list c.args.recorder.now) end (g.R.HartRecorder.list c.follow.new.recorder)) c.in_ok-running.ensures.loaded c.in_ok-follow.ensures.followed in
+    let whole =
+    subst (λ (s : System). Followed g.R.HartRecorder.KEEPS c.args.schedule.now s
+    (g.R.HartRecorder.list c.args.recorder.now) end (g.R.HartRecorder.list c.follow.new.recorder))
+    c.in_ok-running.ensures.loaded c.in_ok-follow.ensures.followed in
     ran {end = end} c.in_ok-check.ensures.allowed whole (ap Ok c.ends.ensures)

@@ -2,7 +2,8 @@ use Rattle.std.proofs.Common.{◌≡◌, ◌<◌, ◌≤◌, ◌+◌, ◌*◌, �
 use Rattle.std.proofs.lemmas.Bool.Decides.{nat_tests}
 use Rattle.std.specs.Char.{digit_value}
 use Rattle.arguments.specs.Texts.{number_after}
-use Rattle.harts_file.proofs.NumberLemmas.{capped, number_after-turn, number_after-stops, number_after-ends, number_in-after}
+use Rattle.harts_file.proofs.NumberLemmas.{capped, number_after-turn, number_after-stops, number_after-ends}
+use Rattle.harts_file.proofs.NumberLemmas.{number_in-after}
 use Rattle.harts_file.proofs.numerals.decimal.Goals as goal
 
 pub returns-in_err-digit : goal.returns-in_err-digit
@@ -13,7 +14,8 @@ returns-in_err-digit c =
     let read : digit_value c.from.result ≡ digit_value (get_or bytes at 0) = ap digit_value code in
     let no_digit : 10 ≤ digit_value (get_or bytes at 0) = omega (arith, c.in_err-digit.ensures.value) in
     let none = number_after-stops c.loop-byte.number at bytes (omega arith) no_digit in
-    let whole = ap (number_after 10 0) c.as_bytes-byte-items.ensures.value ∙ sym (number_in-after c.args.text.now (omega arith)) in
+    let whole = ap (number_after 10 0) c.as_bytes-byte-items.ensures.value
+    ∙ sym (number_in-after c.args.text.now (omega arith)) in
     c.from_residual.ensures ∙ sym none ∙ c.loop-byte.invariant.goes_on ∙ ap capped whole
 
 pub loop-byte-preserved : goal.loop-byte-preserved
@@ -24,11 +26,14 @@ loop-byte-preserved c =
     let read : digit_value c.from.result ≡ digit_value (get_or bytes at 0) = ap digit_value code in
     let is_digit : digit_value (get_or bytes at 0) < 10 = omega (arith, c.in_ok-digit.ensures.value) in
     let value : c.in_ok-digit.digit ≡ digit_value (get_or bytes at 0) = omega (arith, c.in_ok-digit.ensures.value) in
-    let turn = number_after-turn c.loop-byte.number at c.in_ok-digit.digit bytes c.loop-byte-test.true is_digit value in
-    let next : c.saturating_add-number.result ≡ min (min (c.loop-byte.number * 10) (2 ^ 64 - 1) + c.in_ok-digit.digit) (2 ^ 64 - 1) = cc in
+    let turn = number_after-turn c.loop-byte.number at c.in_ok-digit.digit bytes c.loop-byte-test.true
+    is_digit value in
+    let next : c.saturating_add-number.result
+    ≡ min (min (c.loop-byte.number * 10) (2 ^ 64 - 1) + c.in_ok-digit.digit) (2 ^ 64 - 1) = cc in
     record {
       fits = omega arith;
-      goes_on = ap (λ front. capped (number_after 10 front (drop (at + 1) bytes))) next ∙ sym turn ∙ c.loop-byte.invariant.goes_on;
+      goes_on = ap (λ front. capped (number_after 10 front (drop (at + 1) bytes))) next ∙ sym turn
+          ∙ c.loop-byte.invariant.goes_on;
     }
 
 pub returns : goal.returns
@@ -36,5 +41,6 @@ returns c =
     let bytes = c.as_bytes-byte-items.result.now in
     let ended = number_after-ends c.loop-byte.number c.loop-byte.byte-index bytes (omega arith) (omega arith) in
     let some : 0 < length c.args.text.now = grind (arith, nat_tests, c.if-is_empty.ensures) in
-    let whole = ap (number_after 10 0) c.as_bytes-byte-items.ensures.value ∙ sym (number_in-after c.args.text.now some) in
+    let whole = ap (number_after 10 0) c.as_bytes-byte-items.ensures.value
+    ∙ sym (number_in-after c.args.text.now some) in
     sym ended ∙ c.loop-byte.invariant.goes_on ∙ ap capped whole

@@ -8,5 +8,6 @@ use Rattle.harts_file.proofs.numerals.decimal.Given as goal
 abbrev pub invariant-loop-byte : goal.invariant-loop-byte
 invariant-loop-byte l = record {
   fits : l.number < 2 ^ 64;
-  goes_on : option_map held_number (number_after 10 l.number (drop l.byte-index l.byte-items)) ≡ option_map held_number (number_after 10 0 l.byte-items);
+  goes_on : option_map held_number (number_after 10 l.number (drop l.byte-index l.byte-items))
+      ≡ option_map held_number (number_after 10 0 l.byte-items);
 }

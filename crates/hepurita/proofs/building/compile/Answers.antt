@@ -19,7 +19,9 @@ pub returns-in_err-ranged-clause-refused : goal.returns-in_err-ranged-clause-ref
 returns-in_err-ranged-clause-refused c =
     let p = err_from_is_err_and c.from_residual-in_err-ranged.result c.from_residual-in_err-ranged.ensures.1 in
     let made = c.in_ok-flat.ensures.accepted in
-    rw (p.1, p.2) (refusal_of_ranges c.args.profile (program_tree c.args.program.now) made.0 made.1 c.in_ok-flat.flat c.in_err-ranged.field-0.0 (grammatical_export c.requires.read.0 (program_tree c.args.program.now) c.requires.read.1) made.2 made.3 c.in_err-ranged.ensures.refused)
+    rw (p.1, p.2) (refusal_of_ranges c.args.profile (program_tree c.args.program.now) made.0 made.1 c.in_ok-flat.flat
+    c.in_err-ranged.field-0.0 (grammatical_export c.requires.read.0 (program_tree c.args.program.now)
+    c.requires.read.1) made.2 made.3 c.in_err-ranged.ensures.refused)
 
 pub returns-in_err-straight-clause-refused : goal.returns-in_err-straight-clause-refused
 returns-in_err-straight-clause-refused c =
@@ -34,11 +36,24 @@ unfolding image_for
 returns-clause-accepted c =
     let made = c.in_ok-flat.ensures.accepted in
     let is = c.in_ok-ranged.ensures.accepted ∙ ap ranged made.3 in
-    let in_range = subst (λ (f : FlatProgram). length (range_violations f) ≡ 0) made.3 c.in_ok-ranged.ensures.in_range in
+    let in_range = subst (λ (f : FlatProgram). length (range_violations f) ≡ 0) made.3
+    c.in_ok-ranged.ensures.in_range in
     let plain = grammatical_export c.requires.read.0 (program_tree c.args.program.now) c.requires.read.1 in
     let one = same_violations c.args.profile (program_tree c.args.program.now) made.0 made.1 plain made.2 in
-    let in_time = ap (λ vs. length vs) one ∙ subst (λ (f : FlatProgram). length (work_violations f) ≡ 0) made.3 c.in_ok-ranged.ensures.worked in
-    let removed = subst (λ (r : RangedProgram). IsRemoved r c.in_ok-straight.straight) is c.in_ok-straight.ensures.removed in
+    let in_time = ap (λ vs. length vs) one
+    ∙ subst (λ (f : FlatProgram). length (work_violations f) ≡ 0) made.3 c.in_ok-ranged.ensures.worked in
+    let removed = subst (λ (r : RangedProgram). IsRemoved r c.in_ok-straight.straight) is
+    c.in_ok-straight.ensures.removed in
     let straight = c.in_ok-straight.ensures.exact ∙ ap straight_of is in
-    IfOk-weaker c.code_for.result _ _ (λ code both. (made.0, made.1, fine made.2 in_range in_time, (both.0.source, both.0.stands (ranged (flattened c.args.profile made.0 made.1)) removed, both.0.generated), both.1 ∙ ap (code_for c.args.optimisation) straight))
+    IfOk-weaker c.code_for.result _ _ (λ code both. (
+      made.0,
+      made.1,
+      fine made.2 in_range in_time,
+      (
+        both.0.source,
+        both.0.stands (ranged (flattened c.args.profile made.0 made.1)) removed,
+        both.0.generated,
+      ),
+      both.1 ∙ ap (code_for c.args.optimisation) straight,
+    ))
     (ok_both c.code_for.result _ _ c.code_for.ensures.generated c.code_for.ensures.exact)

@@ -9,7 +9,9 @@ use Rattle.hepurita.proofs.checking.first_fault.Goals as goal
 pub returns-clause-first : goal.returns-clause-first
 returns-clause-first c =
     c.first_fault_by.ensures rule_of (λ param one broken is. search rules)
-    ∙ ap₂ (λ (slots : List Slot) (args : List Arg). fault_of (map (λ (slot : Slot). slot.param) slots) args) c.slots.ensures.slots c.as_slice.ensures
+    ∙ ap₂ (λ (slots : List Slot) (args : List Arg). fault_of (map (λ (slot : Slot). slot.param) slots) args)
+    c.slots.ensures.slots c.as_slice.ensures
 
 pub returns-clause-within : goal.returns-clause-within
-returns-clause-within c = None-from_fault_of (params_of c.args.image.now) c.args.args.now c.first_fault_by.result (returns-clause-first c)
+returns-clause-within c = None-from_fault_of (params_of c.args.image.now) c.args.args.now c.first_fault_by.result
+    (returns-clause-first c)

@@ -15,7 +15,8 @@ returns-in-Some c =
 pub returns-in_err-code : goal.returns-in_err-code
 returns-in_err-code c =
     let p = err_from_is_err_and c.from_residual.result c.from_residual.ensures.1 in
-    memory_paired c.args.image.now c.args.one.now c.args.other.now c.from_residual.result (sym c.fault_of_both.ensures.first ∙ c.in_default.is) (p.1 ∙ ap Err p.2)
+    memory_paired c.args.image.now c.args.one.now c.args.other.now c.from_residual.result
+    (sym c.fault_of_both.ensures.first ∙ c.in_default.is) (p.1 ∙ ap Err p.2)
 
 pub load-requires : goal.load-requires
 load-requires c = (c.fault_of_both.ensures.within c.in_default.is).0
@@ -23,7 +24,8 @@ load-requires c = (c.fault_of_both.ensures.within c.in_default.is).0
 pub returns-in_err-one : goal.returns-in_err-one
 returns-in_err-one c =
     let p = err_from_is_err_and c.from_residual-in_err-one.result c.from_residual-in_err-one.ensures.1 in
-    memory_paired c.args.image.now c.args.one.now c.args.other.now c.from_residual-in_err-one.result (sym c.fault_of_both.ensures.first ∙ c.in_default.is) (p.1 ∙ ap Err p.2)
+    memory_paired c.args.image.now c.args.one.now c.args.other.now c.from_residual-in_err-one.result
+    (sym c.fault_of_both.ensures.first ∙ c.in_default.is) (p.1 ∙ ap Err p.2)
 
 pub load-requires-2 : goal.load-requires-2
 load-requires-2 c = (c.fault_of_both.ensures.within c.in_default.is).1
@@ -31,7 +33,8 @@ load-requires-2 c = (c.fault_of_both.ensures.within c.in_default.is).1
 pub returns-in_err-other : goal.returns-in_err-other
 returns-in_err-other c =
     let p = err_from_is_err_and c.from_residual-in_err-other.result c.from_residual-in_err-other.ensures.1 in
-    memory_paired c.args.image.now c.args.one.now c.args.other.now c.from_residual-in_err-other.result (sym c.fault_of_both.ensures.first ∙ c.in_default.is) (p.1 ∙ ap Err p.2)
+    memory_paired c.args.image.now c.args.one.now c.args.other.now c.from_residual-in_err-other.result
+    (sym c.fault_of_both.ensures.first ∙ c.in_default.is) (p.1 ∙ ap Err p.2)
 
 pub compare-requires : goal.compare-requires
 compare-requires c = omega (arith, c.in_ok-one.ensures.steps, c.fault_of_both.ensures.allowed.steps)
@@ -43,6 +46,10 @@ returns c =
     let other = c.in_ok-other.other in
     let both = c.compare.ensures.compared in
     compared (sym c.fault_of_both.ensures.first ∙ c.in_default.is)
-    (observed_from image c.args.one.now (code_of c.in_ok-code.code) one.turns_left (state_of one.hart (paged_bytes one.memory)) both.0 c.in_ok-code.ensures c.in_ok-one.ensures.steps c.in_ok-one.ensures.state both.2)
-    (observed_from image c.args.other.now (code_of c.in_ok-code.code) other.turns_left (state_of other.hart (paged_bytes other.memory)) both.1 c.in_ok-code.ensures c.in_ok-other.ensures.steps c.in_ok-other.ensures.state both.3)
+    (observed_from image c.args.one.now (code_of c.in_ok-code.code) one.turns_left
+    (state_of one.hart (paged_bytes one.memory)) both.0 c.in_ok-code.ensures c.in_ok-one.ensures.steps
+    c.in_ok-one.ensures.state both.2)
+    (observed_from image c.args.other.now (code_of c.in_ok-code.code) other.turns_left
+    (state_of other.hart (paged_bytes other.memory)) both.1 c.in_ok-code.ensures c.in_ok-other.ensures.steps
+    c.in_ok-other.ensures.state both.3)
     both.4

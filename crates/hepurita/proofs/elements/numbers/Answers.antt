@@ -12,7 +12,9 @@ loop-index-preserved g c =
     let read = c.unwrap_or.ensures ∙ (ap (λ n. unwrap_or n 0) c.load-number.ensures.number
     ∙ ap (λ n. unwrap_or (number_at bytes size (c.args.at + n * i)) 0) c.bytes-step.ensures) in
     record {
-      so_far = c.push_reserved.ensures.items ∙ (ap₂ (λ (front : List ℕ) n. front ++ n ∷ []) c.loop-index.invariant.so_far read ∙ numbers_at-more bytes size c.args.at i);
+      so_far = c.push_reserved.ensures.items
+          ∙ (ap₂ (λ (front : List ℕ) n. front ++ n ∷ []) c.loop-index.invariant.so_far read
+          ∙ numbers_at-more bytes size c.args.at i);
       len = c.push_reserved.ensures.len ∙ ap (λ n. n + 1) c.loop-index.invariant.len;
       enough = omega (arith, c.push_reserved.ensures.capacity, c.loop-index.invariant.enough);
     }

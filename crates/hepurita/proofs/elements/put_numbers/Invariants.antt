@@ -9,6 +9,7 @@ invariant-loop-index g l =
     let bytes = g.M.Memory.bytes in
     let size = byte_count l.size in
     record {
-      rest : with_numbers (bytes l.memory) size (l.at + size * l.index) (drop l.index l.numbers) ≡ with_numbers (bytes l.fn.memory) size l.at l.numbers;
+      rest : with_numbers (bytes l.memory) size (l.at + size * l.index) (drop l.index l.numbers)
+          ≡ with_numbers (bytes l.fn.memory) size l.at l.numbers;
       data_there : (x : ℕ) → is_some (bytes l.memory x) ≡ is_some (bytes l.fn.memory x);
     }

@@ -8,35 +8,41 @@ use Rattle.hepurita.proofs.executing.execute.Goals as goal
 
 pub returns-in-Some-clause-executed : goal.returns-in-Some-clause-executed
 returns-in-Some-clause-executed g c =
-    refused_executed c.args.image.now c.args.args.now g.R.Recorder.KEEPS (g.R.Recorder.list c.args.recorder.now) c.in-Some.fault c.from.result c.from.ensures
+    refused_executed c.args.image.now c.args.args.now g.R.Recorder.KEEPS (g.R.Recorder.list c.args.recorder.now)
+    c.in-Some.fault c.from.result c.from.ensures
     (sym c.first_fault.ensures.first ∙ c.in-Some.is)
 
 pub returns-in_err-code-clause-executed : goal.returns-in_err-code-clause-executed
 returns-in_err-code-clause-executed g c =
     let p = err_from_is_err_and c.from_residual.result c.from_residual.ensures.1 in
-    memory_executed c.args.image.now c.args.args.now g.R.Recorder.KEEPS (g.R.Recorder.list c.args.recorder.now) c.from_residual.result
+    memory_executed c.args.image.now c.args.args.now g.R.Recorder.KEEPS (g.R.Recorder.list c.args.recorder.now)
+    c.from_residual.result
     (sym c.first_fault.ensures.first ∙ c.in_default.is) (p.1 ∙ ap Err p.2)
 
 pub returns-in_err-space-clause-executed : goal.returns-in_err-space-clause-executed
 returns-in_err-space-clause-executed g c =
     let p = err_from_is_err_and c.from_residual-in_err-space.result c.from_residual-in_err-space.ensures.1 in
-    memory_executed c.args.image.now c.args.args.now g.R.Recorder.KEEPS (g.R.Recorder.list c.args.recorder.now) c.from_residual-in_err-space.result
+    memory_executed c.args.image.now c.args.args.now g.R.Recorder.KEEPS (g.R.Recorder.list c.args.recorder.now)
+    c.from_residual-in_err-space.result
     (sym c.first_fault.ensures.first ∙ c.in_default.is) (p.1 ∙ ap Err p.2)
 
 pub returns-in_err-loaded-clause-executed : goal.returns-in_err-loaded-clause-executed
 returns-in_err-loaded-clause-executed g c =
     let p = err_from_is_err_and c.from_residual-in_err-loaded.result c.from_residual-in_err-loaded.ensures.1 in
-    memory_executed c.args.image.now c.args.args.now g.R.Recorder.KEEPS (g.R.Recorder.list c.args.recorder.now) c.from_residual-in_err-loaded.result
+    memory_executed c.args.image.now c.args.args.now g.R.Recorder.KEEPS (g.R.Recorder.list c.args.recorder.now)
+    c.from_residual-in_err-loaded.result
     (sym c.first_fault.ensures.first ∙ c.in_default.is) (p.1 ∙ ap Err p.2)
 
 pub returns-clause-executed : goal.returns-clause-executed
 returns-clause-executed g c =
     let loaded = c.in_ok-loaded.loaded in
-    ran_executed c.args.image.now c.args.args.now g.R.Recorder.KEEPS (g.R.Recorder.list c.args.recorder.now) (g.R.Recorder.list c.run-stop.new.recorder) c.answer.result
+    ran_executed c.args.image.now c.args.args.now g.R.Recorder.KEEPS (g.R.Recorder.list c.args.recorder.now)
+    (g.R.Recorder.list c.run-stop.new.recorder) c.answer.result
     (code_of c.in_ok-code.code) loaded.turns_left (state_of loaded.hart (paged_bytes loaded.memory))
     (state_of c.run-stop.new.hart (paged_bytes c.run-stop.new.memory)) c.run-stop.result
     (sym c.first_fault.ensures.first ∙ c.in_default.is)
-    c.in_ok-code.ensures c.in_ok-loaded.ensures.steps c.in_ok-loaded.ensures.state c.run-stop.ensures.turns c.answer.ensures
+    c.in_ok-code.ensures c.in_ok-loaded.ensures.steps c.in_ok-loaded.ensures.state c.run-stop.ensures.turns
+    c.answer.ensures
 
 pub answer-requires-clause-frame : goal.answer-requires-clause-frame
 answer-requires-clause-frame g c = omega (arith, c.first_fault.ensures.allowed.frame_size)

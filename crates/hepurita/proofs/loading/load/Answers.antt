@@ -25,7 +25,8 @@ put_arguments-requires-clause-data c =
     let allowed = c.slots.ensures.allowed in
     let held = All-from_recursion (HoldsSlot frame_base (zeros frame_base image.frame_bytes)) image.slots
     (slots_hold frame_base image.frame_bytes image.slots allowed.slots_inside (omega (arith, allowed.frame_size))) in
-    subst (λ (xs : List Slot). All (HoldsSlot frame_base (paged_bytes c.in_ok-memory.memory)) xs) (sym c.slots.ensures.slots)
+    subst (λ (xs : List Slot). All (HoldsSlot frame_base (paged_bytes c.in_ok-memory.memory)) xs)
+    (sym c.slots.ensures.slots)
     (subst (λ (b : ByteMap). All (HoldsSlot frame_base b) image.slots) (sym c.in_ok-memory.ensures) held)
 
 pub returns-clause-state : goal.returns-clause-state
@@ -33,7 +34,11 @@ returns-clause-state c =
     let image = c.args.image.now in
     let bytes =
     c.put_arguments.ensures
-    ∙ (ap (λ (b : ByteMap). with_arguments frame_base b c.slots.result.now c.as_slice.result.now) c.in_ok-memory.ensures
-    ∙ (ap (λ (xs : List Slot). with_arguments frame_base (zeros frame_base image.frame_bytes) xs c.as_slice.result.now) c.slots.ensures.slots
-    ∙ ap (λ (xs : List Arg). with_arguments frame_base (zeros frame_base image.frame_bytes) image.slots xs) c.as_slice.ensures)) in
-    same_state (pc_of c.new.result) code_base (regs_of c.new.result) (initial_registers frame_base) (paged_bytes c.put_arguments.new.memory) _ c.new.ensures.pc c.new.ensures.registers bytes
+    ∙ (ap (λ (b : ByteMap). with_arguments frame_base b c.slots.result.now c.as_slice.result.now)
+    c.in_ok-memory.ensures
+    ∙ (ap (λ (xs : List Slot). with_arguments frame_base (zeros frame_base image.frame_bytes) xs
+    c.as_slice.result.now) c.slots.ensures.slots
+    ∙ ap (λ (xs : List Arg). with_arguments frame_base (zeros frame_base image.frame_bytes) image.slots xs)
+    c.as_slice.ensures)) in
+    same_state (pc_of c.new.result) code_base (regs_of c.new.result) (initial_registers frame_base)
+    (paged_bytes c.put_arguments.new.memory) _ c.new.ensures.pc c.new.ensures.registers bytes

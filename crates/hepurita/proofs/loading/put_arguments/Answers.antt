@@ -11,11 +11,13 @@ put_argument-requires-clause-shape g c =
     let i = c.loop-index.index in
     let slot = slice_index_or c.args.slots.now i no_slot in
     subst (λ (arg : Arg). HasShape slot.param.form slot.param.length arg) (sym c.index-args-index.is)
-    (shape_at c.args.slots.now c.args.args.now i no_slot c.index-args-index.result c.requires.within c.loop-index-test.true)
+    (shape_at c.args.slots.now c.args.args.now i no_slot c.index-args-index.result c.requires.within
+    c.loop-index-test.true)
 
 pub put_argument-requires-clause-data : goal.put_argument-requires-clause-data
 put_argument-requires-clause-data g c =
-    HoldsSlot-same c.args.frame (g.M.Memory.bytes c.args.memory.now) (g.M.Memory.bytes c.loop-index.memory) (slice_index_or c.args.slots.now c.loop-index.index no_slot)
+    HoldsSlot-same c.args.frame (g.M.Memory.bytes c.args.memory.now) (g.M.Memory.bytes c.loop-index.memory)
+    (slice_index_or c.args.slots.now c.loop-index.index no_slot)
     c.loop-index.invariant.data_there (c.requires.data c.loop-index.index no_slot c.loop-index-test.true)
 
 pub loop-index-preserved : goal.loop-index-preserved
@@ -23,17 +25,23 @@ loop-index-preserved g c =
     let i = c.loop-index.index in
     let old = g.M.Memory.bytes c.loop-index.memory in
     let slot = slice_index_or c.args.slots.now i no_slot in
-    let holds = HoldsSlot-same c.args.frame (g.M.Memory.bytes c.args.memory.now) old slot c.loop-index.invariant.data_there (c.requires.data i no_slot c.loop-index-test.true) in
+    let holds = HoldsSlot-same c.args.frame (g.M.Memory.bytes c.args.memory.now) old slot
+    c.loop-index.invariant.data_there (c.requires.data i no_slot c.loop-index-test.true) in
     let shape : HasShape slot.param.form slot.param.length c.index-args-index.result =
     subst (λ (arg : Arg). HasShape slot.param.form slot.param.length arg) (sym c.index-args-index.is)
-    (shape_at c.args.slots.now c.args.args.now i no_slot c.index-args-index.result c.requires.within c.loop-index-test.true) in
+    (shape_at c.args.slots.now c.args.args.now i no_slot c.index-args-index.result c.requires.within
+    c.loop-index-test.true) in
     let below : i < length c.args.args.now = omega (arith, c.requires.count, c.loop-index-test.true) in
     record {
       rest =
-          ap (λ bytes. with_arguments c.args.frame bytes (drop (i + 1) c.args.slots.now) (drop (i + 1) c.args.args.now)) c.put_argument.ensures
-          ∙ (ap (λ (arg : Arg). with_arguments c.args.frame (with_argument c.args.frame old slot arg) (drop (i + 1) c.args.slots.now) (drop (i + 1) c.args.args.now)) c.index-args-index.is
-          ∙ (sym (with_arguments-next c.args.frame old c.args.slots.now c.args.args.now i no_slot c.index-args-index.result c.loop-index-test.true below)
+          ap (λ bytes. with_arguments c.args.frame bytes (drop (i + 1) c.args.slots.now)
+          (drop (i + 1) c.args.args.now)) c.put_argument.ensures
+          ∙ (ap (λ (arg : Arg). with_arguments c.args.frame (with_argument c.args.frame old slot arg)
+          (drop (i + 1) c.args.slots.now) (drop (i + 1) c.args.args.now)) c.index-args-index.is
+          ∙ (sym (with_arguments-next c.args.frame old c.args.slots.now c.args.args.now i no_slot
+          c.index-args-index.result c.loop-index-test.true below)
           ∙ c.loop-index.invariant.rest));
       data_there = λ x. ap (λ bytes. is_some (bytes x)) c.put_argument.ensures
-          ∙ (is_some-with_argument c.args.frame old slot holds c.index-args-index.result shape x ∙ c.loop-index.invariant.data_there x);
+          ∙ (is_some-with_argument c.args.frame old slot holds c.index-args-index.result shape x
+          ∙ c.loop-index.invariant.data_there x);
     }

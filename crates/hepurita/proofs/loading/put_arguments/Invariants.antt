@@ -7,6 +7,7 @@ abbrev pub invariant-loop-index : goal.invariant-loop-index
 invariant-loop-index g l =
     let bytes = g.M.Memory.bytes in
     record {
-      rest : with_arguments l.frame (bytes l.memory) (drop l.index l.slots) (drop l.index l.args) ≡ with_arguments l.frame (bytes l.fn.memory) l.slots l.args;
+      rest : with_arguments l.frame (bytes l.memory) (drop l.index l.slots) (drop l.index l.args)
+          ≡ with_arguments l.frame (bytes l.fn.memory) l.slots l.args;
       data_there : (x : ℕ) → is_some (bytes l.memory x) ≡ is_some (bytes l.fn.memory x);
     }

@@ -6,7 +6,8 @@ use Rattle.hepurita.proofs.reading.read_args.Goals as goal
 pub returns-in-Err-Argument-clause-fault : goal.returns-in-Err-Argument-clause-fault
 returns-in-Err-Argument-clause-fault c =
     let was : c.read.result ≡ Err (errors.Argument c.in-Err-Argument.fault) = cc in
-    λ fault. same_fault c.in-Err-Argument.fault fault _ c.read.result _ was (ap Err c.from.ensures) (c.read.ensures.fault fault)
+    λ fault. same_fault c.in-Err-Argument.fault fault _ c.read.result _ was (ap Err c.from.ensures)
+    (c.read.ensures.fault fault)
 
 pub returns-in-Err-Memory-clause-fault : goal.returns-in-Err-Memory-clause-fault
 returns-in-Err-Memory-clause-fault c =

@@ -1,4 +1,5 @@
-use Rattle.std.proofs.Common.{rules, ◌≡◌, ◌≢◌, ℕ, List, [], ◌∷◌, ◌+◌, ◌≤◌, ◌++◌, All, drop, map, slice_index_or, is_ok, sym, ap, subst, ◌∙◌}
+use Rattle.std.proofs.Common.{rules, ◌≡◌, ◌≢◌, ℕ, List, [], ◌∷◌, ◌+◌, ◌≤◌, ◌++◌, All, drop, map, slice_index_or}
+use Rattle.std.proofs.Common.{is_ok, sym, ap, subst, ◌∙◌}
 use Rattle.std.specs.List.{AllByRecursion}
 use Rattle.std.proofs.ResultArms.{chosen}
 use Rattle.std.proofs.lemmas.List.Elements.{All-from_recursion}
@@ -20,27 +21,39 @@ loop-slot-preserved c =
     let slot = slice_index_or slots i no_slot in
     let bound = c.args.image.now.frame_bytes in
     let inside : slot_end slot ≤ bound = All-from_recursion (λ (s : Slot). slot_end s ≤ bound) slots
-    (subst (λ (xs : List Slot). AllByRecursion (λ s. slot_end s ≤ bound) xs) (sym c.slots-slot-items.ensures.slots) c.slots-slot-items.ensures.allowed.slots_inside) i no_slot c.loop-slot-test.true in
+    (subst (λ (xs : List Slot). AllByRecursion (λ s. slot_end s ≤ bound) xs) (sym c.slots-slot-items.ensures.slots)
+    c.slots-slot-items.ensures.allowed.slots_inside) i no_slot c.loop-slot-test.true in
     elim c.if-eq.branch [
       | then-eq+in_ok-words+in_ok-push w ↦
           let is : slot.param.form ≡ MutableArray = search (rules, w.if-eq.ensures, c.eq.ensures) in
           let words = w.in_ok-words.words in
           let one : ArraySpace = record { slot = slot; words = words } in
-          let pushed : c.if-eq.each.items ≡ c.loop-slot.each.items ++ one ∷ [] = ap (λ v. v.items) w.each-is ∙ chosen _ _ _ _ w.push.ensures.items (ap is_ok w.in_ok-push.was) in
+          let pushed : c.if-eq.each.items ≡ c.loop-slot.each.items ++ one ∷ [] = ap (λ v. v.items) w.each-is
+          ∙ chosen _ _ _ _ w.push.ensures.items (ap is_ok w.in_ok-push.was) in
           record {
-            each = subst (All (HasSpace bound)) (sym pushed) (space_more bound c.loop-slot.each.items one c.loop-slot.invariant.each
-                (record { inside = array_inside bound slot is inside; empty = w.in_ok-words.ensures.items; enough = w.in_ok-words.ensures.capacity }));
-            in_order = λ frame bytes. ap (λ (xs : List ArraySpace). map (λ x. elements_in frame bytes x.slot) xs ++ arrays_in frame bytes (drop (i + 1) slots)) pushed
-                ∙ in_order_more frame bytes c.loop-slot.each.items one (arrays_in frame bytes (drop i slots)) (arrays_in frame bytes (drop (i + 1) slots)) (arrays_in frame bytes c.args.image.now.slots)
-                (past_array frame bytes slots i no_slot c.loop-slot-test.true is) (c.loop-slot.invariant.in_order frame bytes);
+            each = subst (All (HasSpace bound)) (sym pushed)
+                (space_more bound c.loop-slot.each.items one c.loop-slot.invariant.each
+                (record {
+                  inside = array_inside bound slot is inside;
+                  empty = w.in_ok-words.ensures.items;
+                  enough = w.in_ok-words.ensures.capacity;
+                }));
+            in_order = λ frame bytes. ap (λ (xs : List ArraySpace). map (λ x. elements_in frame bytes x.slot) xs
+                ++ arrays_in frame bytes (drop (i + 1) slots)) pushed
+                ∙ in_order_more frame bytes c.loop-slot.each.items one (arrays_in frame bytes (drop i slots))
+                (arrays_in frame bytes (drop (i + 1) slots)) (arrays_in frame bytes c.args.image.now.slots)
+                (past_array frame bytes slots i no_slot c.loop-slot-test.true is)
+                (c.loop-slot.invariant.in_order frame bytes);
           }
       | else-eq w ↦
           let other : slot.param.form ≢ MutableArray = search (rules, w.if-eq.ensures, c.eq.ensures) in
           let same : c.if-eq.each.items ≡ c.loop-slot.each.items = ap (λ v. v.items) w.each-is in
           record {
             each = subst (All (HasSpace bound)) (sym same) c.loop-slot.invariant.each;
-            in_order = λ frame bytes. ap (λ (xs : List ArraySpace). map (λ x. elements_in frame bytes x.slot) xs ++ arrays_in frame bytes (drop (i + 1) slots)) same
-                ∙ (ap (λ (after : List (List ℕ)). map (λ x. elements_in frame bytes x.slot) c.loop-slot.each.items ++ after) (sym (past_other frame bytes slots i no_slot c.loop-slot-test.true other))
+            in_order = λ frame bytes. ap (λ (xs : List ArraySpace). map (λ x. elements_in frame bytes x.slot) xs
+                ++ arrays_in frame bytes (drop (i + 1) slots)) same
+                ∙ (ap (λ (after : List (List ℕ)). map (λ x. elements_in frame bytes x.slot) c.loop-slot.each.items
+                ++ after) (sym (past_other frame bytes slots i no_slot c.loop-slot-test.true other))
                 ∙ c.loop-slot.invariant.in_order frame bytes);
           }
     ]

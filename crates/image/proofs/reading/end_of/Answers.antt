@@ -4,7 +4,8 @@ use Rattle.image_fields.specs.Fields.{slot_end, slots_end}
 use Rattle.image.proofs.reading.end_of.Goals as goal
 
 -- slots end where the last of them does
-slots_end_at_last : (low : ℕ) (d : Slot) (slots : List Slot) → 1 ≤ length slots → slot_end (get_or slots (length slots - 1) d) ≡ slots_end low slots
+slots_end_at_last : (low : ℕ) (d : Slot) (slots : List Slot) → 1 ≤ length slots
+    → slot_end (get_or slots (length slots - 1) d) ≡ slots_end low slots
 slots_end_at_last low d [] h = absurd (omega arith)
 slots_end_at_last low d (slot ∷ []) h = refl
 slots_end_at_last low d (slot ∷ next ∷ slots) h =

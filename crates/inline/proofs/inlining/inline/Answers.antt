@@ -13,7 +13,8 @@ flat_of-requires c =
     let p = procedure_tree c.export.result.1.now in
     let is = c.export.ensures in
     let profile = c.profile.result in
-    let well_typed = subst (λ seen. length (violations seen program) ≡ 0) (sym c.profile.ensures) checked.well_typed in
+    let well_typed = subst (λ seen. length (violations seen program) ≡ 0) (sym c.profile.ensures)
+    checked.well_typed in
     λ small. record {
       typed = flat_is_typed profile program before p well_typed is.exported is.earlier is.grammatical;
       sized = flat_is_sized profile program before p well_typed is.exported is.earlier is.grammatical small;

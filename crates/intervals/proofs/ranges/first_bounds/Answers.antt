@@ -6,7 +6,8 @@ use Rattle.intervals.proofs.ranges.first_bounds.Goals as goal
 pub loop-preserved : goal.loop-preserved
 loop-preserved c = record {
   bounds = c.in_ok-push.ensures.items
-      ∙ one_more c.loop.bounds.items c.in_ok-bounds.bounds.items None (length c.parameters-parameters.result.now) c.loop.counter (omega (arith, c.loop.auto)) c.loop.invariant.bounds;
+      ∙ one_more c.loop.bounds.items c.in_ok-bounds.bounds.items None (length c.parameters-parameters.result.now)
+      c.loop.counter (omega (arith, c.loop.auto)) c.loop.invariant.bounds;
   few = omega (arith, c.loop.auto, c.loop-test.true);
 }
 

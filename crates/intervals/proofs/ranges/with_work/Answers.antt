@@ -23,5 +23,10 @@ new-requires c =
 pub returns-clause-refused : goal.returns-clause-refused
 returns-clause-refused c =
     let p = c.args.flat.now in
-    let same = ap (λ ts. body_work ts p.body + value_nodes p.value) (c.as_slice.ensures.value ∙ c.requires.turns) in
-    (record { place = p.place; rule = TooMuchWork }, above_limit p (λ few. c.in-None.ensures (omega (arith, same, few))), c.at.ensures.rule, c.at.ensures.place ∙ ap Some c.place.ensures)
+    let same = ap (λ ts. body_work ts p.body + value_nodes p.value) (c.as_slice.ensures.value ∙ c.requires.turns) in (
+      record { place = p.place; rule = TooMuchWork },
+      above_limit p (λ few. c.in-None.ensures (omega (arith, same, few))),
+      c.at.ensures.rule,
+      c.at.ensures.place
+          ∙ ap Some c.place.ensures,
+    )

@@ -10,50 +10,86 @@ use Rattle.intervals.proofs.walk.+walk.Goals as goal
 
 pub accepted_arm-returns-clause-bounds : goal.accepted_arm-returns-clause-bounds
 accepted_arm-returns-clause-bounds t c =
-    c.rewind.ensures.bounds ∙ bounds_back c.args.walk.now.known c.learn_true.new.known c.statements.new.walk.known c.mark-outside.result c.mark-outside.ensures c.in_ok-learn_true.ensures.from c.in_ok-statements.ensures.from
+    c.rewind.ensures.bounds ∙ bounds_back c.args.walk.now.known c.learn_true.new.known c.statements.new.walk.known
+    c.mark-outside.result c.mark-outside.ensures c.in_ok-learn_true.ensures.from c.in_ok-statements.ensures.from
 
 pub otherwise_arm-returns-clause-bounds : goal.otherwise_arm-returns-clause-bounds
 otherwise_arm-returns-clause-bounds t c =
-    c.rewind.ensures.bounds ∙ bounds_back c.args.walk.now.known c.learn_false.new.known c.statements.new.walk.known c.mark-outside.result c.mark-outside.ensures c.in_ok-learn_false.ensures.from c.in_ok-statements.ensures.from
+    c.rewind.ensures.bounds ∙ bounds_back c.args.walk.now.known c.learn_false.new.known c.statements.new.walk.known
+    c.mark-outside.result c.mark-outside.ensures c.in_ok-learn_false.ensures.from
+    c.in_ok-statements.ensures.from
 
 pub turns-returns-clause-bounds : goal.turns-returns-clause-bounds
 turns-returns-clause-bounds t c =
-    c.rewind.ensures.bounds ∙ bounds_back c.args.walk.now.known c.set.new.self c.statements.new.walk.known c.mark-outside.result c.mark-outside.ensures c.in_ok-set.ensures.from c.in_ok-statements.ensures.from
+    c.rewind.ensures.bounds ∙ bounds_back c.args.walk.now.known c.set.new.self c.statements.new.walk.known
+    c.mark-outside.result c.mark-outside.ensures c.in_ok-set.ensures.from c.in_ok-statements.ensures.from
 
 pub statement-returns-in_ok-accepted_arm-in-Branch-clause-turns :
     goal.statement-returns-in_ok-accepted_arm-in-Branch-clause-turns
 statement-returns-in_ok-accepted_arm-in-Branch-clause-turns t c =
-    on_ok c.otherwise_arm.result (λ last. branch_turns c.args.declared.now c.args.walk.now.known.bounds.items c.args.statement.now c.in-Branch.label c.in-Branch.condition c.in-Branch.accepted c.in-Branch.otherwise c.in-Branch.is
-    c.as_slice-in-Branch.result.now c.as_slice-in-Branch-2.result.now c.as_slice-in-Branch.ensures.value c.as_slice-in-Branch-2.ensures.value c.accepted_arm.new.walk.known.bounds.items c.in_ok-accepted_arm-in-Branch.ensures.bounds
-    c.args.walk.now.turns.items c.accepted_arm.new.walk.turns.items c.otherwise_arm.new.walk.turns.items c.in_ok-accepted_arm-in-Branch.ensures.turns last) c.otherwise_arm.ensures.turns
+    on_ok c.otherwise_arm.result (λ last. branch_turns c.args.declared.now c.args.walk.now.known.bounds.items
+    c.args.statement.now c.in-Branch.label c.in-Branch.condition c.in-Branch.accepted c.in-Branch.otherwise
+    c.in-Branch.is
+    c.as_slice-in-Branch.result.now c.as_slice-in-Branch-2.result.now c.as_slice-in-Branch.ensures.value
+    c.as_slice-in-Branch-2.ensures.value c.accepted_arm.new.walk.known.bounds.items
+    c.in_ok-accepted_arm-in-Branch.ensures.bounds
+    c.args.walk.now.turns.items c.accepted_arm.new.walk.turns.items c.otherwise_arm.new.walk.turns.items
+    c.in_ok-accepted_arm-in-Branch.ensures.turns last) c.otherwise_arm.ensures.turns
 
 pub statement-returns-in_ok-accepted_arm-in-Branch-clause-first :
     goal.statement-returns-in_ok-accepted_arm-in-Branch-clause-first
 statement-returns-in_ok-accepted_arm-in-Branch-clause-first t c =
-    on_ok c.otherwise_arm.result (λ last. branch_seen c.args.declared.now c.args.walk.now.known.bounds.items c.args.statement.now c.in-Branch.label c.in-Branch.condition c.in-Branch.accepted c.in-Branch.otherwise c.in-Branch.is
-    c.as_slice-in-Branch.result.now c.as_slice-in-Branch-2.result.now c.as_slice-in-Branch.ensures.value c.as_slice-in-Branch-2.ensures.value c.accepted_arm.new.walk.known.bounds.items c.in_ok-accepted_arm-in-Branch.ensures.bounds
-    c.args.walk.now.first.seen c.note_term-in-Branch.new.first.seen c.accepted_arm.new.walk.first.seen c.otherwise_arm.new.walk.first.seen
-    (c.note_term-in-Branch.ensures.first ∙ ap (λ bounds. fold sooner_finding c.args.walk.now.first.seen (term_findings c.args.declared.now bounds (term_tree c.in-Branch.condition))) c.as_slice-bounds.ensures.value) c.in_ok-accepted_arm-in-Branch.ensures.first last) c.otherwise_arm.ensures.first
+    on_ok c.otherwise_arm.result (λ last. branch_seen c.args.declared.now c.args.walk.now.known.bounds.items
+    c.args.statement.now c.in-Branch.label c.in-Branch.condition c.in-Branch.accepted c.in-Branch.otherwise
+    c.in-Branch.is
+    c.as_slice-in-Branch.result.now c.as_slice-in-Branch-2.result.now c.as_slice-in-Branch.ensures.value
+    c.as_slice-in-Branch-2.ensures.value c.accepted_arm.new.walk.known.bounds.items
+    c.in_ok-accepted_arm-in-Branch.ensures.bounds
+    c.args.walk.now.first.seen c.note_term-in-Branch.new.first.seen c.accepted_arm.new.walk.first.seen
+    c.otherwise_arm.new.walk.first.seen
+    (c.note_term-in-Branch.ensures.first
+    ∙ ap (λ bounds. fold sooner_finding c.args.walk.now.first.seen
+    (term_findings c.args.declared.now bounds (term_tree c.in-Branch.condition)))
+    c.as_slice-bounds.ensures.value) c.in_ok-accepted_arm-in-Branch.ensures.first last)
+    c.otherwise_arm.ensures.first
 
 pub statement-returns-in-Loop-clause-turns : goal.statement-returns-in-Loop-clause-turns
 statement-returns-in-Loop-clause-turns t c =
-    on_ok c.turns.result (λ last. loop_turns c.args.declared.now c.args.walk.now.known.bounds.items c.args.statement.now c.in-Loop.counter c.in-Loop.low c.in-Loop.high c.in-Loop.body c.in-Loop.is
-    c.as_slice-in-Loop.result.now c.as_slice-in-Loop.ensures.value c.note_term-low.result c.note_term-high.result c.counter_interval-numbers.result
-    (c.note_term-low.ensures.interval ∙ ap (λ bounds. interval c.args.declared.now bounds (term_tree c.in-Loop.low)) c.as_slice-bounds.ensures.value)
-    (c.note_term-high.ensures.interval ∙ ap (λ bounds. interval c.args.declared.now bounds (term_tree c.in-Loop.high)) c.as_slice-bounds.ensures.value)
+    on_ok c.turns.result (λ last. loop_turns c.args.declared.now c.args.walk.now.known.bounds.items
+    c.args.statement.now c.in-Loop.counter c.in-Loop.low c.in-Loop.high c.in-Loop.body c.in-Loop.is
+    c.as_slice-in-Loop.result.now c.as_slice-in-Loop.ensures.value c.note_term-low.result c.note_term-high.result
+    c.counter_interval-numbers.result
+    (c.note_term-low.ensures.interval
+    ∙ ap (λ bounds. interval c.args.declared.now bounds (term_tree c.in-Loop.low))
+    c.as_slice-bounds.ensures.value)
+    (c.note_term-high.ensures.interval
+    ∙ ap (λ bounds. interval c.args.declared.now bounds (term_tree c.in-Loop.high))
+    c.as_slice-bounds.ensures.value)
     c.counter_interval-numbers.ensures
-    c.args.walk.now.turns.items c.count.new.turns.items c.turns.new.walk.turns.items c.most_turns.result c.most_turns.ensures c.count.ensures last) c.turns.ensures.turns
+    c.args.walk.now.turns.items c.count.new.turns.items c.turns.new.walk.turns.items c.most_turns.result
+    c.most_turns.ensures c.count.ensures last) c.turns.ensures.turns
 
 pub statement-returns-in-Loop-clause-first : goal.statement-returns-in-Loop-clause-first
 statement-returns-in-Loop-clause-first t c =
-    on_ok c.turns.result (λ last. loop_seen c.args.declared.now c.args.walk.now.known.bounds.items c.args.statement.now c.in-Loop.counter c.in-Loop.low c.in-Loop.high c.in-Loop.body c.in-Loop.is
-    c.as_slice-in-Loop.result.now c.as_slice-in-Loop.ensures.value c.note_term-low.result c.note_term-high.result c.counter_interval-numbers.result
-    (c.note_term-low.ensures.interval ∙ ap (λ bounds. interval c.args.declared.now bounds (term_tree c.in-Loop.low)) c.as_slice-bounds.ensures.value)
-    (c.note_term-high.ensures.interval ∙ ap (λ bounds. interval c.args.declared.now bounds (term_tree c.in-Loop.high)) c.as_slice-bounds.ensures.value)
+    on_ok c.turns.result (λ last. loop_seen c.args.declared.now c.args.walk.now.known.bounds.items
+    c.args.statement.now c.in-Loop.counter c.in-Loop.low c.in-Loop.high c.in-Loop.body c.in-Loop.is
+    c.as_slice-in-Loop.result.now c.as_slice-in-Loop.ensures.value c.note_term-low.result c.note_term-high.result
+    c.counter_interval-numbers.result
+    (c.note_term-low.ensures.interval
+    ∙ ap (λ bounds. interval c.args.declared.now bounds (term_tree c.in-Loop.low))
+    c.as_slice-bounds.ensures.value)
+    (c.note_term-high.ensures.interval
+    ∙ ap (λ bounds. interval c.args.declared.now bounds (term_tree c.in-Loop.high))
+    c.as_slice-bounds.ensures.value)
     c.counter_interval-numbers.ensures
-    c.args.walk.now.first.seen c.note_term-low.new.first.seen c.note_term-high.new.first.seen c.turns.new.walk.first.seen
-    (c.note_term-low.ensures.first ∙ ap (λ bounds. fold sooner_finding c.args.walk.now.first.seen (term_findings c.args.declared.now bounds (term_tree c.in-Loop.low))) c.as_slice-bounds.ensures.value)
-    (c.note_term-high.ensures.first ∙ ap (λ bounds. fold sooner_finding c.note_term-low.new.first.seen (term_findings c.args.declared.now bounds (term_tree c.in-Loop.high))) c.as_slice-bounds.ensures.value)
+    c.args.walk.now.first.seen c.note_term-low.new.first.seen c.note_term-high.new.first.seen
+    c.turns.new.walk.first.seen
+    (c.note_term-low.ensures.first
+    ∙ ap (λ bounds. fold sooner_finding c.args.walk.now.first.seen
+    (term_findings c.args.declared.now bounds (term_tree c.in-Loop.low))) c.as_slice-bounds.ensures.value)
+    (c.note_term-high.ensures.first
+    ∙ ap (λ bounds. fold sooner_finding c.note_term-low.new.first.seen
+    (term_findings c.args.declared.now bounds (term_tree c.in-Loop.high))) c.as_slice-bounds.ensures.value)
     last) c.turns.ensures.first
 
 pub statements-loop-one-preserved : goal.statements-loop-one-preserved
@@ -62,14 +98,20 @@ statements-loop-one-preserved t c =
     let bounds = c.loop-one.walk.known.bounds.items in
     let one = flat_tree c.one-item.result in
     let rest = flat_block (drop (c.loop-one.one-index + 1) c.args.body.now) in
-    let next = next_statement c.args.body.now c.loop-one.one-index c.one-item.result (search rules) ∙ ap (λ s. first (flat_tree s) rest) (sym c.one-item.is) in
+    let next = next_statement c.args.body.now c.loop-one.one-index c.one-item.result (search rules)
+    ∙ ap (λ s. first (flat_tree s) rest) (sym c.one-item.is) in
     let done = c.in_ok-statement.ensures in
     record {
-      bounds = ap (λ b. bounds_after_all declared b rest) done.bounds ∙ (sym (ap (bounds_after_all declared bounds) next) ∙ c.loop-one.invariant.bounds);
-      from = from_before c.args.walk.now.known c.loop-one.walk.known c.statement.new.walk.known c.loop-one.invariant.from done.from;
-      turns = ap₂ (λ b t. counted_all declared b t rest) done.bounds done.turns ∙ (sym (ap (counted_all declared bounds c.loop-one.walk.turns.items) next) ∙ c.loop-one.invariant.turns);
+      bounds = ap (λ b. bounds_after_all declared b rest) done.bounds
+          ∙ (sym (ap (bounds_after_all declared bounds) next) ∙ c.loop-one.invariant.bounds);
+      from = from_before c.args.walk.now.known c.loop-one.walk.known c.statement.new.walk.known
+          c.loop-one.invariant.from done.from;
+      turns = ap₂ (λ b t. counted_all declared b t rest) done.bounds done.turns
+          ∙ (sym (ap (counted_all declared bounds c.loop-one.walk.turns.items) next) ∙ c.loop-one.invariant.turns);
       first = ap₂ (λ b f. fold sooner_finding f (findings_all declared b rest)) done.bounds done.first
-          ∙ (sym (fold-append sooner_finding c.loop-one.walk.first.seen (findings declared bounds one) (findings_all declared (bounds_after declared bounds one) rest))
-          ∙ (sym (ap (λ b. fold sooner_finding c.loop-one.walk.first.seen (findings_all declared bounds b)) next) ∙ c.loop-one.invariant.first));
+          ∙ (sym (fold-append sooner_finding c.loop-one.walk.first.seen (findings declared bounds one)
+          (findings_all declared (bounds_after declared bounds one) rest))
+          ∙ (sym (ap (λ b. fold sooner_finding c.loop-one.walk.first.seen (findings_all declared bounds b)) next)
+          ∙ c.loop-one.invariant.first));
       declared = refl;
     }

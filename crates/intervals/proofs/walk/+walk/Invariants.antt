@@ -11,9 +11,12 @@ invariant-statements-loop-one l =
     let rest = flat_block (drop l.one-index l.body) in
     let all = flat_block l.fn.body in
     record {
-      bounds : bounds_after_all l.declared l.walk.known.bounds.items rest ≡ bounds_after_all l.fn.declared l.fn.walk.known.bounds.items all;
+      bounds : bounds_after_all l.declared l.walk.known.bounds.items rest
+          ≡ bounds_after_all l.fn.declared l.fn.walk.known.bounds.items all;
       from : CameFrom l.fn.walk.known l.walk.known;
-      turns : counted_all l.declared l.walk.known.bounds.items l.walk.turns.items rest ≡ counted_all l.fn.declared l.fn.walk.known.bounds.items l.fn.walk.turns.items all;
-      first : fold sooner_finding l.walk.first.seen (findings_all l.declared l.walk.known.bounds.items rest) ≡ fold sooner_finding l.fn.walk.first.seen (findings_all l.fn.declared l.fn.walk.known.bounds.items all);
+      turns : counted_all l.declared l.walk.known.bounds.items l.walk.turns.items rest
+          ≡ counted_all l.fn.declared l.fn.walk.known.bounds.items l.fn.walk.turns.items all;
+      first : fold sooner_finding l.walk.first.seen (findings_all l.declared l.walk.known.bounds.items rest)
+          ≡ fold sooner_finding l.fn.walk.first.seen (findings_all l.fn.declared l.fn.walk.known.bounds.items all);
       declared : l.declared ≡ l.fn.declared;
     }

@@ -8,8 +8,11 @@ use Rattle.labels.proofs.arguments.note_all_passed.Given as goal
 -- what is left of the arguments leads to the same as all of them
 abbrev pub invariant-loop-index : goal.invariant-loop-index
 invariant-loop-index l =
-    let rest = all_passed_rules l.names (passed (map parameter_tree (drop l.index l.parameters)) (drop l.index l.types) (map expr_tree (drop l.index l.arguments))) in
-    let all = all_passed_rules l.names (passed (map parameter_tree l.parameters) l.types (map expr_tree l.arguments)) in
+    let rest =
+    all_passed_rules l.names (passed (map parameter_tree (drop l.index l.parameters)) (drop l.index l.types)
+    (map expr_tree (drop l.index l.arguments))) in
+    let all =
+    all_passed_rules l.names (passed (map parameter_tree l.parameters) l.types (map expr_tree l.arguments)) in
     record {
       met : (l.met && are_met rest) ≡ are_met all;
       first : fold sooner l.first.seen (at l.place rest) ≡ fold sooner l.fn.first.seen (at l.place all);

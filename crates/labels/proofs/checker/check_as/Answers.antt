@@ -9,17 +9,26 @@ pub unreachable-requires : goal.unreachable-requires
 unreachable-requires c =
     let items = c.args.program.now in
     let slice = c.procedures-procedures.result.now in
-    let seen = seen_over c.args.profile items slice c.procedures-procedures.ensures.procedures c.note_exports-export.new.first.seen c.note_procedures.new.first.seen c.note_exports-export.ensures.first c.in_ok-note_procedures.ensures.first in
-    one_exported c.args.profile items slice c.procedures-procedures.ensures.procedures c.note_exports-export.result c.note_exports-export.ensures.export c.in-None.is (found_none (violations c.args.profile (program_tree c.args.program.now)) (sym seen ∙ c.in_default.is))
+    let seen = seen_over c.args.profile items slice c.procedures-procedures.ensures.procedures
+    c.note_exports-export.new.first.seen c.note_procedures.new.first.seen c.note_exports-export.ensures.first
+    c.in_ok-note_procedures.ensures.first in
+    one_exported c.args.profile items slice c.procedures-procedures.ensures.procedures c.note_exports-export.result
+    c.note_exports-export.ensures.export c.in-None.is
+    (found_none (violations c.args.profile (program_tree c.args.program.now)) (sym seen ∙ c.in_default.is))
 
 pub invariant_of-result : goal.invariant_of-result
 invariant_of-result c =
     let items = c.args.program.now in
     let slice = c.procedures-procedures.result.now in
-    let seen = seen_over c.args.profile items slice c.procedures-procedures.ensures.procedures c.note_exports-export.new.first.seen c.note_procedures.new.first.seen c.note_exports-export.ensures.first c.in_ok-note_procedures.ensures.first in
-    let index = index_of c.args.profile items slice c.procedures-procedures.ensures.procedures c.note_exports-export.result c.in-Some-export.export c.note_exports-export.ensures.export c.in-Some-export.is in
+    let seen = seen_over c.args.profile items slice c.procedures-procedures.ensures.procedures
+    c.note_exports-export.new.first.seen c.note_procedures.new.first.seen c.note_exports-export.ensures.first
+    c.in_ok-note_procedures.ensures.first in
+    let index = index_of c.args.profile items slice c.procedures-procedures.ensures.procedures
+    c.note_exports-export.result c.in-Some-export.export c.note_exports-export.ensures.export
+    c.in-Some-export.is in
     record {
-      well_typed = found_none (violations c.args.profile (program_tree c.args.program.now)) (sym seen ∙ c.in_default.is);
+      well_typed = found_none (violations c.args.profile (program_tree c.args.program.now)) (sym seen
+          ∙ c.in_default.is);
       inside = index.1;
       exported = index.0;
     }
@@ -28,5 +37,13 @@ pub returns-in-Some-clause-refused : goal.returns-in-Some-clause-refused
 returns-in-Some-clause-refused c =
     let items = c.args.program.now in
     let slice = c.procedures-procedures.result.now in
-    let seen = seen_over c.args.profile items slice c.procedures-procedures.ensures.procedures c.note_exports-export.new.first.seen c.note_procedures.new.first.seen c.note_exports-export.ensures.first c.in_ok-note_procedures.ensures.first in
-    inr (c.in-Some.violation, found_first (violations c.args.profile (program_tree c.args.program.now)) c.in-Some.violation (sym seen ∙ c.in-Some.is), c.at.ensures.rule, c.at.ensures.place)
+    let seen = seen_over c.args.profile items slice c.procedures-procedures.ensures.procedures
+    c.note_exports-export.new.first.seen c.note_procedures.new.first.seen c.note_exports-export.ensures.first
+    c.in_ok-note_procedures.ensures.first in
+    inr (
+      c.in-Some.violation,
+      found_first (violations c.args.profile (program_tree c.args.program.now))
+          c.in-Some.violation (sym seen ∙ c.in-Some.is),
+      c.at.ensures.rule,
+      c.at.ensures.place,
+    )

@@ -13,5 +13,6 @@ invariant-loop-index l =
     let before = map procedure_tree (take l.index l.procedures) in
     let rest = map procedure_tree (drop l.index l.procedures) in
     let all = map procedure_tree l.procedures in
-    (fold sooner l.first.seen (cond (is_some l.export) (too_many (exports rest)) (export_violations (exports rest))) ≡ fold sooner l.fn.first.seen (export_violations (exports all)))
+    (fold sooner l.first.seen (cond (is_some l.export) (too_many (exports rest)) (export_violations (exports rest)))
+    ≡ fold sooner l.fn.first.seen (export_violations (exports all)))
     × (option_or l.export (export_index (exported before rest)) ≡ export_index (exported [] all))

@@ -13,5 +13,6 @@ invariant-loop-expr l =
     record {
       count : l.typed ≡ true → length l.types.items ≡ l.expr-index;
       typed : found_before l.typed l.types.items (types_of l.names rest) ≡ types_of l.names all;
-      first : fold sooner l.first.seen (exprs_violations l.names rest) ≡ fold sooner l.fn.first.seen (exprs_violations l.names all);
+      first : fold sooner l.first.seen (exprs_violations l.names rest)
+          ≡ fold sooner l.fn.first.seen (exprs_violations l.names all);
     }

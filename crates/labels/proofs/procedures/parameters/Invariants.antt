@@ -11,5 +11,6 @@ invariant-loop-parameter l =
     let all = map parameter_tree l.parameters in
     record {
       names : with_parameters l.names rest ≡ with_parameters l.fn.names all;
-      first : fold sooner l.first.seen (parameter_violations l.names rest) ≡ fold sooner l.fn.first.seen (parameter_violations l.fn.names all);
+      first : fold sooner l.first.seen (parameter_violations l.names rest)
+          ≡ fold sooner l.fn.first.seen (parameter_violations l.fn.names all);
     }

@@ -10,7 +10,12 @@ use Rattle.labels.proofs.procedures.procedure.Goals as goal
 pub returns-clause-names : goal.returns-clause-names
 returns-clause-names c =
     c.truncate.ensures
-    ∙ ap₂ shortened c.len-outside.ensures (c.in_ok-statements.ensures.names ∙ ap (λ scope. scope_after_all scope (block_tree c.as_slice-body.result.now)) c.in_ok-parameters.ensures.names)
-    ∙ scope_before_body c.declare.new.self (map parameter_tree c.as_slice.result.now) (block_tree c.as_slice-body.result.now)
+    ∙ ap₂ shortened c.len-outside.ensures (c.in_ok-statements.ensures.names
+    ∙ ap (λ scope. scope_after_all scope (block_tree c.as_slice-body.result.now))
+    c.in_ok-parameters.ensures.names)
+    ∙ scope_before_body c.declare.new.self (map parameter_tree c.as_slice.result.now)
+    (block_tree c.as_slice-body.result.now)
     ∙ c.in_ok-taken.ensures.ok
-    ∙ ap (λ assigns. declared c.args.names.now c.args.procedure.now.name.now (Procedure (record { number = length c.args.earlier.now; assigns_public = assigns }))) c.assigns_public.ensures
+    ∙ ap (λ assigns. declared c.args.names.now c.args.procedure.now.name.now
+    (Procedure (record { number = length c.args.earlier.now; assigns_public = assigns })))
+    c.assigns_public.ensures

@@ -15,15 +15,21 @@ arm-returns-clause-names t c =
 pub turns-returns-clause-names : goal.turns-returns-clause-names
 turns-returns-clause-names t c =
     c.truncate.ensures
-    ∙ ap₂ shortened c.len-before.ensures (c.in_ok-statements.ensures.names ∙ ap (λ scope. scope_after_all scope (block_tree c.args.body.now)) (c.in_ok-taken.ensures.ok ∙ ap (λ value. declared c.args.names.now c.args.counter.now.name.now (Variable (record { value = value; mutable = false }))) c.word.ensures))
+    ∙ ap₂ shortened c.len-before.ensures (c.in_ok-statements.ensures.names
+    ∙ ap (λ scope. scope_after_all scope (block_tree c.args.body.now)) (c.in_ok-taken.ensures.ok
+    ∙ ap (λ value. declared c.args.names.now c.args.counter.now.name.now
+    (Variable (record { value = value; mutable = false }))) c.word.ensures))
     ∙ scope_before_turns c.args.names.now c.args.counter.now.name.now counter_as (block_tree c.args.body.now)
 
 pub statement-returns-in_ok-arm-in-If-clause-first :
     goal.statement-returns-in_ok-arm-in-If-clause-first
 statement-returns-in_ok-arm-in-If-clause-first t c =
-    on_ok c.arm-in-If.result (λ last. conditional_seen c.args.first.now.seen c.expression-condition.new.first.seen c.note_condition.new.first.seen c.arm.new.first.seen c.arm-in-If.new.first.seen
-    (map procedure_tree c.args.earlier.now) c.args.names.now c.arm.new.names c.args.control c.control_under-control.result c.expression-condition.result
-    c.args.statement.now c.in-If.place c.in-If.condition c.in-If.accepted c.in-If.otherwise c.as_slice.result.now c.as_slice-in-If.result.now c.in-If.is
+    on_ok c.arm-in-If.result (λ last. conditional_seen c.args.first.now.seen c.expression-condition.new.first.seen
+    c.note_condition.new.first.seen c.arm.new.first.seen c.arm-in-If.new.first.seen
+    (map procedure_tree c.args.earlier.now) c.args.names.now c.arm.new.names c.args.control
+    c.control_under-control.result c.expression-condition.result
+    c.args.statement.now c.in-If.place c.in-If.condition c.in-If.accepted c.in-If.otherwise c.as_slice.result.now
+    c.as_slice-in-If.result.now c.in-If.is
     c.as_slice.ensures.value c.as_slice-in-If.ensures.value
     c.expression-condition.ensures.typed c.control_under-control.ensures c.in_ok-arm-in-If.ensures.names
     c.expression-condition.ensures.first c.note_condition.ensures c.in_ok-arm-in-If.ensures.first last)
@@ -31,9 +37,12 @@ statement-returns-in_ok-arm-in-If-clause-first t c =
 
 pub statement-returns-in-For-clause-first : goal.statement-returns-in-For-clause-first
 statement-returns-in-For-clause-first t c =
-    on_ok c.turns.result (λ last. loop_seen c.args.first.now.seen c.expression-low.new.first.seen c.expression-high.new.first.seen c.note_bounds.new.first.seen c.turns.new.first.seen
-    (map procedure_tree c.args.earlier.now) c.args.names.now c.args.control c.expression-low.result c.expression-high.result
-    c.args.statement.now c.in-For.place c.in-For.counter c.in-For.low c.in-For.high c.in-For.body c.as_slice-in-For.result.now c.in-For.is
+    on_ok c.turns.result (λ last. loop_seen c.args.first.now.seen c.expression-low.new.first.seen
+    c.expression-high.new.first.seen c.note_bounds.new.first.seen c.turns.new.first.seen
+    (map procedure_tree c.args.earlier.now) c.args.names.now c.args.control c.expression-low.result
+    c.expression-high.result
+    c.args.statement.now c.in-For.place c.in-For.counter c.in-For.low c.in-For.high c.in-For.body
+    c.as_slice-in-For.result.now c.in-For.is
     c.as_slice-in-For.ensures.value c.expression-low.ensures.typed c.expression-high.ensures.typed
     c.expression-low.ensures.first c.expression-high.ensures.first c.note_bounds.ensures last)
     c.turns.ensures.first

@@ -12,6 +12,7 @@ invariant-statements-loop-one l =
     let earlier = map procedure_tree l.earlier in
     record {
       names : scope_after_all l.names rest ≡ scope_after_all l.fn.names all;
-      first : fold sooner l.first.seen (block_violations earlier l.names l.control rest) ≡ fold sooner l.fn.first.seen (block_violations earlier l.fn.names l.fn.control all);
+      first : fold sooner l.first.seen (block_violations earlier l.names l.control rest)
+          ≡ fold sooner l.fn.first.seen (block_violations earlier l.fn.names l.fn.control all);
       control : l.control ≡ l.fn.control;
     }

@@ -10,7 +10,8 @@ use Rattle.rv_machine.specs.Regions.{code_of}
 use Rattle.listing.specs.Lines.{lines_of}
 use Rattle.listing.specs.Listings.{Ends, IsListing}
 use Rattle.listing.specs.Turned.{listed}
-use Rattle.listing.proofs.Written.{stopped_at, went_to, leads_on, ends_here, ends_spent, ends_after, wrote_more, wrote_all, cut_at_stop, cut_at_lines, on_err, if_named}
+use Rattle.listing.proofs.Written.{stopped_at, went_to, leads_on, ends_here, ends_spent, ends_after, wrote_more}
+use Rattle.listing.proofs.Written.{wrote_all, cut_at_stop, cut_at_lines, on_err, if_named}
 use Rattle.listing.proofs.turns.write_run.Goals as goal
 
 pub loop-turn-init : goal.loop-turn-init
@@ -27,9 +28,12 @@ returns-in_err-write_seen-clause-beginning g c = λ tells.
     let u = state_of c.turn-seen.new.hart (g.M.Memory.bytes c.turn-seen.new.memory) in
     let led = c.loop-turn.invariant.led in
     let last = c.turn-seen.result.0 in
-    let later = ends_after code c.args.budget s c.loop-turn._turn t led.0 led.1 last c.turn-seen.result.1 u (omega arith) c.turn-seen.ensures in
+    let later = ends_after code c.args.budget s c.loop-turn._turn t led.0 led.1 last c.turn-seen.result.1 u
+    (omega arith) c.turn-seen.ensures in
     on_err c.from_residual.result
-    (cut_at_lines (g.W.Sink.taken c.args.sink.now) (g.W.Sink.taken c.loop-turn.sink) led.0 (led.2 tells) code c.args.budget s (g.W.Sink.taken c.write_seen.new.sink) (listed last) later.0 later.1 later.2 (c.in_err-write_seen.ensures.beginning tells))
+    (cut_at_lines (g.W.Sink.taken c.args.sink.now) (g.W.Sink.taken c.loop-turn.sink) led.0 (led.2 tells) code
+    c.args.budget s (g.W.Sink.taken c.write_seen.new.sink) (listed last) later.0 later.1 later.2
+    (c.in_err-write_seen.ensures.beginning tells))
 
 pub returns-in-Some-clause-ended : goal.returns-in-Some-clause-ended
 returns-in-Some-clause-ended g c =
@@ -39,8 +43,11 @@ returns-in-Some-clause-ended g c =
     let u = state_of c.turn-seen.new.hart (g.M.Memory.bytes c.turn-seen.new.memory) in
     let led = c.loop-turn.invariant.led in
     let last = listed c.turn-seen.result.0 in
-    let ends = ends_here code c.args.budget s c.loop-turn._turn t led.0 led.1 last c.in-Some.stop (omega arith) (stopped_at code t u c.turn-seen.result.0 c.turn-seen.result.1 c.in-Some.stop c.turn-seen.ensures c.in-Some.is) in
-    if_named c.end.result c.in-Some.stop (λ stop. (seen : List Observation) × Ends code c.args.budget s seen stop) c.end.ensures.answer c.end.ensures.calm (λ q. (led.0 ++ last, ends))
+    let ends = ends_here code c.args.budget s c.loop-turn._turn t led.0 led.1 last c.in-Some.stop (omega arith)
+    (stopped_at code t u c.turn-seen.result.0 c.turn-seen.result.1 c.in-Some.stop c.turn-seen.ensures
+    c.in-Some.is) in
+    if_named c.end.result c.in-Some.stop (λ stop. (seen : List Observation) × Ends code c.args.budget s seen stop)
+    c.end.ensures.answer c.end.ensures.calm (λ q. (led.0 ++ last, ends))
 
 pub returns-in-Some-clause-written : goal.returns-in-Some-clause-written
 returns-in-Some-clause-written g c = λ tells.
@@ -50,12 +57,16 @@ returns-in-Some-clause-written g c = λ tells.
     let u = state_of c.turn-seen.new.hart (g.M.Memory.bytes c.turn-seen.new.memory) in
     let led = c.loop-turn.invariant.led in
     let last = listed c.turn-seen.result.0 in
-    let ends = ends_here code c.args.budget s c.loop-turn._turn t led.0 led.1 last c.in-Some.stop (omega arith) (stopped_at code t u c.turn-seen.result.0 c.turn-seen.result.1 c.in-Some.stop c.turn-seen.ensures c.in-Some.is) in
+    let ends = ends_here code c.args.budget s c.loop-turn._turn t led.0 led.1 last c.in-Some.stop (omega arith)
+    (stopped_at code t u c.turn-seen.result.0 c.turn-seen.result.1 c.in-Some.stop c.turn-seen.ensures
+    c.in-Some.is) in
     let before = g.W.Sink.taken c.args.sink.now in
     let now = g.W.Sink.taken c.write_seen.new.sink in
-    let so_far = wrote_more before (g.W.Sink.taken c.loop-turn.sink) led.0 (led.2 tells) now last (c.in_ok-write_seen.ensures.whole tells) in
+    let so_far = wrote_more before (g.W.Sink.taken c.loop-turn.sink) led.0 (led.2 tells) now last
+    (c.in_ok-write_seen.ensures.whole tells) in
     let after = g.W.Sink.taken c.end.new.sink in
-    if_named c.end.result c.in-Some.stop (λ stop. Writes (IsListing code c.args.budget s stop) before after) c.end.ensures.answer (c.end.ensures.whole tells)
+    if_named c.end.result c.in-Some.stop (λ stop. Writes (IsListing code c.args.budget s stop) before after)
+    c.end.ensures.answer (c.end.ensures.whole tells)
     (wrote_all before now (led.0 ++ last) so_far code c.args.budget s after c.in-Some.stop ends)
 
 pub returns-in-Some-clause-beginning : goal.returns-in-Some-clause-beginning
@@ -66,11 +77,15 @@ returns-in-Some-clause-beginning g c = λ tells.
     let u = state_of c.turn-seen.new.hart (g.M.Memory.bytes c.turn-seen.new.memory) in
     let led = c.loop-turn.invariant.led in
     let last = listed c.turn-seen.result.0 in
-    let ends = ends_here code c.args.budget s c.loop-turn._turn t led.0 led.1 last c.in-Some.stop (omega arith) (stopped_at code t u c.turn-seen.result.0 c.turn-seen.result.1 c.in-Some.stop c.turn-seen.ensures c.in-Some.is) in
+    let ends = ends_here code c.args.budget s c.loop-turn._turn t led.0 led.1 last c.in-Some.stop (omega arith)
+    (stopped_at code t u c.turn-seen.result.0 c.turn-seen.result.1 c.in-Some.stop c.turn-seen.ensures
+    c.in-Some.is) in
     let before = g.W.Sink.taken c.args.sink.now in
     let now = g.W.Sink.taken c.write_seen.new.sink in
-    let so_far = wrote_more before (g.W.Sink.taken c.loop-turn.sink) led.0 (led.2 tells) now last (c.in_ok-write_seen.ensures.whole tells) in
-    on_err_weaker c.end.result (cut_at_stop before now (led.0 ++ last) so_far code c.args.budget s (g.W.Sink.taken c.end.new.sink) c.in-Some.stop ends) (c.end.ensures.beginning tells)
+    let so_far = wrote_more before (g.W.Sink.taken c.loop-turn.sink) led.0 (led.2 tells) now last
+    (c.in_ok-write_seen.ensures.whole tells) in
+    on_err_weaker c.end.result (cut_at_stop before now (led.0 ++ last) so_far code c.args.budget s
+    (g.W.Sink.taken c.end.new.sink) c.in-Some.stop ends) (c.end.ensures.beginning tells)
 
 pub loop-turn-preserved : goal.loop-turn-preserved
 loop-turn-preserved g c =
@@ -82,9 +97,13 @@ loop-turn-preserved g c =
     let went = went_to code t u c.turn-seen.result.0 c.turn-seen.result.1 c.turn-seen.ensures c.in_default.is in
     let last = went.0 ∷ [] in
     let on = leads_on code c.args.budget s c.loop-turn._turn t led.0 led.1 went.0 u went.2 in
-    let wrote : IsTrue g.W.Sink.TELLS → g.W.Sink.taken c.write_seen.new.sink ≡ g.W.Sink.taken c.args.sink.now ++ lines_of (led.0 ++ last) = λ tells.
-    subst (λ (l : List Observation). g.W.Sink.taken c.write_seen.new.sink ≡ g.W.Sink.taken c.args.sink.now ++ lines_of (led.0 ++ l)) went.1
-    (wrote_more (g.W.Sink.taken c.args.sink.now) (g.W.Sink.taken c.loop-turn.sink) led.0 (led.2 tells) (g.W.Sink.taken c.write_seen.new.sink) (listed c.turn-seen.result.0) (c.in_ok-write_seen.ensures.whole tells)) in
+    let wrote : IsTrue g.W.Sink.TELLS → g.W.Sink.taken c.write_seen.new.sink ≡ g.W.Sink.taken c.args.sink.now
+    ++ lines_of (led.0 ++ last) = λ tells.
+    subst (λ (l : List Observation). g.W.Sink.taken c.write_seen.new.sink ≡ g.W.Sink.taken c.args.sink.now
+    ++ lines_of (led.0 ++ l)) went.1
+    (wrote_more (g.W.Sink.taken c.args.sink.now) (g.W.Sink.taken c.loop-turn.sink) led.0 (led.2 tells)
+    (g.W.Sink.taken c.write_seen.new.sink) (listed c.turn-seen.result.0)
+    (c.in_ok-write_seen.ensures.whole tells)) in
     record {
       led = (led.0 ++ last, on, wrote);
       calm = c.in_ok-write_seen.ensures.calm ∙ c.loop-turn.invariant.calm;
@@ -97,7 +116,8 @@ returns-clause-ended g c =
     let t = state_of c.loop-turn.hart (g.M.Memory.bytes c.loop-turn.memory) in
     let led = c.loop-turn.invariant.led in
     let ends = ends_spent code c.args.budget s c.loop-turn._turn t led.0 led.1 (omega arith) in
-    if_named c.end-2.result Budget (λ stop. (seen : List Observation) × Ends code c.args.budget s seen stop) c.end-2.ensures.answer c.end-2.ensures.calm (λ q. (led.0, ends))
+    if_named c.end-2.result Budget (λ stop. (seen : List Observation) × Ends code c.args.budget s seen stop)
+    c.end-2.ensures.answer c.end-2.ensures.calm (λ q. (led.0, ends))
 
 pub returns-clause-written : goal.returns-clause-written
 returns-clause-written g c = λ tells.
@@ -108,7 +128,8 @@ returns-clause-written g c = λ tells.
     let ends = ends_spent code c.args.budget s c.loop-turn._turn t led.0 led.1 (omega arith) in
     let before = g.W.Sink.taken c.args.sink.now in
     let after = g.W.Sink.taken c.end-2.new.sink in
-    if_named c.end-2.result Budget (λ stop. Writes (IsListing code c.args.budget s stop) before after) c.end-2.ensures.answer (c.end-2.ensures.whole tells)
+    if_named c.end-2.result Budget (λ stop. Writes (IsListing code c.args.budget s stop) before after)
+    c.end-2.ensures.answer (c.end-2.ensures.whole tells)
     (wrote_all before (g.W.Sink.taken c.loop-turn.sink) led.0 (led.2 tells) code c.args.budget s after Budget ends)
 
 pub returns-clause-beginning : goal.returns-clause-beginning
@@ -118,4 +139,6 @@ returns-clause-beginning g c = λ tells.
     let t = state_of c.loop-turn.hart (g.M.Memory.bytes c.loop-turn.memory) in
     let led = c.loop-turn.invariant.led in
     let ends = ends_spent code c.args.budget s c.loop-turn._turn t led.0 led.1 (omega arith) in
-    on_err_weaker c.end-2.result (cut_at_stop (g.W.Sink.taken c.args.sink.now) (g.W.Sink.taken c.loop-turn.sink) led.0 (led.2 tells) code c.args.budget s (g.W.Sink.taken c.end-2.new.sink) Budget ends) (c.end-2.ensures.beginning tells)
+    on_err_weaker c.end-2.result (cut_at_stop (g.W.Sink.taken c.args.sink.now) (g.W.Sink.taken c.loop-turn.sink) led.0
+    (led.2 tells) code c.args.budget s (g.W.Sink.taken c.end-2.new.sink) Budget ends)
+    (c.end-2.ensures.beginning tells)

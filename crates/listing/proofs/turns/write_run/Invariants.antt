@@ -9,6 +9,9 @@ use Rattle.listing.proofs.turns.write_run.Given as goal
 
 abbrev pub invariant-loop-turn : goal.invariant-loop-turn
 invariant-loop-turn g l = record {
-  led : (seen : List Observation) × Leads (code_of l.code) l._turn (state_of l.fn.hart (g.M.Memory.bytes l.fn.memory)) seen (state_of l.hart (g.M.Memory.bytes l.memory)) × (IsTrue g.W.Sink.TELLS → g.W.Sink.taken l.sink ≡ g.W.Sink.taken l.fn.sink ++ lines_of seen);
+  led : (seen : List Observation)
+      × Leads (code_of l.code) l._turn (state_of l.fn.hart (g.M.Memory.bytes l.fn.memory)) seen
+      (state_of l.hart (g.M.Memory.bytes l.memory))
+      × (IsTrue g.W.Sink.TELLS → g.W.Sink.taken l.sink ≡ g.W.Sink.taken l.fn.sink ++ lines_of seen);
   calm : g.W.Sink.failures l.sink ≡ g.W.Sink.failures l.fn.sink;
 }

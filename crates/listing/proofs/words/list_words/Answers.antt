@@ -21,13 +21,16 @@ loop-word-preserved c =
     let after = c.push_line.new.lines.items in
     let pushed = c.in_ok-push_line.ensures in
     let more : suc i ≡ i + 1 = omega arith in
-    let address : c.loop-word.address ≡ c.args.base + 4 * length so_far = omega (arith, length-take i words, c.loop-word.invariant.address) in
-    let is : after ≡ c.loop-word.lines.items ++ word_line (c.args.base + 4 * length so_far) word pushed.0 = pushed.2 ∙ ap (λ a. c.loop-word.lines.items ++ word_line a word pushed.0) address in
+    let address : c.loop-word.address ≡ c.args.base + 4 * length so_far =
+    omega (arith, length-take i words, c.loop-word.invariant.address) in
+    let is : after ≡ c.loop-word.lines.items ++ word_line (c.args.base + 4 * length so_far) word pushed.0 = pushed.2
+    ∙ ap (λ a. c.loop-word.lines.items ++ word_line a word pushed.0) address in
     let all = take-suc words i 0 (omega arith) in
     record {
       listed =
           subst (λ (n : ℕ). ListsCode c.args.base (take n words) after) more
           (subst (λ (l : List ℕ). ListsCode c.args.base l after) (sym all)
-          (one_word_more c.args.base word pushed.0 so_far c.loop-word.lines.items after c.loop-word.invariant.listed pushed.1 is));
+          (one_word_more c.args.base word pushed.0 so_far c.loop-word.lines.items after c.loop-word.invariant.listed
+          pushed.1 is));
       address = omega (arith, c.loop-word.invariant.address);
     }

@@ -19,6 +19,7 @@ pub returns-in-None : goal.returns-in-None
 returns-in-None c =
     let word = c.args.word in
     let illegal = codes "illegal" in
-    let text : IsTextOf word illegal = of_no_instruction (λ i in_range is. none-some _ (c.in-None.ensures.only i in_range is)) in
+    let text : IsTextOf word illegal =
+    of_no_instruction (λ i in_range is. none-some _ (c.in-None.ensures.only i in_range is)) in
     IfOk-weaker c.from_str.result (λ s. string_bytes s ≡ illegal) (λ s. IsTextOf word (string_bytes s))
     (λ s is. subst (λ (bytes : List ℕ). IsTextOf word bytes) (sym is) text) c.from_str.ensures.ok

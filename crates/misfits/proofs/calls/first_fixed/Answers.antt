@@ -5,5 +5,6 @@ use Rattle.misfits.proofs.calls.first_fixed.Goals as goal
 
 pub returns-then-arguments-index : goal.returns-then-arguments-index
 returns-then-arguments-index c =
-    none_fixed c.args.names.now (map parameter_tree (drop c.loop-index.index c.args.parameters.now)) c.loop-index.index c.args.arguments.now c.if-arguments-index.true
+    none_fixed c.args.names.now (map parameter_tree (drop c.loop-index.index c.args.parameters.now))
+    c.loop-index.index c.args.arguments.now c.if-arguments-index.true
     ∙ c.loop-index.invariant

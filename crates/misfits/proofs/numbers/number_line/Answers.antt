@@ -6,5 +6,8 @@ use Rattle.misfits.proofs.numbers.number_line.Goals as goal
 
 pub returns : goal.returns
 returns c =
-    subst (λ (n : ℕ). IfOk c.number_text.result (λ line. string_bytes line ≡ number_text c.args.value (kind_text c.args.kind) n)) c.greatest.ensures
-    (subst (λ (k : List ℕ). IfOk c.number_text.result (λ line. string_bytes line ≡ number_text c.args.value k c.greatest.result)) c.kind_text.ensures c.number_text.ensures)
+    subst (λ (n : ℕ). IfOk c.number_text.result (λ line. string_bytes line
+    ≡ number_text c.args.value (kind_text c.args.kind) n)) c.greatest.ensures
+    (subst (λ (k : List ℕ). IfOk c.number_text.result
+    (λ line. string_bytes line ≡ number_text c.args.value k c.greatest.result)) c.kind_text.ensures
+    c.number_text.ensures)

@@ -6,4 +6,5 @@ use Rattle.name_uses.proofs.scopes.variables_of.Given as goal
 -- what was declared so far, and what is left, are all
 abbrev pub invariant-loop-parameter : goal.invariant-loop-parameter
 invariant-loop-parameter l =
-    map seen l.variables.items ++ map variable_of (map parameter_tree (drop l.parameter-index l.parameters)) ≡ map variable_of (map parameter_tree l.fn.parameters)
+    map seen l.variables.items ++ map variable_of (map parameter_tree (drop l.parameter-index l.parameters))
+    ≡ map variable_of (map parameter_tree l.fn.parameters)

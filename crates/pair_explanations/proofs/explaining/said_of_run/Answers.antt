@@ -30,13 +30,18 @@ returns c =
     let text = c.push_shown.new.text.items in
     let same : first ≡ second = c.in_ok-whole.ensures.state ∙ sym c.in_ok-again.ensures.state in
     let led : Leads code before.turns second seen found.1 =
-    subst (λ (s : State). Leads code before.turns s seen found.1) same (subst (λ (n : ℕ). Leads code n first seen found.1) (sym found.3) found.2.leads) in
-    let rest : moved.turns_left ≡ whole.turns_left - before.turns = omega (arith, c.make_turns.ensures.left, c.in_ok-again.ensures.steps, c.in_ok-whole.ensures.steps) in
+    subst (λ (s : State). Leads code before.turns s seen found.1) same
+    (subst (λ (n : ℕ). Leads code n first seen found.1) (sym found.3) found.2.leads) in
+    let rest : moved.turns_left ≡ whole.turns_left - before.turns =
+    omega (arith, c.make_turns.ensures.left, c.in_ok-again.ensures.steps, c.in_ok-whole.ensures.steps) in
     let printed : text ≡ registers ++ codes " " ++ shown_line shown =
     c.in_ok-push_shown.ensures ∙ ap (λ (l : List ℕ). l ++ shown_line shown) c.in_ok-extend_from_slice.ensures.items in (
       seen,
       subst (λ (pc : ℕ). SaysOf image c.args.args.now place seen pc text) (sym c.pc-pc.ensures)
-          (said code (code_at code_base image) whole.turns_left image.max_steps first (loaded_at code_base frame_base image c.args.args.now)
-          c.requires.code c.in_ok-whole.ensures.steps c.in_ok-whole.ensures.state place seen found.1 there before.turns before.entries moved.turns_left registers text shown
-          found.2 found.3 found.4 (c.make_turns.ensures.there seen found.1 led) rest (c.in_ok-text.ensures (paged_bytes moved.memory)) c.shown_at-shown.ensures printed),
+          (said code (code_at code_base image) whole.turns_left image.max_steps first
+          (loaded_at code_base frame_base image c.args.args.now)
+          c.requires.code c.in_ok-whole.ensures.steps c.in_ok-whole.ensures.state place seen found.1 there
+          before.turns before.entries moved.turns_left registers text shown
+          found.2 found.3 found.4 (c.make_turns.ensures.there seen found.1 led) rest
+          (c.in_ok-text.ensures (paged_bytes moved.memory)) c.shown_at-shown.ensures printed),
     )

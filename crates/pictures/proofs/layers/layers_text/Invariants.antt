@@ -5,4 +5,5 @@ use Rattle.pictures.specs.Page.{layers_text}
 use Rattle.pictures.proofs.layers.layers_text.Given as goal
 
 abbrev pub invariant-loop-layer : goal.invariant-loop-layer
-invariant-loop-layer l = string_bytes l.text ++ layers_text l.cells (drop l.layer-index l.layers) ≡ layers_text l.cells l.layers
+invariant-loop-layer l = string_bytes l.text ++ layers_text l.cells (drop l.layer-index l.layers)
+    ≡ layers_text l.cells l.layers

@@ -11,4 +11,8 @@ returns-clause-small c =
     let grid = c.args.grid.now in
     let steps = c.args.steps in
     let all : length grid.cells.items ≡ 33024 = omega (arith, grid.full, grid.cells.ok) in
-    omega (arith, ap length (returns-clause-exact c), page_size grid.axes grid.cells.items c.args.said.now steps.are_two steps.one steps.other all)
+    omega (
+      arith,
+      ap length (returns-clause-exact c),
+      page_size grid.axes grid.cells.items c.args.said.now steps.are_two steps.one steps.other all,
+    )

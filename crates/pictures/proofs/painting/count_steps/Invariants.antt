@@ -9,7 +9,8 @@ abbrev pub invariant-steps : goal.invariant-steps
 invariant-steps g l =
     let bytes = g.M.Memory.bytes in
     record {
-      counted : Counted (code_of l.code) l.fn.run.turns_left (state_of l.fn.run.hart (bytes l.fn.run.memory)) l.run.turns_left (state_of l.run.hart (bytes l.run.memory)) l.steps;
+      counted : Counted (code_of l.code) l.fn.run.turns_left (state_of l.fn.run.hart (bytes l.fn.run.memory))
+          l.run.turns_left (state_of l.run.hart (bytes l.run.memory)) l.steps;
       few : l.steps + l.run.turns_left ≤ l.fn.run.turns_left;
     }
 

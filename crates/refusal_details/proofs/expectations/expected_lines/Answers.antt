@@ -10,8 +10,11 @@ differ e = cc
 pub returns-in_ok-expected_line-in-Some-clause-said : goal.returns-in_ok-expected_line-in-Some-clause-said
 returns-in_ok-expected_line-in-Some-clause-said c =
     let names = map (λ name. name.now) c.in_ok-names-in-Some.names.items in
-    let expects = subst (λ (front : List ℕ). Expects front candidates names) c.in-Some.ensures.front c.in_ok-names-in-Some.ensures.expected in
-    rw (c.in_ok-expected_line-in-Some.ensures, c.as_slice.ensures.value) (tried (c.in-Some.ensures.variant.0 refl) expects)
+    let expects = subst (λ (front : List ℕ). Expects front candidates names) c.in-Some.ensures.front
+    c.in_ok-names-in-Some.ensures.expected in
+    rw (c.in_ok-expected_line-in-Some.ensures, c.as_slice.ensures.value)
+    (tried (c.in-Some.ensures.variant.0 refl) expects)
 
 pub returns-in-None-clause-said : goal.returns-in-None-clause-said
-returns-in-None-clause-said c = rw c.new.ensures.bytes (inside (λ boundary. differ (c.in-None.ensures.variant.1 boundary)))
+returns-in-None-clause-said c =
+    rw c.new.ensures.bytes (inside (λ boundary. differ (c.in-None.ensures.variant.1 boundary)))

@@ -20,7 +20,8 @@ returns-in-Err-clause-found c =
 pub returns-in-Err-inline-clause-found : goal.returns-in-Err-inline-clause-found
 returns-in-Err-inline-clause-found c =
     let refused = c.in-Err-inline.ensures.refused in
-    let export = sym (ap (λ program. exported [] (program_tree program).procedures) c.in-Ok.ensures.program) ∙ refused.2 in
+    let export = sym (ap (λ program. exported [] (program_tree program).procedures) c.in-Ok.ensures.program)
+    ∙ refused.2 in
     where_ok c.none_for-in-Err-inline.result
     (λ flat none. (None, too_large export (first_at _ _ _ none.1.0 none.1.1 refused.3).1, none.0))
     c.none_for-in-Err-inline.ensures.none
@@ -28,6 +29,8 @@ returns-in-Err-inline-clause-found c =
 pub returns-in-Ok-inline-clause-found : goal.returns-in-Ok-inline-clause-found
 returns-in-Ok-inline-clause-found c =
     let accepted = c.in-Ok-inline.ensures.accepted in
-    let export = sym (ap (λ program. exported [] (program_tree program).procedures) c.in-Ok.ensures.program) ∙ accepted.2 in
-    let flat = accepted.4 ∙ ap (λ (profile : Profile). flattened profile accepted.0 accepted.1) c.in-Ok.ensures.profile in
+    let export = sym (ap (λ program. exported [] (program_tree program).procedures) c.in-Ok.ensures.program)
+    ∙ accepted.2 in
+    let flat = accepted.4 ∙ ap (λ (profile : Profile). flattened profile accepted.0 accepted.1)
+    c.in-Ok.ensures.profile in
     (Some (accepted.0, accepted.1), one_body c.in-Ok.ensures.well_typed export accepted.3, ap Some flat)

@@ -6,4 +6,5 @@ use Rattle.run_places.proofs.reads.push_registers.Given as goal
 
 abbrev pub invariant-loop-register : goal.invariant-loop-register
 invariant-loop-register l =
-    l.text.items ++ registers_text (regs_of l.hart) (drop l.register-index l.registers) ≡ l.fn.text.items ++ registers_text (regs_of l.hart) l.registers
+    l.text.items ++ registers_text (regs_of l.hart) (drop l.register-index l.registers) ≡ l.fn.text.items
+    ++ registers_text (regs_of l.hart) l.registers

@@ -9,4 +9,6 @@ use Rattle.run_places.proofs.shown.shown_at.Given as goal
 
 abbrev pub invariant-loop-turn : goal.invariant-loop-turn
 invariant-loop-turn g l =
-    (seen : List Observation) × Leads (code_of l.code) l._turn (state_of l.fn.run.hart (g.M.Memory.bytes l.fn.run.memory)) seen (state_of l.run.hart (g.M.Memory.bytes l.run.memory)) × (length (entries_of seen) + l.left ≡ l.place)
+    (seen : List Observation)
+    × Leads (code_of l.code) l._turn (state_of l.fn.run.hart (g.M.Memory.bytes l.fn.run.memory)) seen
+    (state_of l.run.hart (g.M.Memory.bytes l.run.memory)) × (length (entries_of seen) + l.left ≡ l.place)

@@ -9,6 +9,8 @@ use Rattle.run_places.proofs.turns.last_before.Given as goal
 
 abbrev pub invariant-loop-turns : goal.invariant-loop-turns
 invariant-loop-turns g l = record {
-  led : (seen : List Observation) × Leads (code_of l.code) l.turns (state_of l.fn.run.hart (g.M.Memory.bytes l.fn.run.memory)) seen (state_of l.run.hart (g.M.Memory.bytes l.run.memory)) × (length (entries_of seen) + l.left ≡ l.place);
+  led : (seen : List Observation)
+      × Leads (code_of l.code) l.turns (state_of l.fn.run.hart (g.M.Memory.bytes l.fn.run.memory)) seen
+      (state_of l.run.hart (g.M.Memory.bytes l.run.memory)) × (length (entries_of seen) + l.left ≡ l.place);
   before : 0 < l.left;
 }

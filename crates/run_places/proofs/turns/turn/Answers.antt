@@ -18,4 +18,5 @@ returns g c =
     let list = turn.2.2 ∙ ap (λ (xs : List Observation). kept true xs seen) c.new-recorder.ensures.empty in
     let first = c.first.ensures ∙ ap (λ (xs : List Observation). slice_get xs 0) list in
     subst (λ (o : Option Observation). Turned code s o c.step-stop.result t) (sym first)
-    (turn_made code s t turn.0 c.step-stop.result seen turn.1 turn.2.1 (c.step-stop.ensures.ready 0 c.new-recorder.ensures.ready))
+    (turn_made code s t turn.0 c.step-stop.result seen turn.1 turn.2.1
+    (c.step-stop.ensures.ready 0 c.new-recorder.ensures.ready))

@@ -6,4 +6,5 @@ pub returns-clause-finished : goal.returns-clause-finished
 returns-clause-finished c = λ code keeps budget s t u list one other stop stop'. Ran-determined keeps list
 
 pub returns-clause-refused : goal.returns-clause-refused
-returns-clause-refused c = λ code keeps budget s t u list one other stop first then calm. Ran-beginning keeps list first then calm refl
+returns-clause-refused c = λ code keeps budget s t u list one other stop first
+    then calm. Ran-beginning keeps list first then calm refl

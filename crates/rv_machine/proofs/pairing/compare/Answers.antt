@@ -7,14 +7,20 @@ use Rattle.rv_machine.proofs.Shown.{something_shown, nothing_shown, more_in_comm
 use Rattle.rv_machine.proofs.pairing.compare.Goals as goal
 
 pub turns-init : goal.turns-init
-turns-init g c = record { common = ([], refl, λ rest shown. shown, λ rest shown. shown); steps = ([], refl, begins, begins); few = omega arith }
+turns-init g c = record {
+  common = ([], refl, λ rest shown. shown, λ rest shown. shown);
+  steps = ([], refl, begins, begins);
+  few = omega arith;
+}
 
 pub returns-in_default-seen_other-clause-compared : goal.returns-in_default-seen_other-clause-compared
 returns-in_default-seen_other-clause-compared g c =
     let turns = c.both_turns-seen.ensures in
     let one = something_shown c.in-Some.is turns.shown in
-    let ended = nothing_shown c.in_default-seen_other.is (turns.other_ended c.in_default-seen_other.is) turns.other_shown in
-    rw (sym (add-zero c.turns.place)) (differ_after c.turns.invariant.common one.1 ended (other-ends c.in-Some.seen one.0))
+    let ended = nothing_shown c.in_default-seen_other.is (turns.other_ended c.in_default-seen_other.is)
+    turns.other_shown in
+    rw (sym (add-zero c.turns.place))
+    (differ_after c.turns.invariant.common one.1 ended (other-ends c.in-Some.seen one.0))
 
 pub returns-in-Some-first_difference-clause-compared : goal.returns-in-Some-first_difference-clause-compared
 returns-in-Some-first_difference-clause-compared g c =
@@ -30,8 +36,10 @@ turns-preserved g c =
     let many = c.entry_count-place.ensures in
     let few = count-few c.in-Some.seen in
     record {
-      common = more_in_common c.entry_count-place.result c.turns.invariant.common c.in-Some.is c.in-Some-seen_other-2.is same many turns.shown turns.other_shown;
-      steps = step_on c.entry_count-place.result c.turns.invariant.steps c.in-Some.is c.in-Some-seen_other-2.is same many turns.made turns.other_made;
+      common = more_in_common c.entry_count-place.result c.turns.invariant.common c.in-Some.is
+          c.in-Some-seen_other-2.is same many turns.shown turns.other_shown;
+      steps = step_on c.entry_count-place.result c.turns.invariant.steps c.in-Some.is c.in-Some-seen_other-2.is same
+          many turns.made turns.other_made;
       few = omega (arith, few, many, c.turns.invariant.few, turns.fewer (ap is_some c.in-Some.is));
     }
 
@@ -40,7 +48,8 @@ returns-in-Some-seen_other-clause-compared g c =
     let turns = c.both_turns-seen.ensures in
     let ended = nothing_shown c.in_default.is (turns.ended c.in_default.is) turns.shown in
     let other = something_shown c.in-Some-seen_other.is turns.other_shown in
-    rw (sym (add-zero c.turns.place)) (differ_after c.turns.invariant.common ended other.1 (one-ends c.in-Some-seen_other.field-0 other.0))
+    rw (sym (add-zero c.turns.place))
+    (differ_after c.turns.invariant.common ended other.1 (one-ends c.in-Some-seen_other.field-0 other.0))
 
 pub returns-in-None-clause-compared : goal.returns-in-None-clause-compared
 returns-in-None-clause-compared g c =
@@ -52,20 +61,25 @@ returns-in-None-clause-compared g c =
 pub returns-in_default-seen_other-clause-parted : goal.returns-in_default-seen_other-clause-parted
 returns-in_default-seen_other-clause-parted g c =
     let turns = c.both_turns-seen.ensures in
-    part_after (Some c.in-Some.seen) None 0 c.turns.invariant.steps c.in-Some.is c.in_default-seen_other.is turns.made turns.other_made (other-ends c.in-Some.seen []) (sym (add-zero c.turns.place))
+    part_after (Some c.in-Some.seen) None 0 c.turns.invariant.steps c.in-Some.is c.in_default-seen_other.is turns.made
+    turns.other_made (other-ends c.in-Some.seen []) (sym (add-zero c.turns.place))
 
 pub returns-in-Some-first_difference-clause-parted : goal.returns-in-Some-first_difference-clause-parted
 returns-in-Some-first_difference-clause-parted g c =
     let turns = c.both_turns-seen.ensures in
-    part_after (Some c.in-Some.seen) (Some c.in-Some-seen_other-2.seen_other) c.in-Some-first_difference.entry c.turns.invariant.steps c.in-Some.is c.in-Some-seen_other-2.is turns.made turns.other_made
+    part_after (Some c.in-Some.seen) (Some c.in-Some-seen_other-2.seen_other) c.in-Some-first_difference.entry
+    c.turns.invariant.steps c.in-Some.is c.in-Some-seen_other-2.is turns.made turns.other_made
     (c.in-Some-first_difference.ensures.differ [] []) refl
 
 pub returns-in-Some-seen_other-clause-parted : goal.returns-in-Some-seen_other-clause-parted
 returns-in-Some-seen_other-clause-parted g c =
     let turns = c.both_turns-seen.ensures in
-    part_after None (Some c.in-Some-seen_other.field-0) 0 c.turns.invariant.steps c.in_default.is c.in-Some-seen_other.is turns.made turns.other_made (one-ends c.in-Some-seen_other.field-0 []) (sym (add-zero c.turns.place))
+    part_after None (Some c.in-Some-seen_other.field-0) 0 c.turns.invariant.steps c.in_default.is
+    c.in-Some-seen_other.is turns.made turns.other_made (one-ends c.in-Some-seen_other.field-0 [])
+    (sym (add-zero c.turns.place))
 
 pub returns-in-None-clause-ended : goal.returns-in-None-clause-ended
 returns-in-None-clause-ended g c = λ same.
     let turns = c.both_turns-seen.ensures in
-    end_after c.turns.invariant.steps c.in_default.is c.in-None.is turns.made turns.other_made (turns.ended c.in_default.is) (turns.other_ended c.in-None.is)
+    end_after c.turns.invariant.steps c.in_default.is c.in-None.is turns.made turns.other_made
+    (turns.ended c.in_default.is) (turns.other_ended c.in-None.is)

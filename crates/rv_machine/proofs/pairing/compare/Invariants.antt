@@ -11,12 +11,16 @@ invariant-turns g l =
     let bytes = g.M.Memory.bytes in
     record {
       common : InCommon (code_of l.code)
-          l.fn.one.turns_left (state_of l.fn.one.hart (bytes l.fn.one.memory)) l.one.turns_left (state_of l.one.hart (bytes l.one.memory))
-          l.fn.other.turns_left (state_of l.fn.other.hart (bytes l.fn.other.memory)) l.other.turns_left (state_of l.other.hart (bytes l.other.memory))
+          l.fn.one.turns_left (state_of l.fn.one.hart (bytes l.fn.one.memory)) l.one.turns_left
+          (state_of l.one.hart (bytes l.one.memory))
+          l.fn.other.turns_left (state_of l.fn.other.hart (bytes l.fn.other.memory)) l.other.turns_left
+          (state_of l.other.hart (bytes l.other.memory))
           l.place;
       steps : InStep (code_of l.code)
-          l.fn.one.turns_left (state_of l.fn.one.hart (bytes l.fn.one.memory)) l.one.turns_left (state_of l.one.hart (bytes l.one.memory))
-          l.fn.other.turns_left (state_of l.fn.other.hart (bytes l.fn.other.memory)) l.other.turns_left (state_of l.other.hart (bytes l.other.memory))
+          l.fn.one.turns_left (state_of l.fn.one.hart (bytes l.fn.one.memory)) l.one.turns_left
+          (state_of l.one.hart (bytes l.one.memory))
+          l.fn.other.turns_left (state_of l.fn.other.hart (bytes l.fn.other.memory)) l.other.turns_left
+          (state_of l.other.hart (bytes l.other.memory))
           l.place;
       few : l.place + 2 * l.one.turns_left ≤ 2 * l.fn.one.turns_left;
     }

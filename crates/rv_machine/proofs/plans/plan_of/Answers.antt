@@ -16,7 +16,9 @@ returns-in-Instruction-clause-turn g c = λ even there decoded.
     let i = c.in-Instruction.instr in
     let ok : IsDecoded (Instruction i) = subst IsDecoded c.in-Instruction.is decoded in
     executes i even (there ∙ ap (λ w. Some (spelled w)) c.in-Instruction.is) ok
-    (c.effect_plan.ensures.ends ∙ ap (λ e. ending_of (code_of c.args.code.now).profile e s) {y = effect_of i s.pc s.regs} c.effect_of.ensures)
+    (c.effect_plan.ensures.ends
+    ∙ ap (λ e. ending_of (code_of c.args.code.now).profile e s) {y = effect_of i s.pc s.regs}
+    c.effect_of.ensures)
 
 pub returns-in-Other-clause-turn : goal.returns-in-Other-clause-turn
 returns-in-Other-clause-turn g c = λ even there decoded.

@@ -11,8 +11,10 @@ pub returns-then-a-bytes-ne0-clause-ends : goal.returns-then-a-bytes-ne0-clause-
 returns-then-a-bytes-ne0-clause-ends g c = λ profile pc regs.
     let s : State = record { pc = pc; regs = regs; bytes = g.M.Memory.bytes c.args.memory.now } in
     let n = c.args.size in
-    let odd = λ (h : c.args.a % byte_count n ≡ 0). c.if-a-bytes-ne0.true (ap (λ k. c.args.a % k) c.bytes.ensures ∙ h) in
-    ap (λ (p : Plan). ends_as p.event p.change s) c.unseen.ensures ∙ sym (store_misaligned profile c.args.operation c.args.a c.args.value s n c.requires odd)
+    let odd = λ (h : c.args.a % byte_count n ≡ 0).
+    c.if-a-bytes-ne0.true (ap (λ k. c.args.a % k) c.bytes.ensures ∙ h) in
+    ap (λ (p : Plan). ends_as p.event p.change s) c.unseen.ensures
+    ∙ sym (store_misaligned profile c.args.operation c.args.a c.args.value s n c.requires odd)
 
 pub returns-then-is_none-clause-ends : goal.returns-then-is_none-clause-ends
 returns-then-is_none-clause-ends g c = λ profile pc regs.
@@ -20,7 +22,8 @@ returns-then-is_none-clause-ends g c = λ profile pc regs.
     let n = c.args.size in
     let even = ap (λ k. c.args.a % k) (sym c.bytes.ensures) ∙ c.if-a-bytes-ne0.false in
     let none = ap is_some (sym c.load.ensures.number) ∙ c.if-is_none.ensures in
-    ap (λ (p : Plan). ends_as p.event p.change s) c.unseen-then-is_none.ensures ∙ sym (store_outside profile c.args.operation c.args.a c.args.value s n c.requires even none)
+    ap (λ (p : Plan). ends_as p.event p.change s) c.unseen-then-is_none.ensures
+    ∙ sym (store_outside profile c.args.operation c.args.a c.args.value s n c.requires even none)
 
 pub returns-clause-ends : goal.returns-clause-ends
 returns-clause-ends g c = λ profile pc regs.

@@ -6,4 +6,5 @@ use Rattle.scopes.proofs.effects.+effect.Given as goal
 -- the statements so far assign to nothing public
 abbrev pub invariant-block_assigns-loop-one : goal.invariant-block_assigns-loop-one
 invariant-block_assigns-loop-one l =
-    block_assigns l.names (block_tree (drop l.one-index l.statements)) ≡ block_assigns l.names (block_tree l.statements)
+    block_assigns l.names (block_tree (drop l.one-index l.statements))
+    ≡ block_assigns l.names (block_tree l.statements)

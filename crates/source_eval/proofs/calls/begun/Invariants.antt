@@ -8,5 +8,6 @@ use Rattle.source_eval.proofs.calls.begun.Given as goal
 -- what is held, over what the parameters left hold, is what all hold
 abbrev pub invariant-loop-index : goal.invariant-loop-index
 invariant-loop-index l =
-    over (held l.inner) (begun (held l.caller) (map parameter_tree (drop l.index l.parameters)) (map expr_tree (drop l.index l.arguments)) (map word_of l.left))
+    over (held l.inner) (begun (held l.caller) (map parameter_tree (drop l.index l.parameters))
+    (map expr_tree (drop l.index l.arguments)) (map word_of l.left))
     ≡ begun (held l.caller) (map parameter_tree l.parameters) (map expr_tree l.arguments) (map word_of l.words)

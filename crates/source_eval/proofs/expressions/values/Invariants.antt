@@ -8,4 +8,6 @@ use Rattle.source_eval.proofs.expressions.values.Given as goal
 -- the values found, and then those of the expressions left
 abbrev pub invariant-loop-expr : goal.invariant-loop-expr
 invariant-loop-expr l =
-    Leads (values (held l.variables) (map expr_tree l.exprs)) l.fn.left 0 (values (held l.variables) (map expr_tree (drop l.expr-index l.exprs))) l.left (λ vs. map word_of l.words.items ++ vs)
+    Leads (values (held l.variables) (map expr_tree l.exprs)) l.fn.left 0
+    (values (held l.variables) (map expr_tree (drop l.expr-index l.exprs))) l.left
+    (λ vs. map word_of l.words.items ++ vs)

@@ -9,43 +9,61 @@ use Rattle.source_eval.specs.Metering.{known_of}
 use Rattle.source_eval.specs.Views.{held, word_of}
 use Rattle.source_eval.proofs.LoopLemmas.{all_statements, each_statement, passes, statement_halts}
 use Rattle.source_eval.proofs.RunLemmas.{bounds_end, memory_stops, tick_lacks, turns_end, turns_lack}
-use Rattle.source_eval.proofs.StatementLemmas.{argument_stops, body_stops, call_none, each_turn, for_run, high_stops, if_run, low_stops, ok_along, room_lacks, stops_along, turn_stops, whole_ends}
+use Rattle.source_eval.proofs.StatementLemmas.{argument_stops, body_stops, call_none, each_turn, for_run, high_stops}
+use Rattle.source_eval.proofs.StatementLemmas.{if_run, low_stops, ok_along, room_lacks, stops_along, turn_stops}
+use Rattle.source_eval.proofs.StatementLemmas.{whole_ends}
 use Rattle.source_eval.proofs.statements.+statement.Goals as goal
 
 pub block-returns-in_err-statement-clause-err : goal.block-returns-in_err-statement-clause-err
 block-returns-in_err-statement-clause-err t c =
     let l = c.loop-one in
     passes _ _ _ c.from_residual.ensures.1
-    (statement_halts _ (known_of c.args.earlier.now) c.args.left.now c.args.room c.args.block.now (held l.variables) l.one-index c.one-item.result l.left _ c.loop-one-test.true c.one-item.is l.invariant.leads c.in_err-statement.ensures.err)
+    (statement_halts _ (known_of c.args.earlier.now) c.args.left.now c.args.room c.args.block.now (held l.variables)
+    l.one-index c.one-item.result l.left _ c.loop-one-test.true c.one-item.is l.invariant.leads
+    c.in_err-statement.ensures.err)
 
 pub block-loop-one-preserved : goal.block-loop-one-preserved
 block-loop-one-preserved t c =
     let l = c.loop-one in
     record {
-      leads = each_statement _ (known_of c.args.earlier.now) c.args.left.now c.args.room c.args.block.now (held l.variables) (held c.statement.new.variables) l.one-index c.one-item.result l.left c.statement.new.left c.loop-one-test.true c.one-item.is l.invariant.leads c.in_ok-statement.ensures.ok;
+      leads = each_statement _ (known_of c.args.earlier.now) c.args.left.now c.args.room c.args.block.now
+          (held l.variables) (held c.statement.new.variables) l.one-index c.one-item.result l.left
+          c.statement.new.left c.loop-one-test.true c.one-item.is l.invariant.leads c.in_ok-statement.ensures.ok;
       spends = omega (arith, c.in_ok-statement.ensures.ok.spends);
     }
 
 pub block-returns-clause-ok : goal.block-returns-clause-ok
 block-returns-clause-ok t c =
     let l = c.loop-one in
-    all_statements _ (known_of c.args.earlier.now) c.args.left.now c.args.room c.args.block.now (held l.variables) l.one-index l.left c.loop-one-test.false l.invariant.leads
+    all_statements _ (known_of c.args.earlier.now) c.args.left.now c.args.room c.args.block.now (held l.variables)
+    l.one-index l.left c.loop-one-test.false l.invariant.leads
 
 pub call-returns-in_err-spend-clause-err : goal.call-returns-in_err-spend-clause-err
 call-returns-in_err-spend-clause-err t c =
-    passes _ _ _ c.from_residual.ensures.1 (tick_lacks _ _ _ _ c.in_err-spend.ensures.err c.in_err-spend.ensures.budget)
+    passes _ _ _ c.from_residual.ensures.1
+    (tick_lacks _ _ _ _ c.in_err-spend.ensures.err c.in_err-spend.ensures.budget)
 
 pub call-returns-in_default-clause-ok : goal.call-returns-in_default-clause-ok
 call-returns-in_default-clause-ok t c =
-    call_none _ _ (call_tree c.args.call.now) _ _ _ (known-none runnable (map procedure_tree c.args.earlier.now) c.args.call.now.name.now (sym c.in_default.ensures)) c.in_ok-spend.ensures.ok
+    call_none _ _ (call_tree c.args.call.now) _ _ _
+    (known-none runnable (map procedure_tree c.args.earlier.now) c.args.call.now.name.now
+    (sym c.in_default.ensures)) c.in_ok-spend.ensures.ok
 
 pub call-returns-in_err-words-clause-err : goal.call-returns-in_err-words-clause-err
 call-returns-in_err-words-clause-err t c =
-    passes _ _ _ c.from_residual-in_err-words.ensures.1 (argument_stops c.args.earlier.now c.in-Some.before.now c.in-Some.callee.now (held c.args.variables.now) c.args.call.now c.as_slice-parameters.result.now c.as_slice-arguments.result.now _ _ c.args.room c.in-Some.ensures c.in_ok-spend.ensures.ok c.as_slice-parameters.ensures.value c.as_slice-arguments.ensures.value _ c.in_err-words.ensures.err)
+    passes _ _ _ c.from_residual-in_err-words.ensures.1
+    (argument_stops c.args.earlier.now c.in-Some.before.now c.in-Some.callee.now (held c.args.variables.now)
+    c.args.call.now c.as_slice-parameters.result.now c.as_slice-arguments.result.now _ _ c.args.room
+    c.in-Some.ensures c.in_ok-spend.ensures.ok c.as_slice-parameters.ensures.value
+    c.as_slice-arguments.ensures.value _ c.in_err-words.ensures.err)
 
 pub call-returns-in_default-checked_sub-clause-err : goal.call-returns-in_default-checked_sub-clause-err
 call-returns-in_default-checked_sub-clause-err t c =
-    room_lacks c.args.earlier.now c.in-Some.before.now c.in-Some.callee.now (held c.args.variables.now) c.args.call.now c.as_slice-parameters.result.now c.as_slice-arguments.result.now _ _ c.args.room c.in-Some.ensures c.in_ok-spend.ensures.ok c.as_slice-parameters.ensures.value c.as_slice-arguments.ensures.value (map word_of c.in_ok-words.words.items) _ c.in_ok-words.ensures.ok (omega (arith, c.in_default-checked_sub.ensures))
+    room_lacks c.args.earlier.now c.in-Some.before.now c.in-Some.callee.now (held c.args.variables.now)
+    c.args.call.now c.as_slice-parameters.result.now c.as_slice-arguments.result.now _ _ c.args.room
+    c.in-Some.ensures c.in_ok-spend.ensures.ok c.as_slice-parameters.ensures.value
+    c.as_slice-arguments.ensures.value (map word_of c.in_ok-words.words.items) _ c.in_ok-words.ensures.ok
+    (omega (arith, c.in_default-checked_sub.ensures))
 
 pub call-returns-in_err-inner-clause-err : goal.call-returns-in_err-inner-clause-err
 call-returns-in_err-inner-clause-err t c =
@@ -53,8 +71,16 @@ call-returns-in_err-inner-clause-err t c =
 
 pub call-returns-in_err-word-clause-err : goal.call-returns-in_err-word-clause-err
 call-returns-in_err-word-clause-err t c =
-    let begins = c.in_ok-inner.ensures.ok ∙ ap (λ ws. begun (held c.args.variables.now) (map parameter_tree c.as_slice-parameters.result.now) (map expr_tree c.as_slice-arguments.result.now) (map word_of ws)) c.as_slice.ensures.value in
-    passes _ _ _ c.from_residual-in_err-word.ensures.1 (body_stops c.args.earlier.now c.in-Some.before.now c.in-Some.callee.now (held c.args.variables.now) c.args.call.now c.as_slice-parameters.result.now c.as_slice-arguments.result.now _ _ c.args.room c.in-Some.ensures c.in_ok-spend.ensures.ok c.as_slice-parameters.ensures.value c.as_slice-arguments.ensures.value (map word_of c.in_ok-words.words.items) _ c.in_ok-words.ensures.ok c.in-Some-checked_sub.room _ (omega (arith, c.in-Some-checked_sub.ensures)) begins _ c.in_err-word.ensures.err)
+    let begins = c.in_ok-inner.ensures.ok
+    ∙ ap (λ ws. begun (held c.args.variables.now) (map parameter_tree c.as_slice-parameters.result.now)
+    (map expr_tree c.as_slice-arguments.result.now) (map word_of ws)) c.as_slice.ensures.value in
+    passes _ _ _ c.from_residual-in_err-word.ensures.1
+    (body_stops c.args.earlier.now c.in-Some.before.now c.in-Some.callee.now (held c.args.variables.now)
+    c.args.call.now c.as_slice-parameters.result.now c.as_slice-arguments.result.now _ _ c.args.room
+    c.in-Some.ensures c.in_ok-spend.ensures.ok c.as_slice-parameters.ensures.value
+    c.as_slice-arguments.ensures.value (map word_of c.in_ok-words.words.items) _ c.in_ok-words.ensures.ok
+    c.in-Some-checked_sub.room _ (omega (arith, c.in-Some-checked_sub.ensures)) begins _
+    c.in_err-word.ensures.err)
 
 pub call-returns-in_err-copy_out-clause-err : goal.call-returns-in_err-copy_out-clause-err
 call-returns-in_err-copy_out-clause-err t c =
@@ -62,32 +88,56 @@ call-returns-in_err-copy_out-clause-err t c =
 
 pub call-returns-clause-ok : goal.call-returns-clause-ok
 call-returns-clause-ok t c =
-    let begins = c.in_ok-inner.ensures.ok ∙ ap (λ ws. begun (held c.args.variables.now) (map parameter_tree c.as_slice-parameters.result.now) (map expr_tree c.as_slice-arguments.result.now) (map word_of ws)) c.as_slice.ensures.value in
-    whole_ends c.args.earlier.now c.in-Some.before.now c.in-Some.callee.now (held c.args.variables.now) c.args.call.now c.as_slice-parameters.result.now c.as_slice-arguments.result.now _ _ c.args.room c.in-Some.ensures c.in_ok-spend.ensures.ok c.as_slice-parameters.ensures.value c.as_slice-arguments.ensures.value (map word_of c.in_ok-words.words.items) _ c.in_ok-words.ensures.ok c.in-Some-checked_sub.room _ (omega (arith, c.in-Some-checked_sub.ensures)) begins _ (held c.body.new.variables) _ _ c.in_ok-word.ensures.ok c.in_ok-copy_out.ensures.ok
+    let begins = c.in_ok-inner.ensures.ok
+    ∙ ap (λ ws. begun (held c.args.variables.now) (map parameter_tree c.as_slice-parameters.result.now)
+    (map expr_tree c.as_slice-arguments.result.now) (map word_of ws)) c.as_slice.ensures.value in
+    whole_ends c.args.earlier.now c.in-Some.before.now c.in-Some.callee.now (held c.args.variables.now)
+    c.args.call.now c.as_slice-parameters.result.now c.as_slice-arguments.result.now _ _ c.args.room
+    c.in-Some.ensures c.in_ok-spend.ensures.ok c.as_slice-parameters.ensures.value
+    c.as_slice-arguments.ensures.value (map word_of c.in_ok-words.words.items) _ c.in_ok-words.ensures.ok
+    c.in-Some-checked_sub.room _ (omega (arith, c.in-Some-checked_sub.ensures)) begins _
+    (held c.body.new.variables) _ _ c.in_ok-word.ensures.ok c.in_ok-copy_out.ensures.ok
 
 pub repeat-returns-in_err-spend-clause-err : goal.repeat-returns-in_err-spend-clause-err
 repeat-returns-in_err-spend-clause-err t c =
-    passes _ _ _ c.from_residual.ensures.1 (tick_lacks _ _ _ _ c.in_err-spend.ensures.err c.in_err-spend.ensures.budget)
+    passes _ _ _ c.from_residual.ensures.1
+    (tick_lacks _ _ _ _ c.in_err-spend.ensures.err c.in_err-spend.ensures.budget)
 
 pub repeat-returns-in_err-first-clause-err : goal.repeat-returns-in_err-first-clause-err
 repeat-returns-in_err-first-clause-err t c =
-    passes _ _ _ c.from_residual-in_err-first.ensures.1 (low_stops (held c.args.variables.now) (expr_tree c.args.low.now) (expr_tree c.args.high.now) (λ (i : ℕ) (u : State). run_all (known_of c.args.earlier.now) (counting u c.args.counter.now.name.now i) (block_tree c.args.body.now)) c.args.left.now _ c.args.room c.in_ok-spend.ensures.ok _ c.in_err-first.ensures.err)
+    passes _ _ _ c.from_residual-in_err-first.ensures.1
+    (low_stops (held c.args.variables.now) (expr_tree c.args.low.now) (expr_tree c.args.high.now)
+    (λ (i : ℕ) (u : State). run_all (known_of c.args.earlier.now) (counting u c.args.counter.now.name.now i)
+    (block_tree c.args.body.now)) c.args.left.now _ c.args.room c.in_ok-spend.ensures.ok _
+    c.in_err-first.ensures.err)
 
 pub repeat-returns-in_err-last-clause-err : goal.repeat-returns-in_err-last-clause-err
 repeat-returns-in_err-last-clause-err t c =
-    passes _ _ _ c.from_residual-in_err-last.ensures.1 (high_stops (held c.args.variables.now) (expr_tree c.args.low.now) (expr_tree c.args.high.now) (λ (i : ℕ) (u : State). run_all (known_of c.args.earlier.now) (counting u c.args.counter.now.name.now i) (block_tree c.args.body.now)) c.args.left.now _ c.args.room c.in_ok-spend.ensures.ok _ _ _ c.in_ok-first.ensures.ok c.in_err-last.ensures.err)
+    passes _ _ _ c.from_residual-in_err-last.ensures.1
+    (high_stops (held c.args.variables.now) (expr_tree c.args.low.now) (expr_tree c.args.high.now)
+    (λ (i : ℕ) (u : State). run_all (known_of c.args.earlier.now) (counting u c.args.counter.now.name.now i)
+    (block_tree c.args.body.now)) c.args.left.now _ c.args.room c.in_ok-spend.ensures.ok _ _ _
+    c.in_ok-first.ensures.ok c.in_err-last.ensures.err)
 
 pub repeat-loop-number-init : goal.repeat-loop-number-init
 repeat-loop-number-init t c =
     record {
-      leads = bounds_end _ _ _ _ _ _ _ _ _ _ _ c.in_ok-spend.ensures.ok c.in_ok-first.ensures.ok c.in_ok-last.ensures.ok;
-      spends = omega (arith, c.in_ok-spend.ensures.ok, c.in_ok-first.ensures.ok.spends, c.in_ok-last.ensures.ok.spends);
+      leads = bounds_end _ _ _ _ _ _ _ _ _ _ _ c.in_ok-spend.ensures.ok c.in_ok-first.ensures.ok
+          c.in_ok-last.ensures.ok;
+      spends = omega (
+        arith,
+        c.in_ok-spend.ensures.ok,
+        c.in_ok-first.ensures.ok.spends,
+        c.in_ok-last.ensures.ok.spends,
+      );
     }
 
 pub repeat-returns-in_err-spend-2-clause-err : goal.repeat-returns-in_err-spend-2-clause-err
 repeat-returns-in_err-spend-2-clause-err t c =
     let l = c.loop-number in
-    passes _ _ _ c.from_residual-in_err-spend-2.ensures.1 (turns_lack _ _ _ _ (held l.variables) l.number _ l.left _ c.loop-number-test.true l.invariant.leads c.in_err-spend-2.ensures.err c.in_err-spend-2.ensures.budget)
+    passes _ _ _ c.from_residual-in_err-spend-2.ensures.1
+    (turns_lack _ _ _ _ (held l.variables) l.number _ l.left _ c.loop-number-test.true l.invariant.leads
+    c.in_err-spend-2.ensures.err c.in_err-spend-2.ensures.budget)
 
 pub repeat-returns-in_err-set-clause-err : goal.repeat-returns-in_err-set-clause-err
 repeat-returns-in_err-set-clause-err t c =
@@ -97,13 +147,17 @@ pub repeat-returns-in_err-block-clause-err : goal.repeat-returns-in_err-block-cl
 repeat-returns-in_err-block-clause-err t c =
     let l = c.loop-number in
     passes _ _ _ c.from_residual-in_err-block.ensures.1
-    (turn_stops _ (known_of c.args.earlier.now) c.args.counter.now.name.now (block_tree c.args.body.now) _ _ (held l.variables) _ l.number _ l.left _ _ c.loop-number-test.true l.invariant.leads c.in_ok-spend-2.ensures.ok c.in_ok-set.ensures.ok c.in_err-block.ensures.err)
+    (turn_stops _ (known_of c.args.earlier.now) c.args.counter.now.name.now (block_tree c.args.body.now) _ _
+    (held l.variables) _ l.number _ l.left _ _ c.loop-number-test.true l.invariant.leads
+    c.in_ok-spend-2.ensures.ok c.in_ok-set.ensures.ok c.in_err-block.ensures.err)
 
 pub repeat-loop-number-preserved : goal.repeat-loop-number-preserved
 repeat-loop-number-preserved t c =
     let l = c.loop-number in
     record {
-      leads = each_turn _ (known_of c.args.earlier.now) c.args.counter.now.name.now (block_tree c.args.body.now) _ _ (held l.variables) _ _ l.number _ l.left _ _ c.loop-number-test.true l.invariant.leads c.in_ok-spend-2.ensures.ok c.in_ok-set.ensures.ok c.in_ok-block.ensures.ok;
+      leads = each_turn _ (known_of c.args.earlier.now) c.args.counter.now.name.now (block_tree c.args.body.now) _ _
+          (held l.variables) _ _ l.number _ l.left _ _ c.loop-number-test.true l.invariant.leads
+          c.in_ok-spend-2.ensures.ok c.in_ok-set.ensures.ok c.in_ok-block.ensures.ok;
       spends = omega (arith, c.in_ok-spend-2.ensures.ok, c.in_ok-block.ensures.ok.spends);
     }
 
@@ -114,20 +168,30 @@ repeat-returns-clause-ok t c =
 
 pub statement-returns-in-If-clause-ok : goal.statement-returns-in-If-clause-ok
 statement-returns-in-If-clause-ok t c =
-    let is = if_run (known_of c.args.earlier.now) (held c.args.variables.now) c.args.statement.now c.in-If.field-0 c.in-If.condition c.in-If.accepted c.in-If.otherwise c.deref.result.now c.deref-in-If.result.now c.in-If.is c.deref.ensures.value c.deref-in-If.ensures.value in
-    ok_along c.branch-alloc.result _ _ c.args.left.now c.args.room (held c.branch-alloc.new.variables) c.branch-alloc.new.left is c.branch-alloc.ensures.ok
+    let is = if_run (known_of c.args.earlier.now) (held c.args.variables.now) c.args.statement.now c.in-If.field-0
+    c.in-If.condition c.in-If.accepted c.in-If.otherwise c.deref.result.now c.deref-in-If.result.now c.in-If.is
+    c.deref.ensures.value c.deref-in-If.ensures.value in
+    ok_along c.branch-alloc.result _ _ c.args.left.now c.args.room (held c.branch-alloc.new.variables)
+    c.branch-alloc.new.left is c.branch-alloc.ensures.ok
 
 pub statement-returns-in-If-clause-err : goal.statement-returns-in-If-clause-err
 statement-returns-in-If-clause-err t c =
-    let is = if_run (known_of c.args.earlier.now) (held c.args.variables.now) c.args.statement.now c.in-If.field-0 c.in-If.condition c.in-If.accepted c.in-If.otherwise c.deref.result.now c.deref-in-If.result.now c.in-If.is c.deref.ensures.value c.deref-in-If.ensures.value in
+    let is = if_run (known_of c.args.earlier.now) (held c.args.variables.now) c.args.statement.now c.in-If.field-0
+    c.in-If.condition c.in-If.accepted c.in-If.otherwise c.deref.result.now c.deref-in-If.result.now c.in-If.is
+    c.deref.ensures.value c.deref-in-If.ensures.value in
     IfErr-weaker _ _ _ (λ fault h. stops_along _ _ _ _ fault is h) c.branch-alloc.ensures.err
 
 pub statement-returns-in-For-clause-ok : goal.statement-returns-in-For-clause-ok
 statement-returns-in-For-clause-ok t c =
-    let is = for_run (known_of c.args.earlier.now) (held c.args.variables.now) c.args.statement.now c.in-For.field-0 c.in-For.counter c.in-For.low c.in-For.high c.in-For.body c.deref-in-For.result.now c.in-For.is c.deref-in-For.ensures.value in
-    ok_along c.repeat.result _ _ c.args.left.now c.args.room (held c.repeat.new.variables) c.repeat.new.left is c.repeat.ensures.ok
+    let is = for_run (known_of c.args.earlier.now) (held c.args.variables.now) c.args.statement.now c.in-For.field-0
+    c.in-For.counter c.in-For.low c.in-For.high c.in-For.body c.deref-in-For.result.now c.in-For.is
+    c.deref-in-For.ensures.value in
+    ok_along c.repeat.result _ _ c.args.left.now c.args.room (held c.repeat.new.variables) c.repeat.new.left is
+    c.repeat.ensures.ok
 
 pub statement-returns-in-For-clause-err : goal.statement-returns-in-For-clause-err
 statement-returns-in-For-clause-err t c =
-    let is = for_run (known_of c.args.earlier.now) (held c.args.variables.now) c.args.statement.now c.in-For.field-0 c.in-For.counter c.in-For.low c.in-For.high c.in-For.body c.deref-in-For.result.now c.in-For.is c.deref-in-For.ensures.value in
+    let is = for_run (known_of c.args.earlier.now) (held c.args.variables.now) c.args.statement.now c.in-For.field-0
+    c.in-For.counter c.in-For.low c.in-For.high c.in-For.body c.deref-in-For.result.now c.in-For.is
+    c.deref-in-For.ensures.value in
     IfErr-weaker _ _ _ (λ fault h. stops_along _ _ _ _ fault is h) c.repeat.ensures.err

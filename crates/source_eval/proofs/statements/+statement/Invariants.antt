@@ -39,13 +39,17 @@ decreases-statement l = 5 * l.left.now + 2
 -- the statements left lead to the end of all
 abbrev pub invariant-block-loop-one : goal.invariant-block-loop-one
 invariant-block-loop-one l = record {
-  leads : Leads (run_all (known_of l.earlier) (held l.fn.variables) (block_tree l.fn.block)) l.fn.left l.room (run_all (known_of l.earlier) (held l.variables) (block_tree (drop l.one-index l.block))) l.left (λ s. s);
+  leads : Leads (run_all (known_of l.earlier) (held l.fn.variables) (block_tree l.fn.block)) l.fn.left l.room
+      (run_all (known_of l.earlier) (held l.variables) (block_tree (drop l.one-index l.block))) l.left (λ s. s);
   spends : l.left ≤ l.fn.left;
 }
 
 -- the turns left lead to the end of all
 abbrev pub invariant-repeat-loop-number : goal.invariant-repeat-loop-number
-invariant-repeat-loop-number l = let turn : ℕ → State → Run State = λ i t. run_all (known_of l.earlier) (counting t l.counter.name.now i) (block_tree l.body) in record {
-  leads : Leads (loop_run (held l.fn.variables) (expr_tree l.fn.low) (expr_tree l.fn.high) turn) l.fn.left l.room (turns (l.number-end - l.number) l.number turn (held l.variables)) l.left (λ s. s);
-  spends : l.left ≤ l.fn.left;
-}
+invariant-repeat-loop-number l = let turn : ℕ → State
+    → Run State = λ i t. run_all (known_of l.earlier) (counting t l.counter.name.now i) (block_tree l.body) in
+    record {
+      leads : Leads (loop_run (held l.fn.variables) (expr_tree l.fn.low) (expr_tree l.fn.high) turn) l.fn.left l.room
+          (turns (l.number-end - l.number) l.number turn (held l.variables)) l.left (λ s. s);
+      spends : l.left ≤ l.fn.left;
+    }

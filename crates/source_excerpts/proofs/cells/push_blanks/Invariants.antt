@@ -5,4 +5,5 @@ use Rattle.source_excerpts.specs.Excerpt.{blanks}
 use Rattle.source_excerpts.proofs.cells.push_blanks.Given as goal
 
 abbrev pub invariant-loop-byte : goal.invariant-loop-byte
-invariant-loop-byte l = string_bytes l.text ++ blanks (drop l.byte-index l.bytes) ≡ string_bytes l.fn.text ++ blanks l.bytes
+invariant-loop-byte l = string_bytes l.text ++ blanks (drop l.byte-index l.bytes) ≡ string_bytes l.fn.text
+    ++ blanks l.bytes

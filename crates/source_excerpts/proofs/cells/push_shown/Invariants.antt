@@ -5,4 +5,5 @@ use Rattle.source_excerpts.specs.Excerpt.{shown}
 use Rattle.source_excerpts.proofs.cells.push_shown.Given as goal
 
 abbrev pub invariant-loop-byte : goal.invariant-loop-byte
-invariant-loop-byte l = string_bytes l.text ++ shown (drop l.byte-index l.bytes) ≡ string_bytes l.fn.text ++ shown l.bytes
+invariant-loop-byte l = string_bytes l.text ++ shown (drop l.byte-index l.bytes) ≡ string_bytes l.fn.text
+    ++ shown l.bytes

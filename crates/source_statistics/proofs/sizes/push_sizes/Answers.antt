@@ -7,5 +7,6 @@ use Rattle.source_statistics.proofs.sizes.push_sizes.Goals as goal
 pub push_export-requires : goal.push_export-requires
 push_export-requires c =
     let is = sym c.exported.ensures ∙ ap (option_map _) c.in-Some.is in
-    subst (λ (o : Option (List ProcedureTree × ProcedureTree)). IfSome o (λ export. c.args.ranged.now.flat ≡ flattened c.args.ranged.now.flat.profile export.0 export.1))
+    subst (λ (o : Option (List ProcedureTree × ProcedureTree)).
+    IfSome o (λ export. c.args.ranged.now.flat ≡ flattened c.args.ranged.now.flat.profile export.0 export.1))
     is c.requires

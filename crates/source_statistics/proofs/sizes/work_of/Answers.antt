@@ -11,7 +11,8 @@ measured_work-requires c =
     let is = c.flat.ensures.flat in
     record {
       flat =
-          subst (λ (f : FlatProgram). f ≡ flattened f.profile (map procedure_tree c.args.earlier.now) (procedure_tree c.args.export.now))
+          subst (λ (f : FlatProgram). f ≡ flattened f.profile (map procedure_tree c.args.earlier.now)
+          (procedure_tree c.args.export.now))
           (sym is) c.requires;
       turns =
           c.turns.ensures

@@ -7,4 +7,5 @@ use Rattle.statement_costs.proofs.bodies.+bodies.Given as goal
 -- the most so far and the most of the statements left make the most of all
 abbrev pub invariant-bodies_in_block-loop-statement : goal.invariant-bodies_in_block-loop-statement
 invariant-bodies_in_block-loop-statement l =
-    max l.most (block_bodies (extents_in l.earlier) (block_tree (drop l.statement-index l.block))) ≡ block_bodies (extents_in l.earlier) (block_tree l.fn.block)
+    max l.most (block_bodies (extents_in l.earlier) (block_tree (drop l.statement-index l.block)))
+    ≡ block_bodies (extents_in l.earlier) (block_tree l.fn.block)

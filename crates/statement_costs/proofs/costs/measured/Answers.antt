@@ -13,5 +13,6 @@ returns c =
     let extents = extents_of (map procedure_tree c.args.earlier.now) in
     let export = procedure_tree c.args.export.now in
     let whole = c.whole.ensures ∙ whole_same counts extents c.in_ok-table.ensures c.args.limit export in
-    let most = c.costliest.ensures ∙ ap costliest (parts_same counts extents c.in_ok-table.ensures c.args.limit export) in
+    let most = c.costliest.ensures
+    ∙ ap costliest (parts_same counts extents c.in_ok-table.ensures c.args.limit export) in
     λ i. record { whole = whole i; costliest = most i }

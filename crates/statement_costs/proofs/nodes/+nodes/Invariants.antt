@@ -7,4 +7,6 @@ use Rattle.statement_costs.proofs.nodes.+nodes.Given as goal
 -- the sum is a count, and with what the statements left have it is the count of all
 abbrev pub invariant-nodes_in_block-loop-statement : goal.invariant-nodes_in_block-loop-statement
 invariant-nodes_in_block-loop-statement l =
-    (l.sum ≤ most_counted) × (counted (l.sum + block_nodes (extents_in l.earlier) (block_tree (drop l.statement-index l.block))) ≡ counted (block_nodes (extents_in l.earlier) (block_tree l.block)))
+    (l.sum ≤ most_counted)
+    × (counted (l.sum + block_nodes (extents_in l.earlier) (block_tree (drop l.statement-index l.block)))
+    ≡ counted (block_nodes (extents_in l.earlier) (block_tree l.block)))

@@ -7,4 +7,6 @@ use Rattle.statement_costs.proofs.nodes.nodes_in_values.Given as goal
 -- the sum is a count, and with what the values left have it is the count of all
 abbrev pub invariant-loop-value : goal.invariant-loop-value
 invariant-loop-value l =
-    (l.sum ≤ most_counted) × (counted (l.sum + nodes_in_all (map expr_tree (drop l.value-index l.values))) ≡ counted (nodes_in_all (map expr_tree l.values)))
+    (l.sum ≤ most_counted)
+    × (counted (l.sum + nodes_in_all (map expr_tree (drop l.value-index l.values)))
+    ≡ counted (nodes_in_all (map expr_tree l.values)))

@@ -8,5 +8,8 @@ use Rattle.statement_costs.proofs.nodes.nodes_passed.Given as goal
 -- the sum is a count, and with what the arguments left cost it is the count of all
 abbrev pub invariant-loop-index : goal.invariant-loop-index
 invariant-loop-index l =
-    (l.sum ≤ most_counted) × (counted (l.sum + nodes_passed (word_arguments (map parameter_tree (drop l.index l.parameters)) (map expr_tree (drop l.index l.arguments))))
+    (l.sum ≤ most_counted)
+    × (counted
+    (l.sum + nodes_passed (word_arguments (map parameter_tree (drop l.index l.parameters))
+    (map expr_tree (drop l.index l.arguments))))
     ≡ counted (nodes_passed (word_arguments (map parameter_tree l.parameters) (map expr_tree l.arguments))))

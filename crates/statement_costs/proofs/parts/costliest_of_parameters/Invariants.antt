@@ -6,5 +6,6 @@ use Rattle.statement_costs.proofs.parts.costliest_of_parameters.Given as goal
 -- what is kept so far and the parameters left give what all give
 abbrev pub invariant-loop-parameter : goal.invariant-loop-parameter
 invariant-loop-parameter l =
-    fold costlier l.most (map counted_part (map parameter_part (map parameter_tree (drop l.parameter-index l.parameters))))
+    fold costlier l.most
+    (map counted_part (map parameter_part (map parameter_tree (drop l.parameter-index l.parameters))))
     ≡ fold costlier l.fn.before (map counted_part (map parameter_part (map parameter_tree l.parameters)))

@@ -7,5 +7,8 @@ use Rattle.statement_costs.proofs.parts.costliest_of_statements.Given as goal
 -- what is kept so far and the statements left give what all give
 abbrev pub invariant-loop-statement : goal.invariant-loop-statement
 invariant-loop-statement l =
-    fold costlier l.most (map counted_part (statement_parts l.limit (extents_in l.earlier) (block_tree (drop l.statement-index l.block))))
-    ≡ fold costlier l.fn.before (map counted_part (statement_parts l.limit (extents_in l.earlier) (block_tree l.block)))
+    fold costlier l.most
+    (map counted_part (statement_parts l.limit (extents_in l.earlier)
+    (block_tree (drop l.statement-index l.block))))
+    ≡ fold costlier l.fn.before
+    (map counted_part (statement_parts l.limit (extents_in l.earlier) (block_tree l.block)))

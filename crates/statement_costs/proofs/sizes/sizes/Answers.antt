@@ -11,6 +11,8 @@ loop-procedure-init c = (nothing_known, (λ text. ap (λ table. extents_in table
 
 pub loop-procedure-preserved : goal.loop-procedure-preserved
 loop-procedure-preserved c =
-    one_measured c.args.procedures.now c.loop-procedure.procedure-index c.procedure-item.result c.loop-procedure.table c.declare.new.self c.size_of-size.result
-    (extents_of (map procedure_tree c.args.procedures.now)) c.loop-procedure-test.true c.procedure-item.is c.loop-procedure.invariant
+    one_measured c.args.procedures.now c.loop-procedure.procedure-index c.procedure-item.result c.loop-procedure.table
+    c.declare.new.self c.size_of-size.result
+    (extents_of (map procedure_tree c.args.procedures.now)) c.loop-procedure-test.true c.procedure-item.is
+    c.loop-procedure.invariant
     c.size_of-size.ensures c.in_ok-_taken.ensures.ok

@@ -7,4 +7,6 @@ use Rattle.statement_costs.proofs.words.passed_words.Given as goal
 -- the sum is a count, and with what the parameters left take it is the count of all
 abbrev pub invariant-loop-parameter : goal.invariant-loop-parameter
 invariant-loop-parameter l =
-    (l.sum ≤ most_counted) × (counted (l.sum + passed_words (map parameter_tree (drop l.parameter-index l.parameters))) ≡ counted (passed_words (map parameter_tree l.parameters)))
+    (l.sum ≤ most_counted)
+    × (counted (l.sum + passed_words (map parameter_tree (drop l.parameter-index l.parameters)))
+    ≡ counted (passed_words (map parameter_tree l.parameters)))

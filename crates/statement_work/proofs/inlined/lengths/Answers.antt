@@ -11,6 +11,8 @@ loop-procedure-init c = (nothing_known, (λ text. ap (λ table. lengths_in table
 
 pub loop-procedure-preserved : goal.loop-procedure-preserved
 loop-procedure-preserved c =
-    one_counted c.args.procedures.now c.loop-procedure.procedure-index c.procedure-item.result c.loop-procedure.table c.declare.new.self c.counted_procedure-one.result
-    (lengths_of (map procedure_tree c.args.procedures.now)) c.loop-procedure-test.true c.procedure-item.is c.loop-procedure.invariant
+    one_counted c.args.procedures.now c.loop-procedure.procedure-index c.procedure-item.result c.loop-procedure.table
+    c.declare.new.self c.counted_procedure-one.result
+    (lengths_of (map procedure_tree c.args.procedures.now)) c.loop-procedure-test.true c.procedure-item.is
+    c.loop-procedure.invariant
     c.counted_procedure-one.ensures c.in_ok-_taken.ensures.ok

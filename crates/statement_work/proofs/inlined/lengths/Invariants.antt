@@ -6,4 +6,5 @@ use Rattle.statement_work.proofs.inlined.lengths.Given as goal
 
 -- the table counts what is known so far
 abbrev pub invariant-loop-procedure : goal.invariant-loop-procedure
-invariant-loop-procedure l = Knows l.table (drop l.procedure-index l.procedures) (lengths_of (map procedure_tree l.procedures))
+invariant-loop-procedure l =
+    Knows l.table (drop l.procedure-index l.procedures) (lengths_of (map procedure_tree l.procedures))

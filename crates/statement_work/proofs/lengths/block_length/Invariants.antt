@@ -9,4 +9,5 @@ use Rattle.statement_work.proofs.lengths.block_length.Given as goal
 abbrev pub invariant-loop-statement : goal.invariant-loop-statement
 invariant-loop-statement l =
     (l.sum ≤ most_counted)
-    × (counted (l.sum + block_length (lengths_in l.earlier) (block_tree (drop l.statement-index l.block))) ≡ counted (block_length (lengths_in l.earlier) (block_tree l.block)))
+    × (counted (l.sum + block_length (lengths_in l.earlier) (block_tree (drop l.statement-index l.block)))
+    ≡ counted (block_length (lengths_in l.earlier) (block_tree l.block)))

@@ -8,5 +8,7 @@ use Rattle.statement_work.proofs.lengths.words_passed.Given as goal
 abbrev pub invariant-loop-index : goal.invariant-loop-index
 invariant-loop-index l =
     (l.sum ≤ most_counted)
-    × (counted (l.sum + length (word_arguments (map parameter_tree (drop l.index l.parameters)) (map expr_tree (drop l.index l.arguments))))
+    × (counted
+    (l.sum + length (word_arguments (map parameter_tree (drop l.index l.parameters))
+    (map expr_tree (drop l.index l.arguments))))
     ≡ counted (length (word_arguments (map parameter_tree l.parameters) (map expr_tree l.arguments))))

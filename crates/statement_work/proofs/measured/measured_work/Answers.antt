@@ -20,11 +20,15 @@ returns c =
     let turns = c.args.turns.now in
     let flat = c.requires.flat in
     let worked = c.requires.turns ∙ ap turns_of flat in
-    let whole = c.work_of_body.ensures ∙ ap₂ (λ ts (f : FlatProgram). counted (body_work ts f.body + value_nodes f.value)) worked flat in
+    let whole = c.work_of_body.ensures
+    ∙ ap₂ (λ ts (f : FlatProgram). counted (body_work ts f.body + value_nodes f.value)) worked flat in
     let body = c.body.ensures.body ∙ ap (λ (f : FlatProgram). f.body) flat in
     let kept = subst IsFlat flat c.body.ensures.kept in
-    let parts = most_of_parts c.args.flat.now.profile before export turns counts c.body.result.now c.in_ok-table.ensures worked body kept in
-    let own = ap (λ ss. fold costlier None (map counted_part (pieces turns counts c.body.result.now (block_tree ss)))) c.deref.ensures.value in
-    let first = ap (λ most. fold costlier most (map counted_part (return_parts export.returned))) (c.costliest_of_statements-most.ensures ∙ own) in
+    let parts = most_of_parts c.args.flat.now.profile before export turns counts c.body.result.now
+    c.in_ok-table.ensures worked body kept in
+    let own = ap (λ ss. fold costlier None (map counted_part (pieces turns counts c.body.result.now (block_tree ss))))
+    c.deref.ensures.value in
+    let first = ap (λ most. fold costlier most (map counted_part (return_parts export.returned)))
+    (c.costliest_of_statements-most.ensures ∙ own) in
     let most = c.with_return.ensures ∙ (first ∙ parts) in
     λ i. record { whole = whole i; costliest = most i }

@@ -8,5 +8,7 @@ use Rattle.statement_work.proofs.parts.costliest_of_statements.Given as goal
 -- what is kept so far and the statements left give what all give
 abbrev pub invariant-loop-statement : goal.invariant-loop-statement
 invariant-loop-statement l =
-    fold costlier l.most (map counted_part (pieces l.turns (lengths_in l.earlier) l.left (block_tree (drop l.statement-index l.block))))
+    fold costlier l.most
+    (map counted_part (pieces l.turns (lengths_in l.earlier) l.left
+    (block_tree (drop l.statement-index l.block))))
     ≡ fold costlier None (map counted_part (pieces l.turns (lengths_in l.earlier) l.body (block_tree l.block)))

@@ -8,4 +8,5 @@ use Rattle.statement_work.proofs.works.nodes_in_all.Given as goal
 abbrev pub invariant-loop-term : goal.invariant-loop-term
 invariant-loop-term l =
     (l.sum ≤ most_counted)
-    × (counted (l.sum + terms_nodes (map term_tree (drop l.term-index l.terms))) ≡ counted (terms_nodes (map term_tree l.terms)))
+    × (counted (l.sum + terms_nodes (map term_tree (drop l.term-index l.terms)))
+    ≡ counted (terms_nodes (map term_tree l.terms)))

@@ -11,4 +11,5 @@ returns-clause-fault g c =
 
 pub returns-clause-part : goal.returns-clause-part
 returns-clause-part g c =
-    λ tells. lost (g.R.Source.coming c.args.source.now) (g.R.Source.coming c.get_up_to.new.source) 262145 (c.in-Ok.ensures.rest tells)
+    λ tells. lost (g.R.Source.coming c.args.source.now) (g.R.Source.coming c.get_up_to.new.source) 262145
+    (c.in-Ok.ensures.rest tells)

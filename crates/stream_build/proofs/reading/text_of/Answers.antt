@@ -8,7 +8,11 @@ use Rattle.stream_build.proofs.reading.text_of.Goals as goal
 pub returns-then-len-gt-TEXT_LIMIT-clause-fault : goal.returns-then-len-gt-TEXT_LIMIT-clause-fault
 returns-then-len-gt-TEXT_LIMIT-clause-fault c =
     λ all is.
-    inr (no-fewer c.args.bytes.items all 262145 text_limit is (omega arith), c.at-too_long.ensures.rule, c.at-too_long.ensures.place)
+    inr (
+      no-fewer c.args.bytes.items all 262145 text_limit is (omega arith),
+      c.at-too_long.ensures.rule,
+      c.at-too_long.ensures.place,
+    )
 
 pub returns-in-Ok-clause-whole : goal.returns-in-Ok-clause-whole
 returns-in-Ok-clause-whole c =

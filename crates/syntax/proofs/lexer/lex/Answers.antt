@@ -8,7 +8,9 @@ use Rattle.syntax.proofs.TokenSteps.{slices}
 use Rattle.syntax.proofs.lexer.lex.Goals as goal
 
 -- the tokens of an answer are slices, since the text spells them
-slices_of : (text : List ℕ) (r : Result Lexed Refusal) → IfOk r (λ l. Lexes text (lexemes l.tokens.items) (ending l.end)) → IfOk r (λ l. All (IsSliceOf text) (lexemes l.tokens.items))
+slices_of : (text : List ℕ) (r : Result Lexed Refusal)
+    → IfOk r (λ l. Lexes text (lexemes l.tokens.items) (ending l.end))
+    → IfOk r (λ l. All (IsSliceOf text) (lexemes l.tokens.items))
 slices_of text (Ok l) h = slices text _ _ h
 slices_of text (Err e) h = tt
 

@@ -18,6 +18,7 @@ returns-in-Err-Refused-clause-refused c =
     let ts = lexemes c.args.tokens.now in
     let e = ending c.args.end in
     let place = c.in-Err-Refused.place in
-    let h = subst (λ f. FaultIs f (verdict program (nest c.new.result) ts e)) c.in-Err-Refused.field-0-is c.in-Err-Refused.ensures.leads in
+    let h = subst (λ f. FaultIs f (verdict program (nest c.new.result) ts e)) c.in-Err-Refused.field-0-is
+    c.in-Err-Refused.ensures.leads in
     let a = subst (Answers ts e) (ap (λ n. verdict program n ts e) (sym c.new.ensures) ∙ h) (answers ts e) in
     inr (place, c.at.ensures.place, subst (λ r. Answers ts e (refused r place)) (sym c.at.ensures.rule) a)

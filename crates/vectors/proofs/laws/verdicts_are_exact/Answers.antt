@@ -3,7 +3,8 @@ use Rattle.vectors.proofs.ExactLemmas.{one_verdict, all_counted}
 use Rattle.vectors.proofs.laws.verdicts_are_exact.Goals as goal
 
 pub returns-clause-one : goal.returns-clause-one
-returns-clause-one c = one_verdict c.readings_agree.ensures (λ image given a b. c.certifications_agree.ensures image given Hidden a b)
+returns-clause-one c =
+    one_verdict c.readings_agree.ensures (λ image given a b. c.certifications_agree.ensures image given Hidden a b)
 
 pub returns-clause-counted : goal.returns-clause-counted
 returns-clause-counted c = all_counted

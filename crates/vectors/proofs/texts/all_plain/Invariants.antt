@@ -6,4 +6,5 @@ use Rattle.vectors.proofs.texts.all_plain.Given as goal
 -- the texts so far, and those that are left, are all
 abbrev pub invariant-loop-text : goal.invariant-loop-text
 invariant-loop-text l =
-    map string_bytes l.strings.items ++ map plain (map (λ text. text.now) (drop l.text-index l.texts)) ≡ map plain (map (λ text. text.now) l.texts)
+    map string_bytes l.strings.items ++ map plain (map (λ text. text.now) (drop l.text-index l.texts))
+    ≡ map plain (map (λ text. text.now) l.texts)

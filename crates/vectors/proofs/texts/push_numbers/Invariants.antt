@@ -8,4 +8,5 @@ use Rattle.vectors.proofs.texts.push_numbers.Given as goal
 -- the numbers so far, and those that are left, are all
 abbrev pub invariant-loop-further : goal.invariant-loop-further
 invariant-loop-further l =
-    string_bytes l.text ++ flat_map (λ further. codes "," ++ decimal further) (drop l.further-index l.later) ≡ string_bytes l.fn.text ++ numbers_text l.numbers
+    string_bytes l.text ++ flat_map (λ further. codes "," ++ decimal further) (drop l.further-index l.later)
+    ≡ string_bytes l.fn.text ++ numbers_text l.numbers

@@ -8,6 +8,7 @@ use Rattle.vectors.proofs.trying.try_all.Given as goal
 -- the vectors so far are tried
 abbrev pub invariant-loop-vector : goal.invariant-loop-vector
 invariant-loop-vector l = record {
-  tried : (program : ProgramTree) → IsImageOf program l.image → Tried program l.image (map named (take l.vector-index l.vectors)) l.passes l.failures (string_bytes l.text);
+  tried : (program : ProgramTree) → IsImageOf program l.image
+      → Tried program l.image (map named (take l.vector-index l.vectors)) l.passes l.failures (string_bytes l.text);
   counted : l.passes + l.failures ≡ l.vector-index;
 }

@@ -12,6 +12,9 @@ returns c =
     let k = c.args.amount in
     let n = wrapped w c.args.a in
     c.wrap.ensures
-    ∙ ap (λ x. wrapped w (bit_or ((x * 2 ^ (k % c.bits-bits.result)) % 2 ^ 64) (x / 2 ^ (c.bits-bits.result - k % c.bits-bits.result)))) (c.from-word.ensures ∙ c.convert.ensures)
+    ∙ ap
+    (λ x. wrapped w (bit_or ((x * 2 ^ (k % c.bits-bits.result)) % 2 ^ 64)
+    (x / 2 ^ (c.bits-bits.result - k % c.bits-bits.result)))) (c.from-word.ensures ∙ c.convert.ensures)
     ∙ ap (λ b. wrapped w (bit_or ((n * 2 ^ (k % b)) % 2 ^ 64) (n / 2 ^ (b - k % b)))) c.bits-bits.ensures
-    ∙ ap (wrapped w) (pieces_add (bits w) (k % bits w) n (mod_below k (bits w) (bits-positive w)) (bits-at_most w) (mod_below c.args.a (2 ^ bits w) (pow_pos (bits w))))
+    ∙ ap (wrapped w) (pieces_add (bits w) (k % bits w) n (mod_below k (bits w) (bits-positive w)) (bits-at_most w)
+    (mod_below c.args.a (2 ^ bits w) (pow_pos (bits w))))

@@ -11,4 +11,5 @@ pub returns : goal.returns
 returns g c =
     let marks = g.M.Memory.bytes c.args.self.now.marks in
     let n = byte_count c.args.n in
-    c.eq.ensures ∙ ap (λ o. option_eq nat_eq o (Some 0)) c.load.ensures.number ∙ eq_zero (number_at marks n c.args.a) ∙ zero_marks marks n c.args.a
+    c.eq.ensures ∙ ap (λ o. option_eq nat_eq o (Some 0)) c.load.ensures.number ∙ eq_zero (number_at marks n c.args.a)
+    ∙ zero_marks marks n c.args.a

@@ -17,4 +17,5 @@ returns-clause-set g c = λ there.
 pub returns-clause-extent : goal.returns-clause-extent
 returns-clause-extent g c =
     let marks = g.M.Memory.bytes c.args.self.now.marks in
-    store_extent marks _ (byte_count c.args.n) c.args.a c.mark_of.result c.store.result c.store.ensures.answer c.store.ensures.stored c.store.ensures.unchanged
+    store_extent marks _ (byte_count c.args.n) c.args.a c.mark_of.result c.store.result c.store.ensures.answer
+    c.store.ensures.stored c.store.ensures.unchanged

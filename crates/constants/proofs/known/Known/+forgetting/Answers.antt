@@ -2,24 +2,36 @@ use Rattle.std.proofs.Common.{◌≡◌, ◌+◌, ◌*◌, ◌<◌, rules, refl,
 use Rattle.branch_removal.specs.Bounds.{block_nodes, statement_nodes}
 use Rattle.branch_removal.specs.Straight.{straight_block, straight_tree}
 use Rattle.constants.specs.private.Known.{forgotten, forgotten_all}
-use Rattle.constants.proofs.StatementTrees.{tree_of_branch, tree_of_loop, accepted_smaller, otherwise_smaller, body_smaller, item_here, smaller_here}
+use Rattle.constants.proofs.StatementTrees.{tree_of_branch, tree_of_loop, accepted_smaller, otherwise_smaller}
+use Rattle.constants.proofs.StatementTrees.{body_smaller, item_here, smaller_here}
 use Rattle.constants.proofs.known.Known.+forgetting.Goals as goal
 
 pub forget-forget_all-requires : goal.forget-forget_all-requires
 forget-forget_all-requires t c =
-    let smaller : 2 * block_nodes (straight_block c.deref.result.now) + 1 < 2 * statement_nodes (straight_tree c.args.statement.now) =
-    omega (arith, accepted_smaller c.in-Branch.accepted c.in-Branch.otherwise c.in-Branch.is c.deref.ensures.value refl) in
+    let smaller : 2 * block_nodes (straight_block c.deref.result.now) + 1
+    < 2 * statement_nodes (straight_tree c.args.statement.now) =
+    omega (
+      arith,
+      accepted_smaller c.in-Branch.accepted c.in-Branch.otherwise c.in-Branch.is
+          c.deref.ensures.value refl,
+    ) in
     search (rules, smaller)
 
 pub forget-forget_all-requires-in-Branch : goal.forget-forget_all-requires-in-Branch
 forget-forget_all-requires-in-Branch t c =
-    let smaller : 2 * block_nodes (straight_block c.deref-in-Branch.result.now) + 1 < 2 * statement_nodes (straight_tree c.args.statement.now) =
-    omega (arith, otherwise_smaller c.in-Branch.accepted c.in-Branch.otherwise c.in-Branch.is refl c.deref-in-Branch.ensures.value) in
+    let smaller : 2 * block_nodes (straight_block c.deref-in-Branch.result.now) + 1
+    < 2 * statement_nodes (straight_tree c.args.statement.now) =
+    omega (
+      arith,
+      otherwise_smaller c.in-Branch.accepted c.in-Branch.otherwise c.in-Branch.is refl
+          c.deref-in-Branch.ensures.value,
+    ) in
     search (rules, smaller)
 
 pub forget-forget_all-requires-in-Repeat : goal.forget-forget_all-requires-in-Repeat
 forget-forget_all-requires-in-Repeat t c =
-    let smaller : 2 * block_nodes (straight_block c.deref-in-Repeat.result.now) + 1 < 2 * statement_nodes (straight_tree c.args.statement.now) =
+    let smaller : 2 * block_nodes (straight_block c.deref-in-Repeat.result.now) + 1
+    < 2 * statement_nodes (straight_tree c.args.statement.now) =
     omega (arith, body_smaller c.in-Repeat.body c.in-Repeat.is c.deref-in-Repeat.ensures.value) in
     search (rules, smaller)
 
@@ -27,13 +39,16 @@ pub forget-returns-in-Branch : goal.forget-returns-in-Branch
 forget-returns-in-Branch t c =
     c.forget_all-in-Branch.ensures
     ∙ (ap (λ w. forgotten_all w (straight_block c.deref-in-Branch.result.now)) c.forget_all.ensures
-    ∙ sym (ap (forgotten c.args.self.now.words.items) (tree_of_branch c.in-Branch.accepted c.in-Branch.otherwise c.in-Branch.is c.deref.ensures.value c.deref-in-Branch.ensures.value)))
+    ∙ sym (ap (forgotten c.args.self.now.words.items)
+    (tree_of_branch c.in-Branch.accepted c.in-Branch.otherwise c.in-Branch.is c.deref.ensures.value
+    c.deref-in-Branch.ensures.value)))
 
 pub forget-returns-in-Repeat : goal.forget-returns-in-Repeat
 forget-returns-in-Repeat t c =
     c.forget_all-in-Repeat.ensures
     ∙ (ap (λ w. forgotten_all w (straight_block c.deref-in-Repeat.result.now)) c.note.ensures
-    ∙ sym (ap (forgotten c.args.self.now.words.items) (tree_of_loop c.in-Repeat.body c.in-Repeat.is c.deref-in-Repeat.ensures.value)))
+    ∙ sym (ap (forgotten c.args.self.now.words.items)
+    (tree_of_loop c.in-Repeat.body c.in-Repeat.is c.deref-in-Repeat.ensures.value)))
 
 pub forget_all-forget-requires : goal.forget_all-forget-requires
 forget_all-forget-requires t c =

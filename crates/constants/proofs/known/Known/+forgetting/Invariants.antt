@@ -7,7 +7,8 @@ use Rattle.constants.proofs.known.Known.+forgetting.Given as goal
 -- what is left to forget leaves what forgetting all does
 abbrev pub invariant-forget_all-loop-statement : goal.invariant-forget_all-loop-statement
 invariant-forget_all-loop-statement l =
-    forgotten_all l.self.words.items (straight_block (drop l.statement-index l.body)) ≡ forgotten_all l.fn.self.words.items (straight_block l.fn.body)
+    forgotten_all l.self.words.items (straight_block (drop l.statement-index l.body))
+    ≡ forgotten_all l.fn.self.words.items (straight_block l.fn.body)
 
 -- Each call is for a part of what it is called in.
 

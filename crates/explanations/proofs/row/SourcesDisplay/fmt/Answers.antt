@@ -11,6 +11,7 @@ returns-clause-writes g c plain ok =
     let some : nat_eq (length violates) 0 ≡ false = sym c.is_empty.ensures ∙ c.if-is_empty.false in
     subst
     (λ empty. HasWritten {W = g.row.W.Denot} g.W.Write.write_str_gives c.args.f.now
-    (if empty then [] else codes "\n\nViolates it:\n\n" ++ (violates ++ (codes "\n\nMended:\n\n" ++ mended))) c.write.new.self)
+    (if empty then [] else codes "\n\nViolates it:\n\n" ++ (violates ++ (codes "\n\nMended:\n\n" ++ mended)))
+    c.write.new.self)
     (sym some)
     (c.write.ensures.writes plain ok)

@@ -9,6 +9,8 @@ loop-hart-preserved c =
     record {
       jobs = c.loop-hart.invariant.jobs;
       begun = c.loop-hart.invariant.begun;
-      turns = c.in_ok-push.ensures.items ∙ ap (λ l. l ++ i ∷ []) c.loop-hart.invariant.turns ∙ append_assoc c.args.self.now.schedule.items (range_with_len 0 i) (i ∷ []) ∙ ap (λ l. c.args.self.now.schedule.items ++ l) (sym (range_more i));
+      turns = c.in_ok-push.ensures.items ∙ ap (λ l. l ++ i ∷ []) c.loop-hart.invariant.turns
+          ∙ append_assoc c.args.self.now.schedule.items (range_with_len 0 i) (i ∷ [])
+          ∙ ap (λ l. c.args.self.now.schedule.items ++ l) (sym (range_more i));
       room = omega (arith, c.in_ok-push.ensures.len, c.loop-hart.invariant.room);
     }

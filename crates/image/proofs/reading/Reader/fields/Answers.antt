@@ -9,7 +9,8 @@ use Rattle.image_fields.specs.Fields.{Fields, slots_end}
 pub new-requires : goal.new-requires
 unfolding image_format
 new-requires c =
-    let low : c.end_of-low.result ≡ slots_end 0 c.in_ok-slots.slots.items = c.end_of-low.ensures ∙ ap (slots_end 0) c.deref.ensures.value in
+    let low : c.end_of-low.result ≡ slots_end 0 c.in_ok-slots.slots.items = c.end_of-low.ensures
+    ∙ ap (slots_end 0) c.deref.ensures.value in
     let image : Fields = record {
       profile = c.profile_of-profile.result;
       slots = c.in_ok-slots.slots.items;

@@ -9,7 +9,8 @@ returns-in_err-slot c = λ next.
     let fault = c.in_err-slot.field-0.0 in
     passed (slots_format c.args.count 0 next) _ (λ slots. next slots.items) c.from_residual-in_err-slot.result fault
     c.args.self.now c.slots.self c.slot.new.self c.from_residual-in_err-slot.ensures.1 (c.slots.invariant next)
-    (fails slots_repeat c.args.count c.slots.counter c.slots.low items next fault c.slots.self c.slots-test.true c.in_err-slot.ensures)
+    (fails slots_repeat c.args.count c.slots.counter c.slots.low items next fault c.slots.self c.slots-test.true
+    c.in_err-slot.ensures)
 
 pub slots-preserved : goal.slots-preserved
 slots-preserved c = λ next.
@@ -22,4 +23,5 @@ slots-preserved c = λ next.
 pub returns : goal.returns
 returns c = λ next.
     c.slots.invariant next
-    ∙ is_done slots_repeat c.args.count c.slots.counter c.slots.low c.slots.slots.items next c.slots.self c.slots-test.false
+    ∙ is_done slots_repeat c.args.count c.slots.counter c.slots.low c.slots.slots.items next c.slots.self
+    c.slots-test.false

@@ -9,7 +9,8 @@ returns-in_err-take c = λ next.
     let fault = c.in_err-take.field-0.0 in
     passed (words_format c.args.count next) _ (λ words. next words.items) c.from_residual-in_err-take.result fault
     c.args.self.now c.words.self c.take.new.self c.from_residual-in_err-take.ensures.1 (c.words.invariant next)
-    (fails words_repeat c.args.count c.words.counter 0 items next fault c.words.self c.words-test.true c.in_err-take.ensures.leads)
+    (fails words_repeat c.args.count c.words.counter 0 items next fault c.words.self c.words-test.true
+    c.in_err-take.ensures.leads)
 
 pub words-preserved : goal.words-preserved
 words-preserved c = λ next.

@@ -3,23 +3,29 @@ use Rattle.std.proofs.lemmas.List.{at_drop_all, drop_more}
 use Rattle.std.specs.Option.{option_map}
 use Rattle.std.specs.Result.{OnOk}
 use Rattle.inline.proofs.BlockLemmas.{behind_both, chain_nothing, ok_along, ok_any, ok_behind}
-use Rattle.inline.proofs.CallLemmas.{called_block, called_declared, called_result, called_value, none_block, none_declared, none_result, none_value, numbered_element}
+use Rattle.inline.proofs.CallLemmas.{called_block, called_declared, called_result, called_value, none_block}
+use Rattle.inline.proofs.CallLemmas.{none_declared, none_result, none_value, numbered_element}
 use Rattle.inline.proofs.Measures.{body_smaller, conditional_smaller, loop_smaller, rest_smaller}
-use Rattle.inline.proofs.NumberingLemmas.{conditional_whole, loop_whole, more_declared, more_names, names_before, names_before_loop, next_number, numbered_branch, numbered_dropped, numbered_turns, one_more}
+use Rattle.inline.proofs.NumberingLemmas.{conditional_whole, loop_whole, more_declared, more_names, names_before}
+use Rattle.inline.proofs.NumberingLemmas.{names_before_loop, next_number, numbered_branch, numbered_dropped}
+use Rattle.inline.proofs.NumberingLemmas.{numbered_turns, one_more}
 use Rattle.inline.proofs.numbering.Numbering.+numbering.Goals as goal
 use Rattle.inline.specs.declared.flat.FlatVariable.{FlatVariable}
 use Rattle.inline.specs.declared.numbering.Numbered.{Numbered}
 use Rattle.inline.specs.Callees.{called_by}
 use Rattle.inline.specs.Flat.{chain, flat_block, numbers_in, term_tree}
 use Rattle.inline.specs.Flat as flat
-use Rattle.inline.specs.Numbering.{block, call_block, call_result, call_value, call_variables, names_after_all, naming, declared_in, declared_in_all, element_block, single, statement, term, value_given}
+use Rattle.inline.specs.Numbering.{block, call_block, call_result, call_value, call_variables, names_after_all}
+use Rattle.inline.specs.Numbering.{naming, declared_in, declared_in_all, element_block, single, statement, term}
+use Rattle.inline.specs.Numbering.{value_given}
 use Rattle.language.specs.Tree.{block_tree, call_tree, expr_tree, right_tree, statement_tree}
 use Rattle.language.specs.WellTyped.{labelled}
 
 pub arm-returns-clause-names : goal.arm-returns-clause-names
 arm-returns-clause-names t c =
     c.truncate.ensures ∙ ap₂ take c.len-names.ensures c.in_ok-block.ensures.names
-    ∙ names_before (called_by c.args.earlier.now) c.args.self.now.names (length c.args.declared.now.items) (block_tree c.args.arm.now)
+    ∙ names_before (called_by c.args.earlier.now) c.args.self.now.names (length c.args.declared.now.items)
+    (block_tree c.args.arm.now)
 
 pub block-loop-statement-preserved : goal.block-loop-statement-preserved
 block-loop-statement-preserved t c =
@@ -27,7 +33,8 @@ block-loop-statement-preserved t c =
     let l = c.loop-statement in
     let rest = drop (l.statement-index + 1) c.args.block.now in
     let here : drop l.statement-index c.args.block.now ≡ s ∷ rest =
-    drop_more c.args.block.now l.statement-index s c.loop-statement-test.true ∙ ap (λ x. x ∷ rest) (sym c.statement-item.is) in
+    drop_more c.args.block.now l.statement-index s c.loop-statement-test.true
+    ∙ ap (λ x. x ∷ rest) (sym c.statement-item.is) in
     let known = called_by c.args.earlier.now in
     let made = c.in_ok-statement.ensures in
     let old = l.declared.items in
@@ -36,7 +43,8 @@ block-loop-statement-preserved t c =
     let tree = statement_tree s in
     let trees = block_tree rest in
     record {
-      block = one_more known l.self.names between old new tree trees made.names made.declared (flat_block l.flat.items)
+      block = one_more known l.self.names between old new tree trees made.names made.declared
+          (flat_block l.flat.items)
           (flat_block c.statement.new.flat.items) made.block
           ∙ ap (λ ss. chain (flat_block l.flat.items) (block known l.self.names (length old) (block_tree ss)))
           (sym here) ∙ l.invariant.block;
@@ -44,7 +52,8 @@ block-loop-statement-preserved t c =
           ∙ ap (λ ss. names_after_all known l.self.names (length old) (block_tree ss)) (sym here) ∙ l.invariant.names;
       declared = more_declared known l.self.names between old new tree trees made.names made.declared
           ∙ ap (λ ss. old ++ declared_in_all known (block_tree ss)) (sym here) ∙ l.invariant.declared;
-      smaller = rest_smaller c.args.earlier.now c.args.block.now (drop l.statement-index c.args.block.now) rest s here l.invariant.smaller;
+      smaller = rest_smaller c.args.earlier.now c.args.block.now (drop l.statement-index c.args.block.now) rest s here
+          l.invariant.smaller;
     }
 
 pub block-returns-clause-block : goal.block-returns-clause-block
@@ -58,7 +67,8 @@ block-returns-clause-block t c =
 pub branch-returns-clause-block : goal.branch-returns-clause-block
 branch-returns-clause-block t c =
     ok_along c.push.result (flat_block c.args.flat.now.items) (flat_block c.push.new.flat.items) _ _
-    (numbered_branch (called_by c.args.earlier.now) c.args.self.now.names c.arm.new.self.names c.args.declared.now.items
+    (numbered_branch (called_by c.args.earlier.now) c.args.self.now.names c.arm.new.self.names
+    c.args.declared.now.items
     c.arm.new.declared.items (expr_tree c.args.condition.now) (block_tree c.args.accepted.now)
     (block_tree c.args.otherwise.now)
     c.label-label.result c.in_ok-condition.condition c.in_ok-accepted.accepted c.in_ok-otherwise.otherwise
@@ -74,7 +84,8 @@ turns-returns-clause-block t c =
     (block_tree c.args.body.now)
     c.in_ok-number.number (expr_tree c.args.low.now) (expr_tree c.args.high.now) c.in_ok-low.low c.in_ok-high.high
     c.new-turn.result.items c.block.new.flat
-    c.in_ok-number.ensures.number c.in_ok-number.ensures.names c.in_ok-number.ensures.declared c.new-turn.ensures.items
+    c.in_ok-number.ensures.number c.in_ok-number.ensures.names c.in_ok-number.ensures.declared
+    c.new-turn.ensures.items
     c.in_ok-block.ensures.block c.in_ok-low.ensures c.in_ok-high.ensures
     ∙ ap (λ (d : FlatVariable). single
     (flat.loop (length c.args.declared.now.items) (term c.args.self.now.names (expr_tree c.args.low.now))
@@ -145,7 +156,8 @@ pub word-returns-clause-block : goal.word-returns-clause-block
 word-returns-clause-block t c =
     let number = c.in_ok-number.ensures.number ∙ next_number c.args.declared.now.items c.right.new.declared.items _
     c.in_ok-value.ensures.declared in
-    ok_behind c.push.result (flat_block c.args.flat.now.items) (flat_block c.right.new.flat.items) (flat_block c.push.new.flat.items) _ _ _
+    ok_behind c.push.result (flat_block c.args.flat.now.items) (flat_block c.right.new.flat.items)
+    (flat_block c.push.new.flat.items) _ _ _
     c.in_ok-value.ensures.block
     (ap₂ (λ k v. single (flat.declare k (labelled c.args.declaration.now.kind c.args.declaration.now.label)
     c.args.declaration.now.mutable v)) number c.in_ok-value.ensures.value)
@@ -171,7 +183,8 @@ call-returns-in_default-clause-declared t c =
 
 pub call-block-requires : goal.call-block-requires
 call-block-requires t c =
-    let smaller = body_smaller c.args.earlier.now c.in-Some.before.now c.in-Some.callee.now (call_tree c.args.call.now)
+    let smaller = body_smaller c.args.earlier.now c.in-Some.before.now c.in-Some.callee.now
+    (call_tree c.args.call.now)
     c.deref-3.result.now c.in-Some.ensures c.deref-3.ensures.value in
     search (rules, smaller)
 
@@ -186,10 +199,13 @@ call-returns-clause-value t c =
     subst (λ xs. option_map term_tree c.in_ok-value.value ≡ call_value
     (called_by c.args.earlier.now c.args.call.now.name.now) names (length old) (map expr_tree xs))
     c.deref-2.ensures.value
-    (called_value c.args.earlier.now c.in-Some.before.now c.in-Some.callee.now c.args.call.now.name.now c.in-Some.ensures
-    names c.deref.result.now (map expr_tree c.deref-2.result.now) c.deref.ensures.value c.deref-3.result.now c.deref-3.ensures.value
+    (called_value c.args.earlier.now c.in-Some.before.now c.in-Some.callee.now c.args.call.now.name.now
+    c.in-Some.ensures
+    names c.deref.result.now (map expr_tree c.deref-2.result.now) c.deref.ensures.value c.deref-3.result.now
+    c.deref-3.ensures.value
     old c.pass.new.declared.items c.in_ok-own.ensures.declared c.in_ok-own.own.names c.in_ok-own.ensures.own
-    c.block.new.self.names (option_map term_tree c.in_ok-value.value) c.in_ok-block.ensures.names c.in_ok-value.ensures)
+    c.block.new.self.names (option_map term_tree c.in_ok-value.value) c.in_ok-block.ensures.names
+    c.in_ok-value.ensures)
 
 pub call-returns-clause-block : goal.call-returns-clause-block
 call-returns-clause-block t c =
@@ -198,8 +214,10 @@ call-returns-clause-block t c =
     subst (λ xs. flat_block c.block.new.flat.items ≡ chain (flat_block c.args.flat.now.items)
     (call_block (called_by c.args.earlier.now c.args.call.now.name.now) names (length old) (map expr_tree xs)))
     c.deref-2.ensures.value
-    (called_block c.args.earlier.now c.in-Some.before.now c.in-Some.callee.now c.args.call.now.name.now c.in-Some.ensures
-    names c.deref.result.now (map expr_tree c.deref-2.result.now) c.deref.ensures.value c.deref-3.result.now c.deref-3.ensures.value
+    (called_block c.args.earlier.now c.in-Some.before.now c.in-Some.callee.now c.args.call.now.name.now
+    c.in-Some.ensures
+    names c.deref.result.now (map expr_tree c.deref-2.result.now) c.deref.ensures.value c.deref-3.result.now
+    c.deref-3.ensures.value
     old c.pass.new.declared.items c.in_ok-own.ensures.declared c.in_ok-own.own.names c.in_ok-own.ensures.own
     (flat_block c.args.flat.now.items) (flat_block c.pass.new.flat.items) (flat_block c.block.new.flat.items)
     c.in_ok-own.ensures.block c.in_ok-block.ensures.block)
@@ -210,8 +228,10 @@ call-returns-clause-declared t c =
     let old = c.args.declared.now.items in
     subst (λ xs. c.block.new.declared.items ≡ old ++ call_variables
     (called_by c.args.earlier.now c.args.call.now.name.now) (map expr_tree xs)) c.deref-2.ensures.value
-    (called_declared c.args.earlier.now c.in-Some.before.now c.in-Some.callee.now c.args.call.now.name.now c.in-Some.ensures
-    names c.deref.result.now (map expr_tree c.deref-2.result.now) c.deref.ensures.value c.deref-3.result.now c.deref-3.ensures.value
+    (called_declared c.args.earlier.now c.in-Some.before.now c.in-Some.callee.now c.args.call.now.name.now
+    c.in-Some.ensures
+    names c.deref.result.now (map expr_tree c.deref-2.result.now) c.deref.ensures.value c.deref-3.result.now
+    c.deref-3.ensures.value
     old c.pass.new.declared.items c.in_ok-own.ensures.declared c.in_ok-own.own.names c.in_ok-own.ensures.own
     c.block.new.declared.items c.in_ok-block.ensures.declared)
 
@@ -226,8 +246,10 @@ call_alone-returns-in_ok-push-2-clause-block t c =
     c.in_ok-word.word-is in let d = c.in-Some.is in cc in
     let value : term_tree c.value_given.result ≡ value_given (call_value known names (length old) es) = let a =
     called.value in let b = c.in_ok-word.value-is in let d = c.value_given.ensures in cc in
-    let number = c.in_ok-number.ensures.number ∙ next_number old c.call.new.declared.items (call_variables known es) called.declared in
-    behind_both (flat_block c.args.flat.now.items) (flat_block c.push.new.flat.items) (flat_block c.call.new.flat.items)
+    let number = c.in_ok-number.ensures.number
+    ∙ next_number old c.call.new.declared.items (call_variables known es) called.declared in
+    behind_both (flat_block c.args.flat.now.items) (flat_block c.push.new.flat.items)
+    (flat_block c.call.new.flat.items)
     (flat_block c.push-in-Some.new.flat.items) (single flat.skip) (call_block known names (length old) es) _
     c.in_ok-push.ensures called.block
     (c.in_ok-push-2.ensures ∙ ap (chain (flat_block c.call.new.flat.items))
@@ -250,9 +272,13 @@ element-returns-in_ok-given-in-Call-clause-block t c =
     (sym c.in-Call.is)
     (numbered_element c.push-in-Call-2.result known names old c.add.new.declared.items c.counter.result a.bracket
     a.name.now (expr_tree a.index) (call_tree c.in-Call.call)
-    c.in_ok-held-in-Call.held own.number c.numbers-size.result (term_tree c.in_ok-index.index) (term_tree c.value_given-value.result)
-    begun (flat_block c.push-in-Call.new.flat.items) (flat_block c.call.new.flat.items) (flat_block c.push-in-Call-2.new.flat.items)
-    c.in_ok-held-in-Call.ensures.number c.in_ok-held-in-Call.ensures.declared (ap (λ (x : Numbered). x.number) c.numbered-number.ensures)
-    (c.numbers-size.ensures ∙ ap (λ (x : Numbered). numbers_in x.declaration.elements) c.numbered-number.ensures) c.in_ok-index.ensures
+    c.in_ok-held-in-Call.held own.number c.numbers-size.result (term_tree c.in_ok-index.index)
+    (term_tree c.value_given-value.result)
+    begun (flat_block c.push-in-Call.new.flat.items) (flat_block c.call.new.flat.items)
+    (flat_block c.push-in-Call-2.new.flat.items)
+    c.in_ok-held-in-Call.ensures.number c.in_ok-held-in-Call.ensures.declared
+    (ap (λ (x : Numbered). x.number) c.numbered-number.ensures)
+    (c.numbers-size.ensures ∙ ap (λ (x : Numbered). numbers_in x.declaration.elements) c.numbered-number.ensures)
+    c.in_ok-index.ensures
     (c.value_given-value.ensures ∙ ap value_given given.ensures.value)
     c.in_ok-push-in-Call.ensures given.ensures.block c.push-in-Call-2.ensures)

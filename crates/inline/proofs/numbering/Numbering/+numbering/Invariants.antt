@@ -57,4 +57,6 @@ abbrev pub decreases-arm : goal.decreases-arm
 decreases-arm l = 8 * nodes_of_block l.earlier.now l.arm.now + 8
 
 abbrev pub decreases-turns : goal.decreases-turns
-decreases-turns l = 8 * (1 + nodes_in (expr_tree l.low.now) + nodes_in (expr_tree l.high.now) + nodes_of_block l.earlier.now l.body.now) + 5
+decreases-turns l =
+    8 * (1 + nodes_in (expr_tree l.low.now) + nodes_in (expr_tree l.high.now)
+    + nodes_of_block l.earlier.now l.body.now) + 5

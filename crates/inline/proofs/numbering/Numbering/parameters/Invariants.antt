@@ -13,5 +13,6 @@ invariant-loop-parameter l =
       params : l.params.items ≡ map param_of (map parameter_tree (take l.parameter-index l.parameters));
       names : with_parameters l.self.names (length l.declared.items) rest
           ≡ with_parameters l.fn.self.names (length l.fn.declared.items) all;
-      declared : l.declared.items ++ map declaration_of (map param_of rest) ≡ l.fn.declared.items ++ map declaration_of (map param_of all);
+      declared : l.declared.items ++ map declaration_of (map param_of rest) ≡ l.fn.declared.items
+          ++ map declaration_of (map param_of all);
     }

@@ -31,35 +31,41 @@ loop-index-preserved c =
 pub returns-in_default-clause-block : goal.returns-in_default-clause-block
 returns-in_default-clause-block c =
     let l = c.loop-index in
-    (passes_arguments (flat_block l.flat.items) l.own.names l.declared.items c.args.parameters.now c.args.arguments.now
+    (passes_arguments (flat_block l.flat.items) l.own.names l.declared.items c.args.parameters.now
+    c.args.arguments.now
     l.index c.in_default.ensures.lookup.0 l.invariant.all).0
 
 pub returns-in_default-clause-own : goal.returns-in_default-clause-own
 returns-in_default-clause-own c =
     let l = c.loop-index in
-    (passes_arguments (flat_block l.flat.items) l.own.names l.declared.items c.args.parameters.now c.args.arguments.now
+    (passes_arguments (flat_block l.flat.items) l.own.names l.declared.items c.args.parameters.now
+    c.args.arguments.now
     l.index c.in_default.ensures.lookup.0 l.invariant.all).1
 
 pub returns-in_default-clause-declared : goal.returns-in_default-clause-declared
 returns-in_default-clause-declared c =
     let l = c.loop-index in
-    (passes_arguments (flat_block l.flat.items) l.own.names l.declared.items c.args.parameters.now c.args.arguments.now
+    (passes_arguments (flat_block l.flat.items) l.own.names l.declared.items c.args.parameters.now
+    c.args.arguments.now
     l.index c.in_default.ensures.lookup.0 l.invariant.all).2
 
 pub returns-clause-block : goal.returns-clause-block
 returns-clause-block c =
     let l = c.loop-index in
-    (passes_parameters (flat_block l.flat.items) l.own.names l.declared.items c.args.parameters.now c.args.arguments.now
+    (passes_parameters (flat_block l.flat.items) l.own.names l.declared.items c.args.parameters.now
+    c.args.arguments.now
     l.index c.loop-index-test.false l.invariant.all).0
 
 pub returns-clause-own : goal.returns-clause-own
 returns-clause-own c =
     let l = c.loop-index in
-    (passes_parameters (flat_block l.flat.items) l.own.names l.declared.items c.args.parameters.now c.args.arguments.now
+    (passes_parameters (flat_block l.flat.items) l.own.names l.declared.items c.args.parameters.now
+    c.args.arguments.now
     l.index c.loop-index-test.false l.invariant.all).1
 
 pub returns-clause-declared : goal.returns-clause-declared
 returns-clause-declared c =
     let l = c.loop-index in
-    (passes_parameters (flat_block l.flat.items) l.own.names l.declared.items c.args.parameters.now c.args.arguments.now
+    (passes_parameters (flat_block l.flat.items) l.own.names l.declared.items c.args.parameters.now
+    c.args.arguments.now
     l.index c.loop-index-test.false l.invariant.all).2

@@ -6,7 +6,8 @@ use Rattle.intervals.proofs.known.Known.rewind.Given as goal
 abbrev pub invariant-loop-self : goal.invariant-loop-self
 invariant-loop-self l = record {
   mark : l.mark ≡ l.fn.mark;
-  bounds : rewound (drop l.mark l.self.changes.items) l.self.bounds.items ≡ rewound (drop l.fn.mark l.fn.self.changes.items) l.fn.self.bounds.items;
+  bounds : rewound (drop l.mark l.self.changes.items) l.self.bounds.items
+      ≡ rewound (drop l.fn.mark l.fn.self.changes.items) l.fn.self.bounds.items;
   changes : take l.mark l.self.changes.items ≡ take l.fn.mark l.fn.self.changes.items;
 }
 

@@ -8,6 +8,14 @@ returns c =
     let checked = c.args.self.now in
     let items = checked.program.now in
     let same = c.procedures-procedures.ensures.procedures in
-    let read : c.index-procedures-self.result ≡ get_or items checked.export c.index-procedures-self.result = rw (sym same) c.index-procedures-self.is in
-    let parts = parts_of IsGrammatical items checked.export c.index-procedures-self.result checked.inside read c.procedures-procedures.ensures.grammatical in
-    rw same (record { exported = export_read items checked.export c.index-procedures-self.result checked.inside read checked.exported; earlier = parts.0; grammatical = parts.1 })
+    let read : c.index-procedures-self.result ≡ get_or items checked.export c.index-procedures-self.result =
+    rw (sym same) c.index-procedures-self.is in
+    let parts = parts_of IsGrammatical items checked.export c.index-procedures-self.result checked.inside read
+    c.procedures-procedures.ensures.grammatical in
+    rw same
+    (record {
+      exported = export_read items checked.export c.index-procedures-self.result checked.inside read
+          checked.exported;
+      earlier = parts.0;
+      grammatical = parts.1;
+    })

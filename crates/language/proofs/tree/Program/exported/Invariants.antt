@@ -7,4 +7,5 @@ use Rattle.language.proofs.tree.Program.exported.Given as goal
 abbrev pub invariant-loop-index : goal.invariant-loop-index
 invariant-loop-index l =
     let procedures = l.fn.self in
-    exported (map procedure_tree (take l.index procedures)) (map procedure_tree (drop l.index procedures)) ≡ exported [] (map procedure_tree procedures)
+    exported (map procedure_tree (take l.index procedures)) (map procedure_tree (drop l.index procedures))
+    ≡ exported [] (map procedure_tree procedures)

@@ -5,5 +5,6 @@ use Rattle.names.proofs.table.Names.find.Goals as goal
 
 pub returns : goal.returns
 returns g c =
-    c.copied.ensures ∙ c.get.ensures.value ∙ lookup-scope_of (λ key. key.now) c.args.name.now c.self.inside.map.entries
+    c.copied.ensures ∙ c.get.ensures.value
+    ∙ lookup-scope_of (λ key. key.now) c.args.name.now c.self.inside.map.entries
     ∙ ap (λ scope. found scope c.args.name.now) c.self.view_is

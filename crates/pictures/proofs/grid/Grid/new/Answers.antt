@@ -3,4 +3,5 @@ use Rattle.pictures.proofs.Filled.{empty_grid}
 use Rattle.pictures.proofs.grid.Grid.new.Goals as goal
 
 pub returns : goal.returns
-returns c = (refl, empty_grid c.args.axes c.in_ok-cells.cells.items (c.in_ok-cells.ensures.items_if_clones_equal (λ y h. h)))
+returns c =
+    (refl, empty_grid c.args.axes c.in_ok-cells.cells.items (c.in_ok-cells.ensures.items_if_clones_equal (λ y h. h)))

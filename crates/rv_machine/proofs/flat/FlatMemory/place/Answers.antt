@@ -11,13 +11,16 @@ from_base c =
     let m = c.args.self.now in
     let some = some_bytes c.args.n in
     let ends = m.ends in
-    ⊎_elim (λ (low : c.args.a < m.base). absurd (omega (arith, low, some, ends, c.if-start-bytes.true, c.bytes.ensures, c.len.ensures))) (λ (le : m.base ≤ c.args.a). le) (cases_lt c.args.a m.base)
+    ⊎_elim (λ (low : c.args.a < m.base).
+    absurd (omega (arith, low, some, ends, c.if-start-bytes.true, c.bytes.ensures, c.len.ensures)))
+    (λ (le : m.base ≤ c.args.a). le) (cases_lt c.args.a m.base)
 
 pub returns-then-start-bytes-clause-found : goal.returns-then-start-bytes-clause-found
 returns-then-start-bytes-clause-found c =
     let m = c.args.self.now in
     let from = from_base c in
-    sym (number_within m.base m.bytes.items (byte_count c.args.n) c.args.a from (omega (arith, m.ends, m.bytes.ok.0, from, c.if-start-bytes.true, c.bytes.ensures, c.len.ensures)))
+    sym (number_within m.base m.bytes.items (byte_count c.args.n) c.args.a from
+    (omega (arith, m.ends, m.bytes.ok.0, from, c.if-start-bytes.true, c.bytes.ensures, c.len.ensures)))
 
 pub returns-then-start-bytes-clause-within : goal.returns-then-start-bytes-clause-within
 returns-then-start-bytes-clause-within c =
@@ -28,4 +31,15 @@ returns-then-start-bytes-clause-within c =
 pub returns-else-start-bytes-clause-found : goal.returns-else-start-bytes-clause-found
 returns-else-start-bytes-clause-found c =
     let m = c.args.self.now in
-    sym (ap is_some (number_outside m.base m.bytes.items (byte_count c.args.n) c.args.a (some_bytes c.args.n) (λ within. omega (arith, m.ends, m.bytes.ok.0, within.0, within.1, c.if-start-bytes.false, c.bytes.ensures, c.len.ensures))))
+    sym
+    (ap is_some (number_outside m.base m.bytes.items (byte_count c.args.n) c.args.a (some_bytes c.args.n)
+    (λ within. omega (
+      arith,
+      m.ends,
+      m.bytes.ok.0,
+      within.0,
+      within.1,
+      c.if-start-bytes.false,
+      c.bytes.ensures,
+      c.len.ensures,
+    ))))

@@ -16,9 +16,12 @@ returns-in-Byte c =
     let start = c.args.start in
     let a = base + start in
     let none = sym (with_number-zero m (a + 1) (v / 256)) in
-    let put = c.put_byte.ensures.bytes base ∙ ap (λ xs. with_byte (bytes_from base xs) (base + start) (v % 256)) c.as_mut_slice-bytes.ensures.value in
-    let kept = with_items_is c.args.self.now.bytes c.put_byte.new.bytes (c.put_byte.ensures.len ∙ c.as_mut_slice-bytes.ensures.len) in
-    ap (bytes_from base) kept ∙ one_more_written m m (bytes_from base c.put_byte.new.bytes) 0 a _ v refl none put ∙ ap (λ n. with_number m (byte_count n) a v) (sym c.in-Byte.is)
+    let put = c.put_byte.ensures.bytes base
+    ∙ ap (λ xs. with_byte (bytes_from base xs) (base + start) (v % 256)) c.as_mut_slice-bytes.ensures.value in
+    let kept = with_items_is c.args.self.now.bytes c.put_byte.new.bytes (c.put_byte.ensures.len
+    ∙ c.as_mut_slice-bytes.ensures.len) in
+    ap (bytes_from base) kept ∙ one_more_written m m (bytes_from base c.put_byte.new.bytes) 0 a _ v refl none put
+    ∙ ap (λ n. with_number m (byte_count n) a v) (sym c.in-Byte.is)
 
 pub returns-in-Half : goal.returns-in-Half
 returns-in-Half c =
@@ -29,10 +32,15 @@ returns-in-Half c =
     let a = base + start in
     let m1 = bytes_from base c.put_byte-in-Half.new.bytes in
     let none = sym (with_number-zero m (a + 1 + 1) (v / 256 / 256)) in
-    let put = c.put_byte-in-Half.ensures.bytes base ∙ ap (λ xs. with_byte (bytes_from base xs) (base + (start + 1)) (v / 256 % 256)) c.as_mut_slice-bytes.ensures.value in
+    let put = c.put_byte-in-Half.ensures.bytes base
+    ∙ ap (λ xs. with_byte (bytes_from base xs) (base + (start + 1)) (v / 256 % 256))
+    c.as_mut_slice-bytes.ensures.value in
     let high = one_more_written m m m1 0 (a + 1) _ (v / 256) (omega arith) none put in
-    let kept = with_items_is c.args.self.now.bytes c.put_byte-in-Half-2.new.bytes (c.put_byte-in-Half-2.ensures.len ∙ c.put_byte-in-Half.ensures.len ∙ c.as_mut_slice-bytes.ensures.len) in
-    ap (bytes_from base) kept ∙ one_more_written m m1 (bytes_from base c.put_byte-in-Half-2.new.bytes) 1 a _ v refl high (c.put_byte-in-Half-2.ensures.bytes base) ∙ ap (λ n. with_number m (byte_count n) a v) (sym c.in-Half.is)
+    let kept = with_items_is c.args.self.now.bytes c.put_byte-in-Half-2.new.bytes (c.put_byte-in-Half-2.ensures.len
+    ∙ c.put_byte-in-Half.ensures.len ∙ c.as_mut_slice-bytes.ensures.len) in
+    ap (bytes_from base) kept ∙ one_more_written m m1 (bytes_from base c.put_byte-in-Half-2.new.bytes) 1 a _ v refl
+    high (c.put_byte-in-Half-2.ensures.bytes base)
+    ∙ ap (λ n. with_number m (byte_count n) a v) (sym c.in-Half.is)
 
 pub returns-in-Word : goal.returns-in-Word
 returns-in-Word c =
@@ -45,9 +53,17 @@ returns-in-Word c =
     let m2 = bytes_from base c.put_byte-in-Word-2.new.bytes in
     let m3 = bytes_from base c.put_byte-in-Word-3.new.bytes in
     let none = sym (with_number-zero m (a + 1 + 1 + 1 + 1) (v / 256 / 256 / 256 / 256)) in
-    let put = c.put_byte-in-Word.ensures.bytes base ∙ ap (λ xs. with_byte (bytes_from base xs) (base + (start + 3)) (v / 256 / 256 / 256 % 256)) c.as_mut_slice-bytes.ensures.value in
+    let put = c.put_byte-in-Word.ensures.bytes base
+    ∙ ap (λ xs. with_byte (bytes_from base xs) (base + (start + 3)) (v / 256 / 256 / 256 % 256))
+    c.as_mut_slice-bytes.ensures.value in
     let fourth = one_more_written m m m1 0 (a + 1 + 1 + 1) _ (v / 256 / 256 / 256) (omega arith) none put in
-    let third = one_more_written m m1 m2 1 (a + 1 + 1) _ (v / 256 / 256) (omega arith) fourth (c.put_byte-in-Word-2.ensures.bytes base) in
-    let second = one_more_written m m2 m3 2 (a + 1) _ (v / 256) (omega arith) third (c.put_byte-in-Word-3.ensures.bytes base) in
-    let kept = with_items_is c.args.self.now.bytes c.put_byte-in-Word-4.new.bytes (c.put_byte-in-Word-4.ensures.len ∙ c.put_byte-in-Word-3.ensures.len ∙ c.put_byte-in-Word-2.ensures.len ∙ c.put_byte-in-Word.ensures.len ∙ c.as_mut_slice-bytes.ensures.len) in
-    ap (bytes_from base) kept ∙ one_more_written m m3 (bytes_from base c.put_byte-in-Word-4.new.bytes) 3 a _ v refl second (c.put_byte-in-Word-4.ensures.bytes base) ∙ ap (λ n. with_number m (byte_count n) a v) (sym c.in-Word.is)
+    let third = one_more_written m m1 m2 1 (a + 1 + 1) _ (v / 256 / 256) (omega arith) fourth
+    (c.put_byte-in-Word-2.ensures.bytes base) in
+    let second = one_more_written m m2 m3 2 (a + 1) _ (v / 256) (omega arith) third
+    (c.put_byte-in-Word-3.ensures.bytes base) in
+    let kept = with_items_is c.args.self.now.bytes c.put_byte-in-Word-4.new.bytes (c.put_byte-in-Word-4.ensures.len
+    ∙ c.put_byte-in-Word-3.ensures.len ∙ c.put_byte-in-Word-2.ensures.len ∙ c.put_byte-in-Word.ensures.len
+    ∙ c.as_mut_slice-bytes.ensures.len) in
+    ap (bytes_from base) kept ∙ one_more_written m m3 (bytes_from base c.put_byte-in-Word-4.new.bytes) 3 a _ v refl
+    second (c.put_byte-in-Word-4.ensures.bytes base)
+    ∙ ap (λ n. with_number m (byte_count n) a v) (sym c.in-Word.is)

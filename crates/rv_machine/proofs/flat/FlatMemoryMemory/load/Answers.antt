@@ -7,4 +7,5 @@ use Rattle.rv_machine.proofs.flat.FlatMemoryMemory.load.Goals as goal
 
 pub returns-clause-number : goal.returns-clause-number
 returns-clause-number c =
-    sym (ap (number_at (flat_bytes c.args.self.now) (byte_count c.args.n)) (sym c.in_ok-start.ensures.within.0) ∙ c.number.ensures.number)
+    sym (ap (number_at (flat_bytes c.args.self.now) (byte_count c.args.n)) (sym c.in_ok-start.ensures.within.0)
+    ∙ c.number.ensures.number)

@@ -7,4 +7,5 @@ use Rattle.rv_machine.proofs.flat.FlatMemoryMemory.store.Goals as goal
 
 pub returns-clause-stored : goal.returns-clause-stored
 returns-clause-stored c = λ _.
-    c.put.ensures ∙ ap (λ x. with_number (flat_bytes c.args.self.now) (byte_count c.args.n) x c.args.v) c.in-Some.ensures.within.0
+    c.put.ensures ∙ ap (λ x. with_number (flat_bytes c.args.self.now) (byte_count c.args.n) x c.args.v)
+    c.in-Some.ensures.within.0

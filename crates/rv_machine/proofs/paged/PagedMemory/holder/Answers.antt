@@ -14,8 +14,11 @@ use Rattle.rv_machine.proofs.paged.PagedMemory.holder.Goals as goal
 pub returns-then-is_some-clause-page : goal.returns-then-is_some-clause-page
 returns-then-is_some-clause-page c =
     let items = c.args.self.now.pages.items in
-    let within : c.loop-index.index < length items = omega (arith, c.args.self.now.pages.ok.0) in
-    (c.index-page.result.now, slice_get_read items _ _ c.index-page.result.now refl within c.index-page.ensures, ap is_some (sym c.load.ensures.number) ∙ sym c.is_some.ensures ∙ c.if-is_some.true)
+    let within : c.loop-index.index < length items = omega (arith, c.args.self.now.pages.ok.0) in (
+      c.index-page.result.now,
+      slice_get_read items _ _ c.index-page.result.now refl within c.index-page.ensures,
+      ap is_some (sym c.load.ensures.number) ∙ sym c.is_some.ensures ∙ c.if-is_some.true,
+    )
 
 pub returns-then-is_some-clause-first : goal.returns-then-is_some-clause-first
 returns-then-is_some-clause-first c = c.loop-index.invariant
@@ -23,8 +26,11 @@ returns-then-is_some-clause-first c = c.loop-index.invariant
 pub returns-then-touches-clause-none : goal.returns-then-touches-clause-none
 returns-then-touches-clause-none c = λ _ byte.
     let bytes = flat_bytes c.index-page.result.now in
-    let none : is_some (number_at bytes (byte_count c.args.n) c.args.a) ≡ false = ap is_some (sym c.load.ensures.number) ∙ sym c.is_some.ensures ∙ c.if-is_some.false in
-    let one : is_some (number_at bytes (byte_count c.args.n) c.args.a) ≡ is_some (bytes c.args.a) = ap (λ m. is_some (number_at bytes (byte_count m) c.args.a)) byte ∙ ap is_some (number_at-one bytes c.args.a) in
+    let none : is_some (number_at bytes (byte_count c.args.n) c.args.a) ≡ false =
+    ap is_some (sym c.load.ensures.number) ∙ sym c.is_some.ensures ∙ c.if-is_some.false in
+    let one : is_some (number_at bytes (byte_count c.args.n) c.args.a) ≡ is_some (bytes c.args.a) =
+    ap (λ m. is_some (number_at bytes (byte_count m) c.args.a)) byte
+    ∙ ap is_some (number_at-one bytes c.args.a) in
     absurd (false≢true (sym none ∙ one ∙ c.touches.ensures.byte c.if-touches.true byte))
 
 pub loop-index-preserved : goal.loop-index-preserved
@@ -33,7 +39,8 @@ loop-index-preserved c = λ x low high.
     let i = c.loop-index.index in
     let page = c.index-page.result.now in
     let within : i < length items = omega (arith, c.args.self.now.pages.ok.0) in
-    ap (λ ps. bytes_in ps x) (take_more items i page within ∙ ap (λ p. take i items ++ p ∷ []) (sym c.index-page.ensures))
+    ap (λ ps. bytes_in ps x) (take_more items i page within
+    ∙ ap (λ p. take i items ++ p ∷ []) (sym c.index-page.ensures))
     ∙ bytes_in-append (take i items) page x
     ∙ ap (λ o. first_of o (flat_bytes page x)) (c.loop-index.invariant x low high)
     ∙ c.touches.ensures.apart c.if-touches.false x low high

@@ -5,4 +5,5 @@ use Rattle.rv_machine.proofs.paged.PagedMemory.holder.Given as goal
 
 -- none of the pages so far has one of the bytes
 abbrev pub invariant-loop-index : goal.invariant-loop-index
-invariant-loop-index l = (x : ℕ) → l.a ≤ x → x < l.a + byte_count l.n → bytes_in (take l.index l.self.pages.items) x ≡ None
+invariant-loop-index l = (x : ℕ) → l.a ≤ x → x < l.a + byte_count l.n
+    → bytes_in (take l.index l.self.pages.items) x ≡ None

@@ -13,7 +13,8 @@ returns c =
     let ranges = c.args.ranges.now in
     let made = c.loop-range.pages.items in
     let all : (a : ℕ) → bytes_in made a ≡ zeros_in ranges a =
-    λ a. c.loop-range.invariant a ∙ ap (λ rs. zeros_in rs a) (take_all c.loop-range.range-index ranges c.loop-range-test.false) in
+    λ a. c.loop-range.invariant a
+    ∙ ap (λ rs. zeros_in rs a) (take_all c.loop-range.range-index ranges c.loop-range-test.false) in
     elim c.if-is_empty.branch [
       | then-is_empty+in_ok-new+in_ok-push w ↦
           fun_ext (λ a. ap (λ ps. bytes_in ps.items a) w.pages-is

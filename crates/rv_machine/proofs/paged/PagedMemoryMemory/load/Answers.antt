@@ -12,4 +12,5 @@ returns-then-is_some-clause-number c =
     let some : 0 < length items = omega (arith, c.args.self.now.first, c.args.self.now.pages.ok.0) in
     let at = first_at items page some c.index-page.ensures in
     let whole = ap is_some (sym c.load-number.ensures.number) ∙ sym c.is_some.ensures ∙ c.if-is_some.true in
-    c.load-number.ensures.number ∙ sym (number_at-page items 0 page (byte_count c.args.n) c.args.a at (λ x low high. refl) whole)
+    c.load-number.ensures.number
+    ∙ sym (number_at-page items 0 page (byte_count c.args.n) c.args.a at (λ x low high. refl) whole)

@@ -13,7 +13,8 @@ returns-then-store-clause-answer c =
     let some : 0 < length items = omega (arith, c.args.self.now.first, c.args.self.now.pages.ok.0) in
     let at = first_at items page some c.index_mut-page.ensures.value in
     let whole = sym c.store.ensures.answer ∙ c.if-store.true in
-    sym (ap is_some (number_at-page items 0 page (byte_count c.args.n) c.args.a at (λ x low high. refl) whole) ∙ whole)
+    sym (ap is_some (number_at-page items 0 page (byte_count c.args.n) c.args.a at (λ x low high. refl) whole)
+    ∙ whole)
 
 pub returns-then-store-clause-stored : goal.returns-then-store-clause-stored
 returns-then-store-clause-stored c = λ _.
@@ -22,7 +23,8 @@ returns-then-store-clause-stored c = λ _.
     let some : 0 < length items = omega (arith, c.args.self.now.first, c.args.self.now.pages.ok.0) in
     let at = first_at items page some c.index_mut-page.ensures.value in
     let whole = sym c.store.ensures.answer ∙ c.if-store.true in
-    with_number-page items 0 page c.store.new.self (byte_count c.args.n) c.args.a c.args.v at (λ x low high. refl) whole (c.store.ensures.stored c.if-store.true)
+    with_number-page items 0 page c.store.new.self (byte_count c.args.n) c.args.a c.args.v at (λ x low high. refl)
+    whole (c.store.ensures.stored c.if-store.true)
 
 pub returns-clause-answer : goal.returns-clause-answer
 returns-clause-answer c =
@@ -40,7 +42,8 @@ returns-clause-stored c = λ there.
     let some : 0 < length items = omega (arith, c.args.self.now.first, c.args.self.now.pages.ok.0) in
     let at = first_at items page some c.index_mut-page.ensures.value in
     let same = set-same items 0 page c.store.new.self at (c.store.ensures.unchanged c.if-store.false) in
-    c.store_anywhere.ensures.stored there ∙ ap (λ (m : ByteMap). with_number m (byte_count c.args.n) c.args.a c.args.v) same
+    c.store_anywhere.ensures.stored there
+    ∙ ap (λ (m : ByteMap). with_number m (byte_count c.args.n) c.args.a c.args.v) same
 
 pub returns-clause-unchanged : goal.returns-clause-unchanged
 returns-clause-unchanged c = λ nowhere.

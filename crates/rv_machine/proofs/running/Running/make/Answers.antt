@@ -18,7 +18,8 @@ returns-clause-shown g c = λ code rest turn shown.
     let left = begun.turns_left - 1 in
     let more : suc left ≡ begun.turns_left = omega arith in
     let event = c.args.plan.event in
-    let calm = λ (e : c.apply-stop.result ≡ Some RecorderRefused). c.requires.calm (sym c.apply-stop.ensures.answer ∙ e) in
+    let calm = λ (e : c.apply-stop.result ≡ Some RecorderRefused).
+    c.requires.calm (sym c.apply-stop.ensures.answer ∙ e) in
     let is : c.if-is_some.self ≡ cond (is_some c.apply-stop.result) 0 left =
     elim c.if-is_some.branch [
       | then-is_some w ↦ w.self-is ∙ sym (ap (λ b. cond b 0 left) (sym c.is_some.ensures ∙ w.if-is_some.true))
@@ -26,7 +27,8 @@ returns-clause-shown g c = λ code rest turn shown.
     ] in
     subst (λ n. IsShown code n s (record { pc = c.pc.result; event = event } ∷ rest)) more
     (subst (λ p. IsShown code (suc left) s (record { pc = p; event = event } ∷ rest)) (sym c.pc.ensures)
-    (turn_shows code left c.if-is_some.self s t _ c.apply-stop.result (observed s event ∷ []) turn (c.apply-stop.ensures.done event) calm is rest shown))
+    (turn_shows code left c.if-is_some.self s t _ c.apply-stop.result (observed s event ∷ []) turn
+    (c.apply-stop.ensures.done event) calm is rest shown))
 
 pub returns-clause-made : goal.returns-clause-made
 returns-clause-made g c = λ code turn.
@@ -36,7 +38,8 @@ returns-clause-made g c = λ code turn.
     let left = begun.turns_left - 1 in
     let more : suc left ≡ begun.turns_left = omega arith in
     let event = c.args.plan.event in
-    let calm = λ (e : c.apply-stop.result ≡ Some RecorderRefused). c.requires.calm (sym c.apply-stop.ensures.answer ∙ e) in
+    let calm = λ (e : c.apply-stop.result ≡ Some RecorderRefused).
+    c.requires.calm (sym c.apply-stop.ensures.answer ∙ e) in
     let left' = c.if-is_some.self in
     let is : left' ≡ cond (is_some c.apply-stop.result) 0 left =
     elim c.if-is_some.branch [
@@ -45,4 +48,5 @@ returns-clause-made g c = λ code turn.
     ] in
     subst (λ n. Makes code n s (Some (record { pc = c.pc.result; event = event })) left' t) more
     (subst (λ p. Makes code (suc left) s (Some (record { pc = p; event = event })) left' t) (sym c.pc.ensures)
-    (turn_makes code left left' s t _ c.apply-stop.result (observed s event ∷ []) turn (c.apply-stop.ensures.done event) calm is))
+    (turn_makes code left left' s t _ c.apply-stop.result (observed s event ∷ []) turn
+    (c.apply-stop.ensures.done event) calm is))

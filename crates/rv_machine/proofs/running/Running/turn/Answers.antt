@@ -18,7 +18,8 @@ returns-in_default-clause-shown g c = λ rest shown.
     let more : suc left ≡ begun.turns_left = omega arith in
     let stop = c.in_default.field-0 in
     let calm = λ (e : ◌≡◌ {A = Option _} (Some stop) (Some RecorderRefused)). c.in_default.ensures.nowhere_calm cc in
-    subst (λ n. IsShown code n s rest) more (turn_shows code left 0 s s _ (Some stop) [] c.in_default.ensures.nowhere stopped calm refl rest shown)
+    subst (λ n. IsShown code n s rest) more
+    (turn_shows code left 0 s s _ (Some stop) [] c.in_default.ensures.nowhere stopped calm refl rest shown)
 
 pub returns-in_default-clause-made : goal.returns-in_default-clause-made
 returns-in_default-clause-made g c =
@@ -28,11 +29,13 @@ returns-in_default-clause-made g c =
     subst (λ n. Makes (code_of c.args.code.now) n s None 0 s) more (finishes c.in_default.ensures.nowhere)
 
 pub returns-clause-shown : goal.returns-clause-shown
-returns-clause-shown g c = λ rest shown. c.make.ensures.shown (code_of c.args.code.now) rest c.in-Ok.ensures.turn shown
+returns-clause-shown g c =
+    λ rest shown. c.make.ensures.shown (code_of c.args.code.now) rest c.in-Ok.ensures.turn shown
 
 pub returns-clause-made : goal.returns-clause-made
 returns-clause-made g c = c.make.ensures.made (code_of c.args.code.now) c.in-Ok.ensures.turn
 
 pub returns-then-self-eq0-clause-made : goal.returns-then-self-eq0-clause-made
 returns-then-self-eq0-clause-made g c =
-    no_turn_makes (code_of c.args.code.now) c.args.self.now.turns_left (state_of c.args.self.now.hart (g.M.Memory.bytes c.args.self.now.memory)) (omega arith)
+    no_turn_makes (code_of c.args.code.now) c.args.self.now.turns_left
+    (state_of c.args.self.now.hart (g.M.Memory.bytes c.args.self.now.memory)) (omega arith)

@@ -24,5 +24,8 @@ returns g c =
     let list = turn.2.2 ∙ ap (λ (xs : List Observation). kept true xs seen) c.new-recorder.ensures.empty in
     let first = c.first.ensures ∙ ap (λ (xs : List Observation). slice_get xs 0) list in
     let running = goes_still begun.stop (sym c.is_some.ensures ∙ c.if-is_some.false) in
-    subst (λ o. MemberTurn bytes (member_now begun) (followed_by o []) t.bytes (member_now (record { hart = c.step-self.new.hart; code = begun.code; stop = c.step-self.result }))) (sym first)
-    (member_turn_made bytes (member_now begun) t turn.0 c.step-self.result seen running turn.1 turn.2.1 (c.step-self.ensures.ready 0 c.new-recorder.ensures.ready))
+    subst (λ o. MemberTurn bytes (member_now begun) (followed_by o []) t.bytes
+    (member_now (record { hart = c.step-self.new.hart; code = begun.code; stop = c.step-self.result })))
+    (sym first)
+    (member_turn_made bytes (member_now begun) t turn.0 c.step-self.result seen running turn.1 turn.2.1
+    (c.step-self.ensures.ready 0 c.new-recorder.ensures.ready))

@@ -19,16 +19,25 @@ loop-number-init g c = record {
 pub turn-requires : goal.turn-requires
 turn-requires g c =
     let n = length c.args.self.now.harts.items in
-    let inside : get_or c.args.schedule.now c.loop-number.number-index 0 < n = All-get_or (λ number. number < n) c.args.schedule.now c.loop-number.number-index 0 c.loop-number-test.true c.requires in
-    subst (λ m. get_or c.args.schedule.now c.loop-number.number-index 0 < m) (sym c.loop-number.invariant.count) inside
+    let inside : get_or c.args.schedule.now c.loop-number.number-index 0 < n =
+    All-get_or (λ number. number < n) c.args.schedule.now c.loop-number.number-index 0 c.loop-number-test.true
+    c.requires in
+    subst (λ m. get_or c.args.schedule.now c.loop-number.number-index 0 < m)
+    (sym c.loop-number.invariant.count) inside
 
 pub returns-in_err-note-clause-cut_short : goal.returns-in_err-note-clause-cut_short
 returns-in_err-note-clause-cut_short g c =
     let items = c.args.self.now.harts.items in
     let now = c.turn.new.self.harts.items in
-    let P : List HartObservation → Type 0 = λ list. CutShort g.R.HartRecorder.KEEPS c.args.schedule.now (system_now items (g.M.Memory.bytes c.args.self.now.memory)) (g.R.HartRecorder.list c.args.recorder.now) list in
-    let count : length items ≡ length (map member_now now) = sym c.loop-number.invariant.count ∙ sym c.turn.ensures.count ∙ sym (length-map now member_now) in
-    let short = Followed-short g.R.HartRecorder.KEEPS c.args.schedule.now c.loop-number.number-index c.loop-number-test.true _ _ _ _ _ _ c.loop-number.invariant.followed c.turn.ensures.turn (length items) count c.requires in
+    let P : List HartObservation → Type 0 =
+    λ list. CutShort g.R.HartRecorder.KEEPS c.args.schedule.now
+    (system_now items (g.M.Memory.bytes c.args.self.now.memory))
+    (g.R.HartRecorder.list c.args.recorder.now) list in
+    let count : length items ≡ length (map member_now now) = sym c.loop-number.invariant.count
+    ∙ sym c.turn.ensures.count ∙ sym (length-map now member_now) in
+    let short = Followed-short g.R.HartRecorder.KEEPS c.args.schedule.now c.loop-number.number-index
+    c.loop-number-test.true _ _ _ _ _ _ c.loop-number.invariant.followed c.turn.ensures.turn (length items)
+    count c.requires in
     on_err c.from_residual.result (subst P (sym c.in_err-note.ensures.refused) short)
 
 pub loop-number-preserved : goal.loop-number-preserved
@@ -42,12 +51,15 @@ loop-number-preserved g c =
     let count = c.turn.ensures.count ∙ before.count in
     elim c.match-turn.branch [
       | in-Some+in_ok-note w ↦ record {
-        followed = Followed-more keeps schedule i c.loop-number-test.true _ _ _ _ _ _ before.followed w.in-Some.ensures.turn _ (ap list w.recorder-is ∙ w.in_ok-note.ensures.taken);
+        followed = Followed-more keeps schedule i c.loop-number-test.true _ _ _ _ _ _ before.followed
+            w.in-Some.ensures.turn _ (ap list w.recorder-is ∙ w.in_ok-note.ensures.taken);
         calm = ap refusals w.recorder-is ∙ w.in_ok-note.ensures.calm ∙ before.calm;
         count = count;
       }
       | in_default w ↦ record {
-        followed = Followed-more keeps schedule i c.loop-number-test.true _ _ _ _ _ _ before.followed w.in_default.ensures.turn _ (ap list w.recorder-is ∙ sym (kept_of-nothing keeps (list c.loop-number.recorder)));
+        followed = Followed-more keeps schedule i c.loop-number-test.true _ _ _ _ _ _ before.followed
+            w.in_default.ensures.turn _ (ap list w.recorder-is
+            ∙ sym (kept_of-nothing keeps (list c.loop-number.recorder)));
         calm = ap refusals w.recorder-is ∙ before.calm;
         count = count;
       }

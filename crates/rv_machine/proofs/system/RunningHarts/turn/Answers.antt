@@ -15,11 +15,19 @@ returns-clause-turn g c =
     let items = begun.harts.items in
     let k = c.args.number in
     let got = c.index_mut-hart.result.now in
-    let here : slice_get items c.from.result ≡ Some got = slice_get_read items (length items) c.from.result got refl (subst (λ n. n < length items) (sym c.from.ensures) c.requires) c.index_mut-hart.ensures.value in
+    let here : slice_get items c.from.result ≡ Some got =
+    slice_get_read items (length items) c.from.result got refl
+    (subst (λ n. n < length items) (sym c.from.ensures) c.requires) c.index_mut-hart.ensures.value in
     let found : slice_get items k ≡ Some got = subst (λ n. slice_get items n ≡ Some got) c.from.ensures here in
-    let there : slice_get (map member_now items) k ≡ Some (member_now got) = slice_get-map member_now items k ∙ ap (option_map member_now) found in
+    let there : slice_get (map member_now items) k ≡ Some (member_now got) = slice_get-map member_now items k
+    ∙ ap (option_map member_now) found in
     let members = map-with_member member_now items k c.turn.new.self in
-    let placed : map member_now (slice_set items c.from.result c.turn.new.self) ≡ map member_now (slice_set items k c.turn.new.self) = ap (λ n. map member_now (slice_set items n c.turn.new.self)) c.from.ensures in
+    let placed : map member_now (slice_set items c.from.result c.turn.new.self)
+    ≡ map member_now (slice_set items k c.turn.new.self) =
+    ap (λ n. map member_now (slice_set items n c.turn.new.self)) c.from.ensures in
     let bytes = g.M.Memory.bytes c.turn.new.memory in
-    subst (λ (ms : List Member). Follows (k ∷ []) (record { members = map member_now items; bytes = g.M.Memory.bytes begun.memory }) (shown_by k (followed_by c.turn.result [])) (record { members = ms; bytes = bytes })) (sym (placed ∙ members))
+    subst (λ (ms : List Member). Follows (k ∷ [])
+    (record { members = map member_now items; bytes = g.M.Memory.bytes begun.memory })
+    (shown_by k (followed_by c.turn.result [])) (record { members = ms; bytes = bytes }))
+    (sym (placed ∙ members))
     (Follows-one there c.turn.ensures)

@@ -8,4 +8,6 @@ use Rattle.source_eval.proofs.variables.Variables.new.Goals as goal
 
 pub returns : goal.returns
 unfolding held
-returns c = fun_ext (λ text. ap (λ entries. option_map value_of (lookup (λ key. bytes_eq text key.now) entries)) c.new.ensures.empty)
+returns c =
+    fun_ext (λ text. ap (λ entries. option_map value_of (lookup (λ key. bytes_eq text key.now) entries))
+    c.new.ensures.empty)

@@ -9,21 +9,27 @@ use Rattle.syntax.proofs.lexer.letters.piece_of_word.Goals as goal
 pub returns-in-Some : goal.returns-in-Some
 returns-in-Some c =
     number c.args.word.now c.in-Some.value c.in-Some.suffix
-    (number_word c.args.word.now c.requires.some (sym (ap (λ l. is_ascii_digit (get_or l 0 0)) c.as_bytes.ensures.value) ∙ sym c.is_ascii_digit.ensures.value ∙ c.if-is_ascii_digit.true) c.requires.letters)
+    (number_word c.args.word.now c.requires.some
+    (sym (ap (λ l. is_ascii_digit (get_or l 0 0)) c.as_bytes.ensures.value)
+    ∙ sym c.is_ascii_digit.ensures.value ∙ c.if-is_ascii_digit.true) c.requires.letters)
     c.in-Some.ensures.found
 
 pub returns-in-None : goal.returns-in-None
 returns-in-None c =
     bad_number c.args.word.now
-    (number_word c.args.word.now c.requires.some (sym (ap (λ l. is_ascii_digit (get_or l 0 0)) c.as_bytes.ensures.value) ∙ sym c.is_ascii_digit.ensures.value ∙ c.if-is_ascii_digit.true) c.requires.letters)
+    (number_word c.args.word.now c.requires.some
+    (sym (ap (λ l. is_ascii_digit (get_or l 0 0)) c.as_bytes.ensures.value)
+    ∙ sym c.is_ascii_digit.ensures.value ∙ c.if-is_ascii_digit.true) c.requires.letters)
     c.in-None.ensures.none
 
 pub returns-in-Some-keyword_of : goal.returns-in-Some-keyword_of
 returns-in-Some-keyword_of c =
-    subst (Spells (Token (KeywordToken c.in-Some-keyword_of.keyword))) (sym c.in-Some-keyword_of.ensures) (keyword c.in-Some-keyword_of.keyword)
+    subst (Spells (Token (KeywordToken c.in-Some-keyword_of.keyword))) (sym c.in-Some-keyword_of.ensures)
+    (keyword c.in-Some-keyword_of.keyword)
 
 pub returns-in-None-keyword_of : goal.returns-in-None-keyword_of
 returns-in-None-keyword_of c =
     name c.args.word.now
-    (name_word c.args.word.now c.requires.some (sym (ap (λ l. is_ascii_digit (get_or l 0 0)) c.as_bytes.ensures.value) ∙ sym c.is_ascii_digit.ensures.value ∙ c.if-is_ascii_digit.false) c.requires.letters)
+    (name_word c.args.word.now c.requires.some (sym (ap (λ l. is_ascii_digit (get_or l 0 0)) c.as_bytes.ensures.value)
+    ∙ sym c.is_ascii_digit.ensures.value ∙ c.if-is_ascii_digit.false) c.requires.letters)
     c.in-None-keyword_of.ensures

@@ -22,4 +22,5 @@ returns c =
     let front = c.split_at.ensures.front ∙ ap (λ n. take n c.args.word.now) at in
     let rest = c.split_at.ensures.back ∙ ap (λ n. drop n c.args.word.now) at in
     subst (λ l. Split l c.split_at.result.1.now) (sym front)
-    (subst (λ l. Split (take (position_or_len is_suffix_letter c.args.word.now) c.args.word.now) l) (sym rest) (run_at is_suffix_letter c.args.word.now))
+    (subst (λ l. Split (take (position_or_len is_suffix_letter c.args.word.now) c.args.word.now) l) (sym rest)
+    (run_at is_suffix_letter c.args.word.now))

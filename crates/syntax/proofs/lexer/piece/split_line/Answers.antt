@@ -23,4 +23,5 @@ returns c =
     let front = c.split_at.ensures.front ∙ ap (λ n. take n c.args.text.now) at in
     let rest = c.split_at.ensures.back ∙ ap (λ n. drop n c.args.text.now) at in
     subst (λ l. Split l c.split_at.result.1.now) (sym front)
-    (subst (λ l. Split (take (position_or_len is_line_feed c.args.text.now) c.args.text.now) l) (sym rest) (run_at is_line_feed c.args.text.now))
+    (subst (λ l. Split (take (position_or_len is_line_feed c.args.text.now) c.args.text.now) l) (sym rest)
+    (run_at is_line_feed c.args.text.now))

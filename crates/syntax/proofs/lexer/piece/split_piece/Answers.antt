@@ -2,7 +2,8 @@ use Rattle.std.proofs.Common.{sym, ap, ◌∙◌, subst, length, take, drop, nat
 use Rattle.std.specs.Prelude.{codes}
 use Rattle.std.specs.List.{starts_with}
 use Rattle.std.specs.Str.{IsCharBoundary}
-use Rattle.syntax.proofs.TokenPieces.{blank_boundary, blank_piece, comment_piece, head_of, no_piece, sign_boundary, sign_piece, word_piece, word_some, OnlySigns}
+use Rattle.syntax.proofs.TokenPieces.{blank_boundary, blank_piece, comment_piece, head_of, no_piece, sign_boundary}
+use Rattle.syntax.proofs.TokenPieces.{sign_piece, word_piece, word_some, OnlySigns}
 use Rattle.syntax.proofs.TokenShapes.{none_from_all}
 use Rattle.syntax.proofs.lexer.piece.split_piece.Goals as goal
 use Rattle.syntax.proofs.lexer.piece.split_piece.Goals.{After-first_sign}
@@ -22,13 +23,16 @@ only_signs c = record {
   first = head_of _ _ _ _ c.first.ensures.value c.as_bytes.ensures.value c.in_ok-first.was;
   no_blank = sym c.is_blank.ensures ∙ c.if-is_blank.false;
   no_word = sym c.is_word_byte.ensures ∙ c.if-is_word_byte.false;
-  no_comment = sym (ap (λ l. starts_with nat_eq l (codes "//")) c.as_bytes-else-is_word_byte.ensures.value) ∙ sym c.starts_with.ensures.value ∙ c.if-starts_with.false;
+  no_comment = sym (ap (λ l. starts_with nat_eq l (codes "//")) c.as_bytes-else-is_word_byte.ensures.value)
+      ∙ sym c.starts_with.ensures.value ∙ c.if-starts_with.false;
 }
 
 pub returns-in_err-sign-clause-none : goal.returns-in_err-sign-clause-none
 returns-in_err-sign-clause-none c =
     rw c.from_residual-in_err-sign.ensures
-    (no_piece c.args.text.now c.in_ok-first.field-0.now (only_signs (goal.at.returns-in_err-sign-clause-none c).After-first_sign) (sym c.first_sign.ensures ∙ c.in_err-sign.was))
+    (no_piece c.args.text.now c.in_ok-first.field-0.now
+    (only_signs (goal.at.returns-in_err-sign-clause-none c).After-first_sign) (sym c.first_sign.ensures
+    ∙ c.in_err-sign.was))
 
 pub split_at-requires-else-starts_with : goal.split_at-requires-else-starts_with
 split_at-requires-else-starts_with c =
@@ -53,7 +57,8 @@ returns-then-is_word_byte-clause-found c =
 pub returns-then-starts_with-clause-found : goal.returns-then-starts_with-clause-found
 returns-then-starts_with-clause-found c =
     comment_piece c.args.text.now _ _
-    (sym (ap (λ l. starts_with nat_eq l (codes "//")) c.as_bytes-else-is_word_byte.ensures.value) ∙ sym c.starts_with.ensures.value ∙ c.if-starts_with.true)
+    (sym (ap (λ l. starts_with nat_eq l (codes "//")) c.as_bytes-else-is_word_byte.ensures.value)
+    ∙ sym c.starts_with.ensures.value ∙ c.if-starts_with.true)
     c.split_line.ensures
 
 pub returns-in_ok-sign-clause-found : goal.returns-in_ok-sign-clause-found

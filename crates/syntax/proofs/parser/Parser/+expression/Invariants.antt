@@ -33,7 +33,8 @@ decreases-select l = 8 * length l.self.now.rest.now + 4
 
 abbrev pub invariant-further-loop-left : goal.invariant-further-loop-left
 invariant-further-loop-left l = record {
-  same : (k : ExprTree → State) → ahead (more l.level 11 (expr_tree l.fn.first) k) l.fn.self ≡ ahead (more l.level l.top (expr_tree l.left) k) l.self;
+  same : (k : ExprTree → State) → ahead (more l.level 11 (expr_tree l.fn.first) k) l.fn.self
+      ≡ ahead (more l.level l.top (expr_tree l.left) k) l.self;
   shorter : length l.self.rest.now ≤ length l.fn.self.rest.now;
 }
 

@@ -28,7 +28,8 @@ decreases-after_else l = 8 * length l.self.now.rest.now + 4
 
 abbrev pub invariant-statements-loop-statements : goal.invariant-statements-loop-statements
 invariant-statements-loop-statements l = record {
-  same : (k : BlockTree → State) → ahead (statements k) l.fn.self ≡ ahead (statements (λ b. k (followed_by l.statements.items b))) l.self;
+  same : (k : BlockTree → State) → ahead (statements k) l.fn.self
+      ≡ ahead (statements (λ b. k (followed_by l.statements.items b))) l.self;
   shorter : length l.self.rest.now ≤ length l.fn.self.rest.now;
 }
 

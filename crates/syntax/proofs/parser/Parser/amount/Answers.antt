@@ -7,5 +7,7 @@ use Rattle.syntax.proofs.parser.Parser.amount.Goals as goal
 pub returns-in_err-advance-clause-leads : goal.returns-in_err-advance-clause-leads
 returns-in_err-advance-clause-leads c = λ k.
     let t = lexeme c.in_ok-token.token in
-    let h = c.in_err-advance.ensures.leads (an_amount k) (k c.in-Some.amount) (amount-step k t c.in-Some.amount (sym c.in-Some.ensures)) in
-    passed (an_amount k) k c.from_residual-in_err-advance.result c.in_err-advance.field-0.0 c.args.self.now c.advance.new.self c.from_residual-in_err-advance.ensures.1 h
+    let h = c.in_err-advance.ensures.leads (an_amount k) (k c.in-Some.amount)
+    (amount-step k t c.in-Some.amount (sym c.in-Some.ensures)) in
+    passed (an_amount k) k c.from_residual-in_err-advance.result c.in_err-advance.field-0.0 c.args.self.now
+    c.advance.new.self c.from_residual-in_err-advance.ensures.1 h

@@ -9,4 +9,5 @@ returns-in_err-advance-clause-leads c = λ k.
     let t = lexeme c.in_ok-token.token in
     let same : fits c.args.wanted c.in_ok-token.token.kind ≡ true = search rules in
     let h = c.in_err-advance.ensures.leads (one c.args.wanted k) (k t) (one-step c.args.wanted k t same) in
-    passed (one c.args.wanted k) (λ x. k (lexeme x)) c.from_residual-in_err-advance.result c.in_err-advance.field-0.0 c.args.self.now c.advance.new.self c.from_residual-in_err-advance.ensures.1 h
+    passed (one c.args.wanted k) (λ x. k (lexeme x)) c.from_residual-in_err-advance.result c.in_err-advance.field-0.0
+    c.args.self.now c.advance.new.self c.from_residual-in_err-advance.ensures.1 h

@@ -7,7 +7,8 @@ use Rattle.syntax.proofs.parser.Parser.expressions.Given as goal
 
 abbrev pub invariant-list : goal.invariant-list
 invariant-list l = record {
-  same : (k : List ExprTree → State) → ahead (some_exprs l.end k) l.fn.self ≡ ahead (further l.end (map expr_tree l.expressions.items) k) l.self;
+  same : (k : List ExprTree → State) → ahead (some_exprs l.end k) l.fn.self
+      ≡ ahead (further l.end (map expr_tree l.expressions.items) k) l.self;
   shorter : length l.self.rest.now ≤ length l.fn.self.rest.now;
 }
 

@@ -7,7 +7,8 @@ use Rattle.syntax.proofs.parser.Parser.parameters.Given as goal
 
 abbrev pub invariant-list : goal.invariant-list
 invariant-list l = record {
-  same : (k : List ParameterTree → State) → ahead (parameters k) l.fn.self ≡ ahead (further_parameter (map parameter_tree l.parameters.items) k) l.self;
+  same : (k : List ParameterTree → State)
+      → ahead (parameters k) l.fn.self ≡ ahead (further_parameter (map parameter_tree l.parameters.items) k) l.self;
   shorter : length l.self.rest.now ≤ length l.fn.self.rest.now;
 }
 

@@ -15,8 +15,10 @@ pub returns-in-Some-clause-leads : goal.returns-in-Some-clause-leads
 returns-in-Some-clause-leads c = λ k.
     let t = lexeme c.args.name in
     let next = λ (q : Lexeme). assigned t q.place k in
-    let e = after-taken (targeted t k) next (others t k) c.in_ok-sign.field-0 c.in-Some.sign c.args.self.now c.takes.new.self (c.in_ok-sign.ensures.leads next (others t k)) c.in-Some.is in
-    leads-after (targeted t k) (next (lexeme c.in-Some.sign)) (λ s. k (statement_tree s)) c.assigned.result c.args.self.now c.takes.new.self c.assigned.new.self e (c.assigned.ensures.leads k)
+    let e = after-taken (targeted t k) next (others t k) c.in_ok-sign.field-0 c.in-Some.sign c.args.self.now
+    c.takes.new.self (c.in_ok-sign.ensures.leads next (others t k)) c.in-Some.is in
+    leads-after (targeted t k) (next (lexeme c.in-Some.sign)) (λ s. k (statement_tree s)) c.assigned.result
+    c.args.self.now c.takes.new.self c.assigned.new.self e (c.assigned.ensures.leads k)
 
 pub returns-in-Some-2-clause-leads : goal.returns-in-Some-2-clause-leads
 returns-in-Some-2-clause-leads c = λ k.
@@ -24,9 +26,14 @@ returns-in-Some-2-clause-leads c = λ k.
     let next = λ (q : Lexeme). assigned t q.place k in
     let next' = λ (q : Lexeme). element_assigned t q.place k in
     let none : c.in_ok-sign.field-0 ≡ None = search rules in
-    let e = after-none (targeted t k) next (others t k) c.in_ok-sign.field-0 c.args.self.now c.takes.new.self (c.in_ok-sign.ensures.leads next (others t k)) none in
-    let e' = after-taken (targeted t k) next' (called_alone t k) c.in_ok-opening.field-0 c.in-Some-2.opening c.args.self.now c.takes-2.new.self (e ∙ c.in_ok-opening.ensures.leads next' (called_alone t k)) c.in-Some-2.is in
-    leads-after (targeted t k) (next' (lexeme c.in-Some-2.opening)) (λ s. k (statement_tree s)) c.element_assigned.result c.args.self.now c.takes-2.new.self c.element_assigned.new.self e' (c.element_assigned.ensures.leads k)
+    let e = after-none (targeted t k) next (others t k) c.in_ok-sign.field-0 c.args.self.now c.takes.new.self
+    (c.in_ok-sign.ensures.leads next (others t k)) none in
+    let e' = after-taken (targeted t k) next' (called_alone t k) c.in_ok-opening.field-0 c.in-Some-2.opening
+    c.args.self.now c.takes-2.new.self (e ∙ c.in_ok-opening.ensures.leads next' (called_alone t k))
+    c.in-Some-2.is in
+    leads-after (targeted t k) (next' (lexeme c.in-Some-2.opening)) (λ s. k (statement_tree s))
+    c.element_assigned.result c.args.self.now c.takes-2.new.self c.element_assigned.new.self e'
+    (c.element_assigned.ensures.leads k)
 
 pub returns-in-None-clause-leads : goal.returns-in-None-clause-leads
 returns-in-None-clause-leads c = λ k.
@@ -34,6 +41,9 @@ returns-in-None-clause-leads c = λ k.
     let next = λ (q : Lexeme). assigned t q.place k in
     let next' = λ (q : Lexeme). element_assigned t q.place k in
     let none : c.in_ok-sign.field-0 ≡ None = search rules in
-    let e = after-none (targeted t k) next (others t k) c.in_ok-sign.field-0 c.args.self.now c.takes.new.self (c.in_ok-sign.ensures.leads next (others t k)) none in
-    let e' = after-none (targeted t k) next' (called_alone t k) c.in_ok-opening.field-0 c.args.self.now c.takes-2.new.self (e ∙ c.in_ok-opening.ensures.leads next' (called_alone t k)) c.in-None.is in
-    leads-after (targeted t k) (called_alone t k) (λ s. k (statement_tree s)) c.called_alone.result c.args.self.now c.takes-2.new.self c.called_alone.new.self e' (c.called_alone.ensures.leads k)
+    let e = after-none (targeted t k) next (others t k) c.in_ok-sign.field-0 c.args.self.now c.takes.new.self
+    (c.in_ok-sign.ensures.leads next (others t k)) none in
+    let e' = after-none (targeted t k) next' (called_alone t k) c.in_ok-opening.field-0 c.args.self.now
+    c.takes-2.new.self (e ∙ c.in_ok-opening.ensures.leads next' (called_alone t k)) c.in-None.is in
+    leads-after (targeted t k) (called_alone t k) (λ s. k (statement_tree s)) c.called_alone.result c.args.self.now
+    c.takes-2.new.self c.called_alone.new.self e' (c.called_alone.ensures.leads k)
