@@ -25,7 +25,7 @@ use Rattle.names.specs.Scope.{found}
 use Rattle.inline.proofs.Begun.{NamesGiven}
 use Rattle.inline.proofs.Called.{Spares}
 use Rattle.inline.proofs.Linked.{Linked, entry, known_array}
-use Rattle.inline.proofs.Lookup.{found-split}
+use Rattle.inline.proofs.Below.{found-split}
 use Rattle.inline.proofs.Passing.{held_by_name, held_by_other}
 use Rattle.inline.proofs.Terms.{Holds, Shows, held}
 

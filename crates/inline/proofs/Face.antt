@@ -23,7 +23,6 @@ pub use Rattle.inline.proofs.FlatMeanings.{begins, behaves, flat_keeps_meaning}
 pub use Rattle.inline.proofs.FlatPrograms.{flat_is_typed}
 pub use Rattle.inline.proofs.FlatSizes.{flat_is_sized}
 pub use Rattle.inline.proofs.Linked.{Linked, entry, with_type-other, with_type-same}
-pub use Rattle.inline.proofs.Lookup.{found-kept}
 pub use Rattle.inline.proofs.Parameters.{all_own, linked_parameters, shows_arguments, typed_with}
 pub use Rattle.inline.proofs.Passing.{passed_comes}
 pub use Rattle.inline.proofs.Procedures.{
@@ -41,5 +40,6 @@ pub use Rattle.inline.proofs.Procedures.{
   variables_within,
 }
 pub use Rattle.inline.proofs.States.{shows_before, shows_declared, shows_kept, with_value-other}
+pub use Rattle.inline.proofs.TableLemmas.{Knows, one_told}
 pub use Rattle.inline.proofs.Terms.{Shows, means, word_at}
 pub use Rattle.inline.proofs.TypesKept.{new_number, type_kept, types_kept}

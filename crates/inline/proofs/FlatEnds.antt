@@ -45,7 +45,7 @@ use Rattle.inline.proofs.Comes.{Comes, well, fails, then_comes, also, either-non
 use Rattle.inline.proofs.FlatTypes.{small_values}
 use Rattle.inline.proofs.Kept.{dropped_keeps}
 use Rattle.inline.proofs.Linked.{Linked, entry, known_word, known_array}
-use Rattle.inline.proofs.Lookup.{found-kept}
+use Rattle.inline.proofs.Below.{found-kept}
 use Rattle.inline.proofs.Rights.{right_means, call_gives, path_given}
 use Rattle.inline.proofs.States.{shows_declared, shows_changed, shows_before, shows_kept, with_value-other}
 use Rattle.inline.proofs.States.{with_value-same}

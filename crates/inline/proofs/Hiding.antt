@@ -14,7 +14,7 @@ use Rattle.language.specs.Typing.{right_assigns, scope_after, statement_assigns,
 use Rattle.language.specs.WellTyped.{IsWellTyped, declares, declares_array, assigns, assigns_element, calls, chooses}
 use Rattle.language.specs.WellTyped.{repeats, AreNew, no_parameter, one_is_new}
 use Rattle.inline.proofs.Linked.{same_variable}
-use Rattle.inline.proofs.Lookup.{found-new, found-other}
+use Rattle.inline.proofs.Below.{found-new, found-other}
 use Rattle.inline.proofs.Parameters.{NoVariables}
 
 pub either_false : (a b : Bool) → a || b ≡ false → (a ≡ false) × (b ≡ false)

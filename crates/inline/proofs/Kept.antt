@@ -27,7 +27,7 @@ use Rattle.inline.proofs.Called.{Spares, Ready, ready_later, ready_declared, rea
 use Rattle.inline.proofs.CallEnds.{call_means}
 use Rattle.inline.proofs.Chains.{after_chain}
 use Rattle.inline.proofs.Linked.{entry, known_word, known_array}
-use Rattle.inline.proofs.Lookup.{found-split}
+use Rattle.inline.proofs.Below.{found-split}
 use Rattle.inline.proofs.Rights.{right_means}
 use Rattle.inline.proofs.States.{with_value-other}
 

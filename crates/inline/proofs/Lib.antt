@@ -1,5 +1,4 @@
 mod Below
-pub mod Lookup
 pub mod Linked
 pub mod Comes
 pub mod Chains
@@ -37,4 +36,5 @@ pub mod CallLemmas
 mod SizeLemmas
 pub mod CountLemmas
 mod MeasureLemmas
+pub mod TableLemmas
 pub mod Face

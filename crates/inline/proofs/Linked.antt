@@ -18,7 +18,7 @@ use Rattle.language.specs.declared.typing.WordType.{WordType}
 use Rattle.language.specs.declared.typing.Declared.TheVariants.{Variable}
 use Rattle.language.specs.Types.{Scope, declared}
 use Rattle.language.specs.WellTyped.{IsVariable}
-use Rattle.inline.proofs.Lookup.{found-new, found-other}
+use Rattle.inline.proofs.Below.{found-new, found-other}
 
 -- what a name stands for in the scope, where it is a variable that is declared so
 abbrev pub value_as : WordType → Option ℕ → ValueType

@@ -27,7 +27,7 @@ use Rattle.language.specs.Tree.{ParameterTree}
 use Rattle.language.specs.Types.{Scope, declared}
 use Rattle.language.specs.Typing.{with_parameters, parameter_as, parameter_value, is_mutable}
 use Rattle.language.specs.WellTyped.{AreNew, one_is_new}
-use Rattle.inline.proofs.Lookup.{found-new, found-other, found-kept}
+use Rattle.inline.proofs.Below.{found-new, found-other, found-kept}
 use Rattle.inline.proofs.Linked.{Linked, widened, entry, value_as, variable_as, linked_declared, with_type-same}
 use Rattle.inline.proofs.Linked.{with_type-other}
 use Rattle.inline.proofs.Terms.{held, Holds, Shows}

@@ -28,7 +28,7 @@ use Rattle.names.specs.Scope.{found}
 use Rattle.inline.proofs.Begun.{ArrayGiven, word_given, array_passed, kept_begun}
 use Rattle.inline.proofs.Comes.{Comes, well, then_comes, also, across}
 use Rattle.inline.proofs.Linked.{Linked, entry, later}
-use Rattle.inline.proofs.Lookup.{found-new, found-other}
+use Rattle.inline.proofs.Below.{found-new, found-other}
 use Rattle.inline.proofs.States.{with_value-other, with_value-same, shows_kept}
 use Rattle.inline.proofs.Terms.{Holds, Shows, word_at, held, means}
 

@@ -20,7 +20,7 @@ use Rattle.language.specs.Typing.{with_procedure}
 use Rattle.language.specs.WellTyped.{IsWellTyped, declares, declares_array, assigns, assigns_element, calls, chooses}
 use Rattle.language.specs.WellTyped.{repeats, IsProcedure, AreProcedures, no_procedure, one_procedure}
 use Rattle.inline.proofs.KnownLemmas.{named-kept, named-missed, named-new}
-use Rattle.inline.proofs.Lookup.{found-new, found-other, found-split}
+use Rattle.inline.proofs.Below.{found-new, found-other, found-split}
 use Rattle.inline.proofs.Parameters.{NoVariables}
 use Rattle.typing_laws.proofs.Programs.{programs}
 

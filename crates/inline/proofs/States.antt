@@ -18,7 +18,7 @@ use Rattle.language.specs.Tree.{loop, BlockTree, nothing, first}
 use Rattle.language.specs.Types.{Scope}
 use Rattle.language.specs.WellTyped.{labelled}
 use Rattle.inline.proofs.Linked.{Linked, entry}
-use Rattle.inline.proofs.Lookup.{found-new, found-other, found-kept}
+use Rattle.inline.proofs.Below.{found-new, found-other, found-kept}
 use Rattle.inline.proofs.Terms.{Holds, Shows}
 
 pub with_value-other : (m : Values) (x y : ℕ) (v : List ℕ) → (y ≡ x → ⊥) → flat.with_value m x v y ≡ m y

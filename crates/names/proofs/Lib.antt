@@ -1,1 +1,2 @@
 mod EntryLemmas
+pub mod Lookup

@@ -3,17 +3,17 @@
 use Rattle.std.proofs.Common.{◌≡◌, ℕ, ◌+◌, ◌*◌, List, [], ◌∷◌, ◌++◌, map, max, Option, None, Some, refl, sym, ap, ap₂}
 use Rattle.std.proofs.Common.{◌∙◌, arith}
 use Rattle.std.proofs.lemmas.List.{map-append}
+use Rattle.inline.specs.Counts.{AreCountsTo}
 use Rattle.language.specs.Size.{Extents, nodes_of, bodies_of, declared_bytes, block_nodes, block_words, block_bodies}
 use Rattle.language.specs.Size.{parameter_words, return_nodes, statement_nodes, statement_bodies}
 use Rattle.language.specs.Tree.{BlockTree, nothing, first, StatementTree, ParameterTree, ProcedureTree, ReturnTree}
 use Rattle.statement_costs.specs.Costs.{counted_part, greatest_of, parameter_part, parts, place_of, return_parts}
 use Rattle.statement_costs.specs.Costs.{statement_cost, statement_parts, sum_of, whole}
-use Rattle.statement_costs.specs.Counts.{AreCountsOf, counted}
+use Rattle.statement_costs.specs.Counts.{counted, most_counted}
 use Rattle.statement_costs.specs.declared.costs.Limit.{Limit}
 use Rattle.statement_costs.specs.declared.costs.Limit.TheVariants.{Nodes, Bodies, DeclaredBytes}
 use Rattle.statement_costs.specs.declared.costs.Part.{Part}
-use Rattle.statement_costs.proofs.CountLemmas.{statement_nodes_same, statement_words_same, statement_bodies_same}
-use Rattle.statement_costs.proofs.CountLemmas.{nodes_same, bodies_same, block_words_same}
+use Rattle.statement_costs.proofs.Below.{block_alike, statement_alike}
 
 sum_append : (ps qs : List Part) → sum_of (ps ++ qs) ≡ sum_of ps + sum_of qs
 sum_append [] qs = omega arith
@@ -60,12 +60,12 @@ bytes_whole extents p =
     omega (arith, sum, front, back)
 
 -- parts by counts are parts by what they count
-module _ (counts extents : Extents) (same : AreCountsOf counts extents) where
+module _ (counts extents : Extents) (same : AreCountsTo most_counted counts extents) where
   cost_same : (limit : Limit) (s : StatementTree)
       → counted (statement_cost limit counts s) ≡ counted (statement_cost limit extents s)
-  cost_same Nodes s = statement_nodes_same counts extents same s
-  cost_same Bodies s = statement_bodies_same counts extents same s
-  cost_same DeclaredBytes s = omega (arith, statement_words_same counts extents same s)
+  cost_same Nodes s = (statement_alike most_counted counts extents same s).nodes
+  cost_same Bodies s = (statement_alike most_counted counts extents same s).bodies
+  cost_same DeclaredBytes s = omega (arith, (statement_alike most_counted counts extents same s).words)
 
   statements_same : (limit : Limit) (b : BlockTree)
       → map counted_part (statement_parts limit counts b) ≡ map counted_part (statement_parts limit extents b)
@@ -76,9 +76,9 @@ module _ (counts extents : Extents) (same : AreCountsOf counts extents) where
 
   pub whole_same : (limit : Limit) (p : ProcedureTree)
       → counted (whole limit counts p) ≡ counted (whole limit extents p)
-  whole_same Nodes p = nodes_same counts extents same p
-  whole_same Bodies p = bodies_same counts extents same p
-  whole_same DeclaredBytes p = omega (arith, block_words_same counts extents same p.body)
+  whole_same Nodes p = omega (arith, (block_alike most_counted counts extents same p.body).nodes)
+  whole_same Bodies p = omega (arith, (block_alike most_counted counts extents same p.body).bodies)
+  whole_same DeclaredBytes p = omega (arith, (block_alike most_counted counts extents same p.body).words)
 
   pub parts_same : (limit : Limit) (p : ProcedureTree)
       → map counted_part (parts limit counts p) ≡ map counted_part (parts limit extents p)

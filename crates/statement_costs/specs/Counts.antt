@@ -1,6 +1,7 @@
 -- Counts of procedures: what is counted of so many things stops at the greatest number of 64 bits.
-use Rattle.std.specs.Prelude.{◌≡◌, ℕ, ◌-◌, ◌^◌, List, map, min}
+use Rattle.std.specs.Prelude.{ℕ, ◌-◌, ◌^◌, List, map}
 use Rattle.std.specs.Option.{option_map}
+use Rattle.inline.specs.Counts.{counted_to}
 use Rattle.language.specs.Size.{Extent, Extents}
 use Rattle.language.specs.Tree.{parameter_tree}
 use Rattle.names.specs.Scope.{found}
@@ -10,15 +11,7 @@ abbrev pub most_counted : ℕ
 most_counted = 2 ^ 64 - 1
 
 abbrev pub counted : ℕ → ℕ
-counted n = min n (2 ^ 64 - 1)
-
-abbrev pub counted_extent : Extent → Extent
-counted_extent e = record {
-  parameters = e.parameters;
-  nodes = counted e.nodes;
-  words = counted e.words;
-  bodies = counted e.bodies;
-}
+counted n = counted_to most_counted n
 
 abbrev pub extent_of_size : Size → Extent
 extent_of_size s = record {
@@ -31,7 +24,3 @@ extent_of_size s = record {
 -- what is known by a table of them
 abbrev pub extents_in : List (List ℕ × Size) → Extents
 extents_in table text = option_map extent_of_size (found table text)
-
--- the counts of the same procedures
-abbrev pub AreCountsOf : Extents → Extents → Type 0
-AreCountsOf counts extents = (text : List ℕ) → counts text ≡ option_map counted_extent (extents text)

@@ -1,9 +1,10 @@
 // How large procedures are where they are called.
 
 ghost use Rattle.std.specs.Prelude.{◌≡◌, map, IfOk};
+ghost use Rattle.inline.specs.Counts.{AreCountsTo, extent_to};
 ghost use Rattle.language.specs.Size.{extent_of, extents_of};
 ghost use Rattle.language.specs.Tree.{procedure_tree};
-ghost use Rattle.statement_costs.specs.Counts.{AreCountsOf, counted_extent, extent_of_size, extents_in};
+ghost use Rattle.statement_costs.specs.Counts.{extent_of_size, extents_in, most_counted};
 
 use crate::bodies::bodies_in_procedure;
 use crate::nodes::nodes_in_procedure;
@@ -26,7 +27,7 @@ pub struct Size<'s, 'a> {
 
 /// How large a procedure is where it is called.
 fn size_of<'s, 'a>(earlier: &Names<'a, Size<'s, 'a>>, procedure: &'s Procedure<'a>) -> Size<'s, 'a>
-    ensures { extent_of_size result ≡ counted_extent (extent_of (extents_in earlier.now) (procedure_tree procedure.now)) }
+    ensures { extent_of_size result ≡ extent_to most_counted (extent_of (extents_in earlier.now) (procedure_tree procedure.now)) }
 {
     let words = passed_words(&procedure.parameters);
     Size {
@@ -42,7 +43,7 @@ pub fn sizes<'s, 'a>(
     alloc: Global,
     procedures: &'s [Procedure<'a>],
 ) -> Result<Names<'a, Size<'s, 'a>>, AllocError>
-    ensures { IfOk result (λ table. AreCountsOf (extents_in table) (extents_of (map procedure_tree procedures.now))) }
+    ensures { IfOk result (λ table. AreCountsTo most_counted (extents_in table) (extents_of (map procedure_tree procedures.now))) }
 {
     let mut table = Names::new(alloc);
     for procedure in procedures {

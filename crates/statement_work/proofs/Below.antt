@@ -1,3 +1,3 @@
 -- What these proofs take from the proofs of the crates below, in one place.
-pub use Rattle.inline.proofs.Face.{same_result}
+pub use Rattle.inline.proofs.Face.{Knows, one_told, same_result}
 pub use Rattle.intervals.proofs.WorkLemmas.{branch_work, loop_work}

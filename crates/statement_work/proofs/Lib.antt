@@ -2,7 +2,6 @@ mod Below
 mod Callees
 mod CountedWork
 mod Counts
-mod Lookup
 mod MostWork
 mod Splits
 mod WholeWork

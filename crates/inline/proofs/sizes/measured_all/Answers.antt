@@ -1,8 +1,11 @@
 use Rattle.std.proofs.Common.{map, refl, ap, ◌∙◌}
-use Rattle.inline.proofs.MeasureLemmas.{one_measured}
-use Rattle.inline.specs.Measured.{counted, extents_in}
+use Rattle.inline.proofs.MeasureLemmas.{measured_alike}
+use Rattle.inline.proofs.TableLemmas.{one_told}
+use Rattle.inline.specs.declared.measured.Measured.{Measured}
+use Rattle.inline.specs.Counts.{extent_to}
+use Rattle.inline.specs.Measured.{counted, extent_of_measured, extents_in, most_counted}
 use Rattle.language.specs.Known.{nothing_known}
-use Rattle.language.specs.Size.{extents_of, passed_words}
+use Rattle.language.specs.Size.{extent_of, extents_of, passed_words}
 use Rattle.language.specs.Tree.{parameter_tree, procedure_tree}
 use Rattle.inline.proofs.sizes.measured_all.Goals as goal
 
@@ -11,9 +14,13 @@ loop-procedure-init c = (nothing_known, (λ text. ap (λ table. extents_in table
 
 pub loop-procedure-preserved : goal.loop-procedure-preserved
 loop-procedure-preserved c =
-    one_measured c.args.procedures.now c.loop-procedure.procedure-index c.procedure-item.result c.loop-procedure.table
-    c.declare.new.self (record { parameters = c.as_slice-parameters.result; size = c.size_of-size.result })
-    c.passed_words.result (extents_of (map procedure_tree c.args.procedures.now)) c.loop-procedure-test.true
-    c.procedure-item.is c.loop-procedure.invariant c.as_slice-parameters.ensures.value
-    (c.passed_words.ensures ∙ ap (λ ps. counted (passed_words (map parameter_tree ps)))
-    c.as_slice-parameters.ensures.value) c.size_of-size.ensures c.in_ok-_taken.ensures.ok
+    let measured : Measured = record { parameters = c.as_slice-parameters.result; size = c.size_of-size.result } in
+    let taken = c.passed_words.ensures ∙ ap (λ ps. counted (passed_words (map parameter_tree ps)))
+    c.as_slice-parameters.ensures.value in
+    one_told extent_of_measured (extent_to most_counted) extent_of c.args.procedures.now
+    c.loop-procedure.procedure-index c.procedure-item.result c.loop-procedure.table c.declare.new.self measured
+    (extents_of (map procedure_tree c.args.procedures.now)) c.loop-procedure-test.true c.procedure-item.is
+    c.loop-procedure.invariant
+    (λ known same. measured_alike known c.loop-procedure.table c.procedure-item.result measured
+    c.passed_words.result same c.as_slice-parameters.ensures.value taken c.size_of-size.ensures)
+    c.in_ok-_taken.ensures.ok

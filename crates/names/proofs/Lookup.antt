@@ -12,7 +12,7 @@ abbrev pub first_of_two : {A : Type 0} → Option A → Option A → Option A
 first_of_two (Some a) b = Some a
 first_of_two None b = b
 
-pub first-none : {A : Type 0} (a : Option A) → first_of_two a None ≡ a
+first-none : {A : Type 0} (a : Option A) → first_of_two a None ≡ a
 first-none (Some a) = refl
 first-none None = refl
 
@@ -78,8 +78,3 @@ found-split {V = V} scope name what text v is = by_old (found scope text) refl (
     by_old (Some w) there b e h = inl h
     by_old None there true e h = inr (refl, same_Some what v h)
     by_old None there false e h = inl h
-
--- what isn't there is nothing
-pub nothing : {A : Type 0} (o : Option A) → is_some o ≡ false → o ≡ None
-nothing None h = refl
-nothing (Some x) h = absurd (true≢false h)
