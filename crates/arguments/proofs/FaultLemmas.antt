@@ -1,10 +1,10 @@
 -- The first fault, one argument at a time, and where there is none.
 use Rattle.std.proofs.Common.{◌≡◌, ℕ, ◌+◌, ◌<◌, ◌≤◌, ◌↔◌, Bool, true, false, nat_le, if◌then◌else◌, ◌==◌, List, []}
-use Rattle.std.proofs.Common.{◌∷◌, length, get_or, drop, All, Decides, Option, Some, None, refl, sym, ap, ◌∙◌, arith}
+use Rattle.std.proofs.Common.{◌∷◌, length, map, get_or, drop, All, Decides, Option, Some, None, refl, sym, ap, ◌∙◌, arith}
 use Rattle.std.specs.List.{list_all}
 use Rattle.std.proofs.lemmas.Bool.{false≢true}
 use Rattle.std.proofs.lemmas.Bool.Decides.{Decides-by_and, Decides-eqb, nat_tests}
-use Rattle.std.proofs.lemmas.List.{at_drop_more, at_drop_all}
+use Rattle.std.proofs.lemmas.List.{at_drop_more, at_drop_all, length-map}
 use Rattle.language.specs.declared.signature.Form.{Form}
 use Rattle.language.specs.declared.signature.Form.TheVariants.{SingleWord, FixedArray, MutableArray}
 use Rattle.language.specs.declared.signature.Kind.{Kind}
@@ -18,8 +18,8 @@ use Rattle.arguments.specs.declared.fault.ArgumentRule.{ArgumentRule}
 use Rattle.arguments.specs.declared.fault.ArgumentRule.TheVariants.{Shape, Value}
 
 -- ---- one argument after another
-module _ {A : Type 0} (rule : Param → A → Option ArgumentRule) where
-  pub fault_from-turn : (i : ℕ) (params : List Param) (args : List A) (p : Param) (a : A) → i < length params
+module _ {P A : Type 0} (rule : P → A → Option ArgumentRule) where
+  pub fault_from-turn : (i : ℕ) (params : List P) (args : List A) (p : P) (a : A) → i < length params
       → i < length args → fault_from rule i (drop i params) (drop i args)
       ≡ fault_at i (rule (get_or params i p) (get_or args i a))
       (fault_from rule (i + 1) (drop (i + 1) params) (drop (i + 1) args))
@@ -27,19 +27,19 @@ module _ {A : Type 0} (rule : Param → A → Option ArgumentRule) where
       at_drop_more (λ rest. fault_from rule i rest (drop i args)) params i p h
       ∙ at_drop_more (λ rest. fault_from rule i (get_or params i p ∷ drop (i + 1) params) rest) args i a k
 
-  pub fault_from-end : (i : ℕ) (params : List Param) (args : List A) → length params ≤ i
+  pub fault_from-end : (i : ℕ) (params : List P) (args : List A) → length params ≤ i
       → fault_from rule i (drop i params) (drop i args) ≡ None
   fault_from-end i params args h = at_drop_all (λ rest. fault_from rule i rest (drop i args)) params i h
 
   -- where the i-th argument breaks a rule, and where it breaks none
-  pub fault_from-broken : (i : ℕ) (params : List Param) (args : List A) (p : Param) (a : A) (broken : ArgumentRule)
+  pub fault_from-broken : (i : ℕ) (params : List P) (args : List A) (p : P) (a : A) (broken : ArgumentRule)
       → i < length params → i < length args → rule (get_or params i p) (get_or args i a) ≡ Some broken
       → fault_from rule i (drop i params) (drop i args) ≡ Some (record { rule = broken; index = Some i })
   fault_from-broken i params args p a broken h k e =
       let later = fault_from rule (i + 1) (drop (i + 1) params) (drop (i + 1) args) in
       fault_from-turn i params args p a h k ∙ ap (λ o. fault_at i o later) e
 
-  pub fault_from-passed : (i : ℕ) (params : List Param) (args : List A) (p : Param) (a : A) → i < length params
+  pub fault_from-passed : (i : ℕ) (params : List P) (args : List A) (p : P) (a : A) → i < length params
       → i < length args → rule (get_or params i p) (get_or args i a) ≡ None
       → fault_from rule i (drop i params) (drop i args)
       ≡ fault_from rule (i + 1) (drop (i + 1) params) (drop (i + 1) args)
@@ -58,9 +58,9 @@ fault_at-neither : (at : ℕ) (broken : Option ArgumentRule) (later : Option Arg
 fault_at-neither at None later b e = e
 fault_at-neither at (Some rule) later b e = cc
 
-module _ {A : Type 0} (rule : Param → A → Option ArgumentRule) where
+module _ {P A : Type 0} (rule : P → A → Option ArgumentRule) where
   -- where what is left has no fault, its first has none, and the others have none
-  pub fault_from-left : (i : ℕ) (params : List Param) (args : List A) (p : Param) (a : A) → i < length params
+  pub fault_from-left : (i : ℕ) (params : List P) (args : List A) (p : P) (a : A) → i < length params
       → i < length args → fault_from rule i (drop i params) (drop i args) ≡ None
       → (rule (get_or params i p) (get_or args i a) ≡ None)
       × (fault_from rule (i + 1) (drop (i + 1) params) (drop (i + 1) args) ≡ None)
@@ -69,7 +69,7 @@ module _ {A : Type 0} (rule : Param → A → Option ArgumentRule) where
       (fault_from rule (i + 1) (drop (i + 1) params) (drop (i + 1) args))
       (sym (fault_from-turn rule i params args p a h k) ∙ e)
 
-  pub fault_from-next : (i : ℕ) (params : List Param) (args : List A) → i < length params → i < length args
+  pub fault_from-next : (i : ℕ) (params : List P) (args : List A) → i < length params → i < length args
       → fault_from rule i (drop i params) (drop i args) ≡ None
       → fault_from rule (i + 1) (drop (i + 1) params) (drop (i + 1) args) ≡ None
   fault_from-next i [] args h k e = absurd (omega arith)
@@ -145,23 +145,39 @@ length-AreWithin [] (arg ∷ args) h = absurd h
 length-AreWithin (param ∷ params) [] h = absurd h
 length-AreWithin (param ∷ params) (arg ∷ args) h = let k = length-AreWithin params args h.1 in omega arith
 
-module _ {A : Type 0} (rule : Param → A → Option ArgumentRule) where
+module _ {P A : Type 0} (rule : P → A → Option ArgumentRule) where
   -- with the right count the fault is an argument's
-  pub fault_by-same : (params : List Param) (args : List A) → length args ≡ length params
+  pub fault_by-same : (params : List P) (args : List A) → length args ≡ length params
       → fault_by rule params args ≡ fault_from rule 0 params args
   fault_by-same params args h =
       ap (λ b. if b then fault_from rule 0 params args else Some count_fault)
       ((Decides-eqb (length args) (length params)).1 h)
 
-  fault_by-cases : (b : Bool) (params : List Param) (args : List A) → (length args == length params) ≡ b
+  fault_by-cases : (b : Bool) (params : List P) (args : List A) → (length args == length params) ≡ b
       → (if b then fault_from rule 0 params args else Some count_fault) ≡ None
       → (length args ≡ length params) × (fault_from rule 0 params args ≡ None)
   fault_by-cases true params args t e = ((Decides-eqb (length args) (length params)).0 t, e)
   fault_by-cases false params args t e = cc
 
-  pub fault_by-None : (params : List Param) (args : List A) → fault_by rule params args ≡ None
+  pub fault_by-None : (params : List P) (args : List A) → fault_by rule params args ≡ None
       → (length args ≡ length params) × (fault_from rule 0 params args ≡ None)
   fault_by-None params args e = fault_by-cases (length args == length params) params args refl e
+
+-- what is judged by views of parameters is judged as those views
+module _ {P Q A : Type 0} (shown : P → Q) (rule : Q → A → Option ArgumentRule) where
+  fault_from-shown : (at : ℕ) (params : List P) (args : List A)
+      → fault_from (λ p. rule (shown p)) at params args ≡ fault_from rule at (map shown params) args
+  fault_from-shown at [] args = refl
+  fault_from-shown at (p ∷ params) [] = refl
+  fault_from-shown at (p ∷ params) (a ∷ args) =
+      ap (fault_at at (rule (shown p) a)) (fault_from-shown (at + 1) params args)
+
+  pub fault_by-shown : (params : List P) (args : List A)
+      → fault_by (λ p. rule (shown p)) params args ≡ fault_by rule (map shown params) args
+  fault_by-shown params args =
+      ap (λ f. if length args == length params then f else Some count_fault) (fault_from-shown 0 params args)
+      ∙ ap (λ n. if length args == n then fault_from rule 0 (map shown params) args else Some count_fault)
+      (sym (length-map params shown))
 
 -- the law: there is no fault exactly where all are within
 pub fault_of-None : (params : List Param) (args : List Arg) → (fault_of params args ≡ None) ↔ AreWithin params args

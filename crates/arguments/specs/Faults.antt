@@ -1,6 +1,7 @@
 -- The first fault of arguments: their count before all else, then the leftmost faulty argument, its
 -- shape before its values.
-use Rattle.std.specs.Prelude.{ℕ, ◌+◌, Bool, true, false, if◌then◌else◌, nat_le, ◌==◌, List, [], ◌∷◌, length, Option}
+use Rattle.std.specs.Borrow.{Bor}
+use Rattle.std.specs.Prelude.{◌≡◌, ℕ, ◌+◌, Bool, true, false, if◌then◌else◌, nat_le, ◌==◌, List, [], ◌∷◌, length, Option}
 use Rattle.std.specs.Prelude.{Some, None}
 use Rattle.std.specs.List.{list_all}
 use Rattle.language.specs.declared.signature.Form.{Form}
@@ -42,17 +43,23 @@ fault_at at None later = later
 fault_at at (Some broken) later = Some (record { rule = broken; index = Some at })
 
 -- a rule that an argument breaks at its parameter is given by `rule`
-module _ {A : Type 0} (rule : Param → A → Option ArgumentRule) where
+module _ {P A : Type 0} (rule : P → A → Option ArgumentRule) where
   -- the first fault of arguments that are numbered from `at`
-  abbrev pub fault_from : ℕ → List Param → List A → Option ArgumentFault
+  abbrev pub fault_from : ℕ → List P → List A → Option ArgumentFault
   fault_from at [] args = None
   fault_from at (param ∷ params) [] = None
   fault_from at (param ∷ params) (arg ∷ args) = fault_at at (rule param arg) (fault_from (at + 1) params args)
 
   -- the first fault, the count's before all else
-  abbrev pub fault_by : List Param → List A → Option ArgumentFault
+  abbrev pub fault_by : List P → List A → Option ArgumentFault
   fault_by params args = if length args == length params then fault_from 0 params args else Some count_fault
 
 -- the first fault of arguments
 abbrev pub fault_of : List Param → List Arg → Option ArgumentFault
 fault_of = fault_by rule_of
+
+-- each call, at references to a parameter and to what is given for it, answers the rule that is broken there
+abbrev pub JudgesBy : {P A : Type 0} → (Bor P → Bor A → Option ArgumentRule → Type 0) → (P → A → Option ArgumentRule)
+    → Type 0
+JudgesBy {P} {A} answers rule = (param : Bor P) (one : Bor A) (broken : Option ArgumentRule)
+    → answers param one broken → broken ≡ rule param.now one.now

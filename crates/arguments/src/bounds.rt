@@ -1,8 +1,9 @@
-ghost use Rattle.std.specs.Prelude.{◌≡◌, ◌↔◌, map};
+ghost use Rattle.std.specs.Prelude.{◌≡◌, Option, map};
 ghost use Rattle.language.specs.Signature.{param_of};
 ghost use Rattle.language.specs.Tree.{parameter_tree};
-ghost use Rattle.arguments.specs.Faults.{fault_of, rule_of, rule_of_words};
-ghost use Rattle.arguments.specs.Within.{AreWithin, greatest_of};
+ghost use Rattle.arguments.specs.declared.fault.ArgumentRule.{ArgumentRule};
+ghost use Rattle.arguments.specs.Faults.{JudgesBy, fault_by, fault_of, rule_of, rule_of_words};
+ghost use Rattle.arguments.specs.Within.{greatest_of};
 
 use crate::{ArgumentFault, ArgumentRule};
 use language::{Arg, Args, Form, Kind, Param, Parameter};
@@ -49,36 +50,34 @@ pub fn broken_rule(param: &Param, arg: &Arg) -> Option<ArgumentRule>
     }
 }
 
-/// The first fault of arguments: their count before all else, then the leftmost faulty argument, its
-/// shape before its values.
-pub fn first_fault(params: &[Param], args: &Args) -> Option<ArgumentFault>
-    ensures first { result ≡ fault_of params.now args.now }
-    ensures within { (result ≡ None) ↔ AreWithin params.now args.now }
+/// The first fault of what is given for parameters: the count before all else, then the leftmost, by the rule that it
+/// breaks at its parameter.
+pub fn first_fault_by<P, A, F: Fn(&P, &A) -> Option<ArgumentRule>>(
+    params: &[P],
+    given: &[A],
+    rule_at: F,
+) -> Option<ArgumentFault>
+    requires { F.IsAlwaysCallable rule_at }
+    ensures { (rule : P → A → Option ArgumentRule) → JudgesBy (F.post rule_at) rule → result ≡ fault_by rule params.now given.now }
 {
-    let args = args.as_slice();
-    if args.len() != params.len() {
+    if given.len() != params.len() {
         return Some(ArgumentFault::count());
     }
     for (index, param) in params.iter().enumerate() {
-        if let Some(rule) = broken_rule(param, &args[index]) {
+        if let Some(rule) = rule_at(param, &given[index]) {
             return Some(ArgumentFault::at(rule, index));
         }
     }
     None
 }
 
-/// The same of a procedure's parameters, with their names.
+/// The first fault of a procedure's arguments: of each argument its shape before its values.
 pub fn first_fault_of(parameters: &[Parameter<'_>], args: &Args) -> Option<ArgumentFault>
     ensures { result ≡ fault_of (map param_of (map parameter_tree parameters.now)) args.now }
 {
-    let args = args.as_slice();
-    if args.len() != parameters.len() {
-        return Some(ArgumentFault::count());
-    }
-    for (index, parameter) in parameters.iter().enumerate() {
-        if let Some(rule) = broken_rule(&parameter.param(), &args[index]) {
-            return Some(ArgumentFault::at(rule, index));
-        }
-    }
-    None
+    first_fault_by(
+        parameters,
+        args.as_slice(),
+        |parameter: &Parameter<'_>, arg: &Arg| broken_rule(&parameter.param(), arg),
+    )
 }

@@ -9,7 +9,7 @@ mod laws;
 mod numerals;
 mod texts;
 
-pub use bounds::{broken_rule, first_fault, first_fault_of};
+pub use bounds::{broken_rule, first_fault_by, first_fault_of};
 pub use fault::{ArgumentFault, ArgumentRule};
 pub use laws::faultless_arguments;
 pub use texts::{ReadError, argument, broken_rule as broken_rule_of_text, read};

@@ -5,7 +5,7 @@ ghost use Rattle.arguments.specs.Faults.{fault_by};
 ghost use Rattle.arguments.specs.Within.{AreWithin, IsWithin, words_of};
 ghost use Rattle.arguments.specs.declared.texts.ReadError.TheVariants.{Memory};
 
-use crate::bounds::greatest;
+use crate::bounds::{first_fault_by, greatest};
 use crate::numerals::number;
 use crate::{ArgumentFault, ArgumentRule};
 use language::{Arg, Args, Form, Numbers, Param};
@@ -73,29 +73,19 @@ pub fn broken_rule(param: &Param, text: &str) -> Option<ArgumentRule>
         return Some(ArgumentRule::Shape);
     }
     let greatest = u64::from(greatest(param.kind));
-    if text
+    let within = text
         .split(',')
-        .all(|part| number(part).is_some_and(|value| value <= greatest))
-    {
-        None
-    } else {
-        Some(ArgumentRule::Value)
-    }
+        .all(|part| number(part).is_some_and(|value| value <= greatest));
+    (!within).then_some(ArgumentRule::Value)
 }
 
 /// The first fault of texts.
 fn first_fault(params: &[Param], texts: &[&str]) -> Option<ArgumentFault>
     ensures { result ≡ fault_by (λ param text. rule_of_text param text.now) params.now texts.now }
 {
-    if texts.len() != params.len() {
-        return Some(ArgumentFault::count());
-    }
-    for (index, param) in params.iter().enumerate() {
-        if let Some(rule) = broken_rule(param, texts[index]) {
-            return Some(ArgumentFault::at(rule, index));
-        }
-    }
-    None
+    first_fault_by(params, texts, |param: &Param, text: &&str| {
+        broken_rule(param, text)
+    })
 }
 
 /// The number that a text spells, where it fits a word.

@@ -4,11 +4,9 @@ pub use Rattle.arguments.proofs.FaultLemmas.{
   fault_at-None,
   fault_by-None,
   fault_by-same,
-  fault_from-broken,
-  fault_from-end,
+  fault_by-shown,
   fault_from-left,
   fault_from-next,
-  fault_from-passed,
 }
 pub use Rattle.arguments.proofs.ReadLemmas.{fault_by-map, map-more}
 pub use Rattle.certified_runs.proofs.Amounts.{some_amounts, shifts_agree}

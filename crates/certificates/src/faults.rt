@@ -3,10 +3,9 @@
 ghost use Rattle.std.specs.Prelude.{◌≡◌, map};
 ghost use Rattle.certificates.specs.Given.{rule_of_unknown, rule_of_given, fault_of_given};
 
-use arguments::{ArgumentFault, ArgumentRule, broken_rule};
-use hepurita::first_fault_by;
+use arguments::{ArgumentFault, ArgumentRule, broken_rule, first_fault_by};
 use image_fields::Slot;
-use language::{Arg, Label, Param};
+use language::{Arg, Label};
 
 /// The rule that is broken where a parameter of this label has no value.
 pub(crate) fn rule_without_value(label: Label) -> Option<ArgumentRule>
@@ -18,13 +17,13 @@ pub(crate) fn rule_without_value(label: Label) -> Option<ArgumentRule>
     }
 }
 
-/// The rule that is broken at a parameter.
-fn rule_at(param: &Param, given: &Option<Arg>) -> Option<ArgumentRule>
-    ensures { result ≡ rule_of_given param.now given.now }
+/// The rule that is broken at the parameter of a slot.
+fn rule_at(slot: &Slot, given: &Option<Arg>) -> Option<ArgumentRule>
+    ensures { result ≡ rule_of_given slot.now.param given.now }
 {
     match given {
-        Some(arg) => broken_rule(param, arg),
-        None => rule_without_value(param.label),
+        Some(arg) => broken_rule(&slot.param, arg),
+        None => rule_without_value(slot.param.label),
     }
 }
 

@@ -10,7 +10,7 @@ ghost use Rattle.certificates.specs.Given.{rule_of_given, fault_of_given};
 ghost use Rattle.certificates.specs.Texts.{numbers_given, rule_of_given_text, fault_of_given_texts};
 
 use crate::faults::rule_without_value;
-use arguments::{ArgumentFault, ArgumentRule, argument, broken_rule_of_text};
+use arguments::{ArgumentFault, ArgumentRule, argument, broken_rule_of_text, first_fault_by};
 use hepurita::RunFault;
 use language::{Arg, Param};
 use std::alloc::{AllocError, Global};
@@ -33,15 +33,9 @@ fn rule_of_text(param: &Param, text: &str) -> Option<ArgumentRule>
 fn first_fault(params: &[Param], texts: &[&str]) -> Option<ArgumentFault>
     ensures { result ≡ fault_by (λ param text. rule_of_given_text param text.now) params.now texts.now }
 {
-    if texts.len() != params.len() {
-        return Some(ArgumentFault::count());
-    }
-    for (index, param) in params.iter().enumerate() {
-        if let Some(rule) = rule_of_text(param, texts[index]) {
-            return Some(ArgumentFault::at(rule, index));
-        }
-    }
-    None
+    first_fault_by(params, texts, |param: &Param, text: &&str| {
+        rule_of_text(param, text)
+    })
 }
 
 /// What a text without fault gives.

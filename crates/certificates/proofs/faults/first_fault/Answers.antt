@@ -1,5 +1,10 @@
+use Rattle.std.proofs.Common.{◌∙◌}
+use Rattle.certificates.proofs.Below.{fault_by-shown}
 use Rattle.certificates.specs.Given.{rule_of_given}
+use Rattle.image_fields.specs.declared.slot.Slot.{Slot}
 use Rattle.certificates.proofs.faults.first_fault.Goals as goal
 
 pub returns : goal.returns
-returns c = c.first_fault_by.ensures rule_of_given (λ param one broken is. is)
+returns c =
+    c.first_fault_by.ensures (λ slot one. rule_of_given slot.param one) (λ slot one broken is. is)
+    ∙ fault_by-shown (λ (slot : Slot). slot.param) rule_of_given c.args.slots.now c.args.given.now

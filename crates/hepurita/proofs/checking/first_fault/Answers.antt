@@ -1,5 +1,5 @@
 use Rattle.std.proofs.Common.{List, map, rules, ap₂, ◌∙◌}
-use Rattle.hepurita.proofs.Below.{None-from_fault_of}
+use Rattle.arguments.proofs.FaultLemmas.{None-from_fault_of, fault_by-shown}
 use Rattle.arguments.specs.Faults.{rule_of, fault_of}
 use Rattle.codegen.specs.Loaded.{params_of}
 use Rattle.image_fields.specs.declared.slot.Slot.{Slot}
@@ -8,7 +8,8 @@ use Rattle.hepurita.proofs.checking.first_fault.Goals as goal
 
 pub returns-clause-first : goal.returns-clause-first
 returns-clause-first c =
-    c.first_fault_by.ensures rule_of (λ param one broken is. search rules)
+    c.first_fault_by.ensures (λ slot arg. rule_of slot.param arg) (λ slot arg broken is. search rules)
+    ∙ fault_by-shown (λ (slot : Slot). slot.param) rule_of c.slots.result.now c.as_slice.result.now
     ∙ ap₂ (λ (slots : List Slot) (args : List Arg). fault_of (map (λ (slot : Slot). slot.param) slots) args)
     c.slots.ensures.slots c.as_slice.ensures
 
