@@ -5,5 +5,8 @@ pub use Rattle.rv_machine.proofs.Face.{
   Runs-more,
   entries_of-append,
   run_of_state,
+  stopped_at,
+  turn_made,
   turn_stops,
+  went_to,
 }

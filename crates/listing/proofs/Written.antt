@@ -1,50 +1,19 @@
 -- A run, a turn at a time, and what is written of it.
-use Rattle.std.proofs.Common.{◌≡◌, ◌≢◌, ℕ, suc, ◌+◌, ◌-◌, ◌<◌, ◌≤◌, List, [], ◌∷◌, ◌++◌, Option, Some, None, Result}
-use Rattle.std.proofs.Common.{Ok, Err, IfOk, OnOk, OnErr, length, refl, sym, ap, ◌∙◌, subst, append_assoc, append-nil}
-use Rattle.std.proofs.Common.{arith}
-use Rattle.std.specs.Prelude.{slice_get}
-use Rattle.std.proofs.lemmas.Option.{same_Some}
+use Rattle.std.proofs.Common.{◌≡◌, ℕ, suc, ◌+◌, ◌-◌, ◌<◌, ◌≤◌, List, [], ◌∷◌, ◌++◌, Option, Some, None, Result, Ok}
+use Rattle.std.proofs.Common.{Err, IfOk, OnOk, OnErr, refl, sym, ap, ◌∙◌, subst, append_assoc, append-nil, arith}
 use Rattle.streams.specs.Streams.{GainsPart, Writes, WritesPart}
 use Rattle.rv_machine.specs.declared.observation.Observation.{Observation}
 use Rattle.rv_machine.specs.declared.stops.Stop.{Stop}
-use Rattle.rv_machine.specs.declared.stops.Stop.TheVariants.{Budget, RecorderRefused}
+use Rattle.rv_machine.specs.declared.stops.Stop.TheVariants.{Budget}
 use Rattle.rv_machine.specs.Entries.{Entry, entries_of}
-use Rattle.rv_machine.specs.Leakage.{Leads, stays, turns, halts, Done, went_on, stopped, refused, Runs, halted, spent}
-use Rattle.rv_machine.specs.Machine.{State, Code, Ending, goes_on, stops, Turn}
+use Rattle.rv_machine.specs.Leakage.{Leads, stays, turns, halts, Runs, halted, spent}
+use Rattle.rv_machine.specs.Machine.{State, Code, goes_on, stops, Turn}
 use Rattle.listing.proofs.Below.{Leads-more, entries_of-append, Runs-more, turn_stops, run_of_state}
 use Rattle.listing.specs.Lines.{entry_line, entry_lines, lines_of, stop_line}
 use Rattle.listing.specs.Listings.{listing, Ends, IsListing}
-use Rattle.listing.specs.Turned.{listed, Turned}
-use Rattle.listing.specs.Turned as turned
+use Rattle.rv_machine.specs.Turned.{listed, Turned}
+use Rattle.rv_machine.specs.Turned as turned
 use Rattle.listing.proofs.Pieces.{put-more, part-inside, part-at_end}
-
-first_alone : (seen : List Observation) → length seen ≤ 1 → seen ≡ listed (slice_get seen 0)
-first_alone [] few = refl
-first_alone (o ∷ []) few = refl
-first_alone (o ∷ p ∷ seen) few = absurd (omega arith)
-
--- the turn that a step made, of which a recorder took what it shows
-pub turn_made : (code : Code) (s t : State) (ending : Ending) (answer : Option Stop) (seen : List Observation)
-    → Turn code s ending → Done s ending answer t seen → answer ≢ Some RecorderRefused
-    → Turned code s (slice_get seen 0) answer t
-turn_made code s t ending answer seen turn went_on calm = turned.went_on turn
-turn_made code s t ending answer seen turn (stopped {stop = stop}) calm =
-    let brief = turn_stops code s seen stop turn in
-    turned.stopped (subst (λ list. Turn code s (stops list stop)) (first_alone seen brief.1) turn)
-turn_made code s t ending answer seen turn (refused shows) calm = absurd (calm refl)
-
--- what a turn is that stops, and what one is that goes on
-pub stopped_at : (code : Code) (t u : State) (last : Option Observation) (answer : Option Stop) (stop : Stop)
-    → Turned code t last answer u → answer ≡ Some stop → Turn code t (stops (listed last) stop)
-stopped_at code t u last answer stop (turned.went_on turn) is = cc
-stopped_at code t u last answer stop (turned.stopped {stop = other} turn) is =
-    subst (λ x. Turn code t (stops (listed last) x)) (same_Some other stop is) turn
-
-pub went_to : (code : Code) (t u : State) (last : Option Observation) (answer : Option Stop)
-    → Turned code t last answer u → answer ≡ None → (o : Observation) × (listed last ≡ o ∷ [])
-    × Turn code t (goes_on o u)
-went_to code t u last answer (turned.went_on {o = o} turn) is = (o, refl, turn)
-went_to code t u last answer (turned.stopped turn) is = cc
 
 -- turns, and then a run
 Runs-after : {code : Code} {k n : ℕ} {s t u : State} {seen more : List Observation} {stop : Stop}

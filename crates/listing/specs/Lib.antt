@@ -2,4 +2,3 @@ pub mod Code
 pub mod Leaked
 pub mod Lines
 pub mod Listings
-pub mod Turned

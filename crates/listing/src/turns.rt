@@ -9,7 +9,7 @@ ghost use Rattle.rv_machine.specs.declared.observation.Observation.{Observation}
 ghost use Rattle.rv_machine.specs.declared.stops.Stop.{Stop};
 ghost use Rattle.listing.specs.Lines.{lines_of, stop_line};
 ghost use Rattle.listing.specs.Listings.{Ends, IsListing};
-ghost use Rattle.listing.specs.Turned.{listed, Turned};
+ghost use Rattle.rv_machine.specs.Turned.{listed, Turned};
 
 use crate::lines;
 use rv_machine::hart::Hart;

@@ -1,5 +1,5 @@
 -- A run, a turn at a time, and what it shows.
-use Rattle.std.proofs.Common.{◌≡◌, ◌≢◌, ℕ, zero, suc, true, false, is_some, ◌+◌, ◌-◌, ◌<◌, ◌≤◌, List, [], ◌∷◌, ◌++◌}
+use Rattle.std.proofs.Common.{◌≡◌, ℕ, zero, suc, true, false, is_some, ◌+◌, ◌-◌, ◌<◌, ◌≤◌, List, [], ◌∷◌, ◌++◌}
 use Rattle.std.proofs.Common.{Option, Some, None, length, refl, sym, ap, ◌∙◌, subst, append_assoc, append-nil}
 use Rattle.std.proofs.Common.{length-append, zero-add, suc-add, inl, inr, arith}
 use Rattle.std.specs.Option.{option_map}
@@ -7,44 +7,18 @@ use Rattle.std.specs.Prelude.{slice_get}
 use Rattle.std.proofs.lemmas.Option.{same_Some, slice_get_past, slice_get_within}
 use Rattle.rv_machine.specs.declared.observation.Observation.{Observation}
 use Rattle.rv_machine.specs.declared.stops.Stop.{Stop}
-use Rattle.rv_machine.specs.declared.stops.Stop.TheVariants.{Budget, RecorderRefused}
+use Rattle.rv_machine.specs.declared.stops.Stop.TheVariants.{Budget}
 use Rattle.rv_machine.specs.Entries.{Entry, entries_of}
-use Rattle.rv_machine.specs.Leakage.{Leads, stays, turns, halts, Done, went_on, stopped, refused, Runs, halted, spent}
-use Rattle.rv_machine.specs.Machine.{State, Code, Ending, goes_on, stops, Turn}
-use Rattle.run_places.proofs.Below.{Leads-more, entries_of-append, Runs-more, turn_stops, run_of_state}
+use Rattle.rv_machine.specs.Leakage.{Leads, stays, turns, halts, Runs, halted, spent}
+use Rattle.rv_machine.specs.Machine.{State, Code, goes_on, stops, Turn}
+use Rattle.run_places.proofs.Below.{Leads-more, entries_of-append, Runs-more, turn_stops, run_of_state, stopped_at}
+use Rattle.run_places.proofs.Below.{went_to}
 use Rattle.run_places.specs.Places.{Ends, ShowsNext, IsLastBefore, ShowsFewer}
 use Rattle.run_places.specs.Shown.{entry_or_stop, shown_entry, ShowsAt}
-use Rattle.run_places.specs.Turned.{listed, Turned}
-use Rattle.run_places.specs.Turned as turned
+use Rattle.rv_machine.specs.Turned.{listed, Turned}
+use Rattle.rv_machine.specs.Turned as turned
 use Rattle.run_places.specs.declared.shown.Shown.{Shown}
 use Rattle.run_places.specs.declared.shown.Shown.TheVariants.{Stopped}
-
-first_alone : (seen : List Observation) → length seen ≤ 1 → seen ≡ listed (slice_get seen 0)
-first_alone [] few = refl
-first_alone (o ∷ []) few = refl
-first_alone (o ∷ p ∷ seen) few = absurd (omega arith)
-
--- the turn that a step made, of which a recorder took what it shows
-pub turn_made : (code : Code) (s t : State) (ending : Ending) (answer : Option Stop) (seen : List Observation)
-    → Turn code s ending → Done s ending answer t seen → answer ≢ Some RecorderRefused
-    → Turned code s (slice_get seen 0) answer t
-turn_made code s t ending answer seen turn went_on calm = turned.went_on turn
-turn_made code s t ending answer seen turn (stopped {stop = stop}) calm =
-    let brief = turn_stops code s seen stop turn in
-    turned.stopped (subst (λ list. Turn code s (stops list stop)) (first_alone seen brief.1) turn)
-turn_made code s t ending answer seen turn (refused shows) calm = absurd (calm refl)
-
--- what a turn is that stops, one that goes on, and one that shows something
-pub stopped_at : (code : Code) (t u : State) (last : Option Observation) (answer : Option Stop) (stop : Stop)
-    → Turned code t last answer u → answer ≡ Some stop → Turn code t (stops (listed last) stop)
-stopped_at code t u last answer stop (turned.went_on turn) is = cc
-stopped_at code t u last answer stop (turned.stopped {stop = other} turn) is =
-    subst (λ x. Turn code t (stops (listed last) x)) (same_Some other stop is) turn
-
-pub went_to : (code : Code) (t u : State) (last : Option Observation) (answer : Option Stop)
-    → Turned code t last answer u → answer ≡ None → (o : Observation) × (last ≡ Some o) × Turn code t (goes_on o u)
-went_to code t u last answer (turned.went_on {o = o} turn) is = (o, refl, turn)
-went_to code t u last answer (turned.stopped turn) is = cc
 
 pub is_stopped : (answer : Option Stop) → is_some answer ≡ true → (stop : Stop) × (answer ≡ Some stop)
 is_stopped None some = cc

@@ -1,4 +1,3 @@
 pub mod Places
 pub mod Reads
 pub mod Shown
-pub mod Turned

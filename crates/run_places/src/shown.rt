@@ -6,7 +6,7 @@ ghost use Rattle.rv_machine.specs.Entries.{entries_of};
 ghost use Rattle.rv_machine.specs.Harts.{state_of};
 ghost use Rattle.rv_machine.specs.Regions.{code_of};
 ghost use Rattle.run_places.specs.Shown.{shown_entry, ShowsAt};
-ghost use Rattle.run_places.specs.Turned.{listed};
+ghost use Rattle.rv_machine.specs.Turned.{listed};
 
 use crate::turns::turn;
 use rv_machine::{CodeRegion, Event, Memory, Observation, Running, Stop, entry_count};

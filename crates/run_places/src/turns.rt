@@ -8,7 +8,7 @@ ghost use Rattle.rv_machine.specs.Machine.{State};
 ghost use Rattle.rv_machine.specs.Regions.{code_of};
 ghost use Rattle.rv_machine.specs.declared.observation.Observation.{Observation};
 ghost use Rattle.run_places.specs.Places.{IsLastBefore, ShowsFewer};
-ghost use Rattle.run_places.specs.Turned.{Turned};
+ghost use Rattle.rv_machine.specs.Turned.{Turned};
 
 use rv_machine::{
     CodeRegion, Memory, Observation, Recorder, Running, Stop, TurnRecorder, entry_count, run, step,

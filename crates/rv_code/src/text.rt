@@ -1,9 +1,14 @@
 // Instructions as assembly text.
 
 ghost use Rattle.std.specs.Prelude.{Some};
-ghost use Rattle.rv_code.specs.Text.{text_of};
+ghost use Rattle.std.specs.Fmt.{WritesOnOk};
+ghost use Rattle.rv_code.specs.FieldText.{reg_text};
+ghost use Rattle.rv_code.specs.Text.{address_text, text_of, three_operands, two_operands};
+ghost use Rattle.rv_code.specs.declared.instructions.Instr.TheVariants.{Branch, Fence, Immediate, Jump, Shift, Upper};
 
 use crate::instructions::Instr;
+use crate::operations::{BranchTest, ImmediateOperation, ShiftOperation, UpperOperation};
+use crate::{BranchOffset, FenceBits, Immediate12, JumpOffset, Reg, ShiftAmount, UpperImmediate};
 use std::fmt;
 
 impl fmt::Display for Instr {
@@ -11,30 +16,122 @@ impl fmt::Display for Instr {
 
     fn fmt<W: fmt::Write>(&self, f: &mut fmt::Formatter<W>) -> fmt::Result {
         match *self {
-            Instr::Upper(operation, rd, value) => write!(f, "{operation} {rd}, {value}"),
-            Instr::Jump(rd, offset) => write!(f, "jal {rd}, {offset}"),
-            Instr::JumpRegister(rd, rs1, offset) => write!(f, "jalr {rd}, {offset}({rs1})"),
-            Instr::Branch(test, rs1, rs2, offset) => write!(f, "{test} {rs1}, {rs2}, {offset}"),
+            Instr::Upper(operation, rd, value) => upper(f, operation, rd, value),
+            Instr::Jump(rd, offset) => jump(f, rd, offset),
+            Instr::JumpRegister(rd, rs1, offset) => at_address(f, "jalr", rd, offset, rs1),
+            Instr::Branch(test, rs1, rs2, offset) => branch(f, test, rs1, rs2, offset),
             Instr::Load(operation, rd, rs1, offset) => {
-                write!(f, "{operation} {rd}, {offset}({rs1})")
+                at_address(f, operation.row().mnemonic, rd, offset, rs1)
             }
             Instr::Store(operation, rs2, rs1, offset) => {
-                write!(f, "{operation} {rs2}, {offset}({rs1})")
+                at_address(f, operation.row().mnemonic, rs2, offset, rs1)
             }
-            Instr::Immediate(operation, rd, rs1, immediate) => {
-                write!(f, "{operation} {rd}, {rs1}, {immediate}")
+            Instr::Immediate(operation, rd, rs1, value) => immediate(f, operation, rd, rs1, value),
+            Instr::Shift(operation, rd, rs1, amount) => shift(f, operation, rd, rs1, amount),
+            Instr::Register(operation, rd, rs1, rs2) => {
+                registers(f, operation.row().mnemonic, rd, rs1, rs2)
             }
-            Instr::Shift(operation, rd, rs1, amount) => {
-                write!(f, "{operation} {rd}, {rs1}, {amount}")
+            Instr::Multiply(operation, rd, rs1, rs2) => {
+                registers(f, operation.row().mnemonic, rd, rs1, rs2)
             }
-            Instr::Register(operation, rd, rs1, rs2) => write!(f, "{operation} {rd}, {rs1}, {rs2}"),
-            Instr::Multiply(operation, rd, rs1, rs2) => write!(f, "{operation} {rd}, {rs1}, {rs2}"),
-            Instr::Divide(operation, rd, rs1, rs2) => write!(f, "{operation} {rd}, {rs1}, {rs2}"),
-            Instr::Fence(mode, before, after, rs1, rd) => {
-                write!(f, "fence {mode}, {before}, {after}, {rs1}, {rd}")
+            Instr::Divide(operation, rd, rs1, rs2) => {
+                registers(f, operation.row().mnemonic, rd, rs1, rs2)
             }
+            Instr::Fence(mode, before, after, rs1, rd) => fence(f, (mode, before, after), rs1, rd),
             Instr::Ecall => f.write_str("ecall"),
             Instr::Ebreak => f.write_str("ebreak"),
         }
     }
+}
+
+/// A mnemonic and three registers.
+fn registers<W: fmt::Write>(
+    f: &mut fmt::Formatter<W>,
+    mnemonic: &str,
+    rd: Reg,
+    rs1: Reg,
+    rs2: Reg,
+) -> fmt::Result
+    ensures { WritesOnOk W.write_str_gives f.old result (three_operands mnemonic.now (reg_text rd) (reg_text rs1) (reg_text rs2)) f.new }
+{
+    write!(f, "{mnemonic} {rd}, {rs1}, {rs2}")
+}
+
+/// A mnemonic, a register, and the address of an offset from another one.
+fn at_address<W: fmt::Write>(
+    f: &mut fmt::Formatter<W>,
+    mnemonic: &str,
+    register: Reg,
+    offset: Immediate12,
+    base: Reg,
+) -> fmt::Result
+    ensures { WritesOnOk W.write_str_gives f.old result (two_operands mnemonic.now (reg_text register) (address_text offset base)) f.new }
+{
+    write!(f, "{mnemonic} {register}, {offset}({base})")
+}
+
+fn upper<W: fmt::Write>(
+    f: &mut fmt::Formatter<W>,
+    operation: UpperOperation,
+    rd: Reg,
+    value: UpperImmediate,
+) -> fmt::Result
+    ensures { WritesOnOk W.write_str_gives f.old result (text_of (Upper operation rd value)) f.new }
+{
+    write!(f, "{operation} {rd}, {value}")
+}
+
+fn jump<W: fmt::Write>(f: &mut fmt::Formatter<W>, rd: Reg, offset: JumpOffset) -> fmt::Result
+    ensures { WritesOnOk W.write_str_gives f.old result (text_of (Jump rd offset)) f.new }
+{
+    write!(f, "jal {rd}, {offset}")
+}
+
+fn branch<W: fmt::Write>(
+    f: &mut fmt::Formatter<W>,
+    test: BranchTest,
+    rs1: Reg,
+    rs2: Reg,
+    offset: BranchOffset,
+) -> fmt::Result
+    ensures { WritesOnOk W.write_str_gives f.old result (text_of (Branch test rs1 rs2 offset)) f.new }
+{
+    write!(f, "{test} {rs1}, {rs2}, {offset}")
+}
+
+fn immediate<W: fmt::Write>(
+    f: &mut fmt::Formatter<W>,
+    operation: ImmediateOperation,
+    rd: Reg,
+    rs1: Reg,
+    value: Immediate12,
+) -> fmt::Result
+    ensures { WritesOnOk W.write_str_gives f.old result (text_of (Immediate operation rd rs1 value)) f.new }
+{
+    write!(f, "{operation} {rd}, {rs1}, {value}")
+}
+
+fn shift<W: fmt::Write>(
+    f: &mut fmt::Formatter<W>,
+    operation: ShiftOperation,
+    rd: Reg,
+    rs1: Reg,
+    amount: ShiftAmount,
+) -> fmt::Result
+    ensures { WritesOnOk W.write_str_gives f.old result (text_of (Shift operation rd rs1 amount)) f.new }
+{
+    write!(f, "{operation} {rd}, {rs1}, {amount}")
+}
+
+/// A fence: its mode, and the kinds of accesses before and after it.
+fn fence<W: fmt::Write>(
+    f: &mut fmt::Formatter<W>,
+    kinds: (FenceBits, FenceBits, FenceBits),
+    rs1: Reg,
+    rd: Reg,
+) -> fmt::Result
+    ensures { WritesOnOk W.write_str_gives f.old result (text_of (Fence kinds.0 kinds.1 kinds.2 rs1 rd)) f.new }
+{
+    let (mode, before, after) = kinds;
+    write!(f, "fence {mode}, {before}, {after}, {rs1}, {rd}")
 }

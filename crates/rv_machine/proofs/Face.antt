@@ -34,6 +34,7 @@ pub use Rattle.rv_machine.proofs.RunLaws.{
 pub use Rattle.rv_machine.proofs.Shown.{entries_of-append}
 pub use Rattle.rv_machine.proofs.SystemLaws.{MemberTurn-determined}
 pub use Rattle.rv_machine.proofs.TotalLaws.{Runs-more, run_of_state, turn_of_state, turn_stops}
+pub use Rattle.rv_machine.proofs.TurnedLemmas.{stopped_at, turn_made, went_to}
 pub use Rattle.rv_machine.proofs.TurnLaws.{
   branch_leads,
   branch_passes,

@@ -19,4 +19,5 @@ pub mod SystemLaws
 pub mod TotalLaws
 pub mod TurnLaws
 pub mod Turns
+pub mod TurnedLemmas
 pub mod Face

@@ -1,5 +1,5 @@
 -- Each turn's lines, and the line of the stop.
-use Rattle.std.proofs.Common.{◌≡◌, ◌++◌, ◌∷◌, [], List, IsTrue, append-nil, refl, sym, ◌∙◌, subst, arith}
+use Rattle.std.proofs.Common.{◌≡◌, ◌++◌, ◌∷◌, [], List, IsTrue, append-nil, refl, sym, ap, ◌∙◌, subst, arith}
 use Rattle.std.proofs.lemmas.Result.{on_err_weaker}
 use Rattle.streams.specs.Streams.{Writes}
 use Rattle.rv_machine.specs.declared.observation.Observation.{Observation}
@@ -9,8 +9,9 @@ use Rattle.rv_machine.specs.Leakage.{stays}
 use Rattle.rv_machine.specs.Regions.{code_of}
 use Rattle.listing.specs.Lines.{lines_of}
 use Rattle.listing.specs.Listings.{Ends, IsListing}
-use Rattle.listing.specs.Turned.{listed}
-use Rattle.listing.proofs.Written.{stopped_at, went_to, leads_on, ends_here, ends_spent, ends_after, wrote_more}
+use Rattle.rv_machine.specs.Turned.{listed}
+use Rattle.listing.proofs.Below.{stopped_at, went_to}
+use Rattle.listing.proofs.Written.{leads_on, ends_here, ends_spent, ends_after, wrote_more}
 use Rattle.listing.proofs.Written.{wrote_all, cut_at_stop, cut_at_lines, on_err, if_named}
 use Rattle.listing.proofs.turns.write_run.Goals as goal
 
@@ -100,7 +101,7 @@ loop-turn-preserved g c =
     let wrote : IsTrue g.W.Sink.TELLS → g.W.Sink.taken c.write_seen.new.sink ≡ g.W.Sink.taken c.args.sink.now
     ++ lines_of (led.0 ++ last) = λ tells.
     subst (λ (l : List Observation). g.W.Sink.taken c.write_seen.new.sink ≡ g.W.Sink.taken c.args.sink.now
-    ++ lines_of (led.0 ++ l)) went.1
+    ++ lines_of (led.0 ++ l)) (ap listed went.1)
     (wrote_more (g.W.Sink.taken c.args.sink.now) (g.W.Sink.taken c.loop-turn.sink) led.0 (led.2 tells)
     (g.W.Sink.taken c.write_seen.new.sink) (listed c.turn-seen.result.0)
     (c.in_ok-write_seen.ensures.whole tells)) in

@@ -4,8 +4,9 @@ use Rattle.rv_machine.specs.declared.stops.Stop.TheVariants.{Budget}
 use Rattle.rv_machine.specs.Entries.{entries_of}
 use Rattle.rv_machine.specs.Harts.{state_of}
 use Rattle.rv_machine.specs.Leakage.{stays}
-use Rattle.run_places.specs.Turned.{listed}
-use Rattle.run_places.proofs.Runs.{went_to, went_on_by, shows_shown, shows_stop, stopped_at, ends_here, ends_spent}
+use Rattle.rv_machine.specs.Turned.{listed}
+use Rattle.run_places.proofs.Below.{stopped_at, went_to}
+use Rattle.run_places.proofs.Runs.{went_on_by, shows_shown, shows_stop, ends_here, ends_spent}
 use Rattle.run_places.proofs.Runs.{left_after}
 use Rattle.run_places.proofs.shown.shown_at.Goals as goal
 

@@ -4,8 +4,8 @@ use Rattle.rv_machine.specs.declared.observation.Observation.{Observation}
 use Rattle.rv_machine.specs.Harts.{state_of}
 use Rattle.rv_machine.specs.Recording.{kept}
 use Rattle.rv_machine.specs.Regions.{code_of}
-use Rattle.run_places.specs.Turned.{Turned}
-use Rattle.run_places.proofs.Runs.{turn_made}
+use Rattle.rv_machine.specs.Turned.{Turned}
+use Rattle.run_places.proofs.Below.{turn_made}
 use Rattle.run_places.proofs.turns.turn.Goals as goal
 
 pub returns : goal.returns
