@@ -31,21 +31,21 @@ pub fn procedure_at<'p, 'a>(at: u32, program: &'p Program<'a>) -> Option<&'p Pro
 /// The places of the calls of a name in a program, in their order.
 pub fn call_places(
     alloc: Global,
-    name: &str,
     program: &Program<'_>,
+    name: &str,
 ) -> Result<Vec<Place>, AllocError>
     ensures { IfOk result (λ places. places.items ≡ call_places name.now (program_tree program.now).procedures) }
 {
     let mut places = Vec::new(alloc);
     let procedures = program.procedures();
     for procedure in procedures {
-        push_calls(&mut places, name, procedure.body.as_slice())?;
+        push_calls(procedure.body.as_slice(), name, &mut places)?;
     }
     Ok(places)
 }
 
 /// Puts the place of a call at the end of others, where it is of this name.
-fn push_call(places: &mut Vec<Place>, name: &str, call: &Call<'_>) -> Result<(), AllocError>
+fn push_call(call: &Call<'_>, name: &str, places: &mut Vec<Place>) -> Result<(), AllocError>
     ensures { OnOk result (places.new.items ≡ places.old.items ++ calls_at name.now (call_tree call.now)) }
 {
     if call.name == name {
@@ -55,11 +55,11 @@ fn push_call(places: &mut Vec<Place>, name: &str, call: &Call<'_>) -> Result<(),
 }
 
 /// The same of a right side.
-fn push_right(places: &mut Vec<Place>, name: &str, right: &RightSide<'_>) -> Result<(), AllocError>
+fn push_right(right: &RightSide<'_>, name: &str, places: &mut Vec<Place>) -> Result<(), AllocError>
     ensures { OnOk result (places.new.items ≡ places.old.items ++ calls_in_right name.now (right_tree right.now)) }
 {
     match right {
-        RightSide::Call(call) => push_call(places, name, call),
+        RightSide::Call(call) => push_call(call, name, places),
         RightSide::Value(_) => Ok(()),
     }
 }
@@ -67,37 +67,37 @@ fn push_right(places: &mut Vec<Place>, name: &str, right: &RightSide<'_>) -> Res
 /// The same of a statement.
 #[cycle(calls)]
 fn push_statement(
-    places: &mut Vec<Place>,
-    name: &str,
     statement: &Statement<'_>,
+    name: &str,
+    places: &mut Vec<Place>,
 ) -> Result<(), AllocError>
     ensures { OnOk result (places.new.items ≡ places.old.items ++ calls_in name.now (statement_tree statement.now)) }
 {
     match statement {
-        Statement::Declare(it) => push_right(places, name, &it.value),
+        Statement::Declare(it) => push_right(&it.value, name, places),
         Statement::DeclareArray(_) => Ok(()),
-        Statement::Assign(it) => push_right(places, name, &it.value),
-        Statement::AssignElement(it) => push_right(places, name, &it.value),
-        Statement::Call(call) => push_call(places, name, call),
+        Statement::Assign(it) => push_right(&it.value, name, places),
+        Statement::AssignElement(it) => push_right(&it.value, name, places),
+        Statement::Call(call) => push_call(call, name, places),
         Statement::If(_, _, accepted, otherwise) => {
-            push_calls(places, name, accepted.as_slice())?;
-            push_calls(places, name, otherwise.as_slice())
+            push_calls(accepted.as_slice(), name, places)?;
+            push_calls(otherwise.as_slice(), name, places)
         }
-        Statement::For(_, _, _, _, body) => push_calls(places, name, body.as_slice()),
+        Statement::For(_, _, _, _, body) => push_calls(body.as_slice(), name, places),
     }
 }
 
 /// The same of statements in their order.
 #[cycle(calls)]
 fn push_calls(
-    places: &mut Vec<Place>,
-    name: &str,
     block: &[Statement<'_>],
+    name: &str,
+    places: &mut Vec<Place>,
 ) -> Result<(), AllocError>
     ensures { OnOk result (places.new.items ≡ places.old.items ++ calls_in_all name.now (block_tree block.now)) }
 {
     for statement in block {
-        push_statement(places, name, statement)?;
+        push_statement(statement, name, places)?;
     }
     Ok(())
 }

@@ -27,7 +27,7 @@ pub fn parameter_value(parameter: &Parameter<'_>) -> ValueType
 }
 
 /// The variable that an argument is the bare name of.
-fn argument_variable(names: &Scope<'_>, argument: &Expr<'_>) -> Option<VariableType>
+fn argument_variable<'a>(names: &Scope<'a>, argument: &Expr<'a>) -> Option<VariableType>
     ensures { result ≡ argument_variable names.now (expr_tree argument.now) }
 {
     match argument {
@@ -47,13 +47,13 @@ fn is_immutable(variable: Option<VariableType>) -> bool
 }
 
 /// Notes what an argument violates beside its parameter, and says whether it violates nothing.
-fn note_passed(
+fn note_passed<'a>(
+    names: &Scope<'a>,
     first: &mut First,
-    names: &Scope<'_>,
     place: Place,
-    parameter: &Parameter<'_>,
+    parameter: &Parameter<'a>,
     given: ValueType,
-    argument: &Expr<'_>,
+    argument: &Expr<'a>,
 ) -> bool
     ensures met { result ≡ are_met (passed_rules names.now (record { parameter = parameter_tree parameter.now; given = given; argument = expr_tree argument.now })) }
     ensures first { first.new.seen ≡ fold sooner first.old.seen (at place (passed_rules names.now (record { parameter = parameter_tree parameter.now; given = given; argument = expr_tree argument.now }))) }
@@ -66,13 +66,13 @@ fn note_passed(
 
 /// Notes what arguments of these types violate beside the parameters, and says whether they violate
 /// nothing.
-pub fn note_all_passed(
+pub fn note_all_passed<'a>(
+    names: &Scope<'a>,
     first: &mut First,
-    names: &Scope<'_>,
     place: Place,
-    parameters: &[Parameter<'_>],
+    parameters: &[Parameter<'a>],
     types: &[ValueType],
-    arguments: &[Expr<'_>],
+    arguments: &[Expr<'a>],
 ) -> bool
     requires types { length types.now ≡ length parameters.now }
     requires arguments { length arguments.now ≡ length parameters.now }
@@ -82,7 +82,7 @@ pub fn note_all_passed(
     let mut met = true;
     for (index, parameter) in parameters.iter().enumerate() {
         let (given, argument) = (types[index], &arguments[index]);
-        met &= note_passed(first, names, place, parameter, given, argument);
+        met &= note_passed(names, first, place, parameter, given, argument);
     }
     met
 }

@@ -61,19 +61,19 @@ fn note_assignment(
 }
 
 /// An assignment to a name.
-pub fn assignment(
+pub fn assignment<'a>(
     alloc: Global,
+    names: &Scope<'a>,
     first: &mut First,
-    names: &Scope<'_>,
-    earlier: &[Procedure<'_>],
+    earlier: &[Procedure<'a>],
     control: Label,
-    assignment: &Assignment<'_>,
+    assignment: &Assignment<'a>,
 ) -> Result<(), AllocError>
     ensures { OnOk result (first.new.seen ≡ fold sooner first.old.seen (statement_violations (map procedure_tree earlier.now) names.now control (statement_tree (Assign assignment.now)))) }
 {
     let variable = names.variable(assignment.name);
     first.note_if(variable.is_none(), assignment.target, Rule::UndeclaredName);
-    let given = right_side(alloc, first, names, earlier, control, &assignment.value)?;
+    let given = right_side(alloc, names, first, earlier, control, &assignment.value)?;
     note_assignment(first, assignment.place, control, variable, given);
     Ok(())
 }
@@ -101,21 +101,21 @@ fn note_element_assignment(
 }
 
 /// An assignment to an element.
-pub fn element_assignment(
+pub fn element_assignment<'a>(
     alloc: Global,
+    names: &Scope<'a>,
     first: &mut First,
-    names: &Scope<'_>,
-    earlier: &[Procedure<'_>],
+    earlier: &[Procedure<'a>],
     control: Label,
-    assignment: &ElementAssignment<'_>,
+    assignment: &ElementAssignment<'a>,
 ) -> Result<(), AllocError>
     ensures { OnOk result (first.new.seen ≡ fold sooner first.old.seen (statement_violations (map procedure_tree earlier.now) names.now control (statement_tree (AssignElement assignment.now)))) }
 {
     let variable = names.variable(assignment.name);
-    let array = name(first, names, assignment.target, assignment.name);
-    let index = expression(first, names, &assignment.index);
+    let array = name(names, first, assignment.target, assignment.name);
+    let index = expression(names, first, &assignment.index);
     let element = element(first, assignment.bracket, array, index);
-    let given = right_side(alloc, first, names, earlier, control, &assignment.value)?;
+    let given = right_side(alloc, names, first, earlier, control, &assignment.value)?;
     note_element_assignment(first, assignment.place, control, variable, element, given);
     Ok(())
 }

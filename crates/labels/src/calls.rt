@@ -26,13 +26,13 @@ fn result_value(of: Option<WordType>) -> ValueType
 }
 
 /// Notes what well-typed arguments violate, and says whether they violate nothing.
-fn note_arguments(
+fn note_arguments<'a>(
     alloc: Global,
+    names: &Scope<'a>,
     first: &mut First,
-    names: &Scope<'_>,
-    parameters: &[Parameter<'_>],
+    parameters: &[Parameter<'a>],
     types: &[ValueType],
-    call: &Call<'_>,
+    call: &Call<'a>,
 ) -> Result<bool, AllocError>
     requires { length types.now ≡ length call.now.arguments.items }
     ensures met { IfOk result (λ met. met ≡ are_met (arguments_rules names.now (map parameter_tree parameters.now) types.now (map expr_tree call.now.arguments.items))) }
@@ -43,7 +43,7 @@ fn note_arguments(
         first.note_if(true, call.place, Rule::ArgumentCount);
         return Ok(false);
     }
-    let met = note_all_passed(first, names, call.place, parameters, types, arguments);
+    let met = note_all_passed(names, first, call.place, parameters, types, arguments);
     let clash = arrays_clash(alloc, parameters, types, arguments)?;
     first.note_if(clash, call.place, Rule::ArrayPassedTwice);
     Ok(met && !clash)
@@ -82,19 +82,19 @@ fn given(met: bool, wanted: Option<WordType>) -> Option<ValueType>
 }
 
 /// Notes what a call violates, and gives its type where it is well typed.
-pub fn call(
+pub fn call<'a>(
     alloc: Global,
+    names: &Scope<'a>,
     first: &mut First,
-    names: &Scope<'_>,
-    earlier: &[Procedure<'_>],
+    earlier: &[Procedure<'a>],
     control: Label,
-    call: &Call<'_>,
+    call: &Call<'a>,
 ) -> Result<Option<ValueType>, AllocError>
     ensures typed { IfOk result (λ type. type ≡ call_type (map procedure_tree earlier.now) names.now control (call_tree call.now)) }
     ensures first { OnOk result (first.new.seen ≡ fold sooner first.old.seen (call_violations (map procedure_tree earlier.now) names.now control (call_tree call.now))) }
 {
     let arguments = call.arguments.as_slice();
-    let Some(types) = expressions(alloc, first, names, arguments)? else {
+    let Some(types) = expressions(alloc, names, first, arguments)? else {
         return Ok(None);
     };
     let Some((callee, procedure)) = called(earlier, names.callee(call.name)) else {
@@ -102,7 +102,7 @@ pub fn call(
         return Ok(None);
     };
     let parameters = procedure.parameters.as_slice();
-    let met = note_arguments(alloc, first, names, parameters, types.as_slice(), call)?;
+    let met = note_arguments(alloc, names, first, parameters, types.as_slice(), call)?;
     let allowed = note_call_control(first, call.place, control, callee);
     Ok(given(met && allowed, procedure.result))
 }

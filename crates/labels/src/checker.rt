@@ -58,7 +58,7 @@ impl<'p, 'a> Checked<'p, 'a> {
 }
 
 /// Notes that no procedure is exported, or which further ones are; and counts those before the first.
-fn note_exports(first: &mut First, procedures: &[Procedure<'_>]) -> Option<usize>
+fn note_exports(procedures: &[Procedure<'_>], first: &mut First) -> Option<usize>
     ensures first { first.new.seen ≡ fold sooner first.old.seen (export_violations (exports (map procedure_tree procedures.now))) }
     ensures export { result ≡ export_index (exported [] (map procedure_tree procedures.now)) }
 {
@@ -76,16 +76,16 @@ fn note_exports(first: &mut First, procedures: &[Procedure<'_>]) -> Option<usize
 /// Notes what the procedures violate, where this is the observer.
 fn note_procedures(
     alloc: Global,
+    procedures: &[Procedure<'_>],
     first: &mut First,
     profile: Profile,
-    procedures: &[Procedure<'_>],
 ) -> Result<(), AllocError>
     ensures first { OnOk result (first.new.seen ≡ fold sooner first.old.seen (procedures_violations [] (empty profile) (map procedure_tree procedures.now))) }
     ensures memory { procedures.now ≡ [] → IsOk result }
 {
     let mut names = Scope::new(alloc, profile);
     for (index, it) in procedures.iter().enumerate() {
-        procedure(alloc, first, &mut names, &procedures[..index], it)?;
+        procedure(alloc, &mut names, first, &procedures[..index], it)?;
     }
     Ok(())
 }
@@ -105,8 +105,8 @@ pub fn check_as<'p, 'a>(
 {
     let mut first = First { seen: None };
     let procedures = program.procedures();
-    let export = note_exports(&mut first, procedures);
-    note_procedures(alloc, &mut first, profile, procedures)?;
+    let export = note_exports(procedures, &mut first);
+    note_procedures(alloc, procedures, &mut first, profile)?;
     if let Some(violation) = first.seen {
         return Err(Refusal::at(violation.rule, violation.place));
     }

@@ -57,11 +57,11 @@ impl<'a> Arrays<'a> {
 }
 
 /// Whether one array is given twice and may be changed.
-pub fn arrays_clash(
+pub fn arrays_clash<'a>(
     alloc: Global,
-    parameters: &[Parameter<'_>],
+    parameters: &[Parameter<'a>],
     types: &[ValueType],
-    arguments: &[Expr<'_>],
+    arguments: &[Expr<'a>],
 ) -> Result<bool, AllocError>
     requires types { length types.now ≡ length parameters.now }
     requires arguments { length arguments.now ≡ length parameters.now }

@@ -19,20 +19,20 @@ use scopes::Scope;
 use std::alloc::{AllocError, Global};
 
 /// Notes what a right side violates, and gives its type where it is well typed.
-pub fn right_side(
+pub fn right_side<'a>(
     alloc: Global,
+    names: &Scope<'a>,
     first: &mut First,
-    names: &Scope<'_>,
-    earlier: &[Procedure<'_>],
+    earlier: &[Procedure<'a>],
     control: Label,
-    right: &RightSide<'_>,
+    right: &RightSide<'a>,
 ) -> Result<Option<ValueType>, AllocError>
     ensures typed { IfOk result (λ type. type ≡ right_type (map procedure_tree earlier.now) names.now control (right_tree right.now)) }
     ensures first { OnOk result (first.new.seen ≡ fold sooner first.old.seen (right_violations (map procedure_tree earlier.now) names.now control (right_tree right.now))) }
 {
     match right {
-        RightSide::Call(it) => call(alloc, first, names, earlier, control, it),
-        RightSide::Value(expr) => Ok(expression(first, names, expr)),
+        RightSide::Call(it) => call(alloc, names, first, earlier, control, it),
+        RightSide::Value(expr) => Ok(expression(names, first, expr)),
     }
 }
 
@@ -72,8 +72,8 @@ fn note_declaration(
 /// A declaration of a word: its name is in scope from here on.
 pub fn declaration<'a>(
     alloc: Global,
-    first: &mut First,
     names: &mut Scope<'a>,
+    first: &mut First,
     earlier: &[Procedure<'a>],
     control: Label,
     declaration: &Declaration<'a>,
@@ -81,7 +81,7 @@ pub fn declaration<'a>(
     ensures names { OnOk result (names.new ≡ scope_after names.old (statement_tree (Declare declaration.now))) }
     ensures first { OnOk result (first.new.seen ≡ fold sooner first.old.seen (statement_violations (map procedure_tree earlier.now) names.old control (statement_tree (Declare declaration.now)))) }
 {
-    let given = right_side(alloc, first, names, earlier, control, &declaration.value)?;
+    let given = right_side(alloc, names, first, earlier, control, &declaration.value)?;
     let variable = VariableType {
         value: ValueType::word(declaration.kind, declaration.label),
         mutable: declaration.mutable,
@@ -133,26 +133,26 @@ fn note_array(
 }
 
 /// Notes what an array's written values violate, and gives their types where all are well typed.
-fn written(
+fn written<'a>(
     alloc: Global,
+    names: &Scope<'a>,
     first: &mut First,
-    names: &Scope<'_>,
-    values: &Option<Vec<Expr<'_>>>,
+    values: &Option<Vec<Expr<'a>>>,
 ) -> Result<Option<Vec<ValueType>>, AllocError>
     ensures typed { IfOk result (λ types. option_map (λ given. given.items) types ≡ types_of names.now (written (values_tree values.now))) }
     ensures first { OnOk result (first.new.seen ≡ fold sooner first.old.seen (exprs_violations names.now (written (values_tree values.now)))) }
 {
     match values {
         None => Ok(Some(Vec::new(alloc))),
-        Some(values) => expressions(alloc, first, names, values.as_slice()),
+        Some(values) => expressions(alloc, names, first, values.as_slice()),
     }
 }
 
 /// A declaration of an array: its name is in scope from here on.
 pub fn array<'a>(
     alloc: Global,
-    first: &mut First,
     names: &mut Scope<'a>,
+    first: &mut First,
     control: Label,
     array: &ArrayDeclaration<'a>,
 ) -> Result<(), AllocError>
@@ -162,7 +162,7 @@ pub fn array<'a>(
         ++ at array.now.place (of_all [] (array_rules control (is_some (found names.old array.now.name.now)) array.now.label array.now.mutable array.now.kind array.now.length (values_tree array.now.values))
         (types_of names.old (written (values_tree array.now.values)))))) }
 {
-    let types = written(alloc, first, names, &array.values)?;
+    let types = written(alloc, names, first, &array.values)?;
     let element = WordType {
         kind: array.kind,
         label: array.label,

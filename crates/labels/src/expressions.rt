@@ -22,7 +22,7 @@ fn value_of(variable: Option<VariableType>) -> Option<ValueType>
 }
 
 /// Notes a name that is no variable's, and gives the type of the variable.
-pub fn name(first: &mut First, names: &Scope<'_>, place: Place, text: &str) -> Option<ValueType>
+pub fn name(names: &Scope<'_>, first: &mut First, place: Place, text: &str) -> Option<ValueType>
     ensures typed { result ≡ name_type names.now text.now }
     ensures first { first.new.seen ≡ fold sooner first.old.seen (at place (name_rules names.now text.now)) }
 {
@@ -32,51 +32,51 @@ pub fn name(first: &mut First, names: &Scope<'_>, place: Place, text: &str) -> O
 }
 
 /// Notes what an expression's nodes violate, and gives its type where it is well typed.
-pub fn expression(first: &mut First, names: &Scope<'_>, expr: &Expr<'_>) -> Option<ValueType>
+pub fn expression<'a>(names: &Scope<'a>, first: &mut First, expr: &Expr<'a>) -> Option<ValueType>
     ensures typed { result ≡ type_of names.now (expr_tree expr.now) }
     ensures first { first.new.seen ≡ fold sooner first.old.seen (expr_violations names.now (expr_tree expr.now)) }
 {
     match expr {
         Expr::Number(place, value, kind) => number(first, *place, *value, *kind),
         Expr::Truth(_, _) => Some(ValueType::word(Kind::Boolean, Label::Public)),
-        Expr::Name(place, text) => name(first, names, *place, text),
+        Expr::Name(place, text) => name(names, first, *place, text),
         Expr::Prefix(place, operator, operand) => {
-            let operand = expression(first, names, operand);
+            let operand = expression(names, first, operand);
             prefix(first, *place, *operator, operand)
         }
         Expr::Binary(place, operator, left, right) => {
-            let left = expression(first, names, left);
-            let right = expression(first, names, right);
+            let left = expression(names, first, left);
+            let right = expression(names, first, right);
             binary(first, names.profile(), *place, *operator, left, right)
         }
         Expr::Rotate(place, operand, amount) => {
-            let operand = expression(first, names, operand);
+            let operand = expression(names, first, operand);
             rotate(first, *place, *amount, operand)
         }
         Expr::Convert(place, kind, operand) => {
-            let operand = expression(first, names, operand);
+            let operand = expression(names, first, operand);
             convert(first, *place, *kind, operand)
         }
         Expr::Select(place, condition, accepted, otherwise) => {
-            let condition = expression(first, names, condition);
-            let accepted = expression(first, names, accepted);
-            let otherwise = expression(first, names, otherwise);
+            let condition = expression(names, first, condition);
+            let accepted = expression(names, first, accepted);
+            let otherwise = expression(names, first, otherwise);
             choice(first, *place, condition, accepted, otherwise)
         }
         Expr::Element(place, target, text, index) => {
-            let array = name(first, names, *target, text);
-            let index = expression(first, names, index);
+            let array = name(names, first, *target, text);
+            let index = expression(names, first, index);
             element(first, *place, array, index)
         }
     }
 }
 
 /// Notes what expressions violate, and gives their types where all are well typed.
-pub fn expressions(
+pub fn expressions<'a>(
     alloc: Global,
+    names: &Scope<'a>,
     first: &mut First,
-    names: &Scope<'_>,
-    exprs: &[Expr<'_>],
+    exprs: &[Expr<'a>],
 ) -> Result<Option<Vec<ValueType>>, AllocError>
     ensures count { IfOk result (λ types. IfSome types (λ given. length given.items ≡ length exprs.now)) }
     ensures typed { IfOk result (λ types. option_map (λ given. given.items) types ≡ types_of names.now (map expr_tree exprs.now)) }
@@ -85,7 +85,7 @@ pub fn expressions(
     let mut types = Vec::new(alloc);
     let mut typed = true;
     for expr in exprs {
-        match expression(first, names, expr) {
+        match expression(names, first, expr) {
             Some(one) => types.push(one)?,
             None => typed = false,
         }

@@ -1,6 +1,6 @@
-ghost use Rattle.std.specs.Prelude.{◌≡◌, fold, nat_lt, ◌^◌, None, []};
+ghost use Rattle.std.specs.Prelude.{◌≡◌, fold, None, []};
 ghost use Rattle.language.specs.ExprTyping.{binary_rules, binary_type, convert_rules, convert_type, element_rules, element_type, number_rules, prefix_rules, prefix_type, rotate_rules, rotate_type, select_rules, select_type};
-ghost use Rattle.language.specs.Types.{at, bits_of, of_one, of_two, of_three, unless, word};
+ghost use Rattle.language.specs.Types.{at, of_one, of_two, of_three, unless, word};
 ghost use Rattle.language.specs.declared.signature.Label.TheVariants.{Public};
 ghost use Rattle.language.specs.Sooner.{sooner};
 
@@ -8,25 +8,12 @@ use language::{
     BinaryOperator, First, Kind, Label, Place, PrefixOperator, Profile, Rule, ValueType,
 };
 
-/// Whether a number is one of its kind.
-fn is_within(value: u32, kind: Kind) -> bool
-    ensures { result ≡ nat_lt value (2 ^ bits_of kind) }
-{
-    let limit: u64 = match kind {
-        Kind::Boolean => 2,
-        Kind::Uint8 => 0x100,
-        Kind::Uint16 => 0x1_0000,
-        Kind::Uint32 => 0x1_0000_0000,
-    };
-    u64::from(value) < limit
-}
-
 /// Notes what a number violates, and gives its type where it is well typed, as each function below.
 pub fn number(first: &mut First, place: Place, value: u32, kind: Kind) -> Option<ValueType>
     ensures typed { result ≡ unless (number_rules value kind) (word kind Public) }
     ensures first { first.new.seen ≡ fold sooner first.old.seen (at place (number_rules value kind)) }
 {
-    let within = is_within(value, kind);
+    let within = kind.includes(value);
     first.note_if(!within, place, Rule::LiteralOutOfRange);
     within.then_some(ValueType::word(kind, Label::Public))
 }

@@ -18,8 +18,8 @@ use std::alloc::{AllocError, Global};
 
 /// Declares the parameters, and notes the names that are taken.
 fn parameters<'a>(
-    first: &mut First,
     names: &mut Scope<'a>,
+    first: &mut First,
     parameters: &[Parameter<'a>],
 ) -> Result<(), AllocError>
     ensures names { OnOk result (names.new ≡ with_parameters names.old (map parameter_tree parameters.now)) }
@@ -52,16 +52,16 @@ fn note_return(first: &mut First, place: Place, wanted: Option<WordType>, given:
 }
 
 /// The `return` of a procedure with this type of result.
-fn returned(
+fn returned<'a>(
+    names: &Scope<'a>,
     first: &mut First,
-    names: &Scope<'_>,
     wanted: Option<WordType>,
-    returned: &Option<Return<'_>>,
+    returned: &Option<Return<'a>>,
 )
     ensures { first.new.seen ≡ fold sooner first.old.seen (return_violations names.now wanted (option_map return_tree returned.now)) }
 {
     if let Some(it) = returned {
-        let given = expression(first, names, &it.value);
+        let given = expression(names, first, &it.value);
         note_return(first, it.place, wanted, given);
     }
 }
@@ -79,8 +79,8 @@ fn note_procedure(first: &mut First, taken: bool, procedure: &Procedure<'_>)
 /// own.
 pub fn procedure<'a>(
     alloc: Global,
-    first: &mut First,
     names: &mut Scope<'a>,
+    first: &mut First,
     earlier: &[Procedure<'a>],
     procedure: &Procedure<'a>,
 ) -> Result<(), AllocError>
@@ -94,10 +94,10 @@ pub fn procedure<'a>(
     let taken = names.declare(procedure.name, Declared::Procedure(callee))?;
     let outside = names.len();
     note_procedure(first, taken, procedure);
-    parameters(first, names, procedure.parameters.as_slice())?;
+    parameters(names, first, procedure.parameters.as_slice())?;
     let body = procedure.body.as_slice();
-    statements(alloc, first, names, earlier, Label::Public, body)?;
-    returned(first, names, procedure.result, &procedure.returned);
+    statements(alloc, names, first, earlier, Label::Public, body)?;
+    returned(names, first, procedure.result, &procedure.returned);
     names.truncate(outside);
     Ok(())
 }

@@ -54,8 +54,8 @@ fn note_bounds(first: &mut First, place: Place, low: Option<ValueType>, high: Op
 #[cycle(statement)]
 fn statement<'a>(
     alloc: Global,
-    first: &mut First,
     names: &mut Scope<'a>,
+    first: &mut First,
     earlier: &[Procedure<'a>],
     control: Label,
     statement: &Statement<'a>,
@@ -64,31 +64,31 @@ fn statement<'a>(
     ensures first { OnOk result (first.new.seen ≡ fold sooner first.old.seen (statement_violations (map procedure_tree earlier.now) names.old control (statement_tree statement.now))) }
 {
     match statement {
-        Statement::Declare(it) => declaration(alloc, first, names, earlier, control, it),
-        Statement::DeclareArray(it) => array(alloc, first, names, control, it),
-        Statement::Assign(it) => assignment(alloc, first, names, earlier, control, it),
+        Statement::Declare(it) => declaration(alloc, names, first, earlier, control, it),
+        Statement::DeclareArray(it) => array(alloc, names, first, control, it),
+        Statement::Assign(it) => assignment(alloc, names, first, earlier, control, it),
         Statement::AssignElement(it) => {
-            element_assignment(alloc, first, names, earlier, control, it)
+            element_assignment(alloc, names, first, earlier, control, it)
         }
         Statement::Call(it) => {
-            call(alloc, first, names, earlier, control, it)?;
+            call(alloc, names, first, earlier, control, it)?;
             Ok(())
         }
         Statement::If(place, condition, accepted, otherwise) => {
-            let condition = expression(first, names, condition);
+            let condition = expression(names, first, condition);
             note_condition(first, *place, condition);
             let control = control_under(control, condition);
-            arm(alloc, first, names, earlier, control, accepted.as_slice())?;
-            arm(alloc, first, names, earlier, control, otherwise.as_slice())
+            arm(alloc, names, first, earlier, control, accepted.as_slice())?;
+            arm(alloc, names, first, earlier, control, otherwise.as_slice())
         }
         Statement::For(place, counter, low, high, body) => {
-            let low = expression(first, names, low);
-            let high = expression(first, names, high);
+            let low = expression(names, first, low);
+            let high = expression(names, first, high);
             note_bounds(first, *place, low, high);
             turns(
                 alloc,
-                first,
                 names,
+                first,
                 earlier,
                 control,
                 counter,
@@ -102,8 +102,8 @@ fn statement<'a>(
 #[cycle(statement)]
 fn arm<'a>(
     alloc: Global,
-    first: &mut First,
     names: &mut Scope<'a>,
+    first: &mut First,
     earlier: &[Procedure<'a>],
     control: Label,
     arm: &[Statement<'a>],
@@ -112,7 +112,7 @@ fn arm<'a>(
     ensures first { OnOk result (first.new.seen ≡ fold sooner first.old.seen (block_violations (map procedure_tree earlier.now) names.old control (block_tree arm.now))) }
 {
     let outside = names.len();
-    statements(alloc, first, names, earlier, control, arm)?;
+    statements(alloc, names, first, earlier, control, arm)?;
     names.truncate(outside);
     Ok(())
 }
@@ -121,8 +121,8 @@ fn arm<'a>(
 #[cycle(statement)]
 fn turns<'a>(
     alloc: Global,
-    first: &mut First,
     names: &mut Scope<'a>,
+    first: &mut First,
     earlier: &[Procedure<'a>],
     control: Label,
     counter: &Counter<'a>,
@@ -140,7 +140,7 @@ fn turns<'a>(
     };
     let taken = names.declare(counter.name, Declared::Variable(variable))?;
     first.note_if(taken, counter.place, Rule::NameDeclaredTwice);
-    statements(alloc, first, names, earlier, control, body)?;
+    statements(alloc, names, first, earlier, control, body)?;
     names.truncate(before);
     Ok(())
 }
@@ -149,8 +149,8 @@ fn turns<'a>(
 #[cycle(statement)]
 pub fn statements<'a>(
     alloc: Global,
-    first: &mut First,
     names: &mut Scope<'a>,
+    first: &mut First,
     earlier: &[Procedure<'a>],
     control: Label,
     statements: &[Statement<'a>],
@@ -159,7 +159,7 @@ pub fn statements<'a>(
     ensures first { OnOk result (first.new.seen ≡ fold sooner first.old.seen (block_violations (map procedure_tree earlier.now) names.old control (block_tree statements.now))) }
 {
     for one in statements {
-        statement(alloc, first, names, earlier, control, one)?;
+        statement(alloc, names, first, earlier, control, one)?;
     }
     Ok(())
 }

@@ -1,4 +1,4 @@
-ghost use Rattle.std.specs.Prelude.{◌≡◌};
+ghost use Rattle.std.specs.Prelude.{◌≡◌, ◌^◌, nat_lt};
 
 use word::Width;
 
@@ -26,6 +26,19 @@ impl Kind {
             Kind::Uint16 => 16,
             Kind::Uint32 => 32,
         }
+    }
+
+    /// Whether a number is one of its kind.
+    pub fn includes(self, value: u32) -> bool
+        ensures { result ≡ nat_lt value (2 ^ bits_of self) }
+    {
+        let limit: u64 = match self {
+            Kind::Boolean => 2,
+            Kind::Uint8 => 0x100,
+            Kind::Uint16 => 0x1_0000,
+            Kind::Uint32 => 0x1_0000_0000,
+        };
+        u64::from(value) < limit
     }
 
     /// Whether it is that of numbers.

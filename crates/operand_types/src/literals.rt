@@ -17,7 +17,7 @@ use crate::comparisons::{called_one, first_of_values};
 use crate::expressions::{name_type, type_of};
 use crate::mismatch::{Mismatch, first_argument};
 use crate::nodes::Node;
-use crate::operators::{element, is_within};
+use crate::operators::element;
 use crate::sites::Site;
 use language::{
     ArrayDeclaration, Call, Expr, Kind, Label, Operation, Parameter, Procedure, Return, RightSide,
@@ -30,7 +30,7 @@ use std::alloc::{AllocError, Global};
 fn number_as(value: u32, wanted: ValueType) -> Option<(u32, Kind)>
     ensures { result ≡ number_as value wanted }
 {
-    if wanted.is_numeric() && is_within(value, wanted.kind()) {
+    if wanted.is_numeric() && wanted.kind().includes(value) {
         Some((value, wanted.kind()))
     } else {
         None

@@ -1,29 +1,16 @@
-ghost use Rattle.std.specs.Prelude.{◌≡◌, nat_lt, ◌^◌, None};
+ghost use Rattle.std.specs.Prelude.{◌≡◌, None};
 ghost use Rattle.language.specs.ExprTyping.{binary_type, convert_type, element_type, number_rules, prefix_type, rotate_type, select_type};
-ghost use Rattle.language.specs.Types.{bits_of, of_one, of_two, of_three, unless, word};
+ghost use Rattle.language.specs.Types.{of_one, of_two, of_three, unless, word};
 ghost use Rattle.language.specs.declared.signature.Label.TheVariants.{Public};
 
 use language::{BinaryOperator, Kind, Label, PrefixOperator, Profile, ValueType};
-
-/// Whether a number is one of its kind.
-pub fn is_within(value: u32, kind: Kind) -> bool
-    ensures { result ≡ nat_lt value (2 ^ bits_of kind) }
-{
-    let limit: u64 = match kind {
-        Kind::Boolean => 2,
-        Kind::Uint8 => 0x100,
-        Kind::Uint16 => 0x1_0000,
-        Kind::Uint32 => 0x1_0000_0000,
-    };
-    u64::from(value) < limit
-}
 
 /// The type of a number, where it is well typed, as of each node below by the types of its parts.
 pub fn number(value: u32, kind: Kind) -> Option<ValueType>
     ensures { result ≡ unless (number_rules value kind) (word kind Public) }
 {
-    let within = is_within(value, kind);
-    within.then_some(ValueType::word(kind, Label::Public))
+    kind.includes(value)
+        .then_some(ValueType::word(kind, Label::Public))
 }
 
 /// A sign before an operand.

@@ -20,7 +20,7 @@ pub fn calls_line(alloc: Global, at: u32, program: &Program<'_>) -> Result<Strin
 {
     match procedure_at(at, program) {
         Some(procedure) => {
-            let places = call_places(alloc, procedure.name, program)?;
+            let places = call_places(alloc, program, procedure.name)?;
             called_line(alloc, procedure.name, places.as_slice())
         }
         None => Ok(String::new(alloc)),

@@ -21,10 +21,10 @@ pub fn inlined_size_lines(alloc: Global, program: &Program<'_>) -> Result<String
 }
 
 /// The same of an export behind the procedures that it may call.
-fn inlined_size_line(
+fn inlined_size_line<'a>(
     alloc: Global,
-    earlier: &[Procedure<'_>],
-    export: &Procedure<'_>,
+    earlier: &[Procedure<'a>],
+    export: &Procedure<'a>,
 ) -> Result<String, AllocError>
     ensures { IfOk result (λ line. string_bytes line ≡ inlined_size_line (map procedure_tree earlier.now) (procedure_tree export.now)) }
 {

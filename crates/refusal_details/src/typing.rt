@@ -7,7 +7,8 @@ ghost use Rattle.language.specs.Tree.{program_tree};
 ghost use Rattle.misfits.specs.MisfitLines.{misfit_line, missing_return_line, named_at};
 ghost use Rattle.misfits.specs.declared.misfit.Misfit.TheVariants.{Returns};
 ghost use Rattle.operand_types.specs.Found.{site as site_of};
-ghost use Rattle.refusal_details.specs.TypingLines.{condition_lines, label_lines, typing_lines, width_lines};
+ghost use Rattle.refusal_details.specs.TypingLines.{condition_lines, label_lines, topic_lines, typing_lines, width_lines};
+ghost use Rattle.refusal_details.specs.TypingLines.{site_of as found_at};
 
 use crate::topics::{Topic, topic_of};
 use language::{Place, Profile, Program, Rule};
@@ -38,9 +39,9 @@ fn label_lines(alloc: Global, site: &Option<Site<'_, '_>>) -> Result<String, All
 /// What is returned or is not, behind so many bytes.
 fn return_lines(
     alloc: Global,
+    site: &Option<Site<'_, '_>>,
     at: u32,
     program: &Program<'_>,
-    site: &Option<Site<'_, '_>>,
 ) -> Result<String, AllocError>
     ensures { IfOk result (λ lines. string_bytes lines
         ≡ misfit_line Returns (option_map site_of site.now) ++ missing_return_line (named_at at (program_tree program.now).procedures)) }
@@ -69,6 +70,29 @@ fn condition_lines(
     }
 }
 
+/// What is said of what stands at a place, where it violates a rule that is about this.
+fn topic_lines(
+    alloc: Global,
+    site: &Option<Site<'_, '_>>,
+    program: &Program<'_>,
+    at: u32,
+    topic: Topic,
+) -> Result<String, AllocError>
+    requires { option_map site_of site.now ≡ found_at at (program_tree program.now) }
+    ensures { IfOk result (λ lines. string_bytes lines ≡ topic_lines topic at (program_tree program.now)) }
+{
+    match topic {
+        Topic::Widths => width_lines(alloc, site),
+        Topic::Types(mismatch) => type_lines(alloc, mismatch, site),
+        Topic::Misfits(misfit) => misfit_line(alloc, misfit, site),
+        Topic::Returned => return_lines(alloc, site, at, program),
+        Topic::Labels => label_lines(alloc, site),
+        Topic::Condition => condition_lines(alloc, program, under_at(site)),
+        Topic::Secret => secret_line(alloc, site),
+        Topic::Nothing => Ok(String::new(alloc)),
+    }
+}
+
 /// What is said of a violation of a rule on types and labels behind so many bytes; nothing of other rules.
 pub fn typing_lines(
     alloc: Global,
@@ -79,14 +103,5 @@ pub fn typing_lines(
     ensures { IfOk result (λ lines. string_bytes lines ≡ typing_lines rule at (program_tree program.now)) }
 {
     let site = site_at(alloc, at, Profile::P1, program)?;
-    match topic_of(rule) {
-        Topic::Widths => width_lines(alloc, &site),
-        Topic::Types(mismatch) => type_lines(alloc, mismatch, &site),
-        Topic::Misfits(misfit) => misfit_line(alloc, misfit, &site),
-        Topic::Returned => return_lines(alloc, at, program, &site),
-        Topic::Labels => label_lines(alloc, &site),
-        Topic::Condition => condition_lines(alloc, program, under_at(&site)),
-        Topic::Secret => secret_line(alloc, &site),
-        Topic::Nothing => Ok(String::new(alloc)),
-    }
+    topic_lines(alloc, &site, program, at, topic_of(rule))
 }

@@ -27,14 +27,14 @@ pub fn work_lines(alloc: Global, program: &Program<'_>) -> Result<String, Refusa
     ensures memory { IfErr result (λ refusal. IsWantOfMemory refusal.rule refusal.place) }
 {
     let flat = flat_in(alloc, program)?;
-    Ok(flat_line(alloc, &flat, program)?)
+    Ok(flat_line(alloc, program, &flat)?)
 }
 
 /// The same, where this is the program's export as one body, if it is made one.
 fn flat_line(
     alloc: Global,
-    flat: &Option<Flat>,
     program: &Program<'_>,
+    flat: &Option<Flat>,
 ) -> Result<String, AllocError>
     requires { (export : Option (List ProcedureTree × ProcedureTree)) × IsExportOf (program_tree program.now) export × (flat.now ≡ option_map flat_of export) }
     ensures { IfOk result (λ line. SaysWork (program_tree program.now) (string_bytes line)) }
@@ -43,17 +43,17 @@ fn flat_line(
         return Ok(String::new(alloc));
     };
     match program.exported() {
-        Some((earlier, export)) => export_line(alloc, flat, earlier, export),
+        Some((earlier, export)) => export_line(alloc, earlier, export, flat),
         None => unreachable!(),
     }
 }
 
 /// The same of an export behind the procedures that it may call.
-fn export_line(
+fn export_line<'a>(
     alloc: Global,
+    earlier: &[Procedure<'a>],
+    export: &Procedure<'a>,
     flat: &Flat,
-    earlier: &[Procedure<'_>],
-    export: &Procedure<'_>,
 ) -> Result<String, AllocError>
     requires { flat.now ≡ flattened flat.now.profile (map procedure_tree earlier.now) (procedure_tree export.now) }
     ensures { IfOk result (λ line. string_bytes line ≡ work_line (work_cost (map procedure_tree earlier.now) (procedure_tree export.now))) }

@@ -23,7 +23,6 @@ pub use Rattle.inline.proofs.Face.{
   entry,
   fails,
   flat_keeps_meaning,
-  found-kept,
   linked_parameters,
   means,
   no_names,
@@ -48,6 +47,7 @@ pub use Rattle.inline.proofs.Face.{
 }
 pub use Rattle.intervals.proofs.EvaluatedLemmas.{safe_runs_are_within_work}
 pub use Rattle.intervals.proofs.Safe.{accepted_is_safe, safe_runs_meet_no_fault}
+pub use Rattle.names.proofs.Lookup.{found-kept}
 pub use Rattle.source_eval.proofs.Opening.{program_opens}
 pub use Rattle.source_eval.proofs.RunEnds.{mismatch}
 pub use Rattle.source_eval.proofs.WorkedOut.{block-worked, passed-worked, statement-worked, value-worked, worked-out}

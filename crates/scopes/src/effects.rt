@@ -23,14 +23,14 @@ fn may_assign(callee: Option<Callee>) -> bool
 }
 
 /// Whether the call may assign to something public.
-fn call_assigns(names: &Scope<'_>, call: &Call<'_>) -> bool
+fn call_assigns<'a>(names: &Scope<'a>, call: &Call<'a>) -> bool
     ensures { result ≡ calls_one names.now (call_tree call.now) }
 {
     may_assign(names.callee(call.name))
 }
 
 /// Whether a right side may assign to something public.
-fn right_assigns(names: &Scope<'_>, right: &RightSide<'_>) -> bool
+fn right_assigns<'a>(names: &Scope<'a>, right: &RightSide<'a>) -> bool
     ensures { result ≡ right_assigns names.now (right_tree right.now) }
 {
     match right {
@@ -42,7 +42,7 @@ fn right_assigns(names: &Scope<'_>, right: &RightSide<'_>) -> bool
 /// Whether a statement declares a public name with `mut`, or calls a procedure that may assign to
 /// something public.
 #[cycle(effect)]
-fn statement_assigns(names: &Scope<'_>, statement: &Statement<'_>) -> bool
+fn statement_assigns<'a>(names: &Scope<'a>, statement: &Statement<'a>) -> bool
     ensures { result ≡ statement_assigns names.now (statement_tree statement.now) }
 {
     match statement {
@@ -62,7 +62,7 @@ fn statement_assigns(names: &Scope<'_>, statement: &Statement<'_>) -> bool
 
 /// Whether one of these statements does.
 #[cycle(effect)]
-fn block_assigns(names: &Scope<'_>, statements: &[Statement<'_>]) -> bool
+fn block_assigns<'a>(names: &Scope<'a>, statements: &[Statement<'a>]) -> bool
     ensures { result ≡ block_assigns names.now (block_tree statements.now) }
 {
     for one in statements {
@@ -87,7 +87,7 @@ fn parameters_assign(parameters: &[Parameter<'_>]) -> bool
 
 /// Whether a call of the procedure may assign to something public. The names are those of the
 /// earlier procedures.
-pub fn assigns_public(names: &Scope<'_>, procedure: &Procedure<'_>) -> bool
+pub fn assigns_public<'a>(names: &Scope<'a>, procedure: &Procedure<'a>) -> bool
     ensures { result ≡ assigns_public names.now (procedure_tree procedure.now) }
 {
     parameters_assign(procedure.parameters.as_slice())

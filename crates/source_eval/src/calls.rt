@@ -14,7 +14,10 @@ use language::{Expr, Form, Parameter};
 use std::alloc::Global;
 
 /// A copy of the array that an argument names.
-fn array_named(variables: &Variables<'_>, argument: &Expr<'_>) -> Result<Option<Value>, EvalFault>
+fn array_named<'a>(
+    variables: &Variables<'a>,
+    argument: &Expr<'a>,
+) -> Result<Option<Value>, EvalFault>
     ensures ok { IfOk result (λ value. option_map value_of value ≡ array_named (held variables.now) (expr_tree argument.now)) }
     ensures memory { IfErr result (λ fault. fault ≡ Memory) }
 {
@@ -32,10 +35,10 @@ fn array_named(variables: &Variables<'_>, argument: &Expr<'_>) -> Result<Option<
 }
 
 /// What a parameter holds: the next word, or a copy of the array that the argument names.
-fn argument_held(
-    variables: &Variables<'_>,
+fn argument_held<'a>(
+    variables: &Variables<'a>,
     form: Form,
-    argument: &Expr<'_>,
+    argument: &Expr<'a>,
     words: &[Word],
 ) -> Result<Option<Value>, EvalFault>
     ensures ok { IfOk result (λ value. option_map value_of value ≡ argument_held (held variables.now) form (expr_tree argument.now) (map word_of words.now)) }

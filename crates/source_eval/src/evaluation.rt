@@ -57,10 +57,10 @@ fn holding<'a>(
 }
 
 /// The words of each `mut` array, in parameter order.
-fn final_arrays(
+fn final_arrays<'a>(
     alloc: Global,
-    variables: &Variables<'_>,
-    parameters: &[Parameter<'_>],
+    variables: &Variables<'a>,
+    parameters: &[Parameter<'a>],
 ) -> Result<Vec<Numbers>, EvalFault>
     ensures ok { IfOk result (λ arrays. arrays.items ≡ final_arrays (held variables.now) (map parameter_tree parameters.now)) }
     ensures memory { IfErr result (λ fault. fault ≡ Memory) }
@@ -87,8 +87,8 @@ fn number(word: Option<Word>) -> Option<u32>
 /// Runs an export after the earlier procedures.
 fn run_export<'a>(
     alloc: Global,
-    left: &mut u64,
     earlier: &[Procedure<'a>],
+    left: &mut u64,
     export: &Procedure<'a>,
     args: &[Arg],
 ) -> Result<Outcome, EvalFault>
@@ -97,7 +97,7 @@ fn run_export<'a>(
 {
     let mut variables = holding(alloc, &export.parameters, args)?;
     let room = MOST_BODIES - 1;
-    let returned = body(alloc, left, room, earlier, export, &mut variables)?;
+    let returned = body(alloc, earlier, left, room, export, &mut variables)?;
     let arrays = final_arrays(alloc, &variables, &export.parameters)?;
     Ok(Outcome::new(number(returned), arrays))
 }
@@ -125,5 +125,5 @@ pub fn eval(
         return Err(EvalFault::Argument(fault));
     }
     let mut left = budget;
-    run_export(alloc, &mut left, earlier, export, args.as_slice())
+    run_export(alloc, earlier, &mut left, export, args.as_slice())
 }

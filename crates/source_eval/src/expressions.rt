@@ -17,7 +17,11 @@ use std::alloc::Global;
 
 /// The value of an expression.
 #[tactic(auto, unfolding(language::specs::Evaluation::tick, language::specs::Evaluation::andthen))]
-pub fn value(left: &mut u64, variables: &Variables<'_>, expr: &Expr<'_>) -> Result<Word, EvalFault>
+pub fn value<'a>(
+    variables: &Variables<'a>,
+    left: &mut u64,
+    expr: &Expr<'a>,
+) -> Result<Word, EvalFault>
     ensures ok { IfOk result (λ w. Ended (value (held variables.now) (expr_tree expr.now)) left.old 0 (word_of w) left.new) }
     ensures err { IfErr result (λ fault. Stopped (value (held variables.now) (expr_tree expr.now)) left.old 0 fault) }
 {
@@ -33,59 +37,59 @@ pub fn value(left: &mut u64, variables: &Variables<'_>, expr: &Expr<'_>) -> Resu
         }),
         Expr::Name(_, name) => Ok(variables.word(name)),
         Expr::Prefix(_, operator, operand) => {
-            let operand = value(left, variables, operand)?;
+            let operand = value(variables, left, operand)?;
             Ok(prefix(*operator, operand))
         }
         Expr::Binary(place, operator, one, other) => {
-            let one = value(left, variables, one)?;
-            let other = value(left, variables, other)?;
+            let one = value(variables, left, one)?;
+            let other = value(variables, left, other)?;
             binary(*place, *operator, one, other)
         }
         Expr::Rotate(_, operand, amount) => {
-            let operand = value(left, variables, operand)?;
+            let operand = value(variables, left, operand)?;
             Ok(rotate(operand, *amount))
         }
         Expr::Convert(_, kind, operand) => {
-            let operand = value(left, variables, operand)?;
+            let operand = value(variables, left, operand)?;
             Ok(convert(*kind, operand))
         }
         Expr::Select(_, condition, accepted, otherwise) => {
-            let condition = value(left, variables, condition)?;
-            let accepted = value(left, variables, accepted)?;
-            let otherwise = value(left, variables, otherwise)?;
+            let condition = value(variables, left, condition)?;
+            let accepted = value(variables, left, accepted)?;
+            let otherwise = value(variables, left, otherwise)?;
             Ok(select(condition, accepted, otherwise))
         }
         Expr::Element(place, _, name, index) => {
-            let index = value(left, variables, index)?;
+            let index = value(variables, left, index)?;
             variables.element(*place, name, index.value)
         }
     }
 }
 
 /// The values of expressions, from left to right.
-pub fn values(
+pub fn values<'a>(
     alloc: Global,
+    variables: &Variables<'a>,
     left: &mut u64,
-    variables: &Variables<'_>,
-    exprs: &[Expr<'_>],
+    exprs: &[Expr<'a>],
 ) -> Result<Vec<Word>, EvalFault>
     ensures ok { IfOk result (λ words. Ended (values (held variables.now) (map expr_tree exprs.now)) left.old 0 (map word_of words.items) left.new) }
     ensures err { IfErr result (λ fault. Stopped (values (held variables.now) (map expr_tree exprs.now)) left.old 0 fault) }
 {
     let mut words = Vec::new(alloc);
     for expr in exprs {
-        words.push(value(left, variables, expr)?)?;
+        words.push(value(variables, left, expr)?)?;
     }
     Ok(words)
 }
 
 /// The values of a call's word arguments, from left to right.
-pub fn passed(
+pub fn passed<'a>(
     alloc: Global,
+    variables: &Variables<'a>,
     left: &mut u64,
-    variables: &Variables<'_>,
-    parameters: &[Parameter<'_>],
-    arguments: &[Expr<'_>],
+    parameters: &[Parameter<'a>],
+    arguments: &[Expr<'a>],
 ) -> Result<Vec<Word>, EvalFault>
     ensures ok { IfOk result (λ words. Ended (passed (held variables.now) (word_arguments (map parameter_tree parameters.now) (map expr_tree arguments.now))) left.old 0 (map word_of words.items) left.new) }
     ensures err { IfErr result (λ fault. Stopped (passed (held variables.now) (word_arguments (map parameter_tree parameters.now) (map expr_tree arguments.now))) left.old 0 fault) }
@@ -101,7 +105,7 @@ pub fn passed(
             Form::SingleWord => {}
         }
         spend(left)?;
-        words.push(value(left, variables, argument)?)?;
+        words.push(value(variables, left, argument)?)?;
     }
     Ok(words)
 }

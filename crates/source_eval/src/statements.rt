@@ -40,8 +40,8 @@ fn array_of(alloc: Global, kind: Kind, length: u16, words: &[Word]) -> Result<Va
 #[tactic(auto, using(crate::proofs::RunLemmas::value_opens, crate::proofs::RunLemmas::values_open, crate::proofs::RunLemmas::passed_open), unfolding(language::specs::Evaluation::tick, language::specs::Evaluation::andthen, language::specs::Evaluation::inside))]
 fn declare_array<'a>(
     alloc: Global,
-    left: &mut u64,
     variables: &mut Variables<'a>,
+    left: &mut u64,
     declaration: &ArrayDeclaration<'a>,
 ) -> Result<(), EvalFault>
     ensures ok { OnOk result (Ended (array_run (held variables.old) declaration.now.name.now declaration.now.kind declaration.now.length (option_map (λ values. map expr_tree values.items) declaration.now.values)) left.old 0 (held variables.new) left.new) }
@@ -49,7 +49,7 @@ fn declare_array<'a>(
 {
     spend(left)?;
     let words = match &declaration.values {
-        Some(exprs) => values(alloc, left, variables, exprs)?,
+        Some(exprs) => values(alloc, variables, left, exprs)?,
         None => Vec::new(alloc),
     };
     let array = array_of(alloc, declaration.kind, declaration.length, &words)?;
@@ -60,9 +60,9 @@ fn declare_array<'a>(
 #[cycle(statement)]
 fn call<'a>(
     alloc: Global,
+    earlier: &[Procedure<'a>],
     left: &mut u64,
     room: u32,
-    earlier: &[Procedure<'a>],
     variables: &mut Variables<'a>,
     call: &Call<'a>,
 ) -> Result<Option<Word>, EvalFault>
@@ -75,22 +75,22 @@ fn call<'a>(
     };
     let parameters = callee.parameters.as_slice();
     let arguments = call.arguments.as_slice();
-    let words = passed(alloc, left, variables, parameters, arguments)?;
+    let words = passed(alloc, variables, left, parameters, arguments)?;
     let Some(room) = room.checked_sub(1) else {
         return Err(EvalFault::Budget);
     };
     let mut inner = begun(alloc, variables, parameters, arguments, words.as_slice())?;
-    let word = body(alloc, left, room, before, callee, &mut inner)?;
+    let word = body(alloc, before, left, room, callee, &mut inner)?;
     copy_out(variables, &inner, parameters, arguments)?;
     Ok(word)
 }
 
 /// The end of a body: its `return`, where it has one.
 #[tactic(auto, using(crate::proofs::RunLemmas::value_opens, crate::proofs::RunLemmas::values_open, crate::proofs::RunLemmas::passed_open), unfolding(language::specs::Evaluation::tick, language::specs::Evaluation::andthen, language::specs::Evaluation::inside))]
-fn end(
+fn end<'a>(
+    variables: &Variables<'a>,
     left: &mut u64,
-    variables: &Variables<'_>,
-    end: &Option<Return<'_>>,
+    end: &Option<Return<'a>>,
 ) -> Result<Option<Word>, EvalFault>
     ensures ok { IfOk result (λ w. Ended (return_run (held variables.now) (option_map return_tree end.now)) left.old 0 (returned w (held variables.now)) left.new) }
     ensures err { IfErr result (λ fault. Stopped (return_run (held variables.now) (option_map return_tree end.now)) left.old 0 fault) }
@@ -98,7 +98,7 @@ fn end(
     match end {
         Some(end) => {
             spend(left)?;
-            let word = value(left, variables, &end.value)?;
+            let word = value(variables, left, &end.value)?;
             Ok(Some(word))
         }
         None => Ok(None),
@@ -110,17 +110,17 @@ fn end(
 #[cycle(statement)]
 pub fn body<'a>(
     alloc: Global,
+    earlier: &[Procedure<'a>],
     left: &mut u64,
     room: u32,
-    earlier: &[Procedure<'a>],
     procedure: &Procedure<'a>,
     variables: &mut Variables<'a>,
 ) -> Result<Option<Word>, EvalFault>
     ensures ok { IfOk result (λ w. Ended (body_run (known_of earlier.now) (procedure_tree procedure.now) (held variables.old)) left.old room (returned w (held variables.new)) left.new) }
     ensures err { IfErr result (λ fault. Stopped (body_run (known_of earlier.now) (procedure_tree procedure.now) (held variables.old)) left.old room fault) }
 {
-    block(alloc, left, room, earlier, variables, &procedure.body)?;
-    end(left, variables, &procedure.returned)
+    block(alloc, earlier, left, room, variables, &procedure.body)?;
+    end(variables, left, &procedure.returned)
 }
 
 /// A right side.
@@ -128,9 +128,9 @@ pub fn body<'a>(
 #[cycle(statement)]
 fn right<'a>(
     alloc: Global,
+    earlier: &[Procedure<'a>],
     left: &mut u64,
     room: u32,
-    earlier: &[Procedure<'a>],
     variables: &mut Variables<'a>,
     right: &RightSide<'a>,
 ) -> Result<Option<Word>, EvalFault>
@@ -138,9 +138,9 @@ fn right<'a>(
     ensures err { IfErr result (λ fault. Stopped (right_run (known_of earlier.now) (held variables.old) (right_tree right.now)) left.old room fault) }
 {
     match right {
-        RightSide::Call(it) => call(alloc, left, room, earlier, variables, it),
+        RightSide::Call(it) => call(alloc, earlier, left, room, variables, it),
         RightSide::Value(expr) => {
-            let word = value(left, variables, expr)?;
+            let word = value(variables, left, expr)?;
             Ok(Some(word))
         }
     }
@@ -164,9 +164,9 @@ fn given(word: Option<Word>) -> Word
 #[cycle(statement)]
 fn set<'a>(
     alloc: Global,
+    earlier: &[Procedure<'a>],
     left: &mut u64,
     room: u32,
-    earlier: &[Procedure<'a>],
     variables: &mut Variables<'a>,
     name: &'a str,
     source: &RightSide<'a>,
@@ -175,7 +175,7 @@ fn set<'a>(
     ensures err { IfErr result (λ fault. Stopped (set_run (known_of earlier.now) (held variables.old) name.now (right_tree source.now)) left.old room fault) }
 {
     spend(left)?;
-    let word = right(alloc, left, room, earlier, variables, source)?;
+    let word = right(alloc, earlier, left, room, variables, source)?;
     variables.set(name, Value::Single(given(word)))
 }
 
@@ -184,9 +184,9 @@ fn set<'a>(
 #[cycle(statement)]
 fn set_element<'a>(
     alloc: Global,
+    earlier: &[Procedure<'a>],
     left: &mut u64,
     room: u32,
-    earlier: &[Procedure<'a>],
     variables: &mut Variables<'a>,
     assignment: &ElementAssignment<'a>,
 ) -> Result<(), EvalFault>
@@ -195,9 +195,9 @@ fn set_element<'a>(
 {
     spend(left)?;
     spend(left)?;
-    let index = value(left, variables, &assignment.index)?;
+    let index = value(variables, left, &assignment.index)?;
     variables.element(assignment.bracket, assignment.name, index.value)?;
-    let word = right(alloc, left, room, earlier, variables, &assignment.value)?;
+    let word = right(alloc, earlier, left, room, variables, &assignment.value)?;
     variables.set_element(assignment.name, index.value, given(word));
     Ok(())
 }
@@ -207,9 +207,9 @@ fn set_element<'a>(
 #[cycle(statement)]
 fn branch<'a>(
     alloc: Global,
+    earlier: &[Procedure<'a>],
     left: &mut u64,
     room: u32,
-    earlier: &[Procedure<'a>],
     variables: &mut Variables<'a>,
     condition: &Expr<'a>,
     accepted: &[Statement<'a>],
@@ -219,11 +219,11 @@ fn branch<'a>(
     ensures err { IfErr result (λ fault. Stopped (branch_run (held variables.old) (expr_tree condition.now) (run_all (known_of earlier.now) (held variables.old) (block_tree accepted.now)) (run_all (known_of earlier.now) (held variables.old) (block_tree otherwise.now))) left.old room fault) }
 {
     spend(left)?;
-    let condition = value(left, variables, condition)?;
+    let condition = value(variables, left, condition)?;
     if is_true(condition.value) {
-        block(alloc, left, room, earlier, variables, accepted)
+        block(alloc, earlier, left, room, variables, accepted)
     } else {
-        block(alloc, left, room, earlier, variables, otherwise)
+        block(alloc, earlier, left, room, variables, otherwise)
     }
 }
 
@@ -231,9 +231,9 @@ fn branch<'a>(
 #[cycle(statement)]
 fn repeat<'a>(
     alloc: Global,
+    earlier: &[Procedure<'a>],
     left: &mut u64,
     room: u32,
-    earlier: &[Procedure<'a>],
     variables: &mut Variables<'a>,
     counter: &Counter<'a>,
     low: &Expr<'a>,
@@ -244,8 +244,8 @@ fn repeat<'a>(
     ensures err { IfErr result (λ fault. Stopped (loop_run (held variables.old) (expr_tree low.now) (expr_tree high.now) (λ i t. run_all (known_of earlier.now) (counting t counter.now.name.now i) (block_tree body.now))) left.old room fault) }
 {
     spend(left)?;
-    let first = value(left, variables, low)?;
-    let last = value(left, variables, high)?;
+    let first = value(variables, left, low)?;
+    let last = value(variables, left, high)?;
     for number in first.value..last.value {
         spend(left)?;
         let counted = Word {
@@ -253,7 +253,7 @@ fn repeat<'a>(
             value: number,
         };
         variables.set(counter.name, Value::Single(counted))?;
-        block(alloc, left, room, earlier, variables, body)?;
+        block(alloc, earlier, left, room, variables, body)?;
     }
     Ok(())
 }
@@ -263,9 +263,9 @@ fn repeat<'a>(
 #[cycle(statement)]
 fn statement<'a>(
     alloc: Global,
+    earlier: &[Procedure<'a>],
     left: &mut u64,
     room: u32,
-    earlier: &[Procedure<'a>],
     variables: &mut Variables<'a>,
     statement: &Statement<'a>,
 ) -> Result<(), EvalFault>
@@ -273,19 +273,19 @@ fn statement<'a>(
     ensures err { IfErr result (λ fault. Stopped (run (known_of earlier.now) (held variables.old) (statement_tree statement.now)) left.old room fault) }
 {
     match statement {
-        Statement::Declare(it) => set(alloc, left, room, earlier, variables, it.name, &it.value),
-        Statement::DeclareArray(it) => declare_array(alloc, left, variables, it),
-        Statement::Assign(it) => set(alloc, left, room, earlier, variables, it.name, &it.value),
-        Statement::AssignElement(it) => set_element(alloc, left, room, earlier, variables, it),
+        Statement::Declare(it) => set(alloc, earlier, left, room, variables, it.name, &it.value),
+        Statement::DeclareArray(it) => declare_array(alloc, variables, left, it),
+        Statement::Assign(it) => set(alloc, earlier, left, room, variables, it.name, &it.value),
+        Statement::AssignElement(it) => set_element(alloc, earlier, left, room, variables, it),
         Statement::Call(it) => {
-            call(alloc, left, room, earlier, variables, it)?;
+            call(alloc, earlier, left, room, variables, it)?;
             Ok(())
         }
         Statement::If(_, condition, accepted, otherwise) => branch(
-            alloc, left, room, earlier, variables, condition, accepted, otherwise,
+            alloc, earlier, left, room, variables, condition, accepted, otherwise,
         ),
         Statement::For(_, counter, low, high, body) => repeat(
-            alloc, left, room, earlier, variables, counter, low, high, body,
+            alloc, earlier, left, room, variables, counter, low, high, body,
         ),
     }
 }
@@ -294,9 +294,9 @@ fn statement<'a>(
 #[cycle(statement)]
 fn block<'a>(
     alloc: Global,
+    earlier: &[Procedure<'a>],
     left: &mut u64,
     room: u32,
-    earlier: &[Procedure<'a>],
     variables: &mut Variables<'a>,
     block: &[Statement<'a>],
 ) -> Result<(), EvalFault>
@@ -304,7 +304,7 @@ fn block<'a>(
     ensures err { IfErr result (λ fault. Stopped (run_all (known_of earlier.now) (held variables.old) (block_tree block.now)) left.old room fault) }
 {
     for one in block {
-        statement(alloc, left, room, earlier, variables, one)?;
+        statement(alloc, earlier, left, room, variables, one)?;
     }
     Ok(())
 }

@@ -33,7 +33,7 @@ use Rattle.syntax.specs.private.Machine.{element_assigned, called_alone, targete
 use Rattle.syntax.specs.private.Machine.{statement, parameter_name, labelled, parameter, parameters, returned}
 use Rattle.syntax.specs.private.Machine.{procedure_from, result_type, procedure, program, started, step, at_end, run}
 use Rattle.syntax.proofs.MachineKinds.{fits-kind, label-starts, label-no, word-no-mut}
-use Rattle.syntax.proofs.MachineSound.{and_then_some}
+use Rattle.syntax.proofs.SoundStatements.{and_then_some}
 use Rattle.syntax.proofs.MachineExpressions.{Lacks, one-run, either-run, other-run, label-run, kind-run, length-run}
 use Rattle.syntax.proofs.MachineExpressions.{expr-one-run, call-run, right-end-run, values-run}
 use Rattle.syntax.specs.declared.token.TokenKind.TheVariants as token
