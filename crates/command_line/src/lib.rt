@@ -1,6 +1,7 @@
 // What the words of a command line ask of `factc`. They are read by `clap`.
 #![tactic(auto)]
 
+mod asked;
 mod commands;
 mod grammar;
 mod options;
