@@ -5,7 +5,7 @@ use Rattle.inline.specs.declared.flat.FlatVariable.{FlatVariable}
 use Rattle.inline.specs.Flat.{TermTree, FlatTree, declare, array, assign, put, hold, skip, branch, loop, FlatBlock}
 use Rattle.inline.specs.Flat.{nothing, first, FlatProgram}
 use Rattle.inline.specs.Flat as flat
-use Rattle.inline.specs.FlatSize.{IsSized, term_nodes, tree_nodes, body_nodes}
+use Rattle.inline.specs.FlatSize.{IsSized, term_nodes, terms_nodes, value_nodes, tree_nodes, body_nodes}
 use Rattle.inline.specs.FlatTyping.{Types, types_after, with_type, IsTyped, AreTyped, IsTypedProgram}
 use Rattle.intervals.specs.Limits.{most_work}
 use Rattle.language.specs.Limits.{most_nodes}
@@ -13,11 +13,13 @@ use Rattle.intervals.specs.Work.{tree_work, body_work, ranged}
 use Rattle.language.specs.declared.signature.Label.{Label}
 use Rattle.language.specs.declared.signature.Label.TheVariants.{Public, Secret}
 use Rattle.word.specs.declared.place.Place.{Place}
-use Rattle.branch_removal.specs.Bounds.{statement_nodes, block_nodes, statement_work, block_work, taken_in_all}
-use Rattle.branch_removal.specs.Bounds.{IsBounded}
+use Rattle.branch_removal.specs.Bounds.{statement_nodes, block_nodes, statement_work, block_work, set_work}
+use Rattle.branch_removal.specs.Bounds.{IsBounded, IsCounted}
+use Rattle.branch_removal.specs.Heights.{height_of, height_of_all, height_in, height_in_all, depth_in, depth_in_all}
+use Rattle.branch_removal.specs.Heights.{result_height}
 use Rattle.branch_removal.specs.private.Removal.{set_within, put_within, removed, removed_all, controls_in}
 use Rattle.branch_removal.specs.private.Removal.{controls_in_all, straightened}
-use Rattle.branch_removal.specs.Straight.{StraightBlock, chain}
+use Rattle.branch_removal.specs.Straight.{StraightTree, StraightBlock, chain}
 use Rattle.branch_removal.specs.Straight as straight
 
 some_node : (e : TermTree) → 1 ≤ term_nodes e
@@ -89,10 +91,21 @@ module _ (most : List ℕ) where
   work-chain straight.nothing those = omega arith
   work-chain (straight.first statement these) those = omega (arith, work-chain these those)
 
+  set_little : (value : TermTree) → set_work value ≤ 1 + term_nodes value
+  set_little (flat.number value kind) = omega arith
+  set_little (flat.truth value) = omega arith
+  set_little (flat.variable x) = omega arith
+  set_little (flat.prefix operator width operand) = omega arith
+  set_little (flat.binary place operator width left right) = omega arith
+  set_little (flat.rotate width operand amount) = omega arith
+  set_little (flat.convert kind operand) = omega arith
+  set_little (flat.select condition accepted otherwise) = omega arith
+  set_little (flat.element place x size index) = omega arith
+
   work_within : (within : Option ℕ) (x : ℕ) (value : TermTree)
-      → statement_work most (set_within within x value) ≡ 1 + term_nodes value
-  work_within None x value = refl
-  work_within (Some control) x value = refl
+      → statement_work most (set_within within x value) ≤ 1 + term_nodes value
+  work_within None x value = set_little value
+  work_within (Some control) x value = omega arith
 
   work_put : (within : Option ℕ) (place : Place) (x size : ℕ) (index value : TermTree)
       → statement_work most (put_within within place x size index value)
@@ -105,13 +118,14 @@ module _ (most : List ℕ) where
       no_more_work : (types : Types) (label : Label) (s : FlatTree) → IsTyped declared types label s
           → (within : Option ℕ) (control : ℕ)
           → block_work most (removed within control s) ≤ tree_work most s
-      no_more_work types label (declare x word mutable value) typed within control = omega arith
+      no_more_work types label (declare x word mutable value) typed within control =
+          omega (arith, set_little value)
       no_more_work types label (array x word mutable size []) typed within control = omega arith
       no_more_work types label (array x word mutable size (e ∷ es)) typed within control = omega (arith, typed.2)
       no_more_work types label (assign x value) typed within control = omega (arith, work_within within x value)
       no_more_work types label (put place x size index value) typed within control =
           omega (arith, work_put within place x size index value)
-      no_more_work types label (hold x place size index) typed within control = omega arith
+      no_more_work types label (hold x place size index) typed within control = omega (arith, set_little index)
       no_more_work types label skip typed within control = omega arith
       no_more_work types label (branch Secret condition accepted otherwise) typed within control =
           let xs = removed_all (Some control) (control + 2) accepted in
@@ -140,6 +154,18 @@ module _ (most : List ℕ) where
           omega (arith, work-chain (removed within control s) (removed_all within control rest), one, more)
 
 -- Control values.
+
+abbrev mutual
+  -- how many conditions are taken in a statement
+  taken_in : StraightTree → ℕ
+  taken_in (straight.take control within condition) = 1
+  taken_in (straight.branch condition accepted otherwise) = taken_in_all accepted + taken_in_all otherwise
+  taken_in (straight.repeats x low high body) = taken_in_all body
+  taken_in s = 0
+
+  taken_in_all : StraightBlock → ℕ
+  taken_in_all straight.nothing = 0
+  taken_in_all (straight.first statement rest) = taken_in statement + taken_in_all rest
 
 taken-chain : (these those : StraightBlock)
     → taken_in_all (chain these those) ≡ taken_in_all these + taken_in_all those
@@ -212,9 +238,51 @@ mutual
   few_all nothing = omega arith
   few_all (first s rest) = max-le (omega (arith, few s)) (omega (arith, few_all rest))
 
+-- Room.
+
+height : (e : TermTree) → height_of e + 1 ≤ term_nodes e
+height (flat.prefix operator width operand) = omega (arith, height operand)
+height (flat.binary place operator width one other) = omega (arith, height one, height other)
+height (flat.rotate width operand amount) = omega (arith, height operand)
+height (flat.convert kind operand) = omega (arith, height operand)
+height (flat.select condition accepted otherwise) =
+    omega (arith, height condition, height accepted, height otherwise)
+height (flat.element place x size index) = omega (arith, height index)
+height e = omega arith
+
+heights : (es : List TermTree) → height_of_all es ≤ terms_nodes es
+heights [] = omega arith
+heights (e ∷ es) = omega (arith, height e, heights es)
+
+mutual
+  -- a statement's temporaries, its loops' words and its control values
+  statement_room : (s : StraightTree) → height_in s + 2 * depth_in s + 2 * taken_in s ≤ statement_nodes s
+  statement_room (straight.set x value) = omega (arith, height value)
+  statement_room (straight.clear x size) = omega arith
+  statement_room (straight.fill x values) = omega (arith, heights values)
+  statement_room (straight.put place x size index value) = omega (arith, height index, height value)
+  statement_room (straight.take control within condition) = omega (arith, height condition)
+  statement_room (straight.set_under control x value) = omega (arith, height value)
+  statement_room (straight.put_under control place x size index value) = omega (arith, height index, height value)
+  statement_room (straight.branch condition accepted otherwise) =
+      omega (arith, height condition, block_room accepted, block_room otherwise)
+  statement_room (straight.repeats x low high body) = omega (arith, height low, height high, block_room body)
+
+  block_room : (b : StraightBlock) → height_in_all b + 2 * depth_in_all b + 2 * taken_in_all b ≤ block_nodes b
+  block_room straight.nothing = omega arith
+  block_room (straight.first s rest) = omega (arith, statement_room s, block_room rest)
+
+result_room : (value : Option TermTree) → result_height value ≤ value_nodes value
+result_room None = omega arith
+result_room (Some value) = omega (arith, height value)
+
 -- there are no more control values than nodes
 pub few_controls : (p : FlatProgram) → IsSized p → controls_in_all p.body ≤ most_nodes
 few_controls p sized = omega (arith, few_all p.body, sized.counted, sized.nodes)
+
+-- the code has no more nodes than the source
+pub counted : (p : FlatProgram) → IsSized p → IsCounted (straightened (ranged p))
+counted p sized = omega (arith, few_nodes_all None 0 p.body, sized.counted)
 
 pub bounded : (p : FlatProgram) → IsTypedProgram p → IsSized p → (ranged p).work ≤ most_work
     → IsBounded (straightened (ranged p))
@@ -222,9 +290,14 @@ bounded p typed sized fits = record {
   lengths = sized.lengths;
   parameters = sized.parameters;
   declared = sized.declared;
-  counted = omega (arith, few_nodes_all None 0 p.body, sized.counted);
   nodes = sized.nodes;
   worked = omega (arith, no_more_work_all (ranged p).turns p.declared _ Public p.body typed.body None 0);
   work_fits = fits;
-  controls = omega (arith, controls_taken_all None 0 p.body, few_nodes_all None 0 p.body, sized.counted);
+  framed = omega (
+    arith,
+    controls_taken_all None 0 p.body,
+    block_room (removed_all None 0 p.body),
+    result_room p.value,
+    counted p sized,
+  );
 }

@@ -22,7 +22,8 @@ use Rattle.branch_removal.specs.Straight.{StraightBlock}
 use Rattle.branch_removal.specs.StraightMeaning.{start, end_of, path_along, outcome_of, path_of}
 use Rattle.branch_removal.specs.StraightTyping.{IsTypedStraight}
 use Rattle.branch_removal.proofs.Agreement.{Agree, everything, what_is_public}
-use Rattle.branch_removal.proofs.BoundLemmas.{bounded}
+use Rattle.branch_removal.proofs.BoundLemmas.{bounded, counted}
+use Rattle.branch_removal.specs.Bounds.{IsCounted}
 use Rattle.branch_removal.proofs.Fine.{fine_all, fine_both, fine_front, fine_back}
 use Rattle.branch_removal.proofs.Loose.{returns, follow_all}
 use Rattle.branch_removal.proofs.Results.{parameters_among, parameter_at, all_arrays}
@@ -111,7 +112,6 @@ is_removed p typed sized safe fits = record {
   nodes = refl;
   work = refl;
   turns = refl;
-  declared = refl;
   bounded = bounded p typed sized fits;
   typed = typed_straight p typed;
   outcome = λ args within. same_outcome p typed args;
@@ -144,3 +144,7 @@ removed_as_promised r flat kept =
     (is_removed r.flat flat.typed flat.sized
     (subst (λ (q : RangedProgram). IsSafe r.flat q.turns) kept.counted kept.safe)
     (subst (λ (q : RangedProgram). q.work ≤ most_work) kept.counted kept.worked))
+
+pub removed_counted : (r : RangedProgram) → IsFlat r.flat → IsRanged r → IsCounted (straightened r)
+removed_counted r flat kept =
+    subst (λ (q : RangedProgram). IsCounted (straightened q)) (sym kept.counted) (counted r.flat flat.sized)

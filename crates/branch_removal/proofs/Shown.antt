@@ -69,7 +69,6 @@ module _ (ranged : RangedProgram) (before after : StraightProgram) (removed : Is
     nodes = replaced.nodes ∙ removed.nodes;
     work = replaced.work ∙ removed.work;
     turns = replaced.turns ∙ removed.turns;
-    declared = replaced.declared ∙ removed.declared;
     bounded = replaced.straight.bounded;
     typed = replaced.straight.typed;
     outcome = λ args fits. replaced.outcome args (within args fits) ∙ removed.outcome args (within args fits);

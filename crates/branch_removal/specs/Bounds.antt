@@ -2,8 +2,9 @@
 use Rattle.std.specs.Prelude.{ℕ, ◌+◌, ◌*◌, ◌≤◌, List, length, map, slice_index}
 use Rattle.std.specs.List.{AllByRecursion}
 use Rattle.inline.specs.Limits.{most_variable_bytes}
-use Rattle.inline.specs.Flat.{declaration_of}
+use Rattle.inline.specs.Flat.{TermTree, number, declaration_of}
 use Rattle.inline.specs.FlatSize.{HasLength, declared_words, term_nodes, terms_nodes, value_nodes}
+use Rattle.branch_removal.specs.Heights.{depth_in_all, program_height}
 use Rattle.branch_removal.specs.Straight.{StraightTree, set, clear, fill, put, take, set_under, put_under, branch}
 use Rattle.branch_removal.specs.Straight.{repeats, StraightBlock, nothing, first, StraightProgram}
 use Rattle.intervals.specs.Limits.{most_work}
@@ -28,10 +29,15 @@ abbrev mutual
   block_nodes nothing = 0
   block_nodes (first statement rest) = statement_nodes statement + block_nodes rest
 
+-- the work of setting a word: a number needs none of its own
+abbrev pub set_work : TermTree → ℕ
+set_work (number value kind) = 1
+set_work value = 1 + term_nodes value
+
 abbrev mutual
   -- the work of a statement, with the turns that are counted for each counter: an array is as much as its elements
   pub statement_work : List ℕ → StraightTree → ℕ
-  statement_work turns (set x value) = 1 + term_nodes value
+  statement_work turns (set x value) = set_work value
   statement_work turns (clear x size) = 1 + size
   statement_work turns (fill x values) = 1 + length values + terms_nodes values
   statement_work turns (put place x size index value) = 1 + (1 + term_nodes index) + term_nodes value
@@ -47,33 +53,19 @@ abbrev mutual
   block_work turns nothing = 0
   block_work turns (first statement rest) = statement_work turns statement + block_work turns rest
 
-abbrev mutual
-  -- how many conditions are taken in a statement
-  pub taken_in : StraightTree → ℕ
-  taken_in (set x value) = 0
-  taken_in (clear x size) = 0
-  taken_in (fill x values) = 0
-  taken_in (put place x size index value) = 0
-  taken_in (take control within condition) = 1
-  taken_in (set_under control x value) = 0
-  taken_in (put_under control place x size index value) = 0
-  taken_in (branch condition accepted otherwise) = taken_in_all accepted + taken_in_all otherwise
-  taken_in (repeats x low high body) = taken_in_all body
-
-  pub taken_in_all : StraightBlock → ℕ
-  taken_in_all nothing = 0
-  taken_in_all (first statement rest) = taken_in statement + taken_in_all rest
-
 -- a program within the limits on size
 pub record IsBounded (p : StraightProgram) : Type 0 where
   pub lengths : AllByRecursion (λ (parameter : Param). HasLength parameter.form parameter.length) p.parameters
   pub parameters : 4 * declared_words (map declaration_of p.parameters) ≤ most_declared_bytes
   pub declared : 4 * declared_words p.declared ≤ most_variable_bytes
-  -- it has no more nodes than the source, whose nodes are within the limit, and it is no more work
-  pub counted : block_nodes p.body + value_nodes p.value ≤ p.nodes
+  -- the source's nodes are within the limit, and the code is no more work than the source
   pub nodes : p.nodes ≤ most_nodes
   pub worked : block_work p.turns p.body + value_nodes p.value ≤ p.work
   pub work_fits : p.work ≤ most_work
-  -- there are at most two control values for each condition that is taken, and one for each node fewer than the
-  -- source has
-  pub controls : p.controls + (block_nodes p.body + value_nodes p.value) ≤ p.nodes + 2 * taken_in_all p.body
+  -- a frame has no more words behind the variables than the source has nodes: the control values, two words for each
+  -- level of loops, and the values that are needed at once
+  pub framed : p.controls + 2 * depth_in_all p.body + program_height p ≤ p.nodes
+
+-- a program of no more nodes than the source
+abbrev pub IsCounted : StraightProgram → Type 0
+IsCounted p = block_nodes p.body + value_nodes p.value ≤ p.nodes

@@ -1,6 +1,7 @@
 pub mod Straight
 pub mod StraightMeaning
 pub mod StraightTyping
+pub mod Heights
 pub mod Bounds
 pub mod Kept
 pub mod Removed

@@ -21,8 +21,6 @@ pub record IsRemoved (ranged : RangedProgram) (straight : StraightProgram) : Typ
   pub work : straight.work ≡ ranged.work
   -- how many turns each loop makes at most
   pub turns : straight.turns ≡ ranged.turns
-  -- the variables, and so how many bytes they take
-  pub declared : straight.declared ≡ ranged.flat.declared
   -- the limits on size are kept
   pub bounded : IsBounded straight
   -- it is well typed: what branches, bounds, indices and divisions go by is public, and so is what the observer sees

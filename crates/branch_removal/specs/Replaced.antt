@@ -15,7 +15,6 @@ pub record IsReplaced (before after : StraightProgram) : Type 0 where
   pub nodes : after.nodes ≡ before.nodes
   pub work : after.work ≡ before.work
   pub turns : after.turns ≡ before.turns
-  pub declared : after.declared ≡ before.declared
   -- it is well typed, and the limits on size are kept
   pub straight : IsStraight after
   -- the outcome is what it was

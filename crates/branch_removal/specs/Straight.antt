@@ -77,6 +77,21 @@ with_body p body value = record {
   value = value;
 }
 
+-- the same program with other variables, another body and another result
+abbrev pub with_variables : StraightProgram → List FlatVariable → StraightBlock → Option TermTree → StraightProgram
+with_variables p declared body value = record {
+  profile = p.profile;
+  parameters = p.parameters;
+  returned = p.returned;
+  nodes = p.nodes;
+  work = p.work;
+  turns = p.turns;
+  declared = declared;
+  controls = p.controls;
+  body = body;
+  value = value;
+}
+
 abbrev mutual
   pub straight_tree : StraightStatement → StraightTree
   straight_tree (Set x value) = set x (term_tree value)

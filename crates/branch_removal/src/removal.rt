@@ -2,6 +2,7 @@ ghost use Rattle.std.specs.Prelude.{◌≡◌, ◌+◌, ◌^◌, ◌<◌, ◌≤
 ghost use Rattle.inline.specs.Flat.{term_tree, flat_tree, flat_block};
 ghost use Rattle.language.specs.WantOfMemory.{IsWantOfMemory};
 ghost use Rattle.branch_removal.specs.private.Removal.{set_within, put_within, made, removed, removed_all, controls_in, controls_in_all};
+ghost use Rattle.branch_removal.specs.Bounds.{IsCounted};
 ghost use Rattle.branch_removal.specs.Exact.{straight_of};
 ghost use Rattle.branch_removal.specs.Removed.{IsRemoved};
 ghost use Rattle.branch_removal.specs.Straight.{straight_tree, straight_block, chain};
@@ -132,6 +133,8 @@ fn push_removed_all(
 /// decided by what is public. The body alone decides which code it is. Running out of memory alone refuses it.
 pub fn remove<'r>(alloc: Global, ranged: &'r Ranged<'_>) -> Result<Straight<'r>, Refusal>
     ensures removed { IfOk result (IsRemoved ranged.now) }
+    ensures counted { IfOk result IsCounted }
+    ensures declared { IfOk result (λ straight. straight.declared ≡ ranged.now.flat.declared) }
     ensures exact { IfOk result (λ straight. straight ≡ straight_of ranged.now) }
     ensures memory { IfErr result (λ refusal. IsWantOfMemory refusal.rule refusal.place) }
 {

@@ -2,7 +2,7 @@ ghost use Rattle.std.specs.Prelude.{◌≡◌};
 ghost use Rattle.std.specs.Option.{option_map};
 ghost use Rattle.inline.specs.Flat.{term_tree};
 ghost use Rattle.branch_removal.specs.Kept.{IsStraight};
-ghost use Rattle.branch_removal.specs.Straight.{StraightProgram, straight_block, with_body};
+ghost use Rattle.branch_removal.specs.Straight.{StraightProgram, straight_block, with_body, with_variables};
 
 use inline::{FlatVariable, Term};
 use intervals::Ranged;
@@ -105,6 +105,32 @@ impl<'f> Straight<'f> {
             work: self.work,
             turns: self.turns,
             declared: self.declared,
+            controls: self.controls,
+            body,
+            value,
+        }
+    }
+
+    /// The same with other variables, another body and another result in their place.
+    pub fn with_variables<'g>(
+        &self,
+        declared: &'g [FlatVariable],
+        body: Vec<StraightStatement>,
+        value: Option<Term>,
+    ) -> Straight<'g>
+    where
+        'f: 'g,
+        requires { IsStraight (with_variables self.now declared.now (straight_block body.items) (option_map term_tree value)) }
+        ensures { result ≡ with_variables self.now declared.now (straight_block body.items) (option_map term_tree value) }
+    {
+        Straight {
+            profile: self.profile,
+            parameters: self.parameters,
+            returned: self.returned,
+            nodes: self.nodes,
+            work: self.work,
+            turns: self.turns,
+            declared,
             controls: self.controls,
             body,
             value,
