@@ -1,7 +1,7 @@
 -- The code of a program, run: its body wherever its words stand, and the loaded image to its end. So the image is the
 -- code's.
 use Rattle.std.proofs.Common.{◌≡◌, ℕ, ◌+◌, ◌*◌, List, [], ◌∷◌, ◌++◌, length, map, drop, Some, slice_get, slice_index}
-use Rattle.std.proofs.Common.{is_some, refl, sym, ap, ap₂, ◌∙◌, subst, arith, None, Option}
+use Rattle.std.proofs.Common.{◌≤◌, length-append, is_some, refl, sym, ap, ap₂, ◌∙◌, subst, arith, None, Option}
 use Rattle.codegen.proofs.Language.{AreWithin, StraightProgram, StraightState, after_all, path_along, outcome_of}
 use Rattle.codegen.proofs.Language.{path_of, FlatVariable, types_of, Path, AreFine, seen, Arg, Profile}
 use Rattle.codegen.proofs.Language.{declaration_of}
@@ -9,7 +9,7 @@ use Rattle.codegen.proofs.Language.{Param, WordType}
 use Rattle.codegen.proofs.Logic.{length-map, All-append, option_map, setting as pieces_of}
 use Rattle.branch_removal.specs.StraightMeaning.{start as start_of}
 use Rattle.codegen.proofs.Machine.{body_words, Stand, IsPlaced, IsLoaded, RunsBehind, IsFollowedIn, loaded_at}
-use Rattle.codegen.proofs.Machine.{results_in, code_at, depth_in_all, program_code}
+use Rattle.codegen.proofs.Machine.{results_in, code_at, depth_in_all, most_words, program_code}
 use Rattle.codegen.proofs.Machine.{image_of, result_slot, HasRoom, variable_offset, slots_from, Instr}
 use Rattle.codegen.proofs.Machine.{word_of, Observation, number_at, Leads, Halts, Code, IsAt, IsInside, AreBases}
 use Rattle.codegen.proofs.Machine.{Allocation, body_of, IsFitting, IsFollowed, IsGenerated, Ecall, type_in, Slot}
@@ -24,7 +24,7 @@ use Rattle.codegen.proofs.Logic.{cheaper, beside, All-one, Placed, Placed-left, 
 use Rattle.codegen.proofs.Logic.{ecall_halts}
 use Rattle.rv_code.specs.declared.instructions.Instr.TheVariants as instr
 use Rattle.rv_machine.specs.Machine as machine
-use Rattle.codegen.proofs.ImageLemmas.{program_length, room_frame}
+use Rattle.codegen.proofs.ImageLemmas.{room_frame}
 use Rattle.inline.specs.FlatSize.{words_of}
 
 -- the state that the value is taken in
@@ -49,8 +49,9 @@ pub body_length : (a : Allocation) (p : StraightProgram)
     → length (body_words (image_of a p).words) ≡ length (body_code a p)
 body_length a p = ap (λ (ws : List ℕ). length ws) (body_words-image a p) ∙ length-map {B = ℕ} (body_code a p) word_of
 
-module _ (a : Allocation) (p : StraightProgram) (room : HasRoom p) (fitting : IsFitting p a) (code : Code)
-    (start frame : ℕ) (there : IsPlaced (image_of a p) code start frame) where
+module _ (a : Allocation) (p : StraightProgram) (room : HasRoom p) (fitting : IsFitting p a)
+    (short : length (program_code a p) ≤ most_words p.nodes) (code : Code) (start frame : ℕ)
+    (there : IsPlaced (image_of a p) code start frame) where
   -- as if the body's words stood alone
   abbrev setting : Setting
   setting = record {
@@ -77,13 +78,13 @@ module _ (a : Allocation) (p : StraightProgram) (room : HasRoom p) (fitting : Is
   body_runs : Runs setting (60 + 32 * p.work) steps (body_code a p) (Laid setting) Finished
   unfolding body_code steps Finished
   body_runs =
-      let nodes = room.nodes in
       cheaper (omega (arith, room.worked, fitting.few))
       (gives
       (λ env s t fine laid done. record { ready = done.second.second.ready; left = done.second.second.left })
       (quietly (entry_runs setting fitting.within)
       (seq
-      (block_runs setting 0 p.body room.typed.body (omega arith) (omega arith) (omega (arith, room.counted, nodes)))
+      (block_runs setting 0 p.body room.typed.body (omega arith) (omega arith)
+      (omega (arith, length-append {A = Instr}, short, room.nodes)))
       (beside (last_state p) (result_runs setting p.returned p.value room.typed.result (omega arith)))
       (λ env s t ready done. done.ready))
       (λ env s t laid ready. ready)))
@@ -166,11 +167,12 @@ module _ (a : Allocation) (p : StraightProgram) (room : HasRoom p) (fitting : Is
       })
 
 -- the machine follows the body's code, wherever it stands
-pub followed_in : (a : Allocation) (p : StraightProgram) → HasRoom p → IsFitting p a → (code : Code) (start frame : ℕ)
+pub followed_in : (a : Allocation) (p : StraightProgram) → HasRoom p → IsFitting p a
+    → length (program_code a p) ≤ most_words p.nodes → (code : Code) (start frame : ℕ)
     → IsPlaced (image_of a p) code start frame → IsFollowedIn p (image_of a p) code start frame
-followed_in a p room fitting code start frame there = record {
-  shown = λ path. ((straight a p room fitting code start frame there).leak (path ++ [])).0;
-  runs = λ args s at laid within fine. runs_behind a p room fitting code start frame there args s at laid within fine;
+followed_in a p room fitting short code start frame there = record {
+  shown = λ path. ((straight a p room fitting short code start frame there).leak (path ++ [])).0;
+  runs = λ args s at laid within fine. runs_behind a p room fitting short code start frame there args s at laid within fine;
 }
 
 -- The whole image: its body, and then the end.
@@ -245,8 +247,9 @@ slot_type : (declared : List FlatVariable) (returned : Option WordType)
 slot_type declared None = refl
 slot_type declared (Some word) = refl
 
-pub is_generated : (a : Allocation) (p : StraightProgram) → HasRoom p → IsFitting p a → IsGenerated p (image_of a p)
-is_generated a p room fitting =
+pub is_generated : (a : Allocation) (p : StraightProgram) → HasRoom p → IsFitting p a
+    → length (program_code a p) ≤ most_words p.nodes → IsGenerated p (image_of a p)
+is_generated a p room fitting short =
     let words : length (map word_of (program_code a p)) ≡ length (program_code a p) =
     length-map {B = ℕ} (program_code a p) word_of in
     record {
@@ -255,9 +258,9 @@ is_generated a p room fitting =
       returned = slot_type p.declared p.returned;
       max_steps = refl;
       frame_size = room_frame a p room;
-      word_count = omega (arith, program_length a p room fitting, words);
+      word_count = omega (arith, short, words);
       follows = λ code frame bases. followed_whole a p code frame bases
-          (followed_in a p room fitting (code_at code (image_of a p)) code frame
+          (followed_in a p room fitting short (code_at code (image_of a p)) code frame
           (stands_there a p code frame bases));
-      anywhere = λ code start frame there. followed_in a p room fitting code start frame there;
+      anywhere = λ code start frame there. followed_in a p room fitting short code start frame there;
     }

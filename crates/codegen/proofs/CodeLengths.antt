@@ -1,24 +1,29 @@
--- How long the code of statements is, and how much room they take in the frame. So well-typed statements that are not
--- too large have their places.
+-- How long the code of statements is. And well-typed statements that the frame has room for have their places.
 use Rattle.std.proofs.Common.{ℕ, ◌+◌, ◌*◌, ◌≤◌, nat_lt, List, [], ◌∷◌, ◌++◌, length, Option, None, Some, arith, length-append, ◌≡◌, ◌<◌, ◌==◌, Bool, true, false, slice_get, cond}
-use Rattle.codegen.proofs.Language.{statement_nodes, block_nodes, taken_in, taken_in_all, StraightTree, set, clear}
+use Rattle.codegen.proofs.Language.{statement_nodes, block_nodes, StraightTree, set, clear}
 use Rattle.codegen.proofs.Language.{fill, put, take, set_under, put_under, branch, repeats, StraightBlock, nothing}
 use Rattle.codegen.proofs.Language.{first, FlatVariable, TermTree, array_as, term_nodes, terms_nodes, declared_words}
 use Rattle.codegen.proofs.Language.{Kind}
+use Rattle.codegen.proofs.LoopLengths.{repeat_spans}
+pub use Rattle.codegen.proofs.WordLengths.{assign_length}
+use Rattle.codegen.proofs.WordLengths.{read_length, value_length}
+use Rattle.codegen.specs.private.Loops.{any_sets}
 use Rattle.codegen.proofs.Language.{element_bytes, array_words, IsTyped, AreTyped, types_but, types_of, AllSuit}
 use Rattle.codegen.proofs.Language.{HasType, Boolean, WordType, Profile}
-use Rattle.codegen.specs.private.Emitted.{assign_code, home_of_term, put_word_code, read_code, read_register}
+use Rattle.codegen.specs.private.Emitted.{read_code, read_register}
 use Rattle.codegen.specs.private.Emitted.{set_code, set_under_code, within_code, element_store_code, clear_code}
-use Rattle.codegen.specs.private.Emitted.{fill_code, test_code, count_code, statement_code, block_code, height_of_all}
-use Rattle.codegen.specs.private.Emitted.{height_in, height_in_all, depth_in, depth_in_all, unless_home, index_code}
+use Rattle.codegen.specs.private.Emitted.{fill_code, statement_code, block_code}
+use Rattle.branch_removal.specs.Heights.{height_of_all}
+use Rattle.codegen.specs.private.Emitted.{index_code}
+use Rattle.branch_removal.specs.Heights.{height_in, height_in_all, depth_in, depth_in_all}
 use Rattle.codegen.specs.private.Emitted.{put_code, put_element_code, put_element_under_code, put_under_code}
 use Rattle.codegen.specs.private.Emitted.{put_under_near_code}
-use Rattle.codegen.proofs.Machine.{AreNear, ArePlacedTerms, HasPlace, HavePlaces, variable_offset, control_offset}
+use Rattle.codegen.proofs.Machine.{AreNear, far, ArePlacedTerms, HasPlace, HavePlaces, variable_offset, control_offset}
 use Rattle.codegen.proofs.Machine.{next_offset, temporaries_offset, kind_at, near_element, height_of, Instr, slots_to}
-use Rattle.codegen.proofs.Machine.{Allocation, InRegister, InSlot, into_code, Location, variable_location}
+use Rattle.codegen.proofs.Machine.{Allocation, InRegister, InSlot, Location, variable_location}
 use Rattle.codegen.specs.private.Placed.{IsPlaced}
 use Rattle.codegen.proofs.Logic.{code_length, height, one_of, load_length, store_length, constant_length}
-use Rattle.codegen.proofs.Logic.{address_length, into_length, move_length, ends_before_result, typed_within}
+use Rattle.codegen.proofs.Logic.{address_length, ends_before_result, typed_within}
 use Rattle.codegen.proofs.Logic.{typed_among}
 use Rattle.codegen.proofs.Logic.{none-some, slice_get_within}
 
@@ -33,28 +38,6 @@ element_store_length r kind o = one_of (nat_lt o 2048) _ _ 3 (omega arith) (omeg
 
 clear_length : (o words : ℕ) → length (clear_code o words) ≤ 16
 clear_length o words = simp length-append (omega (arith, constant_length 6 o, constant_length 7 (4 * words)))
-
-value_length : (declared : List FlatVariable) (allocation : Allocation) (free d place : ℕ) (e : TermTree)
-    → length (into_code declared allocation free d place e) ≤ 16 * term_nodes e
-value_length declared allocation free d place e = omega (arith, into_length declared allocation free d place e)
-
-read_length : (declared : List FlatVariable) (allocation : Allocation) (free register place : ℕ) (e : TermTree)
-    → length (read_code declared allocation free register place e) ≤ 16 * term_nodes e
-read_length declared allocation free register place e = by_home (home_of_term allocation e)
-  where
-    by_home : (h : Option ℕ) → length (unless_home h (into_code declared allocation free register place e))
-        ≤ 16 * term_nodes e
-    by_home None = value_length declared allocation free register place e
-    by_home (Some home) = omega arith
-
-pub assign_length : (declared : List FlatVariable) (allocation : Allocation) (free : ℕ) (e : TermTree) (o : ℕ)
-    → length (assign_code declared allocation free e o) ≤ 16 * term_nodes e + 3
-assign_length declared allocation free e o =
-    simp length-append (omega (
-      arith,
-      read_length declared allocation free 5 0 e,
-      store_length (read_register allocation 5 e) o,
-    ))
 
 -- a value into an element, at an index or at the offset that the store holds
 put_length : (declared : List FlatVariable) (allocation : Allocation) (free x : ℕ) (index value : TermTree)
@@ -98,10 +81,6 @@ set_length : (declared : List FlatVariable) (allocation : Allocation) (free : �
 set_length declared allocation free (InRegister home) e =
     omega (arith, value_length declared allocation free home 0 e)
 set_length declared allocation free (InSlot o) e = assign_length declared allocation free e o
-
-put_word_length : (r : ℕ) (l : Location) → length (put_word_code r l) ≤ 3
-put_word_length r (InRegister home) = omega (arith, move_length home r)
-put_word_length r (InSlot o) = store_length r o
 
 set_under_length : (r : ℕ) (l : Location) (control : ℕ) → length (set_under_code r l control) ≤ 12
 set_under_length r (InRegister home) control = simp length-append (omega (arith, load_length 7 control))
@@ -156,15 +135,10 @@ module _ (declared : List FlatVariable) (allocation : Allocation) (controls dept
               (control_offset declared control),
         )
     statement_length depth (repeats x low high body) =
-        omega (
-          arith,
-          length-append {A = Instr},
-          assign_length,
-          load_length,
-          store_length,
-          put_word_length 6 (variable_location declared allocation x),
-          block_length (depth + 1) body,
-        )
+        let ys = block_code declared allocation controls depths (depth + 1) body in
+        let spans = repeat_spans declared allocation (next_offset declared controls depth) free ys
+        (variable_location declared allocation x) low high (any_sets x body) in
+        omega (arith, spans.1, block_length (depth + 1) body)
     statement_length depth s =
         omega (
           arith,
@@ -182,60 +156,14 @@ module _ (declared : List FlatVariable) (allocation : Allocation) (controls dept
     block_length depth (first s rest) =
         omega (arith, length-append {A = Instr}, statement_length depth s, block_length depth rest)
 
--- so arms and turns of a program that is not too large are no farther than a jump goes
+-- so arms and turns of code that is not too long are no farther than a jump goes
 
-pub arms_near : (declared : List FlatVariable) (allocation : Allocation) (controls depths depth : ℕ)
-    (accepted otherwise : StraightBlock) → block_nodes accepted + block_nodes otherwise ≤ 6000
-    → AreNear (length (block_code declared allocation controls depths depth accepted))
-    (length (block_code declared allocation controls depths depth otherwise))
-arms_near declared allocation controls depths depth accepted otherwise few =
-    omega (
-      arith,
-      few,
-      block_length declared allocation controls depths depth accepted,
-      block_length declared allocation controls depths depth otherwise,
-    )
-
-pub turn_near : (declared : List FlatVariable) (allocation : Allocation) (controls depths depth x : ℕ)
-    (body : StraightBlock) → block_nodes body ≤ 6000
-    → AreNear (length (test_code (next_offset declared controls depth)))
-    (length (count_code (next_offset declared controls depth) (variable_location declared allocation x)
-    ++ block_code declared allocation controls depths (depth + 1) body))
-turn_near declared allocation controls depths depth x body few =
-    let rest = block_length declared allocation controls depths (depth + 1) body in
-    omega (
-      arith,
-      length-append {A = Instr},
-      few,
-      load_length,
-      store_length,
-      put_word_length 6 (variable_location declared allocation x),
-      rest,
-    )
-
--- Slots.
-
-heights : (es : List TermTree) → height_of_all es ≤ terms_nodes es
-heights [] = omega arith
-heights (e ∷ es) = omega (arith, height e, heights es)
-
-mutual
-  -- a statement's temporaries, its loops' words and its control values
-  pub statement_room : (s : StraightTree) → height_in s + 2 * depth_in s + 2 * taken_in s ≤ statement_nodes s
-  statement_room (set x value) = omega (arith, height value)
-  statement_room (clear x size) = omega arith
-  statement_room (fill x values) = omega (arith, heights values)
-  statement_room (put place x size index value) = omega (arith, height index, height value)
-  statement_room (take control within condition) = omega (arith, height condition)
-  statement_room (set_under control x value) = omega (arith, height value)
-  statement_room (put_under control place x size index value) = omega (arith, height index, height value)
-  statement_room (branch condition accepted otherwise) =
-      omega (arith, height condition, block_room accepted, block_room otherwise)
-  statement_room (repeats x low high body) = omega (arith, height low, height high, block_room body)
-
-  pub block_room : (b : StraightBlock) → height_in_all b + 2 * depth_in_all b + 2 * taken_in_all b ≤ block_nodes b
-  block_room nothing = omega arith
-  block_room (first s rest) = omega (arith, statement_room s, block_room rest)
+module _ (declared : List FlatVariable) (allocation : Allocation) (controls depths depth : ℕ) where
+  pub arms_near : (condition : TermTree) (accepted otherwise : StraightBlock)
+      → length (statement_code declared allocation controls depths depth (branch condition accepted otherwise)) < far
+      → AreNear (length (block_code declared allocation controls depths depth accepted))
+      (length (block_code declared allocation controls depths depth otherwise))
+  arms_near condition accepted otherwise few = omega (arith, length-append {A = Instr}, few)
 
 -- Places.
 
@@ -283,54 +211,52 @@ module _ (profile : Profile) (declared : List FlatVariable) (allocation : Alloca
   mutual
     statement_placed : (depth : ℕ) (s : StraightTree) → IsTyped profile declared controls s
         → base + 4 * slots_to allocation.count (height_in s) ≤ 65536 → depth + depth_in s ≤ depths
-        → statement_nodes s ≤ 6000 → HasPlace declared allocation controls depths depth s
-    statement_placed depth (set x value) typed room deep nodes =
+        → HasPlace declared allocation controls depths depth s
+    statement_placed depth (set x value) typed room deep =
         (slice_get_within declared x _ typed.known, term_placed 0 typed.suits.has_type (omega (arith, room)))
-    statement_placed depth (clear x size) typed room deep nodes =
+    statement_placed depth (clear x size) typed room deep =
         (slice_get_within declared x _ typed.known, (fits_in_frame x size typed.word typed.mutable typed.known).0)
-    statement_placed depth (fill x values) typed room deep nodes = (
+    statement_placed depth (fill x values) typed room deep = (
       slice_get_within declared x _ typed.known,
       values_placed x typed.word values typed.suit room,
       (fits_in_frame x (length values) typed.word typed.mutable typed.known).1,
     )
-    statement_placed depth (put place x size index value) typed room deep nodes = (
+    statement_placed depth (put place x size index value) typed room deep = (
       slice_get_within declared x _ typed.known,
       term_placed 0 typed.index_type (omega (arith, room)),
       term_placed 1 typed.suits.has_type (omega (arith, room)),
     )
-    statement_placed depth (take control within condition) typed room deep nodes =
+    statement_placed depth (take control within condition) typed room deep =
         (typed.0, typed.1, term_placed 0 typed.2.1 (omega (arith, room)))
-    statement_placed depth (set_under control x value) typed room deep nodes = (
+    statement_placed depth (set_under control x value) typed room deep = (
       typed.0,
       slice_get_within declared x _ typed.1.known,
       term_placed 0 typed.1.suits.has_type (omega (arith, room)),
     )
-    statement_placed depth (put_under control place x size index value) typed room deep nodes = (
+    statement_placed depth (put_under control place x size index value) typed room deep = (
       typed.0,
       slice_get_within declared x _ typed.1.known,
       term_placed 0 typed.1.index_type (omega (arith, room)),
       term_placed 1 typed.1.suits.has_type (omega (arith, room)),
     )
-    statement_placed depth (branch condition accepted otherwise) typed room deep nodes = (
+    statement_placed depth (branch condition accepted otherwise) typed room deep = (
       term_placed 0 typed.0 (omega (arith, room)),
-      blocks_placed depth accepted typed.1 (omega (arith, room)) (omega (arith, deep)) (omega (arith, nodes)),
-      blocks_placed depth otherwise typed.2 (omega (arith, room)) (omega (arith, deep)) (omega (arith, nodes)),
-      arms_near declared allocation controls depths depth accepted otherwise (omega (arith, nodes)),
+      blocks_placed depth accepted typed.1 (omega (arith, room)) (omega (arith, deep)),
+      blocks_placed depth otherwise typed.2 (omega (arith, room)) (omega (arith, deep)),
     )
-    statement_placed depth (repeats x low high body) typed room deep nodes = (
+    statement_placed depth (repeats x low high body) typed room deep = (
       slice_get_within declared x _ typed.2,
       omega (arith, deep),
       term_placed 0 typed.0 (omega (arith, room)),
       term_placed 0 typed.1 (omega (arith, room)),
-      blocks_placed (depth + 1) body typed.3 (omega (arith, room)) (omega (arith, deep)) (omega (arith, nodes)),
-      turn_near declared allocation controls depths depth x body (omega (arith, nodes)),
+      blocks_placed (depth + 1) body typed.3 (omega (arith, room)) (omega (arith, deep)),
     )
 
     pub blocks_placed : (depth : ℕ) (b : StraightBlock) → AreTyped profile declared controls b
         → base + 4 * slots_to allocation.count (height_in_all b) ≤ 65536 → depth + depth_in_all b ≤ depths
-        → block_nodes b ≤ 6000 → HavePlaces declared allocation controls depths depth b
-    blocks_placed depth nothing typed room deep nodes = tt
-    blocks_placed depth (first s rest) typed room deep nodes = (
-      statement_placed depth s typed.0 (omega (arith, room)) (omega (arith, deep)) (omega (arith, nodes)),
-      blocks_placed depth rest typed.1 (omega (arith, room)) (omega (arith, deep)) (omega (arith, nodes)),
+        → HavePlaces declared allocation controls depths depth b
+    blocks_placed depth nothing typed room deep = tt
+    blocks_placed depth (first s rest) typed room deep = (
+      statement_placed depth s typed.0 (omega (arith, room)) (omega (arith, deep)),
+      blocks_placed depth rest typed.1 (omega (arith, room)) (omega (arith, deep)),
     )

@@ -21,7 +21,7 @@ use Rattle.codegen.proofs.Logic.{HeldAt, free_from, mask_of, merged, merge, take
 use Rattle.codegen.proofs.Logic.{loading, storing, place_of, place_even, place_before, place_ends, Setting, setting}
 use Rattle.codegen.proofs.Logic.{base_of, Known, by_index, none, Runs, seq, quiet, weaken, gives, cheaper, beside}
 use Rattle.codegen.proofs.Logic.{along, as_code, idle, height, number_or_zero, Ready, Wrote, ready_after, known}
-use Rattle.codegen.proofs.Logic.{near_known, near_address, NearElement, never, kept_less}
+use Rattle.codegen.proofs.Logic.{near_known, near_address, NearElement, never}
 use Rattle.branch_removal.specs.Straight as straight
 use Rattle.codegen.proofs.Machine.{store_by, code_by, near_element, put_code, slots_to, load_by, kind_at, Instr}
 use Rattle.codegen.proofs.Machine.{ByteMap, number_at, load_size}

@@ -1,23 +1,26 @@
 -- Straight code within the limits has room in a frame and in an image, and the fields of its image are allowed.
 use Rattle.std.proofs.Common.{◌≡◌, ℕ, suc, ◌+◌, ◌*◌, ◌%◌, ◌^◌, ◌<◌, ◌≤◌, true, List, [], ◌∷◌, length, map, All}
 use Rattle.std.proofs.Common.{Option, None, Some, IfSome, refl, sym, ap, subst, ◌∙◌, arith, length-append, zero, take}
+use Rattle.std.proofs.lemmas.Bool.{lt-leb}
+use Rattle.std.proofs.Common.{Bool, if◌then◌else◌}
 use Rattle.codegen.proofs.Logic.{eq-eqb, le-leb, and_from, length-map, recursion_from_All, option_map}
 use Rattle.codegen.proofs.Logic.{parameter_words}
-use Rattle.codegen.proofs.Logic.{height, load_length, none-some, typed_among, same_Some}
+use Rattle.codegen.proofs.Logic.{load_length, none-some, typed_among, same_Some}
 use Rattle.std.specs.List.{AllByRecursion}
 use Rattle.codegen.proofs.Machine.{word_of, IsImage, AreSlots, IsResultSlot, is_length, slot_end, result_end}
 use Rattle.codegen.proofs.Machine.{slots_end}
 use Rattle.codegen.proofs.Machine.{Slot, ResultSlot, program_base, program_code, program_slots, result_slot}
-use Rattle.codegen.proofs.Machine.{step_limit}
-use Rattle.codegen.proofs.Machine.{result_code, result_height, program_height, slots_from, result_offset, HasRoom}
+use Rattle.codegen.proofs.Machine.{image_of, image_within, most_words, step_limit, Fields}
+use Rattle.codegen.proofs.Machine.{result_code, slots_from, result_offset, HasRoom}
 use Rattle.codegen.proofs.Machine.{Allocation, depth_in_all, entry_code, HavePlaces, home_count, IsAmong, IsFitting}
 use Rattle.codegen.proofs.Machine.{Instr, plain, variable_offset}
 use Rattle.codegen.proofs.Language.{StraightProgram, most_elements, Form, SingleWord, Kind, Boolean, Param, WordType}
 use Rattle.codegen.proofs.Language.{held_words, array_words, Profile, FlatVariable, declaration_of, TermTree}
 use Rattle.codegen.proofs.Language.{HasLength}
-use Rattle.codegen.proofs.Language.{declared_words, value_nodes, IsBounded, IsTypedStraight, types_of, IsResult}
+use Rattle.codegen.proofs.Language.{declared_words, value_nodes, IsBounded, IsCounted, IsTypedStraight, types_of}
+use Rattle.codegen.proofs.Language.{IsResult}
 use Rattle.inline.specs.FlatSize.{words_of}
-use Rattle.codegen.proofs.CodeLengths.{assign_length, block_length, block_room, blocks_placed}
+use Rattle.codegen.proofs.CodeLengths.{assign_length, block_length, blocks_placed}
 
 -- The parameters' slots.
 
@@ -122,9 +125,10 @@ entry_length declared x [] = omega arith
 entry_length declared x (None ∷ homes) = entry_length declared (x + 1) homes
 entry_length declared x (Some home ∷ homes) = simp length-append (omega (arith, load_length home (variable_offset declared x), entry_length declared (x + 1) homes))
 
-pub program_length : (a : Allocation) (p : StraightProgram) → HasRoom p → IsFitting p a
-    → length (program_code a p) ≤ 32 * p.nodes + 64
-program_length a p room fitting =
+-- of a program of no more nodes than its source
+pub program_length : (a : Allocation) (p : StraightProgram) → IsCounted p → IsFitting p a
+    → length (program_code a p) ≤ most_words p.nodes
+program_length a p counted fitting =
     let body = block_length p.declared a p.controls (depth_in_all p.body) 0 p.body in
     omega (
       arith,
@@ -132,12 +136,33 @@ program_length a p room fitting =
       entry_length p.declared 0 a.homes,
       body,
       result_length p.declared a (program_base p) p.value,
-      room.counted,
+      counted,
       fitting.few,
     )
 
+-- the image of a program is there where its code is short enough
+module _ (a : Allocation) (p : StraightProgram) where
+  by_length : Bool → Option Fields
+  by_length short = if short then Some (image_of a p) else None
+
+  words_of_code : length (map word_of (program_code a p)) ≡ length (program_code a p)
+  words_of_code = length-map {B = ℕ} (program_code a p) word_of
+
+  pub image_there : length (program_code a p) ≤ most_words p.nodes → image_within a p ≡ Some (image_of a p)
+  unfolding by_length
+  image_there short =
+      ap by_length (le-leb (length (map word_of (program_code a p))) (most_words p.nodes)
+      (omega (arith, words_of_code, short)))
+
+  pub image_not_there : most_words p.nodes < length (program_code a p) → image_within a p ≡ None
+  unfolding by_length
+  image_not_there long =
+      ap by_length (lt-leb (length (map word_of (program_code a p))) (most_words p.nodes)
+      (omega (arith, words_of_code, long)))
+
 -- the fields that are generated for a program with room are allowed, whoever the observer is
 image_allowed : (a : Allocation) (p : StraightProgram) (profile : Profile) → HasRoom p → IsFitting p a
+    → length (program_code a p) ≤ most_words p.nodes
     → AllByRecursion (λ word. word < 2 ^ 32) (map word_of (program_code a p))
     → IsImage (record {
       profile = profile;
@@ -147,7 +172,7 @@ image_allowed : (a : Allocation) (p : StraightProgram) (profile : Profile) → H
       max_steps = step_limit p.work;
       words = map word_of (program_code a p);
     })
-image_allowed a p profile room fitting fit =
+image_allowed a p profile room fitting short fit =
     let few = room.parameters in
     let d = room.declared in
     let end = slots_end-slots_from 0 p.parameters in
@@ -166,7 +191,7 @@ image_allowed a p profile room fitting fit =
       word_count = omega (
         arith,
         length-map {B = ℕ} (program_code a p) word_of,
-        program_length a p room fitting,
+        short,
         room.nodes,
       );
       words = fit;
@@ -174,6 +199,7 @@ image_allowed a p profile room fitting fit =
 
 -- so are fields that are equal to them, one by one
 pub fields_allowed : (a : Allocation) (p : StraightProgram) → HasRoom p → IsFitting p a
+    → length (program_code a p) ≤ most_words p.nodes
     → (profile : Profile) (slots : List Slot) (returned : Option ResultSlot) (frame steps : ℕ) (words : List ℕ)
     → slots ≡ slots_from 0 p.parameters → returned ≡ option_map (result_slot p.declared) p.returned
     → frame ≡ program_base p + 4 * program_slots a p → steps ≡ step_limit p.work
@@ -186,17 +212,13 @@ pub fields_allowed : (a : Allocation) (p : StraightProgram) → HasRoom p → Is
       max_steps = steps;
       words = words;
     })
-fields_allowed a p room fitting profile slots returned frame steps words one two three four five fit =
-    let allowed = image_allowed a p profile room fitting
+fields_allowed a p room fitting short profile slots returned frame steps words one two three four five fit =
+    let allowed = image_allowed a p profile room fitting short
     (subst (AllByRecursion (λ word. word < 2 ^ 32)) five
     (recursion_from_All (λ word. word < 2 ^ 32) words fit)) in
     rw (one, two, three, four, five) allowed
 
 -- Room.
-
-result_height_fits : (value : Option TermTree) → result_height value ≤ value_nodes value
-result_height_fits None = omega arith
-result_height_fits (Some value) = omega (arith, height value)
 
 -- the first variables take no more words than all
 first_words : (count : ℕ) (ds : List FlatVariable) → declared_words (take count ds) ≤ declared_words ds
@@ -209,10 +231,6 @@ module _ (p : StraightProgram) (typed : IsTypedStraight p) (is : IsBounded p) wh
   parameters =
       omega (arith, first_words (length p.parameters) p.declared, ap declared_words typed.parameters)
 
-  frame : p.controls + 2 * depth_in_all p.body + program_height p ≤ p.nodes
-  frame =
-      omega (arith, block_room p.body, result_height_fits p.value, is.controls)
-
   pub has_room : HasRoom p
   has_room = record {
     typed = typed;
@@ -223,8 +241,7 @@ module _ (p : StraightProgram) (typed : IsTypedStraight p) (is : IsBounded p) wh
     nodes = is.nodes;
     work = is.work_fits;
     worked = is.worked;
-    counted = is.counted;
-    frame = frame;
+    frame = is.framed;
   }
 
 -- what the result's expression names is declared
@@ -245,10 +262,9 @@ pub body_placed : (a : Allocation) (p : StraightProgram) → HasRoom p
 body_placed a p room =
     let d = room.declared in
     let n = room.nodes in
-    let c = room.counted in
     let f = room.frame in
     blocks_placed p.profile p.declared a p.controls (depth_in_all p.body) d 0 p.body room.typed.body
-    (omega (arith, d, n, f)) (omega arith) (omega (arith, c, n))
+    (omega (arith, d, n, f)) (omega arith)
 
 -- no homes fit any program
 pub plain_fits : (p : StraightProgram) → IsFitting p plain

@@ -1,7 +1,7 @@
 -- What straight code is made of and what it means, in one place: the words of the crates above the machine.
 pub use Rattle.arguments.specs.Within.{AreWithin, HasShape, IsWithin, greatest_of, words_of}
-pub use Rattle.branch_removal.specs.Bounds.{IsBounded, block_nodes, block_work, statement_nodes, statement_work}
-pub use Rattle.branch_removal.specs.Bounds.{taken_in, taken_in_all}
+pub use Rattle.branch_removal.specs.Bounds.{IsBounded, IsCounted, block_nodes, block_work, set_work, statement_nodes}
+pub use Rattle.branch_removal.specs.Bounds.{statement_work}
 pub use Rattle.branch_removal.specs.Straight.{StraightBlock, StraightProgram, StraightTree, branch, clear, fill}
 pub use Rattle.branch_removal.specs.Straight.{first, nothing, put, put_under, repeats, set, set_under, straight_block}
 pub use Rattle.branch_removal.specs.Straight.{straight_row, straight_tree, take}

@@ -7,8 +7,14 @@ pub mod SetRuns
 pub mod ElementRuns
 pub mod Arguments
 pub mod ClearRuns
+pub mod WordLengths
+pub mod LoopLengths
 pub mod CodeLengths
+pub mod Unset
 pub mod LoopRuns
+pub mod CountingRuns
+pub mod CountedLoops
+pub mod RepeatRuns
 pub mod StatementRuns
 pub mod StatementCode
 pub mod ImageLemmas

@@ -49,17 +49,17 @@ pub hidden_below : (z : Setting) (depth free : ℕ) (s t : machine.State)
     → next_offset z.declared z.controls depth ≤ free → Kept z free s t → Hidden z depth s t
 hidden_below z depth free s t above kept o low high = kept o (omega (arith, high, above))
 
-is_left : (bound i left : ℕ) → bound - i ≡ left → nat_lt i bound ≡ nat_lt 0 left
+pub is_left : (bound i left : ℕ) → bound - i ≡ left → nat_lt i bound ≡ nat_lt 0 left
 is_left bound i left e = grind (arith, nat_tests, e)
 
 some_left : (left : ℕ) → word_of (nat_lt 0 (suc left)) ≡ 1
 some_left left = grind (arith, nat_tests)
 
 module _ (z : Setting) (depth : ℕ) (within : depth < z.depths) where
-  abbrev next : ℕ
+  abbrev pub next : ℕ
   next = next_offset z.declared z.controls depth
 
-  next_inside : next + 8 ≤ z.size
+  pub next_inside : next + 8 ≤ z.size
   next_inside = let room = z.room in omega (arith, room, within)
 
   -- where both words are as they were
@@ -84,7 +84,7 @@ module _ (z : Setting) (depth : ℕ) (within : depth < z.depths) where
   held_still : (s t : machine.State) → HeldAt z s → Still s t → HeldAt z t
   held_still s t held still = held_regs z s t (ap (λ (regs : ℕ → ℕ). regs 2) still.regs) still.bytes held
 
-  test_runs : (left i : ℕ) → Runs z 7 none (test_code next) (AtLoop z next left i) (TestedFor z left i)
+  pub test_runs : (left i : ℕ) → Runs z 7 none (test_code next) (AtLoop z next left i) (TestedFor z left i)
   test_runs left i =
       let inside = next_inside in
       weaken
@@ -258,11 +258,11 @@ module _ (z : Setting) (depth : ℕ) (within : depth < z.depths) where
       })
       (assigned z o has room aligned inside)
 
-  abbrev Begun : TermTree → TermTree → StraightState → machine.State → machine.State → Type 0
+  abbrev pub Begun : TermTree → TermTree → StraightState → machine.State → machine.State → Type 0
   Begun low high env s t = AtLoop z next (value_in env.variables high - value_in env.variables low)
       (value_in env.variables low) env t × Hidden z depth s t
 
-  bounds_runs : (low high : TermTree) → HasType (types_of z.code.profile z.declared) low counter_type
+  pub bounds_runs : (low high : TermTree) → HasType (types_of z.code.profile z.declared) low counter_type
       → HasType (types_of z.code.profile z.declared) high counter_type
       → base_of z + 4 * slots_to z.allocation.count (height_of low) ≤ z.size
       → base_of z + 4 * slots_to z.allocation.count (height_of high) ≤ z.size

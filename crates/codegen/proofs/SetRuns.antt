@@ -7,7 +7,9 @@ use Rattle.codegen.proofs.Logic.{masks_join, merged, merge, take, put, does, the
 use Rattle.codegen.proofs.Logic.{Steps, Runs, gives, cheaper, as_code, idle, number_or_zero, Ready, Wrote}
 use Rattle.codegen.proofs.Logic.{wrote_there, IsHome, home_beside, homes_moved, is_free, kept_by, kept_less}
 use Rattle.codegen.proofs.Logic.{registers_after}
-use Rattle.codegen.proofs.Language.{TermTree, word_as, value_in, path_of_result, term_nodes, value_nodes, types_of}
+use Rattle.codegen.proofs.Language.{TermTree, set_work, word_as, value_in, path_of_result, term_nodes, value_nodes}
+use Rattle.codegen.proofs.Language.{types_of}
+use Rattle.inline.specs.Flat as flat
 use Rattle.codegen.proofs.Language.{HasType, IsResult, set_under, StraightState, with_variable, with_element, holds}
 use Rattle.codegen.proofs.Language.{after, IsSet, IsAmong, Boolean, Label, WordType, bits_of, labelled}
 use Rattle.branch_removal.specs.Straight as straight
@@ -35,18 +37,30 @@ behind_one a b c d e =
     ap (λ (x : List Instr). x ++ e) (ap (λ (x : List Instr). x ++ d) (append_assoc a b c) ∙ append_assoc a (b ++ c) d)
     ∙ append_assoc a ((b ++ c) ++ d) e
 
+-- a value and a store take no more than the work of setting a word
+set_cost : (value : TermTree) → 16 * term_nodes value + 3 ≤ 32 * set_work value
+set_cost (flat.number value kind) = omega arith
+set_cost (flat.truth value) = omega arith
+set_cost (flat.variable x) = omega arith
+set_cost (flat.prefix operator width operand) = omega arith
+set_cost (flat.binary place operator width left right) = omega arith
+set_cost (flat.rotate width operand amount) = omega arith
+set_cost (flat.convert kind operand) = omega arith
+set_cost (flat.select condition accepted otherwise) = omega arith
+set_cost (flat.element place x size index) = omega arith
+
 module _ (z : Setting) where
   -- a variable is set, in its slot or in its home
   set_by : (depth x : ℕ) (value : TermTree) → IsSet z.code.profile z.declared x value
       → base_of z + 4 * slots_to z.allocation.count (height_of value) ≤ z.size → depth ≤ z.depths
       → (h : Option ℕ) → home_of z.allocation.homes x ≡ h
-      → Runs z (32 * (1 + term_nodes value)) (steps_of value)
+      → Runs z (32 * set_work value) (steps_of value)
       (set_code z.declared z.allocation (base_of z) (at_home h (InSlot (variable_offset z.declared x))) value)
       (Ready z) (Shown z depth (λ env. with_variable env x (value_in env.variables value ∷ [])))
   set_by depth x value typed room within None away =
       let o = variable_offset z.declared x in
       let before = word_before z x typed.word typed.mutable typed.known in
-      cheaper (omega arith)
+      cheaper (omega (arith, set_cost value))
       (gives
       (λ env s t fine ready done.
       let m = done.middle in
@@ -60,7 +74,7 @@ module _ (z : Setting) where
       (assigned z o typed.suits.has_type room (omega arith) (omega (arith, before, z.room))))
   set_by depth x value typed room within (Some home) at =
       let is = z.allocated.allowed x home at in
-      cheaper (omega arith)
+      cheaper (omega (arith, set_cost value))
       (gives
       (λ env s t fine ready done.
       let v = value_in env.variables value in
@@ -76,7 +90,7 @@ module _ (z : Setting) where
 
   pub set_runs : (depth x : ℕ) (value : TermTree) → IsSet z.code.profile z.declared x value
       → base_of z + 4 * slots_to z.allocation.count (height_of value) ≤ z.size → depth ≤ z.depths
-      → Runs z (32 * (1 + term_nodes value)) (steps_of value)
+      → Runs z (32 * set_work value) (steps_of value)
       (set_code z.declared z.allocation (base_of z) (variable_location z.declared z.allocation x) value)
       (Ready z) (Shown z depth (λ env. with_variable env x (value_in env.variables value ∷ [])))
   set_runs depth x value typed room within =

@@ -1,5 +1,6 @@
 -- The code of a statement that holds others, by the lists of its arms or its body.
-use Rattle.std.proofs.Common.{◌≡◌, ℕ, zero, suc, ◌+◌, ◌*◌, ◌^◌, ◌≤◌, ◌<◌, ◌++◌, List, [], ◌∷◌, length, max, drop}
+use Rattle.std.proofs.Common.{◌≡◌, ℕ, zero, suc, ◌+◌, ◌*◌, ◌≤◌, ◌<◌, ◌++◌, List, [], ◌∷◌, length, max, drop}
+use Rattle.std.proofs.Common.{Bool, length-append, Result, Ok, Err, IsErrAnd, IfErr}
 use Rattle.std.proofs.Common.{get_or, Vec, Global, refl, sym, ap, ap₂, ◌∙◌, subst, arith, append_assoc}
 use Rattle.std.proofs.lemmas.List.{drop_more}
 use mathlib.Core.Former.{Count}
@@ -8,9 +9,12 @@ use Rattle.codegen.proofs.Language.{first}
 use Rattle.codegen.proofs.Language.{branch, repeats, straight_tree, straight_row, straight_block, FlatVariable, Term}
 use Rattle.codegen.proofs.Language.{term_tree}
 use Rattle.branch_removal.specs.declared.straight.StraightStatement as code
-use Rattle.codegen.proofs.Machine.{bounds_code, test_code, count_code, statement_code, block_code, branch_code}
-use Rattle.codegen.proofs.Machine.{loop_code, variable_location, next_offset, temporaries_offset, HasPlace}
-use Rattle.codegen.proofs.Machine.{HavePlaces}
+use Rattle.codegen.proofs.LoopLengths.{repeat_spans}
+use Rattle.codegen.proofs.Machine.{statement_code, block_code, branch_code}
+use Rattle.codegen.proofs.Machine.{variable_location, next_offset, temporaries_offset, HasPlace}
+use Rattle.codegen.specs.private.Loops.{any_sets, repeat_code}
+use Rattle.codegen.proofs.Machine.{HavePlaces, IsFar}
+use Rattle.codegen.specs.declared.unemitted.Unemitted.{Unemitted}
 use Rattle.codegen.proofs.Machine.{Allocation, read_code, read_register, Instr}
 
 rows : (n : _) (row : code.Row_of-StraightStatement n)
@@ -62,11 +66,18 @@ module _ {statement : StraightStatement} {condition : Term} (accepted otherwise 
   module _ (declared : List FlatVariable) (allocation : Allocation) (controls depths depth : ℕ) {xs ys : List Instr}
       (x : xs ≡ block_code declared allocation controls depths depth (straight_block ones))
       (y : ys ≡ block_code declared allocation controls depths depth (straight_block others)) where
-    pub branch_near : HasPlace declared allocation controls depths depth (straight_tree statement)
-        → 2 * (length xs + length ys) + 8 < 2 ^ 19
-    branch_near placed =
-        let near = (subst (HasPlace declared allocation controls depths depth) tree_of_branch placed).3 in
-        omega (arith, near, ap (λ (l : List Instr). length l) x, ap (λ (l : List Instr). length l) y)
+    -- the arms are no longer than the statement
+    pub arms_within : length xs + length ys
+        ≤ length (statement_code declared allocation controls depths depth (straight_tree statement))
+    arms_within =
+        omega (
+          arith,
+          length-append {A = Instr},
+          ap (λ (s : StraightTree). length (statement_code declared allocation controls depths depth s))
+              tree_of_branch,
+          ap (λ (l : List Instr). length l) x,
+          ap (λ (l : List Instr). length l) y,
+        )
 
     pub branch_made : (register : ℕ) → register ≡ read_register allocation 5 (term_tree condition)
         → (old middle new : List Instr)
@@ -96,30 +107,42 @@ module _ {statement : StraightStatement} {x : ℕ} {low high : Term} (body : Vec
   pub body_smaller : 2 * block_nodes (straight_block inner) + 1 < 2 * statement_nodes (straight_tree statement)
   body_smaller = omega (arith, ap statement_nodes tree_of_loop)
 
-  module _ (declared : List FlatVariable) (allocation : Allocation) (controls depths depth : ℕ) {xs ys : List Instr}
-      (test : xs ≡ test_code (next_offset declared controls depth))
-      (turn : ys ≡ count_code (next_offset declared controls depth) (variable_location declared allocation x)
-      ++ block_code declared allocation controls depths (depth + 1) (straight_block inner)) where
-    pub loop_near : HasPlace declared allocation controls depths depth (straight_tree statement)
-        → 2 * (length xs + length ys) + 8 < 2 ^ 19
-    loop_near placed =
-        let near = (subst (HasPlace declared allocation controls depths depth) tree_of_loop placed).5 in
-        omega (arith, near, ap (λ (l : List Instr). length l) test, ap (λ (l : List Instr). length l) turn)
+  module _ (declared : List FlatVariable) (allocation : Allocation) (controls depths depth : ℕ) {ys : List Instr}
+      (turn : ys ≡ block_code declared allocation controls depths (depth + 1) (straight_block inner)) where
+    -- the code of the loop, of that of its body
+    abbrev pub of_body : Bool → List Instr → List Instr
+    of_body is_set ys = repeat_code declared allocation (next_offset declared controls depth)
+        (temporaries_offset declared controls depths) (variable_location declared allocation x) (term_tree low)
+        (term_tree high) is_set ys
 
-    pub loop_made : (old middle new : List Instr)
-        → middle ≡ old ++ bounds_code declared allocation (next_offset declared controls depth)
-        (temporaries_offset declared controls depths) (term_tree low) (term_tree high)
-        → new ≡ middle ++ loop_code xs ys
-        → new ≡ old ++ statement_code declared allocation controls depths depth (straight_tree statement)
-    loop_made old middle new first' last' =
-        let next = next_offset declared controls depth in
-        let turn_code = count_code next (variable_location declared allocation x)
-        ++ block_code declared allocation controls depths (depth + 1) (straight_block inner) in
-        last' ∙ (ap₂ (λ (front back : List Instr). front ++ back) first' (ap₂ loop_code test turn)
-        ∙ (append_assoc old (bounds_code declared allocation next (temporaries_offset declared controls depths)
-        (term_tree low) (term_tree high)) (loop_code (test_code next) turn_code)
-        ∙ ap (λ (s : StraightTree). old ++ statement_code declared allocation controls depths depth s)
-        (sym tree_of_loop)))
+    pub loop_is : (is_set : Bool) → is_set ≡ any_sets x (straight_block inner)
+        → of_body is_set ys ≡ statement_code declared allocation controls depths depth (straight_tree statement)
+    loop_is is_set set =
+        ap₂ of_body set turn
+        ∙ ap (λ (s : StraightTree). statement_code declared allocation controls depths depth s) (sym tree_of_loop)
+
+    -- the body is no longer than the statement
+    pub body_within : length ys ≤ length (statement_code declared allocation controls depths depth (straight_tree
+        statement))
+    body_within =
+        let spans = repeat_spans declared allocation (next_offset declared controls depth)
+        (temporaries_offset declared controls depths) ys (variable_location declared allocation x) (term_tree low)
+        (term_tree high) (any_sets x (straight_block inner)) in
+        omega (
+          arith,
+          spans.0,
+          ap (λ (l : List Instr). length l) (loop_is (any_sets x (straight_block inner)) refl),
+        )
+
+-- code that is emitted into no code is that code
+pub emitted : {old code new : List Instr} → new ≡ old ++ code → old ≡ [] → new ≡ code
+emitted {old} {code} {new} is none = is ∙ ap (λ (front : List Instr). front ++ code) none
+
+-- code that is not emitted because of a part that is not
+pub for_part : {T : Type 0} (m n : ℕ) (r : Result T Unemitted) {e : Unemitted} → IsErrAnd r (λ y. y ≡ e) → IsFar m e
+    → m ≤ n → IfErr r (IsFar n)
+for_part m n (Ok x) is part within = tt
+for_part m n (Err y) is part within = λ too_far. omega (arith, part (sym is ∙ too_far), within)
 
 -- Lists of statements.
 
@@ -149,6 +172,34 @@ pub placed_here : (declared : List FlatVariable) (allocation : Allocation) (cont
     → HasPlace declared allocation controls depths depth (straight_tree item)
 placed_here declared allocation controls depths depth statements i item here placed =
     (subst (λ xs. HavePlaces declared allocation controls depths depth (straight_block xs)) here placed).0
+
+-- its code is no longer than that of all
+code_behind : (declared : List FlatVariable) (allocation : Allocation) (controls depths depth : ℕ)
+    (statements : List StraightStatement) (i : ℕ)
+    → length (block_code declared allocation controls depths depth (straight_block (drop i statements)))
+    ≤ length (block_code declared allocation controls depths depth (straight_block statements))
+code_behind declared allocation controls depths depth [] zero = omega arith
+code_behind declared allocation controls depths depth [] (suc i) = omega arith
+code_behind declared allocation controls depths depth (s ∷ rest) zero = omega arith
+code_behind declared allocation controls depths depth (s ∷ rest) (suc i) =
+    omega (
+      arith,
+      length-append {A = Instr},
+      code_behind declared allocation controls depths depth rest i,
+    )
+
+pub part_here : (declared : List FlatVariable) (allocation : Allocation) (controls depths depth : ℕ)
+    (statements : List StraightStatement) (i : ℕ) (item : StraightStatement)
+    → drop i statements ≡ item ∷ drop (i + 1) statements
+    → length (statement_code declared allocation controls depths depth (straight_tree item))
+    ≤ length (block_code declared allocation controls depths depth (straight_block statements))
+part_here declared allocation controls depths depth statements i item here =
+    omega (
+      arith,
+      length-append {A = Instr},
+      ap (λ xs. length (block_code declared allocation controls depths depth (straight_block xs))) here,
+      code_behind declared allocation controls depths depth statements i,
+    )
 
 pub greatest_here : (measure : StraightTree → ℕ) (measure_all : StraightBlock → ℕ)
     → ((s : StraightTree) (rest : StraightBlock) → measure_all (first s rest) ≡ max (measure s) (measure_all rest))

@@ -1,17 +1,20 @@
 -- The code of a statement makes of the state what the statement makes of it.
-use Rattle.std.proofs.Common.{ℕ, ◌+◌, ◌*◌, ◌≤◌, refl, arith}
-use Rattle.codegen.proofs.Language.{statement_nodes, block_nodes, statement_work, block_work, StraightTree, set}
+use Rattle.std.proofs.Common.{ℕ, ◌+◌, ◌*◌, ◌<◌, ◌≤◌, length, length-append, refl, arith}
+use Rattle.codegen.proofs.Language.{statement_work, block_work, StraightTree, set}
 use Rattle.codegen.proofs.Language.{clear}
 use Rattle.codegen.proofs.Language.{fill, put, take, set_under, put_under, branch, repeats, StraightBlock, nothing}
 use Rattle.codegen.proofs.Language.{first, after, after_all, path_at, path_along, IsTyped, AreTyped, labelled}
 use Rattle.codegen.proofs.Language.{Boolean}
 use Rattle.codegen.proofs.Language.{Public}
 use Rattle.codegen.proofs.Machine.{statement_code, block_code, height_in, height_in_all, depth_in, depth_in_all}
-use Rattle.codegen.proofs.Machine.{slots_to}
+use Rattle.codegen.proofs.Machine.{far, next_offset, slots_to, Instr, variable_location}
 use Rattle.codegen.proofs.ElementRuns.{put_runs, put_under_runs, fill_runs}
-use Rattle.codegen.proofs.LoopRuns.{branch_runs, repeats_runs}
+use Rattle.codegen.proofs.LoopLengths.{repeat_spans}
+use Rattle.codegen.proofs.LoopRuns.{branch_runs}
+use Rattle.codegen.proofs.RepeatRuns.{loops_run}
+use Rattle.codegen.specs.private.Loops.{any_sets}
 use Rattle.codegen.proofs.ClearRuns.{clear_runs}
-use Rattle.codegen.proofs.CodeLengths.{arms_near, turn_near}
+use Rattle.codegen.proofs.CodeLengths.{arms_near}
 use Rattle.codegen.proofs.SetRuns.{set_runs, set_under_runs, take_runs}
 use Rattle.codegen.proofs.Slots.{Shown, hidden_then}
 use Rattle.codegen.proofs.Logic.{Setting, base_of, Runs, seq, gives, cheaper, beside, idle, height, Ready}
@@ -21,7 +24,7 @@ module _ (z : Setting) where
     -- a well-typed statement for which there is room, in so many loops
     pub statement_runs : (depth : ℕ) (s : StraightTree) → IsTyped z.code.profile z.declared z.controls s
         → base_of z + 4 * slots_to z.allocation.count (height_in s) ≤ z.size → depth + depth_in s ≤ z.depths
-        → statement_nodes s ≤ 6000
+        → length (statement_code z.declared z.allocation z.controls z.depths depth s) < far
         → Runs z (32 * statement_work z.counts s) (λ env. path_at env s)
         (statement_code z.declared z.allocation z.controls z.depths depth s) (Ready z)
         (Shown z depth (λ env. after env s))
@@ -44,20 +47,26 @@ module _ (z : Setting) where
         (branch_runs z depth condition (labelled Boolean Public) accepted otherwise
         (32 * block_work z.counts accepted) (32 * block_work z.counts otherwise)
         typed.0 (omega (arith, room)) (omega (arith, within))
-        (arms_near z.declared z.allocation z.controls z.depths depth accepted otherwise (omega (arith, few)))
-        (block_runs depth accepted typed.1 (omega (arith, room)) (omega (arith, within)) (omega (arith, few)))
-        (block_runs depth otherwise typed.2 (omega (arith, room)) (omega (arith, within)) (omega (arith, few))))
+        (arms_near z.declared z.allocation z.controls z.depths depth condition accepted otherwise few)
+        (block_runs depth accepted typed.1 (omega (arith, room)) (omega (arith, within))
+        (omega (arith, length-append {A = Instr}, few)))
+        (block_runs depth otherwise typed.2 (omega (arith, room)) (omega (arith, within))
+        (omega (arith, length-append {A = Instr}, few))))
     statement_runs depth (repeats x low high body) typed room within few =
+        let ys = block_code z.declared z.allocation z.controls z.depths (depth + 1) body in
+        let spans = repeat_spans z.declared z.allocation (next_offset z.declared z.controls depth) (base_of z) ys
+        (variable_location z.declared z.allocation x) low high (any_sets x body) in
         cheaper (omega (arith, height low))
-        (repeats_runs z depth (omega (arith, within)) x low high body (32 * block_work z.counts body)
+        (loops_run z depth x (omega (arith, within)) low high body (32 * block_work z.counts body)
         typed.2 typed.0 typed.1 (omega (arith, room)) (omega (arith, room))
-        (turn_near z.declared z.allocation z.controls z.depths depth x body (omega (arith, few)))
-        (block_runs (depth + 1) body typed.3 (omega (arith, room)) (omega (arith, within)) (omega (arith, few))))
+        (block_runs (depth + 1) body typed.3 (omega (arith, room)) (omega (arith, within))
+        (omega (arith, spans.0, few)))
+        few)
 
     -- statements, one after the other
     pub block_runs : (depth : ℕ) (b : StraightBlock) → AreTyped z.code.profile z.declared z.controls b
         → base_of z + 4 * slots_to z.allocation.count (height_in_all b) ≤ z.size → depth + depth_in_all b ≤ z.depths
-        → block_nodes b ≤ 6000
+        → length (block_code z.declared z.allocation z.controls z.depths depth b) < far
         → Runs z (32 * block_work z.counts b) (λ env. path_along env b)
         (block_code z.declared z.allocation z.controls z.depths depth b) (Ready z)
         (Shown z depth (λ env. after_all env b))
@@ -71,7 +80,9 @@ module _ (z : Setting) where
           hidden = hidden_then z depth t done.middle u done.first.hidden done.second.hidden;
         })
         (seq
-        (statement_runs depth s typed.0 (omega (arith, room)) (omega (arith, within)) (omega (arith, few)))
+        (statement_runs depth s typed.0 (omega (arith, room)) (omega (arith, within))
+        (omega (arith, length-append {A = Instr}, few)))
         (beside (λ env. after env s)
-        (block_runs depth rest typed.1 (omega (arith, room)) (omega (arith, within)) (omega (arith, few))))
+        (block_runs depth rest typed.1 (omega (arith, room)) (omega (arith, within))
+        (omega (arith, length-append {A = Instr}, few))))
         (λ env t u ready done. done.ready)))

@@ -4,7 +4,8 @@ use Rattle.std.proofs.Common.{length, Option, None, Some, slice_get, refl, ap, �
 use Rattle.codegen.proofs.Language.{FlatVariable, StraightProgram}
 use Rattle.codegen.proofs.Logic.{nat_tests, none-some, same_Some}
 use Rattle.codegen.proofs.Machine.{home_count, home_of, IsFitting}
-use Rattle.codegen.specs.private.Homes.{gets_home, home_after, home_at, homes_from, is_chosen, is_word, word_homes}
+use Rattle.codegen.specs.private.Homes.{gets_home, home_after, home_at, homes_from, is_chosen, is_word, temporary_registers}
+use Rattle.codegen.specs.private.Homes.{word_homes}
 use Rattle.codegen.specs.private.Uses.{weights_of}
 
 left_by : (chosen : Bool) (n : ℕ) (elements : Option ℕ) → (chosen && is_word elements && nat_lt n 28) ≡ true → n < 28
@@ -85,15 +86,16 @@ module _ (chosen : ℕ → Bool) where
 
 pub word_homes_fit : (p : StraightProgram) → IsFitting p (word_homes p)
 word_homes_fit p =
-    let chosen = is_chosen (weights_of p) in
+    let first = 5 + temporary_registers p in
+    let chosen = is_chosen first (weights_of p) in
     record {
       allocated = record {
         some = omega arith;
         few = omega arith;
-        allowed = λ x home is. let h = allowed chosen p.declared 0 13 x home is in (omega (arith, h.0), h.1);
-        apart = λ x y home is other. apart chosen p.declared 0 13 x y home is other;
-        words = λ x d size known is. words chosen p.declared 0 13 x d size known is;
+        allowed = λ x home is. let h = allowed chosen p.declared 0 first x home is in (omega (arith, h.0), h.1);
+        apart = λ x y home is other. apart chosen p.declared 0 first x y home is other;
+        words = λ x d size known is. words chosen p.declared 0 first x d size known is;
       };
-      within = omega (arith, lengths chosen p.declared 0 13);
-      few = omega (arith, counts chosen p.declared 0 13 (omega arith));
+      within = omega (arith, lengths chosen p.declared 0 first);
+      few = omega (arith, counts chosen p.declared 0 first (omega arith));
     }

@@ -1,6 +1,7 @@
 -- The one image for straight code: two answers of `generate` are one. How its words are made is private.
 use Rattle.branch_removal.specs.Straight.{StraightProgram}
-use Rattle.codegen.specs.private.Generated.{image_of}
+use Rattle.std.specs.Prelude.{Option}
+use Rattle.codegen.specs.private.Generated.{image_of, image_within}
 use Rattle.codegen.specs.private.Homes.{word_homes}
 use Rattle.expression_code.specs.Allocation.{plain}
 use Rattle.image_fields.specs.Fields.{Fields}
@@ -8,6 +9,7 @@ use Rattle.image_fields.specs.Fields.{Fields}
 unfoldable pub fields_of : StraightProgram → Fields
 fields_of straight = image_of plain straight
 
--- and the one in which words live in registers: two answers of `generate_optimised` are one
-unfoldable pub optimised_fields_of : StraightProgram → Fields
-optimised_fields_of straight = image_of (word_homes straight) straight
+-- and the one in which words live in registers, where it has no more words than are promised: two answers of
+-- `generate_optimised` are one
+unfoldable pub optimised_fields_of : StraightProgram → Option Fields
+optimised_fields_of straight = image_within (word_homes straight) straight

@@ -1,6 +1,8 @@
 -- Words that the contracts of private functions cite, and no public one: the instructions that are emitted, one list
 -- for each statement, and where they have room.
 pub mod Jumps
+pub mod Words
+pub mod Loops
 pub mod Emitted
 pub mod Placed
 pub mod Generated

@@ -1,30 +1,33 @@
-ghost use Rattle.std.specs.Prelude.{◌≡◌, ◌++◌, ◌+◌, ◌*◌, ◌<◌, ◌≤◌, ◌^◌, length, map, All, OnOk, IfOk, IfErr};
+ghost use Rattle.std.specs.Prelude.{◌≡◌, [], ◌∷◌, ◌++◌, ◌+◌, ◌*◌, ◌<◌, ◌≤◌, ◌^◌, length, map, All, OnOk, IfOk, IfErr, IfSome, IfNone};
 ghost use Rattle.std.specs.Option.{option_map};
 ghost use Rattle.codegen.specs.Exact.{fields_of, optimised_fields_of};
 ghost use Rattle.codegen.specs.Followed.{IsGenerated};
-ghost use Rattle.codegen.specs.private.Generated.{entry_code, program_code, program_slots, result_slot, step_limit, image_of};
+ghost use Rattle.branch_removal.specs.Bounds.{IsCounted};
+ghost use Rattle.codegen.specs.private.Generated.{entry_code, program_code, program_slots, result_slot, most_words, step_limit, image_of, image_within};
+ghost use Rattle.codegen.specs.private.Jumps.{IsFar};
 ghost use Rattle.codegen.specs.private.Room.{HasRoom, IsFitting, frame_of};
 ghost use Rattle.image_fields.specs.Fields.{IsImage};
 ghost use Rattle.intervals.specs.Limits.{most_work};
+ghost use Rattle.language.specs.Limits.{most_nodes};
 ghost use Rattle.language.specs.WantOfMemory.{IsWantOfMemory};
 ghost use Rattle.rv_code.specs.Words.{word_of};
+ghost use Rattle.rv_code.specs.declared.instructions.Instr.TheVariants.{Ecall};
 
 use crate::Code;
-use crate::heights::{greatest_depth, greatest_height};
+use crate::heights::{greatest_depth, program_height, temporary_registers};
 use crate::homes::word_homes;
 use crate::reading::assign;
 use crate::statements::statements;
+use crate::unemitted::Unemitted;
 use branch_removal::Straight;
-use expression_code::{
-    Allocation, Layout, REGISTER_COUNT, WORD_BYTES, emit, height, offsets, slots,
-};
+use expression_code::{Allocation, Layout, REGISTER_COUNT, WORD_BYTES, emit, offsets, slots};
 use image_fields::{ImageFields, ResultSlot};
 use language::Refusal;
 use rv_code::{Instr, encode};
 use std::alloc::{AllocError, Global};
 
-/// How many temporaries have registers where words live in registers.
-const OPTIMISED_COUNT: u32 = 8;
+/// The register of the first temporary.
+const FIRST_TEMPORARY: u32 = 5;
 
 /// The words of instructions.
 fn words(alloc: Global, code: &[Instr]) -> Result<Vec<u32>, AllocError>
@@ -51,16 +54,25 @@ fn enter(code: &mut Vec<Instr>, layout: &Layout<'_>) -> Result<(), AllocError>
     Ok(())
 }
 
+/// The end of a program.
+fn end(code: &mut Vec<Instr>) -> Result<(), AllocError>
+    ensures { OnOk result (code.new.items ≡ code.old.items ++ Ecall ∷ []) }
+{
+    code.push(Instr::Ecall)?;
+    Ok(())
+}
+
 /// The instructions of a program, in its layout.
 fn program_code(
     alloc: Global,
     straight: &Straight<'_>,
     layout: &Layout<'_>,
-) -> Result<Vec<Instr>, AllocError>
+) -> Result<Vec<Instr>, Unemitted>
     requires room { HasRoom straight.now }
     requires fitting { IsFitting straight.now layout.now.allocation }
     requires frame { layout.now ≡ frame_of layout.now.allocation straight.now }
-    ensures { IfOk result (λ code. code.items ≡ program_code layout.now.allocation straight.now) }
+    ensures code { IfOk result (λ code. code.items ≡ program_code layout.now.allocation straight.now) }
+    ensures far { IfErr result (IsFar (length (program_code layout.now.allocation straight.now))) }
 {
     let mut code = Vec::new(alloc);
     enter(&mut code, layout)?;
@@ -68,21 +80,45 @@ fn program_code(
     if let Some(value) = straight.value() {
         assign(&mut code, layout, value, layout.result())?;
     }
-    code.push(Instr::Ecall)?;
+    end(&mut code)?;
     Ok(code)
+}
+
+/// How many words an image may have, by the nodes of the source.
+fn most_words(nodes: u32) -> u32
+    requires { nodes ≤ most_nodes }
+    ensures { result ≡ most_words nodes }
+{
+    32 * nodes + 64
+}
+
+/// The same, where an image may have as many.
+fn code_within(
+    alloc: Global,
+    straight: &Straight<'_>,
+    layout: &Layout<'_>,
+) -> Result<Option<Vec<Instr>>, Refusal>
+    requires room { HasRoom straight.now }
+    requires fitting { IsFitting straight.now layout.now.allocation }
+    requires frame { layout.now ≡ frame_of layout.now.allocation straight.now }
+    ensures code { IfOk result (λ made. IfSome made (λ code. code.items ≡ program_code layout.now.allocation straight.now)) }
+    ensures within { IfOk result (λ made. IfSome made (λ code. length code.items ≤ most_words straight.now.nodes)) }
+    ensures beyond { IfOk result (λ made. IfNone made (most_words straight.now.nodes < length (program_code layout.now.allocation straight.now))) }
+    ensures memory { IfErr result (λ refusal. IsWantOfMemory refusal.rule refusal.place) }
+{
+    let limit = most_words(straight.nodes()) as usize;
+    match program_code(alloc, straight, layout) {
+        Ok(code) if code.len() <= limit => Ok(Some(code)),
+        Ok(_) | Err(Unemitted::TooFar) => Ok(None),
+        Err(Unemitted::Memory) => Err(Refusal::memory()),
+    }
 }
 
 /// How many slots the temporaries of a program take.
 fn temporaries(straight: &Straight<'_>, layout: &Layout<'_>) -> u32
-    requires { HasRoom straight.now }
     ensures { result ≡ program_slots layout.now.allocation straight.now }
 {
-    let result = match straight.value() {
-        Some(value) => height(value),
-        None => 0,
-    };
-    let height = greatest_height(straight.body()).max(result);
-    (height + 1).saturating_sub(layout.register_count())
+    (program_height(straight) + 1).saturating_sub(layout.register_count())
 }
 
 /// The slot of the result, where there is one.
@@ -111,33 +147,35 @@ fn listed(
     alloc: Global,
     straight: &Straight<'_>,
     layout: &Layout<'_>,
+    code: &[Instr],
 ) -> Result<ImageFields, AllocError>
     requires room { HasRoom straight.now }
     requires fitting { IsFitting straight.now layout.now.allocation }
     requires frame { layout.now ≡ frame_of layout.now.allocation straight.now }
+    requires code { code.now ≡ program_code layout.now.allocation straight.now }
+    requires within { length code.now ≤ most_words straight.now.nodes }
     ensures exact { IfOk result (λ fields. fields ≡ image_of layout.now.allocation straight.now) }
     ensures allowed { IfOk result IsImage }
 {
     let returned = result_slot(straight, layout);
-    let code = program_code(alloc, straight, layout)?;
     let slots = slots(alloc, straight.parameters())?;
-    let words = words(alloc, code.as_slice())?;
+    let words = words(alloc, code)?;
     let frame_bytes = layout.temporaries() + WORD_BYTES * temporaries(straight, layout);
     let max_steps = step_limit(straight.work());
     let profile = straight.profile();
     Ok(ImageFields::new(profile, slots, returned, frame_bytes, max_steps, words))
 }
 
-/// The code of a straight program, with registers given out so.
+/// The code of a straight program, with registers given out so, where it has no more words than it may have.
 fn generate_with(
     alloc: Global,
     straight: &Straight<'_>,
     allocation: Allocation<'_>,
-) -> Result<Code, Refusal>
+) -> Result<Option<Code>, Refusal>
     requires { IsFitting straight.now allocation }
-    ensures generated { IfOk result (IsGenerated straight.now) }
-    ensures exact { IfOk result (λ code. code ≡ image_of allocation.entry straight.now) }
-    ensures allowed { IfOk result IsImage }
+    ensures generated { IfOk result (λ made. IfSome made (IsGenerated straight.now)) }
+    ensures exact { IfOk result (λ made. made ≡ image_within allocation.entry straight.now) }
+    ensures allowed { IfOk result (λ made. IfSome made IsImage) }
     ensures memory { IfErr result (λ refusal. IsWantOfMemory refusal.rule refusal.place) }
 {
     let depths = greatest_depth(straight.body());
@@ -150,39 +188,42 @@ fn generate_with(
         depths,
         allocation,
     );
-    let fields = listed(alloc, straight, &layout)?;
-    Ok(Code::new(fields))
+    let Some(code) = code_within(alloc, straight, &layout)? else {
+        return Ok(None);
+    };
+    let fields = listed(alloc, straight, &layout, code.as_slice())?;
+    Ok(Some(Code::new(fields)))
 }
 
 /// The code of a straight program. The machine, running it, follows the program: the outcome is that of the program, and
 /// what it shows is decided by what the program's observer sees of the path. The program alone decides which code it is.
 /// It is refused only when out of memory.
 pub fn generate(alloc: Global, straight: &Straight<'_>) -> Result<Code, Refusal>
+    requires { IsCounted straight.now }
     ensures generated { IfOk result (IsGenerated straight.now) }
     ensures exact { IfOk result (λ code. code ≡ fields_of straight.now) }
     ensures allowed { IfOk result IsImage }
     ensures memory { IfErr result (λ refusal. IsWantOfMemory refusal.rule refusal.place) }
 {
     let homes = Vec::new(alloc);
-    generate_with(
-        alloc,
-        straight,
-        Allocation::new(REGISTER_COUNT, homes.as_slice()),
-    )
+    let allocation = Allocation::new(REGISTER_COUNT, homes.as_slice());
+    match generate_with(alloc, straight, allocation)? {
+        Some(code) => Ok(code),
+        None => unreachable!(),
+    }
 }
 
 /// The same with words in registers and numbers in instructions: the variables that are used most live in a register each,
-/// for the whole run, and a number gets none where an instruction holds it.
-pub fn generate_optimised(alloc: Global, straight: &Straight<'_>) -> Result<Code, Refusal>
-    ensures generated { IfOk result (IsGenerated straight.now) }
-    ensures exact { IfOk result (λ code. code ≡ optimised_fields_of straight.now) }
-    ensures allowed { IfOk result IsImage }
+/// for the whole run, and a number gets none where an instruction holds it. A program may have been made longer than its
+/// source, as by unrolling; there is no code where it has more words than are promised for the nodes of the source.
+pub fn generate_optimised(alloc: Global, straight: &Straight<'_>) -> Result<Option<Code>, Refusal>
+    ensures generated { IfOk result (λ made. IfSome made (IsGenerated straight.now)) }
+    ensures exact { IfOk result (λ made. made ≡ optimised_fields_of straight.now) }
+    ensures allowed { IfOk result (λ made. IfSome made IsImage) }
     ensures memory { IfErr result (λ refusal. IsWantOfMemory refusal.rule refusal.place) }
 {
-    let homes = word_homes(alloc, straight)?;
-    generate_with(
-        alloc,
-        straight,
-        Allocation::new(OPTIMISED_COUNT, homes.as_slice()).with_immediates(),
-    )
+    let count = temporary_registers(straight);
+    let homes = word_homes(alloc, straight, FIRST_TEMPORARY + count)?;
+    let allocation = Allocation::new(count, homes.as_slice()).with_immediates();
+    generate_with(alloc, straight, allocation)
 }

@@ -2,12 +2,18 @@
 
 ghost use Rattle.std.specs.Prelude.{◌≡◌, ◌≤◌, map};
 ghost use Rattle.branch_removal.specs.Straight.{straight_tree, straight_block};
-ghost use Rattle.codegen.specs.private.Emitted.{height_of_all, height_in, height_in_all, depth_in, depth_in_all};
+ghost use Rattle.branch_removal.specs.Heights.{program_height, height_of_all, height_in, height_in_all, depth_in, depth_in_all};
+ghost use Rattle.codegen.specs.private.Homes.{temporary_registers};
 ghost use Rattle.inline.specs.Flat.{term_tree};
 
-use branch_removal::StraightStatement;
+use branch_removal::{Straight, StraightStatement};
 use expression_code::height;
 use inline::Term;
+
+/// How many temporaries have registers at least and at most where words live in registers.
+const FEWEST_TEMPORARIES: u32 = 3;
+
+const MOST_TEMPORARIES: u32 = 8;
 
 /// How many temporaries values have at once at most, beside the first.
 fn height_of_all(values: &[Term]) -> u32
@@ -86,4 +92,27 @@ pub fn greatest_depth(statements: &[StraightStatement]) -> u32
         deepest = depth_in(statement).max(deepest);
     }
     deepest
+}
+
+/// How many temporaries a program has at once at most, beside the first.
+pub fn program_height(straight: &Straight<'_>) -> u32
+    ensures height { result ≡ program_height straight.now }
+    ensures few { result ≤ 6000 }
+{
+    let body = straight.body();
+    let result = match straight.value() {
+        Some(value) => height(value),
+        None => 0,
+    };
+    greatest_height(body).max(result)
+}
+
+/// How many temporaries have registers in optimised code: the others are for words.
+pub fn temporary_registers(straight: &Straight<'_>) -> u32
+    ensures count { result ≡ temporary_registers straight.now }
+    ensures few { result ≤ 8 }
+{
+    (program_height(straight) + 1)
+        .max(FEWEST_TEMPORARIES)
+        .min(MOST_TEMPORARIES)
 }

@@ -1,13 +1,20 @@
 // Instructions that are run by turns or not at all: what stands between jumps.
 
-ghost use Rattle.std.specs.Prelude.{◌≡◌, ◌++◌, ◌+◌, ◌*◌, ◌^◌, ◌<◌, length, OnOk};
-ghost use Rattle.codegen.specs.private.Jumps.{skip, over, back, branch_code, loop_code};
+ghost use Rattle.std.specs.Prelude.{◌≡◌, ◌++◌, ◌+◌, ◌*◌, ◌^◌, ◌<◌, ◌≤◌, length, IfErr, OnOk};
+ghost use Rattle.codegen.specs.private.Jumps.{skip, over, back, branch_code, loop_code, again_code, AreNear, IsFar};
 
+use crate::unemitted::Unemitted;
 use rv_code::{BranchOffset, BranchTest, Instr, JumpOffset, Reg};
 use std::alloc::AllocError;
 
 /// The values that a jump's offset may have, in halves.
 const JUMP_HALVES: u32 = 1 << 20;
+
+/// The values that a branch's offset may have, in halves.
+const BRANCH_HALVES: u32 = 1 << 12;
+
+/// So many instructions between jumps are farther than these go.
+const FAR: usize = 262_140;
 
 /// Over the next instruction, where a register is not 0.
 fn skip(register: Reg) -> Instr
@@ -41,6 +48,18 @@ fn back(count: usize) -> Instr
     )
 }
 
+/// Refuses two pieces of so many instructions, where jumps do not reach over them.
+pub fn reach(one: usize, other: usize) -> Result<(), Unemitted>
+    ensures near { OnOk result (AreNear one other) }
+    ensures far { IfErr result (IsFar (one + other)) }
+{
+    if one.saturating_add(other) < FAR {
+        Ok(())
+    } else {
+        Err(Unemitted::TooFar)
+    }
+}
+
 /// The first instructions where a register is not 0, and else the second.
 pub fn branch(
     code: &mut Vec<Instr>,
@@ -48,7 +67,7 @@ pub fn branch(
     accepted: &[Instr],
     otherwise: &[Instr],
 ) -> Result<(), AllocError>
-    requires { 2 * (length accepted.now + length otherwise.now) + 8 < 2 ^ 19 }
+    requires { AreNear (length accepted.now) (length otherwise.now) }
     ensures { OnOk result (code.new.items ≡ code.old.items ++ branch_code register accepted.now otherwise.now) }
 {
     code.push(skip(register))?;
@@ -61,7 +80,7 @@ pub fn branch(
 
 /// A test, and as long as its value is not 0 the body, and the test again.
 pub fn repeat(code: &mut Vec<Instr>, test: &[Instr], body: &[Instr]) -> Result<(), AllocError>
-    requires { 2 * (length test.now + length body.now) + 8 < 2 ^ 19 }
+    requires { AreNear (length test.now) (length body.now) }
     ensures { OnOk result (code.new.items ≡ code.old.items ++ loop_code test.now body.now) }
 {
     code.extend_from_slice(test)?;
@@ -69,5 +88,17 @@ pub fn repeat(code: &mut Vec<Instr>, test: &[Instr], body: &[Instr]) -> Result<(
     code.push(over(body.len() + 1))?;
     code.extend_from_slice(body)?;
     code.push(back(test.len() + 2 + body.len()))?;
+    Ok(())
+}
+
+/// A body, and as long as a register is not 0 the body again.
+pub fn again(code: &mut Vec<Instr>, register: Reg, body: &[Instr]) -> Result<(), AllocError>
+    requires some { 0 < length body.now }
+    requires near { 2 * length body.now ≤ 2 ^ 11 }
+    ensures { OnOk result (code.new.items ≡ code.old.items ++ again_code register body.now) }
+{
+    let back = BranchOffset::from_halves(BRANCH_HALVES - 2 * body.len() as u32);
+    code.extend_from_slice(body)?;
+    code.push(Instr::Branch(BranchTest::Bne, register, Reg::X0, back))?;
     Ok(())
 }

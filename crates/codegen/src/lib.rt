@@ -9,9 +9,12 @@ mod generator;
 mod heights;
 mod homes;
 mod jumping;
+mod loops;
 mod masking;
 mod reading;
+mod settings;
 mod statements;
+mod unemitted;
 mod uses;
 
 pub use code::Code;

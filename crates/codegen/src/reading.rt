@@ -4,7 +4,8 @@ ghost use Rattle.std.specs.Prelude.{◌≡◌, ◌++◌, ◌+◌, ◌*◌, ◌�
 ghost use Rattle.codegen.specs.private.Emitted.{assign_code, home_of_term, read_code, read_register};
 ghost use Rattle.expression_code.specs.Allocation.{slots_to};
 ghost use Rattle.expression_code.specs.Layout.{temporaries_offset};
-ghost use Rattle.expression_code.specs.TermCode.{height_of, IsAmong};
+ghost use Rattle.expression_code.specs.TermCode.{IsAmong};
+ghost use Rattle.branch_removal.specs.Heights.{height_of};
 ghost use Rattle.inline.specs.Flat.{term_tree};
 
 use expression_code::{Layout, emit, into};

@@ -16,7 +16,8 @@ pub use Rattle.expression_code.specs.declared.numbers.NumberRow.{NumberRow}
 pub use Rattle.expression_code.specs.declared.numbers.NumberStep.{NumberStep}
 pub use Rattle.expression_code.specs.TermCode.{address_code, around_code, between, choice_code, code_by}
 pub use Rattle.expression_code.specs.TermCode.{constant_code, convert_code, copy_code, cut_code, element_code}
-pub use Rattle.expression_code.specs.TermCode.{expr_code, fetch_code, finish_code, height_of, into_code, IsAmong}
+pub use Rattle.expression_code.specs.TermCode.{expr_code, fetch_code, finish_code, into_code, IsAmong}
+pub use Rattle.branch_removal.specs.Heights.{height_of}
 pub use Rattle.expression_code.specs.TermCode.{is_at_home, keep_code, load_by, load_code, lower_part, move_code}
 pub use Rattle.expression_code.specs.TermCode.{narrow_code, narrowed_in, near_code, near_element, near_offset}
 pub use Rattle.expression_code.specs.TermCode.{number_code, of_truths, operand, operator_code, placed_code}

@@ -7,7 +7,8 @@ use Rattle.expression_code.specs.Allocation.{Allocation, IsAllocation, home_of, 
 use Rattle.expression_code.specs.Inside.{IsInside}
 use Rattle.expression_code.specs.Layout.{bytes_of, place_of, result_offset}
 use Rattle.expression_code.specs.Registers.{frame_register}
-use Rattle.expression_code.specs.TermCode.{expr_code, operand, height_of}
+use Rattle.expression_code.specs.TermCode.{expr_code, operand}
+use Rattle.branch_removal.specs.Heights.{height_of}
 use Rattle.expression_code.specs.declared.locations.Location.{Location}
 use Rattle.expression_code.specs.declared.locations.Location.TheVariants.{InRegister, InSlot}
 use Rattle.inline.specs.declared.flat.FlatVariable.{FlatVariable}

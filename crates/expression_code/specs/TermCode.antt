@@ -1,6 +1,6 @@
 -- The instructions that are emitted for slots, numbers, operators and expressions.
 use Rattle.std.specs.Prelude.{ℕ, zero, suc, ◌+◌, ◌-◌, ◌*◌, ◌/◌, ◌%◌, ◌^◌, ◌==◌, ◌<◌, Bool, false, List, [], ◌∷◌, ◌++◌}
-use Rattle.std.specs.Prelude.{max, nat_lt, Option, None, Some, is_some, if◌then◌else◌}
+use Rattle.std.specs.Prelude.{nat_lt, Option, None, Some, is_some, if◌then◌else◌}
 use Rattle.expression_code.specs.Layout.{variable_offset, variable_location}
 use Rattle.expression_code.specs.Allocation.{register_of, Allocation, home_of, temporary, working_register, at_home}
 use Rattle.expression_code.specs.NumberRows.{number_of, right_row, left_row}
@@ -361,19 +361,6 @@ module _ (declared : List FlatVariable) (allocation : Allocation) (free : ℕ) w
   -- an expression into a place, unless it is at home
   abbrev pub expr_code : ℕ → TermTree → List Instr
   expr_code place e = placed_code place e (into_code (own_register place) place e)
-
--- how many temporaries an expression has at once, beside the one that it comes into
-abbrev pub height_of : TermTree → ℕ
-height_of (number value kind) = 0
-height_of (truth value) = 0
-height_of (variable x) = 0
-height_of (prefix operator width operand) = height_of operand
-height_of (binary place operator width left right) = max (height_of left) (1 + height_of right)
-height_of (rotate width operand amount) = height_of operand
-height_of (convert kind operand) = height_of operand
-height_of (select condition accepted otherwise) =
-    max (height_of condition) (1 + max (height_of accepted) (1 + height_of otherwise))
-height_of (element place x size index) = height_of index
 
 -- the variables that an expression names are among the first so many
 abbrev pub IsAmong : ℕ → TermTree → Type 0

@@ -4,7 +4,8 @@ ghost use Rattle.std.specs.Prelude.{◌≡◌, ◌++◌, ◌+◌, ◌*◌, ◌�
 ghost use Rattle.expression_code.specs.Layout.{temporaries_offset};
 ghost use Rattle.expression_code.specs.Allocation.{register_of, slots_to, working_register};
 ghost use Rattle.expression_code.specs.Registers.{first_spare, second_spare, third_spare};
-ghost use Rattle.expression_code.specs.TermCode.{into_code, expr_code, operand, fetch_code, height_of, IsAmong};
+ghost use Rattle.expression_code.specs.TermCode.{into_code, expr_code, operand, fetch_code, IsAmong};
+ghost use Rattle.branch_removal.specs.Heights.{height_of};
 ghost use Rattle.inline.specs.Flat.{term_tree};
 
 use crate::layout::Layout;

@@ -1,25 +1,28 @@
 -- The instructions that are emitted for statements.
-use Rattle.std.specs.Prelude.{ℕ, ◌+◌, ◌*◌, List, [], ◌∷◌, ◌++◌, Option, None, Some, max, if◌then◌else◌}
+use Rattle.std.specs.Prelude.{ℕ, ◌+◌, ◌*◌, List, [], ◌∷◌, ◌++◌, Option, None, Some, if◌then◌else◌}
 use Rattle.branch_removal.specs.Straight.{StraightTree, set, clear, fill, put, take, set_under, put_under, branch}
 use Rattle.branch_removal.specs.Straight.{repeats, StraightBlock, nothing, first}
 use Rattle.codegen.specs.private.Jumps.{branch_code, loop_code}
-use Rattle.expression_code.specs.Allocation.{Allocation, home_of}
+pub use Rattle.codegen.specs.private.Loops.{any_sets, bounds_code, count_code, repeat_code, sets, test_code}
+pub use Rattle.codegen.specs.private.Words.{assign_code, home_of_term, home_or, put_word_code, read_code}
+pub use Rattle.codegen.specs.private.Words.{read_register, unless_home}
+use Rattle.expression_code.specs.Allocation.{Allocation}
 use Rattle.expression_code.specs.Layout.{variable_offset, variable_location, control_offset, next_offset}
 use Rattle.expression_code.specs.Layout.{temporaries_offset}
 use Rattle.expression_code.specs.Registers.{zero_register, frame_register, value_register, second_register}
 use Rattle.expression_code.specs.Registers.{third_register, address_register, first_spare}
 use Rattle.expression_code.specs.TermCode.{is_near, upper_part, lower_part, load_code, store_code, constant_code}
 use Rattle.expression_code.specs.TermCode.{address_code, load_by, kind_at, near_element, near_code, code_by}
-use Rattle.expression_code.specs.TermCode.{move_code, into_code, height_of}
+use Rattle.expression_code.specs.TermCode.{into_code}
 use Rattle.expression_code.specs.declared.locations.Location.{Location}
 use Rattle.expression_code.specs.declared.locations.Location.TheVariants.{InRegister, InSlot}
 use Rattle.inline.specs.declared.flat.FlatVariable.{FlatVariable}
-use Rattle.inline.specs.Flat.{TermTree, variable}
+use Rattle.inline.specs.Flat.{TermTree}
 use Rattle.rv_code.specs.declared.instructions.Instr.{Instr}
 use Rattle.rv_code.specs.declared.instructions.Instr.TheVariants.{Upper, Immediate, Register, Load, Store}
 use Rattle.rv_code.specs.declared.operations.UpperOperation.TheVariants.{Lui}
 use Rattle.rv_code.specs.declared.operations.ImmediateOperation.TheVariants.{Addi}
-use Rattle.rv_code.specs.declared.operations.RegisterOperation.TheVariants.{Add, Sub, Sltu, Xor, And}
+use Rattle.rv_code.specs.declared.operations.RegisterOperation.TheVariants.{Add, Sub, Xor, And}
 use Rattle.rv_code.specs.declared.operations.StoreOperation.{StoreOperation}
 use Rattle.rv_code.specs.declared.operations.StoreOperation.TheVariants.{Sb, Sh, Sw}
 use Rattle.language.specs.declared.signature.Kind.{Kind}
@@ -52,43 +55,6 @@ abbrev pub merge_code : ℕ → ℕ → ℕ → ℕ → ℕ → List Instr
 merge_code d t new old mask = Register Xor t new old ∷ Register And t t mask ∷ Register Xor d old t ∷ []
 
 -- Words.
-
--- The value of an expression, read where it is: in its home, where it is a variable that has one, and else in the
--- register that it is brought into.
-
--- the home of an expression
-abbrev pub home_of_term : Allocation → TermTree → Option ℕ
-home_of_term allocation (variable x) = home_of allocation.homes x
-home_of_term allocation e = None
-
--- no code is needed for what is at home
-abbrev pub unless_home : Option ℕ → List Instr → List Instr
-unless_home None into = into
-unless_home (Some home) into = []
-
-abbrev pub home_or : Option ℕ → ℕ → ℕ
-home_or None register = register
-home_or (Some home) register = home
-
--- an expression, with its temporaries in the places from this one on, into a register
-abbrev pub read_code : List FlatVariable → Allocation → ℕ → ℕ → ℕ → TermTree → List Instr
-read_code declared allocation free register place e =
-    unless_home (home_of_term allocation e) (into_code declared allocation free register place e)
-
--- and the register where it is then
-abbrev pub read_register : Allocation → ℕ → TermTree → ℕ
-read_register allocation register e = home_or (home_of_term allocation e) register
-
--- the value of an expression into a slot
-abbrev pub assign_code : List FlatVariable → Allocation → ℕ → TermTree → ℕ → List Instr
-assign_code declared allocation free e offset =
-    read_code declared allocation free value_register 0 e
-    ++ store_code (read_register allocation value_register e) offset
-
--- a register into a variable: its home, or its slot
-abbrev pub put_word_code : ℕ → Location → List Instr
-put_word_code register (InRegister home) = move_code home register
-put_word_code register (InSlot offset) = store_code register offset
 
 -- the value of an expression into a variable
 abbrev pub set_code : List FlatVariable → Allocation → ℕ → Location → TermTree → List Instr
@@ -189,24 +155,6 @@ put_element_under_code declared allocation free control x index value =
     ++ put_under_code (read_register allocation value_register index) (read_register allocation second_register value)
     control (kind_at declared x) (variable_offset declared x))
 
--- Loops.
-
--- both bounds into the loop's words, the first one first
-abbrev pub bounds_code : List FlatVariable → Allocation → ℕ → ℕ → TermTree → TermTree → List Instr
-bounds_code declared allocation next free low high =
-    assign_code declared allocation free low next ++ assign_code declared allocation free high (next + 4)
-
--- whether the next number is below the bound
-abbrev pub test_code : ℕ → List Instr
-test_code next =
-    load_code second_register next ++ load_code value_register (next + 4) ++ Register Sltu value_register second_register value_register ∷ []
-
--- the next number into the counter, and one more for the turn after this one
-abbrev pub count_code : ℕ → Location → List Instr
-count_code next counter =
-    put_word_code second_register counter ++ Immediate Addi second_register second_register 1 ∷ []
-    ++ store_code second_register next
-
 -- Statements of a program with these variables, with registers given out so, so many control values, and room for so
 -- many loops, one in the other.
 module _ (declared : List FlatVariable) (allocation : Allocation) (controls depths : ℕ) where
@@ -243,56 +191,10 @@ module _ (declared : List FlatVariable) (allocation : Allocation) (controls dept
         ++ branch_code (read_register allocation value_register condition) (block_code depth accepted)
         (block_code depth otherwise)
     statement_code depth (repeats x low high body) =
-        bounds_code declared allocation (next_offset declared controls depth) free_slots low high
-        ++ loop_code
-        (test_code (next_offset declared controls depth))
-        (count_code (next_offset declared controls depth) (location x) ++ block_code (depth + 1) body)
+        repeat_code declared allocation (next_offset declared controls depth) free_slots (location x) low high
+        (any_sets x body) (block_code (depth + 1) body)
 
     -- of statements, one after the other
     pub block_code : ℕ → StraightBlock → List Instr
     block_code depth nothing = []
     block_code depth (first statement rest) = statement_code depth statement ++ block_code depth rest
-
--- how many temporaries expressions have at once at most, beside the first
-abbrev pub height_of_all : List TermTree → ℕ
-height_of_all [] = 0
-height_of_all (e ∷ es) = max (height_of e) (height_of_all es)
-
--- and those of an index and a value
-abbrev pub height_of_put : TermTree → TermTree → ℕ
-height_of_put index value = max (height_of index) (1 + height_of value)
-
-abbrev mutual
-  -- those of a statement
-  pub height_in : StraightTree → ℕ
-  height_in (set x value) = height_of value
-  height_in (clear x size) = 0
-  height_in (fill x values) = height_of_all values
-  height_in (put place x size index value) = height_of_put index value
-  height_in (take control within condition) = height_of condition
-  height_in (set_under control x value) = height_of value
-  height_in (put_under control place x size index value) = height_of_put index value
-  height_in (branch condition accepted otherwise) =
-      max (height_of condition) (max (height_in_all accepted) (height_in_all otherwise))
-  height_in (repeats x low high body) = max (max (height_of low) (height_of high)) (height_in_all body)
-
-  pub height_in_all : StraightBlock → ℕ
-  height_in_all nothing = 0
-  height_in_all (first statement rest) = max (height_in statement) (height_in_all rest)
-
-abbrev mutual
-  -- how many loops stand in one another at most
-  pub depth_in : StraightTree → ℕ
-  depth_in (set x value) = 0
-  depth_in (clear x size) = 0
-  depth_in (fill x values) = 0
-  depth_in (put place x size index value) = 0
-  depth_in (take control within condition) = 0
-  depth_in (set_under control x value) = 0
-  depth_in (put_under control place x size index value) = 0
-  depth_in (branch condition accepted otherwise) = max (depth_in_all accepted) (depth_in_all otherwise)
-  depth_in (repeats x low high body) = 1 + depth_in_all body
-
-  pub depth_in_all : StraightBlock → ℕ
-  depth_in_all nothing = 0
-  depth_in_all (first statement rest) = max (depth_in statement) (depth_in_all rest)

@@ -1,5 +1,5 @@
 -- The image that is generated for straight code.
-use Rattle.std.specs.Prelude.{ℕ, ◌+◌, ◌*◌, List, [], ◌∷◌, ◌++◌, Option, None, Some, map, max}
+use Rattle.std.specs.Prelude.{ℕ, ◌+◌, ◌*◌, List, [], ◌∷◌, ◌++◌, Option, None, Some, length, map, nat_le, if◌then◌else◌}
 use Rattle.std.specs.Option.{option_map}
 use Rattle.branch_removal.specs.Straight.{StraightProgram}
 use Rattle.rv_code.specs.declared.instructions.Instr.{Instr}
@@ -10,10 +10,11 @@ use Rattle.image_fields.specs.declared.slot.ResultSlot.{ResultSlot}
 use Rattle.inline.specs.declared.flat.FlatVariable.{FlatVariable}
 use Rattle.inline.specs.Flat.{TermTree}
 use Rattle.language.specs.declared.typing.WordType.{WordType}
-use Rattle.codegen.specs.private.Emitted.{block_code, assign_code, height_in_all, depth_in_all}
+use Rattle.codegen.specs.private.Emitted.{block_code, assign_code}
+use Rattle.branch_removal.specs.Heights.{depth_in_all, program_height}
 use Rattle.expression_code.specs.Allocation.{Allocation, slots_to}
 use Rattle.expression_code.specs.Layout.{slots_from, result_offset, temporaries_offset, variable_offset}
-use Rattle.expression_code.specs.TermCode.{load_code, height_of}
+use Rattle.expression_code.specs.TermCode.{load_code}
 
 -- the value into the result's slot, where there is one
 abbrev pub result_code : List FlatVariable → Allocation → ℕ → Option TermTree → List Instr
@@ -48,14 +49,6 @@ body_of a p =
 abbrev pub program_code : Allocation → StraightProgram → List Instr
 program_code a p = body_of a p ++ Ecall ∷ []
 
-abbrev pub result_height : Option TermTree → ℕ
-result_height None = 0
-result_height (Some value) = height_of value
-
--- how many temporaries there are at once at most, beside the first
-abbrev pub program_height : StraightProgram → ℕ
-program_height p = max (height_in_all p.body) (result_height p.value)
-
 -- how many slots they take
 abbrev pub program_slots : Allocation → StraightProgram → ℕ
 program_slots a p = slots_to a.count (program_height p)
@@ -63,6 +56,10 @@ program_slots a p = slots_to a.count (program_height p)
 -- the result's slot, behind the variables
 abbrev pub result_slot : List FlatVariable → WordType → ResultSlot
 result_slot declared word = record { kind = word.kind; label = word.label; offset = result_offset declared }
+
+-- how many words an image may have, by the nodes of the source
+abbrev pub most_words : ℕ → ℕ
+most_words nodes = 32 * nodes + 64
 
 -- how many instructions a run may take, by the work
 abbrev pub step_limit : ℕ → ℕ
@@ -77,3 +74,8 @@ image_of a p = record {
   max_steps = step_limit p.work;
   words = map word_of (program_code a p);
 }
+
+-- the same where it has no more words than it may have
+abbrev pub image_within : Allocation → StraightProgram → Option Fields
+image_within a p =
+    if nat_le (length (image_of a p).words) (most_words p.nodes) then Some (image_of a p) else None

@@ -1,5 +1,7 @@
--- Instructions that are run by turns or not at all: what stands between jumps.
-use Rattle.std.specs.Prelude.{ℕ, ◌+◌, ◌-◌, ◌*◌, ◌^◌, List, [], ◌∷◌, ◌++◌, length}
+-- Instructions that are run by turns or not at all: what stands between jumps, and how long it may be.
+use Rattle.std.specs.Prelude.{◌≡◌, ℕ, ◌+◌, ◌-◌, ◌*◌, ◌^◌, ◌<◌, ◌≤◌, List, [], ◌∷◌, ◌++◌, length}
+use Rattle.codegen.specs.declared.unemitted.Unemitted.{Unemitted}
+use Rattle.codegen.specs.declared.unemitted.Unemitted.TheVariants.{TooFar}
 use Rattle.rv_code.specs.declared.instructions.Instr.{Instr}
 use Rattle.rv_code.specs.declared.instructions.Instr.TheVariants.{Jump, Branch}
 use Rattle.rv_code.specs.declared.operations.BranchTest.TheVariants.{Bne}
@@ -26,3 +28,19 @@ branch_code register accepted otherwise =
 abbrev pub loop_code : List Instr → List Instr → List Instr
 loop_code test body =
     test ++ (skip value_register ∷ over (length body + 1) ∷ (body ++ back (length test + 2 + length body) ∷ []))
+
+-- a body, and as long as a register is not 0 the body again
+abbrev pub again_code : ℕ → List Instr → List Instr
+again_code register body = body ++ Branch Bne register zero_register (2 ^ 12 - 2 * length body) ∷ []
+
+-- so many instructions in all are no farther than a jump goes
+abbrev pub AreNear : ℕ → ℕ → Type 0
+AreNear one other = 2 * (one + other) + 8 < 2 ^ 19
+
+-- and so many are farther
+abbrev pub far : ℕ
+far = 262140
+
+-- of so many instructions: that a jump does not reach is answered only where they are as many as that
+abbrev pub IsFar : ℕ → Unemitted → Type 0
+IsFar n error = error ≡ TooFar → far ≤ n

@@ -1,13 +1,12 @@
--- Statements whose variables and control values are there, whose temporaries lie in the frame, and whose arms a jump
--- reaches.
-use Rattle.std.specs.Prelude.{ℕ, ◌+◌, ◌*◌, ◌^◌, ◌<◌, ◌≤◌, List, [], ◌∷◌, ◌++◌, length}
+-- Statements whose variables and control values are there, and whose temporaries lie in the frame.
+use Rattle.std.specs.Prelude.{ℕ, ◌+◌, ◌*◌, ◌<◌, ◌≤◌, List, [], ◌∷◌, length}
 use Rattle.branch_removal.specs.Straight.{StraightTree, set, clear, fill, put, take, set_under, put_under, branch}
 use Rattle.branch_removal.specs.Straight.{repeats, StraightBlock, nothing, first}
 use Rattle.branch_removal.specs.StraightTyping.{IsAmong as IsControl}
-use Rattle.codegen.specs.private.Emitted.{test_code, count_code, block_code}
 use Rattle.expression_code.specs.Allocation.{Allocation, slots_to}
-use Rattle.expression_code.specs.Layout.{variable_offset, variable_location, next_offset, temporaries_offset}
-use Rattle.expression_code.specs.TermCode.{IsAmong, height_of}
+use Rattle.expression_code.specs.Layout.{variable_offset, temporaries_offset}
+use Rattle.expression_code.specs.TermCode.{IsAmong}
+use Rattle.branch_removal.specs.Heights.{height_of}
 use Rattle.inline.specs.declared.flat.FlatVariable.{FlatVariable}
 use Rattle.inline.specs.Flat.{TermTree}
 
@@ -19,10 +18,6 @@ IsPlaced known count free place e = IsAmong known e × (free + 4 * slots_to coun
 abbrev pub ArePlacedTerms : ℕ → ℕ → ℕ → List TermTree → Type 0
 ArePlacedTerms known count free [] = Unit {0}
 ArePlacedTerms known count free (e ∷ es) = IsPlaced known count free 0 e × ArePlacedTerms known count free es
-
--- so many instructions in all are no farther than a jump goes
-abbrev pub AreNear : ℕ → ℕ → Type 0
-AreNear one other = 2 * (one + other) + 8 < 2 ^ 19
 
 module _ (declared : List FlatVariable) (allocation : Allocation) (controls depths : ℕ) where
   -- where the slots of temporaries lie
@@ -52,15 +47,10 @@ module _ (declared : List FlatVariable) (allocation : Allocation) (controls dept
     HasPlace depth (branch condition accepted otherwise) =
         IsPlaced (length declared) allocation.count free_from 0 condition × HavePlaces depth accepted
         × HavePlaces depth otherwise
-        × AreNear (length (block_code declared allocation controls depths depth accepted))
-        (length (block_code declared allocation controls depths depth otherwise))
     HasPlace depth (repeats x low high body) =
         (x < length declared) × (depth < depths) × IsPlaced (length declared) allocation.count free_from 0 low
         × IsPlaced (length declared) allocation.count free_from 0 high
         × HavePlaces (depth + 1) body
-        × AreNear (length (test_code (next_offset declared controls depth)))
-        (length (count_code (next_offset declared controls depth) (variable_location declared allocation x)
-        ++ block_code declared allocation controls depths (depth + 1) body))
 
     pub HavePlaces : ℕ → StraightBlock → Type 0
     HavePlaces depth nothing = Unit {0}

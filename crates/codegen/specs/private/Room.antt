@@ -1,11 +1,12 @@
 -- Programs that the frame and an image have room for.
 use Rattle.std.specs.Prelude.{◌+◌, ◌*◌, ◌≤◌, length, map}
 use Rattle.std.specs.List.{AllByRecursion}
-use Rattle.branch_removal.specs.Bounds.{block_nodes, block_work}
+use Rattle.branch_removal.specs.Bounds.{block_work}
 use Rattle.branch_removal.specs.Straight.{StraightProgram}
 use Rattle.branch_removal.specs.StraightTyping.{IsTypedStraight}
-use Rattle.codegen.specs.private.Emitted.{depth_in_all}
-use Rattle.codegen.specs.private.Generated.{home_count, program_height}
+use Rattle.branch_removal.specs.Heights.{depth_in_all}
+use Rattle.codegen.specs.private.Generated.{home_count}
+use Rattle.branch_removal.specs.Heights.{program_height}
 use Rattle.expression_code.specs.Allocation.{Allocation, IsAllocation}
 use Rattle.expression_code.specs.Layout.{Frame}
 use Rattle.inline.specs.Flat.{declaration_of}
@@ -24,7 +25,6 @@ pub record HasRoom (p : StraightProgram) : Type 0 where
   pub nodes : p.nodes ≤ most_nodes
   pub work : p.work ≤ most_work
   pub worked : block_work p.turns p.body + value_nodes p.value ≤ p.work
-  pub counted : block_nodes p.body + value_nodes p.value ≤ p.nodes
   -- the words that lie behind the variables and the result
   pub frame : p.controls + 2 * depth_in_all p.body + program_height p ≤ p.nodes
 

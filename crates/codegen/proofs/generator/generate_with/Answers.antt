@@ -1,9 +1,9 @@
-use Rattle.std.proofs.Common.{◌≡◌, ℕ, List, ap, ap₂, sym, subst, ◌∙◌, arith}
+use Rattle.std.proofs.Common.{◌≡◌, ℕ, ◌≤◌, List, Option, Some, IfSome, length, ap, ap₂, sym, subst, ◌∙◌, arith}
 use Rattle.codegen.proofs.Machine.{Allocation, image_of, IsFitting, depth_in_all, IsGenerated, frame_of, Frame}
-use Rattle.codegen.proofs.Machine.{temporaries_offset, Fields}
+use Rattle.codegen.proofs.Machine.{temporaries_offset, Fields, Instr, most_words, program_code}
 use Rattle.codegen.proofs.BodyRuns.{is_generated}
-use Rattle.codegen.proofs.ImageLemmas.{room_frame, has_room}
-use Rattle.codegen.proofs.Language.{FlatVariable, declared_words}
+use Rattle.codegen.proofs.ImageLemmas.{room_frame, has_room, image_there}
+use Rattle.codegen.proofs.Language.{FlatVariable, StraightProgram, declared_words}
 use Rattle.codegen.proofs.generator.generate_with.Goals as goal
 
 pub greatest_depth-depths-requires : goal.greatest_depth-depths-requires
@@ -34,10 +34,12 @@ new-layout-requires-clause-room c =
     let same = ap (λ (f : Frame). temporaries_offset f.declared f.controls f.depths) laid in
     omega (arith, same, room_frame a p (has_room p c.body.ensures.kept.typed c.body.ensures.kept.bounded))
 
-pub listed-requires : goal.listed-requires
-listed-requires c =
-    let p = c.args.straight.now in
-    let a = c.args.allocation in
+-- the layout is the program's
+laid_out : (a : Allocation) (p : StraightProgram) (declared : List FlatVariable) (controls depths : ℕ) (layout : Frame)
+    → layout ≡ record { declared = declared; controls = controls; depths = depths; allocation = a }
+    → declared ≡ p.declared → controls ≡ p.controls → depths ≡ depth_in_all p.body → IsFitting p a
+    → IsFitting p layout.allocation × (layout ≡ frame_of layout.allocation p)
+laid_out a p declared controls depths layout is one two three fits =
     let made : List FlatVariable → ℕ → ℕ → Frame =
     λ declared controls depths. record {
       declared = declared;
@@ -45,17 +47,49 @@ listed-requires c =
       depths = depths;
       allocation = a;
     } in
-    let depths = c.greatest_depth-depths.ensures ∙ ap depth_in_all c.body.ensures.body in
-    let laid : c.new-layout.result ≡ frame_of a p =
-    c.new-layout.ensures
-    ∙ (ap (λ declared. made declared c.controls.result c.greatest_depth-depths.result) c.declared-declared.ensures
-    ∙ ap₂ (made p.declared) c.controls.ensures depths) in
-    let given : c.new-layout.result.allocation ≡ a = ap (λ (f : Frame). f.allocation) laid in
+    let laid : layout ≡ frame_of a p =
+    is ∙ (ap (λ declared. made declared controls depths) one ∙ ap₂ (made p.declared) two three) in
+    let given : layout.allocation ≡ a = ap (λ (f : Frame). f.allocation) laid in
+    (subst (IsFitting p) (sym given) fits, laid ∙ ap (λ (b : Allocation). frame_of b p) (sym given))
+
+pub code_within-requires : goal.code_within-requires
+code_within-requires c =
+    let p = c.args.straight.now in
+    let laid = laid_out c.args.allocation p c.declared-declared.result.now c.controls.result
+    c.greatest_depth-depths.result c.new-layout.result c.new-layout.ensures c.declared-declared.ensures
+    c.controls.ensures (c.greatest_depth-depths.ensures ∙ ap depth_in_all c.body.ensures.body) c.requires in
     record {
       room = has_room p c.body.ensures.kept.typed c.body.ensures.kept.bounded;
-      fitting = subst (IsFitting p) (sym given) c.requires;
-      frame = laid ∙ ap (λ (b : Allocation). frame_of b p) (sym given);
+      fitting = laid.0;
+      frame = laid.1;
     }
+
+pub listed-requires-clause-room : goal.listed-requires-clause-room
+listed-requires-clause-room c =
+    has_room c.args.straight.now c.body.ensures.kept.typed c.body.ensures.kept.bounded
+
+pub listed-requires-clause-fitting : goal.listed-requires-clause-fitting
+listed-requires-clause-fitting c =
+    (laid_out c.args.allocation c.args.straight.now c.declared-declared.result.now c.controls.result
+    c.greatest_depth-depths.result c.new-layout.result c.new-layout.ensures c.declared-declared.ensures
+    c.controls.ensures (c.greatest_depth-depths.ensures ∙ ap depth_in_all c.body.ensures.body) c.requires).0
+
+pub listed-requires-clause-frame : goal.listed-requires-clause-frame
+listed-requires-clause-frame c =
+    (laid_out c.args.allocation c.args.straight.now c.declared-declared.result.now c.controls.result
+    c.greatest_depth-depths.result c.new-layout.result c.new-layout.ensures c.declared-declared.ensures
+    c.controls.ensures (c.greatest_depth-depths.ensures ∙ ap depth_in_all c.body.ensures.body) c.requires).1
+
+of_some : {T : Type 0} (o : Option T) (x : T) (P : T → Type 0) → o ≡ Some x → IfSome o P → P x
+of_some o x P is both = subst (λ o. IfSome o P) is both
+
+-- the code in the layout, which is short
+short : (a : Allocation) (p : StraightProgram) (layout : Frame) → layout.allocation ≡ a → (code : List Instr)
+    → code ≡ program_code layout.allocation p → length code ≤ most_words p.nodes
+    → length (program_code a p) ≤ most_words p.nodes
+short a p layout given code is few =
+    subst (λ (b : Allocation). length (program_code b p) ≤ most_words p.nodes) given
+    (subst (λ (code : List Instr). length code ≤ most_words p.nodes) is few)
 
 pub returns-clause-generated : goal.returns-clause-generated
 returns-clause-generated c =
@@ -63,12 +97,18 @@ returns-clause-generated c =
     let a = c.args.allocation in
     let room = has_room p c.body.ensures.kept.typed c.body.ensures.kept.bounded in
     let given : c.new-layout.result.allocation ≡ a = ap (λ (f : Frame). f.allocation) c.new-layout.ensures in
+    let few = short a p c.new-layout.result given c.in-Some.code.items
+    (of_some _ _ _ c.in-Some.is c.in_ok-code.ensures.code) (of_some _ _ _ c.in-Some.is c.in_ok-code.ensures.within) in
     subst (λ (fields : Fields). IsGenerated p fields)
     (sym (c.new.ensures ∙ (c.in_ok-fields.ensures.exact ∙ ap (λ (b : Allocation). image_of b p) given)))
-    (is_generated a p room c.requires)
+    (is_generated a p room c.requires few)
 
 pub returns-clause-exact : goal.returns-clause-exact
 returns-clause-exact c =
-    let given : c.new-layout.result.allocation ≡ c.args.allocation =
-    ap (λ (f : Frame). f.allocation) c.new-layout.ensures in
-    c.new.ensures ∙ (c.in_ok-fields.ensures.exact ∙ ap (λ (b : Allocation). image_of b c.args.straight.now) given)
+    let p = c.args.straight.now in
+    let a = c.args.allocation in
+    let given : c.new-layout.result.allocation ≡ a = ap (λ (f : Frame). f.allocation) c.new-layout.ensures in
+    let few = short a p c.new-layout.result given c.in-Some.code.items
+    (of_some _ _ _ c.in-Some.is c.in_ok-code.ensures.code) (of_some _ _ _ c.in-Some.is c.in_ok-code.ensures.within) in
+    ap Some (c.new.ensures ∙ (c.in_ok-fields.ensures.exact ∙ ap (λ (b : Allocation). image_of b p) given))
+    ∙ sym (image_there a p few)

@@ -1,5 +1,5 @@
 use Rattle.std.proofs.Common.{rules, ◌+◌, max, refl, sym, ap, ap₂, ◌∙◌, arith}
-use Rattle.codegen.specs.private.Emitted.{depth_in, depth_in_all}
+use Rattle.branch_removal.specs.Heights.{depth_in, depth_in_all}
 use Rattle.codegen.proofs.StatementCode.{tree_of_branch, tree_of_loop, accepted_smaller, otherwise_smaller}
 use Rattle.codegen.proofs.StatementCode.{body_smaller, item_here, smaller_here, greatest_here}
 use Rattle.codegen.proofs.heights.+depths.Goals as goal

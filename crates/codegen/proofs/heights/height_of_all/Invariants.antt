@@ -1,5 +1,5 @@
 use Rattle.std.proofs.Common.{◌≡◌, drop, map, max}
-use Rattle.codegen.specs.private.Emitted.{height_of_all}
+use Rattle.branch_removal.specs.Heights.{height_of_all}
 use Rattle.inline.specs.Flat.{term_tree}
 use Rattle.codegen.proofs.heights.height_of_all.Given as goal
 

@@ -1,9 +1,10 @@
-use Rattle.std.proofs.Common.{rules, ◌++◌, List, refl, ap, ◌∙◌, subst}
-use Rattle.codegen.proofs.Machine.{Instr, block_code, HasPlace}
+use Rattle.std.proofs.Common.{rules, ◌≡◌, ◌++◌, length, List, refl, sym, ap, ◌∙◌, subst, arith, IfErr, OnOk}
 use Rattle.branch_removal.specs.Straight.{straight_block}
-use Rattle.codegen.proofs.StatementCode.{tree_of_branch, accepted_smaller, otherwise_smaller, branch_near}
-use Rattle.codegen.proofs.StatementCode.{branch_made, tree_of_loop, body_smaller, loop_near, loop_made, item_here}
-use Rattle.codegen.proofs.StatementCode.{smaller_here, placed_here}
+use Rattle.codegen.proofs.Machine.{Instr, HasPlace, IsFar}
+use Rattle.codegen.proofs.StatementCode.{tree_of_branch, accepted_smaller, otherwise_smaller, arms_within}
+use Rattle.codegen.proofs.StatementCode.{branch_made, tree_of_loop, body_smaller, body_within, loop_is, item_here}
+use Rattle.codegen.proofs.StatementCode.{smaller_here, placed_here, emitted, for_part, part_here}
+use Rattle.codegen.specs.private.Loops.{any_sets}
 use Rattle.codegen.proofs.statements.+statements.Goals as goal
 
 pub statement-statements-requires : goal.statement-statements-requires
@@ -34,21 +35,6 @@ statement-statements-requires-in-Branch t c =
       placed.2,
     )
 
-pub statement-branch-code-requires : goal.statement-branch-code-requires
-statement-branch-code-requires t c =
-    let f = c.args.layout.now in
-    branch_near c.in-Branch.accepted c.in-Branch.otherwise c.in-Branch.is c.deref-in-Branch.ensures.value
-    c.deref-in-Branch-2.ensures.value f.declared f.allocation f.controls f.depths c.args.depth
-    (c.as_slice.ensures.value
-    ∙ (c.in_ok-statements-in-Branch.ensures
-    ∙ ap (λ (xs : List Instr). xs ++ block_code f.declared f.allocation f.controls f.depths c.args.depth
-    (straight_block c.deref-in-Branch.result.now)) c.new-one.ensures.items))
-    (c.as_slice-in-Branch.ensures.value
-    ∙ (c.in_ok-statements-in-Branch-2.ensures
-    ∙ ap (λ (xs : List Instr). xs ++ block_code f.declared f.allocation f.controls f.depths c.args.depth
-    (straight_block c.deref-in-Branch-2.result.now)) c.new-other.ensures.items))
-    c.requires.placed
-
 pub statement-statements-requires-in-Repeat : goal.statement-statements-requires-in-Repeat
 statement-statements-requires-in-Repeat t c =
     let f = c.args.layout.now in
@@ -56,37 +42,45 @@ statement-statements-requires-in-Repeat t c =
     (tree_of_loop c.in-Repeat.body c.in-Repeat.is c.deref-in-Repeat.ensures.value) c.requires.placed in
     (search (rules, body_smaller c.in-Repeat.body c.in-Repeat.is c.deref-in-Repeat.ensures.value), placed.4)
 
-pub statement-repeat-requires : goal.statement-repeat-requires
-statement-repeat-requires t c =
-    let f = c.args.layout.now in
-    loop_near c.in-Repeat.body c.in-Repeat.is c.deref-in-Repeat.ensures.value f.declared f.allocation f.controls
-    f.depths c.args.depth {xs = c.as_slice-in-Repeat.result.now} {ys = c.as_slice-in-Repeat-2.result.now}
-    (search rules) (search rules) c.requires.placed
-
-pub statement-returns-in_ok-branch-in-Branch : goal.statement-returns-in_ok-branch-in-Branch
-statement-returns-in_ok-branch-in-Branch t c =
+pub statement-returns-in_ok-branch-in-Branch-clause-code : goal.statement-returns-in_ok-branch-in-Branch-clause-code
+statement-returns-in_ok-branch-in-Branch-clause-code t c =
     let f = c.args.layout.now in
     branch_made c.in-Branch.accepted c.in-Branch.otherwise c.in-Branch.is c.deref-in-Branch.ensures.value
     c.deref-in-Branch-2.ensures.value f.declared f.allocation f.controls f.depths c.args.depth
     (c.as_slice.ensures.value
-    ∙ (c.in_ok-statements-in-Branch.ensures
-    ∙ ap (λ (xs : List Instr). xs ++ block_code f.declared f.allocation f.controls f.depths c.args.depth
-    (straight_block c.deref-in-Branch.result.now)) c.new-one.ensures.items))
+    ∙ emitted c.in_ok-statements-in-Branch.ensures.code c.new-one.ensures.items)
     (c.as_slice-in-Branch.ensures.value
-    ∙ (c.in_ok-statements-in-Branch-2.ensures
-    ∙ ap (λ (xs : List Instr). xs ++ block_code f.declared f.allocation f.controls f.depths c.args.depth
-    (straight_block c.deref-in-Branch-2.result.now)) c.new-other.ensures.items))
+    ∙ emitted c.in_ok-statements-in-Branch-2.ensures.code c.new-other.ensures.items)
     c.in_ok-register-in-Branch.register c.in_ok-register-in-Branch.ensures.register
     c.args.code.now.items c.read.new.code.items c.branch-code.new.code.items (search rules)
     c.in_ok-branch-in-Branch.ensures
 
-pub statement-returns-in_ok-repeat-in-Repeat : goal.statement-returns-in_ok-repeat-in-Repeat
-statement-returns-in_ok-repeat-in-Repeat t c =
+pub statement-returns-in_ok-statements-in-Repeat-clause-code :
+    goal.statement-returns-in_ok-statements-in-Repeat-clause-code
+statement-returns-in_ok-statements-in-Repeat-clause-code t c =
     let f = c.args.layout.now in
-    loop_made c.in-Repeat.body c.in-Repeat.is c.deref-in-Repeat.ensures.value f.declared f.allocation f.controls
-    f.depths c.args.depth {xs = c.as_slice-in-Repeat.result.now} {ys = c.as_slice-in-Repeat-2.result.now}
-    (search rules) (search rules) c.args.code.now.items c.bounds.new.code.items c.repeat.new.code.items (search rules)
-    c.in_ok-repeat-in-Repeat.ensures
+    let same = c.deref-in-Repeat-2.ensures.value ∙ sym c.deref-in-Repeat.ensures.value in
+    let code = loop_is c.in-Repeat.body c.in-Repeat.is c.deref-in-Repeat.ensures.value f.declared f.allocation
+    f.controls f.depths c.args.depth
+    (c.as_slice-in-Repeat.ensures.value
+    ∙ emitted c.in_ok-statements-in-Repeat.ensures.code c.new-turn.ensures.items)
+    c.any_sets.result
+    (c.any_sets.ensures ∙ ap (λ body. any_sets c.in-Repeat.counter (straight_block body)) same) in
+    subst (λ (l : List Instr). OnOk c.repeat.result (c.repeat.new.code.items ≡ c.args.code.now.items ++ l)) code
+    c.repeat.ensures.code
+
+pub statement-returns-in_ok-statements-in-Repeat-clause-far :
+    goal.statement-returns-in_ok-statements-in-Repeat-clause-far
+statement-returns-in_ok-statements-in-Repeat-clause-far t c =
+    let f = c.args.layout.now in
+    let same = c.deref-in-Repeat-2.ensures.value ∙ sym c.deref-in-Repeat.ensures.value in
+    let code = loop_is c.in-Repeat.body c.in-Repeat.is c.deref-in-Repeat.ensures.value f.declared f.allocation
+    f.controls f.depths c.args.depth
+    (c.as_slice-in-Repeat.ensures.value
+    ∙ emitted c.in_ok-statements-in-Repeat.ensures.code c.new-turn.ensures.items)
+    c.any_sets.result
+    (c.any_sets.ensures ∙ ap (λ body. any_sets c.in-Repeat.counter (straight_block body)) same) in
+    subst (λ (l : List Instr). IfErr c.repeat.result (IsFar (length l))) code c.repeat.ensures.far
 
 pub statements-statement-requires : goal.statements-statement-requires
 statements-statement-requires t c =
@@ -98,3 +92,65 @@ statements-statement-requires t c =
       placed_here f.declared f.allocation f.controls f.depths c.args.depth c.args.statements.now l.each-index s
           here l.invariant.placed,
     )
+
+-- Code that is not emitted.
+
+pub statement-returns-in_err-statements-in-Branch-clause-far :
+    goal.statement-returns-in_err-statements-in-Branch-clause-far
+statement-returns-in_err-statements-in-Branch-clause-far t c =
+    let f = c.args.layout.now in
+    for_part _ _ _ c.from_residual-in_err-statements-in-Branch.ensures.1
+    c.in_err-statements-in-Branch.ensures.far
+    (omega (
+      arith,
+      arms_within c.in-Branch.accepted c.in-Branch.otherwise c.in-Branch.is c.deref-in-Branch.ensures.value refl
+          f.declared f.allocation f.controls f.depths c.args.depth refl refl,
+    ))
+
+pub statement-returns-in_err-statements-in-Branch-2-clause-far :
+    goal.statement-returns-in_err-statements-in-Branch-2-clause-far
+statement-returns-in_err-statements-in-Branch-2-clause-far t c =
+    let f = c.args.layout.now in
+    for_part _ _ _ c.from_residual-in_err-statements-in-Branch-2.ensures.1
+    c.in_err-statements-in-Branch-2.ensures.far
+    (omega (
+      arith,
+      arms_within c.in-Branch.accepted c.in-Branch.otherwise c.in-Branch.is c.deref-in-Branch.ensures.value
+          c.deref-in-Branch-2.ensures.value f.declared f.allocation f.controls f.depths c.args.depth refl refl,
+    ))
+
+pub statement-returns-in_err-reach-in-Branch-clause-far : goal.statement-returns-in_err-reach-in-Branch-clause-far
+statement-returns-in_err-reach-in-Branch-clause-far t c =
+    let f = c.args.layout.now in
+    for_part _ _ _ c.from_residual-in_err-reach-in-Branch.ensures.1
+    c.in_err-reach-in-Branch.ensures.far
+    (omega (
+      arith,
+      c.len.ensures,
+      c.len-in-Branch.ensures,
+      arms_within c.in-Branch.accepted c.in-Branch.otherwise c.in-Branch.is c.deref-in-Branch.ensures.value
+          c.deref-in-Branch-2.ensures.value f.declared f.allocation f.controls f.depths c.args.depth
+          (emitted c.in_ok-statements-in-Branch.ensures.code c.new-one.ensures.items)
+          (emitted c.in_ok-statements-in-Branch-2.ensures.code c.new-other.ensures.items),
+    ))
+
+pub statement-returns-in_err-statements-in-Repeat-clause-far :
+    goal.statement-returns-in_err-statements-in-Repeat-clause-far
+statement-returns-in_err-statements-in-Repeat-clause-far t c =
+    let f = c.args.layout.now in
+    for_part _ _ _ c.from_residual-in_err-statements-in-Repeat.ensures.1
+    c.in_err-statements-in-Repeat.ensures.far
+    (omega (
+      arith,
+      body_within c.in-Repeat.body c.in-Repeat.is c.deref-in-Repeat.ensures.value f.declared f.allocation f.controls
+          f.depths c.args.depth refl,
+    ))
+
+pub statements-returns-in_err-statement-clause-far : goal.statements-returns-in_err-statement-clause-far
+statements-returns-in_err-statement-clause-far t c =
+    let s = c.each-item.result in
+    let l = c.loop-each in
+    let f = c.args.layout.now in
+    let here = item_here c.args.statements.now l.each-index s c.loop-each-test.true c.each-item.is in
+    for_part _ _ _ c.from_residual.ensures.1 c.in_err-statement.ensures.far
+    (part_here f.declared f.allocation f.controls f.depths c.args.depth c.args.statements.now l.each-index s here)

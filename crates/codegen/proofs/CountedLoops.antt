@@ -1,0 +1,403 @@
+-- The code of a loop that counts in its counter's home, by its bounds.
+use Rattle.std.proofs.Common.{◌≡◌, ◌≢◌, ℕ, zero, suc, ◌+◌, ◌-◌, ◌*◌, ◌^◌, ◌<◌, ◌≤◌, ◌==◌, Bool, true, false, cond}
+use Rattle.std.proofs.Common.{nat_lt, List, [], ◌∷◌, ◌++◌, length, None, Some, slice_get, slice_index, refl}
+use Rattle.std.proofs.Common.{sym, ap, ◌∙◌, subst, arith, eq-eqb, ne_eqb, length-append, append-nil}
+use Rattle.std.proofs.lemmas.Bool.{ltb-true}
+use Rattle.std.proofs.lemmas.Nat.{mul-le}
+use Rattle.codegen.proofs.CountingRuns.{Guarded, guarded_runs, home_high, home_low, turns_runs}
+use Rattle.codegen.proofs.Language.{TermTree, word_as, value_in, path_in, turns, path_of_turns, Path, bounded}
+use Rattle.codegen.proofs.Language.{term_nodes, types_of, HasType, counter_type, StraightBlock, repeats}
+use Rattle.codegen.proofs.Language.{StraightState}
+use Rattle.codegen.proofs.Language.{counted, after, after_all, path_at, path_along, word_of, Values}
+use Rattle.codegen.proofs.LoopRuns.{AtLoop, bounds_runs, is_left, next, next_inside, test_runs}
+use Rattle.codegen.proofs.Logic.{lt-ltb, nat_tests, none-some, same_Some, HeldAt, Setting, setting, base_of}
+use Rattle.codegen.proofs.Logic.{Known, by_bounds, none, Runs, along, along_fit, seq, quietly, weaken, gives, cheaper}
+use Rattle.codegen.proofs.Logic.{never, Ready, HomesKept, home_beside, homes_moved, number_or_zero, take, does}
+use Rattle.codegen.proofs.Logic.{moves_run, registers_after, is_free, none_low, computing_within, kept_less}
+use Rattle.codegen.proofs.Logic.{unwritten}
+use Rattle.codegen.proofs.Logic.{load_length}
+use Rattle.codegen.proofs.Machine.{bounds_code, test_code, home_of, height_of, read_code, read_register, Instr}
+use Rattle.codegen.proofs.Machine.{slots_to, ByteMap, number_at, into_code, Sltu}
+use Rattle.codegen.proofs.Slots.{Shown, Hidden, hidden_then, hidden_by, hidden_kept, hidden_number, ready_homed}
+use Rattle.codegen.proofs.Slots.{ready_valued, ready_with, read_runs, read_source, source_apart, homed_runs}
+use Rattle.codegen.specs.private.Loops.{any_sets, below_number_code, below_word_code, guarded_code, is_below}
+use Rattle.codegen.specs.private.Loops.{short_number, to_number_code, turns_code}
+use Rattle.inline.specs.Flat.{number}
+use Rattle.rv_code.specs.declared.instructions.Instr.TheVariants as instr
+use Rattle.rv_code.specs.declared.operations.ImmediateOperation.TheVariants.{Addi}
+use Rattle.rv_machine.specs.Effects.{sign_extended}
+use Rattle.rv_machine.specs.Machine as machine
+
+-- Numbers as bounds.
+
+pub record IsShort (e : TermTree) (bound : ℕ) : Type 0 where
+  pub small : bound < 2048
+  pub value : (m : Values) → value_in m e ≡ bound
+  pub path : (m : Values) → path_in m e ≡ []
+
+pub short_is : (e : TermTree) (bound : ℕ) → short_number e ≡ Some bound → IsShort e bound
+short_is (number value kind) bound is = by_test (nat_lt value 2048) refl is
+  where
+    by_test : (b : Bool) → nat_lt value 2048 ≡ b → cond b (Some value) None ≡ Some bound
+        → IsShort (number value kind) bound
+    by_test true near same =
+        let e = same_Some value bound same in
+        record { small = let f = ltb-true value 2048 near in omega (arith, e, f); value = λ m. e; path = λ m. refl }
+    by_test false near same = absurd (none-some bound same)
+short_is e bound is = absurd (none-some bound is)
+
+below_is : (low : TermTree) (bound : ℕ) → is_below bound low ≡ true → (m : Values) → value_in m low < bound
+below_is (number value kind) bound below m = ltb-true value bound below
+below_is e bound below m = absurd cc
+
+module _ (z : Setting) where
+  -- whether a register is below a number comes into another
+  record Compared (d r bound : ℕ) (s t : machine.State) : Type 0 where
+    held : HeldAt z t
+    there : t.regs d ≡ word_of (nat_lt (s.regs r) bound)
+    same : t.bytes ≡ s.bytes
+    others : (q : ℕ) → q ≢ d → t.regs q ≡ s.regs q
+
+  compared : (d r bound : ℕ) → 4 < d → d < 32 → 4 < r → r < 32 → bound < 2048
+      → Runs z 1 none (below_number_code d r bound) (λ env s. HeldAt z s) (λ env s t. Compared d r bound s t)
+  compared d r bound low high low' high' small =
+      let is = below_number_code d r bound in
+      let d0 : (d == 0) ≡ false = ne_eqb d 0 (λ e. omega (arith, low, e)) in
+      let r0 : (r == 0) ≡ false = ne_eqb r 0 (λ e. omega (arith, low', e)) in
+      let dd : (d == d) ≡ true = eq-eqb d d refl in
+      let same : sign_extended 12 bound ≡ bound = grind (arith, nat_tests, small) in
+      gives
+      (λ env s t fine held done.
+      let made : registers_after is s.regs d ≡ word_of (nat_lt (s.regs r) (sign_extended 12 bound)) =
+      simp (d0, dd, r0) in
+      record {
+        held = done.held;
+        there = ap (λ (regs : ℕ → ℕ). regs d) done.registers
+            ∙ (made ∙ ap (λ v. word_of (nat_lt (s.regs r) v)) same);
+        same = done.same;
+        others = λ q apart. ap (λ (regs : ℕ → ℕ). regs q) done.registers ∙ unwritten s.regs d _ q apart;
+      })
+      (computing_within z is_free is
+      (simp (lt-ltb 4 d low, lt-ltb d 32 high, lt-ltb r 32 high', lt-ltb bound 4096 (omega (arith, small)))) none_low)
+
+  -- homes stay where a temporary is written
+  homes_compared : {d r bound : ℕ} {s t : machine.State} → d < 8 → Compared d r bound s t → HomesKept z s t
+  homes_compared low done q home = let some = z.allocated.some in
+      done.others q (λ e. omega (arith, some, home.0, e, low))
+
+module _ (z : Setting) (depth x h : ℕ) (within : depth < z.depths)
+    (known : slice_get z.declared x ≡ Some (word_as counter_type false)) (at : home_of z.allocation.homes x ≡ Some h)
+    (low high : TermTree) (body : StraightBlock) (n : ℕ) {ys : List Instr}
+    (has_low : HasType (types_of z.code.profile z.declared) low counter_type)
+    (room_low : base_of z + 4 * slots_to z.allocation.count (height_of low) ≤ z.size)
+    (unset : any_sets x body ≡ false) (short : length ys < 1000)
+    (inner : Runs z n (λ env. path_along env body) ys (Ready z)
+    (Shown z (depth + 1) (λ env. after_all env body))) where
+  abbrev one_turn : ℕ → StraightState → StraightState
+  one_turn i env = after_all (counted x i env) body
+
+  abbrev bounds : StraightState → ℕ × ℕ
+  bounds env = (value_in env.variables low, value_in env.variables high)
+
+  abbrev path_by : StraightState → ℕ × ℕ → Path
+  path_by env b = path_of_turns (b.1 - b.0) b.0 one_turn (λ i e. path_along (counted x i e) body) env
+
+  -- the state is shown, and the words of the loops around are as they were
+  abbrev Done : StraightState → machine.State → machine.State → Type 0
+  Done env s t = Ready z env t × Hidden z depth s t
+
+  abbrev Looped : StraightState → machine.State → machine.State → Type 0
+  Looped env s t = Done (turns ((bounds env).1 - (bounds env).0) (bounds env).0 one_turn env) s t
+
+  -- the bounds are these, with no more turns between them than are counted
+  abbrev With : (StraightState → machine.State → Type 0) → ℕ × ℕ → StraightState → machine.State → Type 0
+  With P b = Known (setting z) (ℕ × ℕ) (λ c. c.1 - c.0 ≤ slice_index z.counts x) P bounds b
+
+  -- the cost of all turns, with so many instructions in the test
+  abbrev turns_cost : ℕ → ℕ
+  turns_cost c = slice_index z.counts x * (n + (1 + c) + 1)
+
+  round_near : (test : List Instr) → length test ≤ 4 → 2 * length (ys ++ instr.Immediate Addi h h 1 ∷ test) ≤ 2 ^ 11
+  round_near test few = let e = length-append ys (instr.Immediate Addi h h 1 ∷ test) in omega (arith, few, short, e)
+
+  -- what is shown with bounds that are known beforehand is shown with those of the state
+  looped_by : (b : ℕ × ℕ) (env : StraightState) (s t : machine.State) → bounds env ≡ b
+      → Done (turns (b.1 - b.0) b.0 one_turn env) s t → Looped env s t
+  looped_by b env s t is done =
+      subst (λ (c : ℕ × ℕ). Done (turns (c.1 - c.0) c.0 one_turn env) s t) (sym is) done
+
+  -- Up to a number.
+
+  module _ (bound : ℕ) (is_short : IsShort high bound) where
+    abbrev AtBound : ℕ → ByteMap → Type 0
+    AtBound limit bytes = limit ≡ bound
+
+    number_tests : (limit : ℕ) → Runs z 1 none (below_number_code 5 h bound) (λ env s. HeldAt z s × (limit ≡ bound))
+        (λ env s t. HeldAt z t × (t.regs 5 ≡ word_of (nat_lt (s.regs h) limit)) × (t.bytes ≡ s.bytes)
+        × HomesKept z s t)
+    number_tests limit =
+        let least = home_low z depth x h known at in
+        let most = home_high z depth x h known at in
+        weaken
+        (λ env s fine given. given.0)
+        (λ env s t fine given done. (
+          done.held,
+          done.there ∙ ap (λ v. word_of (nat_lt (s.regs h) v)) (sym given.1),
+          done.same,
+          homes_compared z (omega arith) done,
+        ))
+        (compared z 5 h bound (omega arith) (omega arith) (omega (arith, least)) (omega (arith, most)) is_short.small)
+
+    limited : (limit : ℕ) (bytes : ByteMap) → AtBound limit bytes → limit < 2 ^ 32
+    limited limit bytes is = let small = is_short.small in omega (arith, is, small)
+
+    abbrev start : ℕ
+    start = read_register z.allocation 5 low
+
+    abbrev Read : StraightState → machine.State → Type 0
+    Read env s = Ready z env s × (s.regs start ≡ value_in env.variables low)
+
+    abbrev guard_code : List Instr
+    guard_code = below_number_code 6 start bound ++ guarded_code 6 h start (below_number_code 5 h bound) ys
+
+    guard_at : (b : ℕ × ℕ) → b.1 - b.0 ≤ slice_index z.counts x
+        → Runs z (1 + (2 + (1 + (turns_cost 1 + 1)) + 0)) (λ env. path_by env (bounds env)) guard_code
+        (With Read b) Looped
+    guard_at b few =
+        let source = read_source z low 5 (omega arith) (omega arith) in
+        let apart = source_apart z source 6 (omega arith) (λ e. omega (arith, e)) in
+        let limit = b.0 + (b.1 - b.0) in
+        along_fit (λ env s known. ap (path_by env) known.is)
+        (gives
+        (λ env s t fine known done.
+        let m = done.middle in
+        looped_by b env s t known.is
+        (done.second.0, hidden_then z depth s m t (hidden_by z depth s m done.first.1) done.second.1))
+        (quietly
+        (weaken {P' = With Read b}
+        {R = λ env s t. Guarded z depth x h known at 1 n limit (AtBound limit) body
+        (λ s t hidden is. is) (limited limit) (number_tests limit) unset inner (round_near _ (omega arith)) 6 start
+        (b.1 - b.0) b.0 env t × (t.bytes ≡ s.bytes)}
+        (λ env s fine known. known.given.0.held)
+        (λ env s t fine known done.
+        let first = known.given.1 ∙ ap (λ (c : ℕ × ℕ). c.0) known.is in
+        let second = sym (is_short.value env.variables) ∙ ap (λ (c : ℕ × ℕ). c.1) known.is in (
+          record {
+            ready = ready_with z env s t known.given.0 done.held done.same (homes_compared z (omega arith) done);
+            start = done.others start apart ∙ first;
+            any = done.there ∙ (ap (λ v. word_of (nat_lt v bound)) first
+                ∙ (ap (λ v. word_of (nat_lt b.0 v)) second ∙ ap word_of (is_left b.1 b.0 (b.1 - b.0) refl)));
+            there = λ some. omega (arith, some, second);
+          },
+          done.same,
+        ))
+        (compared z 6 start bound (omega arith) (omega arith) source.low
+        (let high = source.high in omega (arith, high)) is_short.small))
+        (guarded_runs z depth x h known at 1 n limit (AtBound limit) body (λ s t hidden is. is) (limited limit)
+        (number_tests limit) unset inner (round_near _ (omega arith)) 6 start (omega arith) (omega arith) source.low
+        (let high = source.high in omega (arith, high)) (b.1 - b.0) b.0 refl (slice_index z.counts x) few)
+        (λ env s t known done. done.0)))
+
+    -- from any first number on
+    read_number_runs : Runs z (16 * term_nodes low + (1 + (2 + (1 + (turns_cost 1 + 1)) + 0)))
+        (λ env. path_in env.variables low ++ bounded x (bounds env).0 (bounds env).1 ∷ path_by env (bounds env))
+        (read_code z.declared z.allocation (base_of z) 5 0 low ++ guard_code) (Ready z) Looped
+    read_number_runs =
+        gives
+        (λ env s t fine ready done. (
+          done.second.0,
+          hidden_then z depth s done.middle t
+              (hidden_kept z depth s done.middle (omega (arith, within)) done.first.kept) done.second.1,
+        ))
+        (seq (read_runs z has_low room_low) (by_bounds z x bounds guard_at)
+        (λ env s t ready valued. (ready_valued z low env s t ready valued, valued.there)))
+
+    -- from a number below the bound on
+
+    abbrev Counted : StraightState → machine.State → Type 0
+    Counted env s = Ready z (counted x (value_in env.variables low) env) s
+
+    certain_at : (b : ℕ × ℕ) → is_below bound low ≡ true → b.1 - b.0 ≤ slice_index z.counts x → (left : ℕ)
+        → b.1 - b.0 ≡ left
+        → Runs z (turns_cost 1 + 1)
+        (λ env. path_of_turns left b.0 one_turn (λ i e. path_along (counted x i e) body) env)
+        (turns_code h (below_number_code 5 h bound) ys)
+        (With Counted b)
+        (λ env s t. Done (turns left b.0 one_turn env) s t)
+    certain_at b below few zero is =
+        never
+        (λ env s known.
+        let first = ap (λ (c : ℕ × ℕ). c.0) known.is in
+        let second = sym (is_short.value env.variables) ∙ ap (λ (c : ℕ × ℕ). c.1) known.is in
+        let less = below_is low bound below env.variables in omega (arith, is, first, second, less))
+    certain_at b below few (suc left) is =
+        let limit = b.0 + left + 1 in
+        let e = mul-le (left + 1) (n + (1 + 1) + 1) (slice_index z.counts x) (n + (1 + 1) + 1)
+        (omega (arith, few, is)) (omega arith) in
+        cheaper (omega (arith, e))
+        (weaken
+        (λ env s fine known.
+        let first = ap (λ (c : ℕ × ℕ). c.0) known.is in
+        let second = sym (is_short.value env.variables) ∙ ap (λ (c : ℕ × ℕ). c.1) known.is in
+        record {
+          ready = subst (λ i. Ready z (counted x i env) s) first known.given;
+          there = omega (arith, is, second);
+          last = refl;
+        })
+        (λ env s t fine known done. done)
+        (turns_runs z depth x h known at 1 n limit (AtBound limit) body (λ s t hidden is. is) (limited limit)
+        (number_tests limit) unset inner (round_near _ (omega arith)) left b.0))
+
+    certain_runs : is_below bound low ≡ true → Runs z (16 * term_nodes low + (turns_cost 1 + 1))
+        (λ env. path_in env.variables low ++ bounded x (bounds env).0 (bounds env).1 ∷ path_by env (bounds env))
+        (into_code z.declared z.allocation (base_of z) h 0 low ++ turns_code h (below_number_code 5 h bound) ys)
+        (Ready z) Looped
+    certain_runs below =
+        let is = z.allocated.allowed x h at in
+        let less = below_is low bound below in
+        gives
+        (λ env s t fine ready done. (
+          done.second.0,
+          hidden_then z depth s done.middle t
+              (hidden_kept z depth s done.middle (omega (arith, within))
+              (kept_less z (base_of z) (base_of z + 4 * (0 - z.allocation.count)) s done.middle (omega arith)
+              done.first.kept)) done.second.1,
+        ))
+        (seq (homed_runs z h is has_low room_low)
+        (by_bounds z x bounds (λ b few. along_fit (λ env s known. ap (path_by env) known.is)
+        (gives (λ env s t fine known done. looped_by b env s t known.is done)
+        (certain_at b below few (b.1 - b.0) refl))))
+        (λ env s t ready done.
+        let kept = kept_less z (base_of z) (base_of z + 4 * (0 - z.allocation.count)) s t (omega arith) done.kept in
+        let small = is_short.small in
+        ready_homed z x h (value_in env.variables low) counter_type false known at
+        (let l = less env.variables in omega (arith, l, small)) env s t ready done.held kept done.there
+        (λ r other apart. done.lower r (home_beside z.allocation.count 0 h r other.0 other.1 apart))))
+
+    by_first : (b : Bool) → is_below bound low ≡ b
+        → Runs z (16 * term_nodes low + (1 + (2 + (1 + (turns_cost 1 + 1)) + 0)))
+        (λ env. path_in env.variables low ++ bounded x (bounds env).0 (bounds env).1 ∷ path_by env (bounds env))
+        (cond b
+        (into_code z.declared z.allocation (base_of z) h 0 low ++ turns_code h (below_number_code 5 h bound) ys)
+        (read_code z.declared z.allocation (base_of z) 5 0 low ++ guard_code)) (Ready z) Looped
+    by_first true below = cheaper (omega arith) (certain_runs below)
+    by_first false below = read_number_runs
+
+    pub to_number_runs : Runs z (16 * term_nodes low + (1 + (2 + (1 + (turns_cost 1 + 1)) + 0)))
+        (λ env. path_at env (repeats x low high body))
+        (to_number_code z.declared z.allocation (base_of z) h low bound ys) (Ready z)
+        (Shown z depth (λ env. after env (repeats x low high body)))
+    to_number_runs =
+        gives {Q = Looped} (λ env s t fine ready done. record { ready = done.0; hidden = done.1 })
+        (along
+        (λ env.
+        let rest = bounded x (bounds env).0 (bounds env).1 ∷ path_by env (bounds env) in
+        ap (λ (front : Path). front ++ rest)
+        (ap (λ (p : Path). path_in env.variables low ++ p) (is_short.path env.variables)
+        ∙ append-nil (path_in env.variables low)))
+        (by_first (is_below bound low) refl))
+
+  -- Up to a bound in the frame.
+
+  module _ (has_high : HasType (types_of z.code.profile z.declared) high counter_type)
+      (room_high : base_of z + 4 * slots_to z.allocation.count (height_of high) ≤ z.size) where
+    abbrev words : ℕ
+    words = next z depth within
+
+    abbrev InWord : ℕ → ByteMap → Type 0
+    InWord limit bytes = (number_at bytes 4 (z.frame + (words + 4)) ≡ Some limit) × (limit < 2 ^ 32)
+
+    word_kept : (limit : ℕ) (s t : machine.State) → Hidden z (depth + 1) s t → InWord limit s.bytes
+        → InWord limit t.bytes
+    word_kept limit s t hidden there =
+        (hidden_number z (depth + 1) s t hidden (words + 4) (omega arith) (omega arith) ∙ there.0, there.1)
+
+    word_tests : (limit : ℕ) → Runs z 4 none (below_word_code h words) (λ env s. HeldAt z s × InWord limit s.bytes)
+        (λ env s t. HeldAt z t × (t.regs 5 ≡ word_of (nat_lt (s.regs h) limit)) × (t.bytes ≡ s.bytes)
+        × HomesKept z s t)
+    word_tests limit =
+        let inside = next_inside z depth within in
+        let least = home_low z depth x h known at in
+        let most = home_high z depth x h known at in
+        let few : nat_lt h 32 ≡ true = lt-ltb h 32 (omega (arith, most)) in
+        let h0 : (h == 0) ≡ false = ne_eqb h 0 (λ e. omega (arith, least, e)) in
+        let h5 : (h == 5) ≡ false = ne_eqb h 5 (λ e. omega (arith, least, e)) in
+        let compare = instr.Register Sltu 5 h 5 ∷ [] in
+        weaken
+        (λ env s fine given. given.0)
+        (λ env s t fine given moved.
+        let v = number_or_zero (number_at s.bytes 4 (z.frame + (words + 4))) in
+        let made : t.regs 5 ≡ word_of (nat_lt (s.regs h) v) = ap (λ (regs : ℕ → ℕ). regs 5) moved.regs
+        ∙ simp (h0, h5) in (
+          moved.held,
+          made ∙ ap (λ o. word_of (nat_lt (s.regs h) (number_or_zero o))) given.1.0,
+          moved.bytes,
+          homes_moved z (take 5 (words + 4) ∷ does compare ∷ []) env s t (simp few) moved,
+        ))
+        (moves_run z (take 5 (words + 4)) (does compare ∷ []) (simp few)
+        ((omega arith, omega (arith, inside)), (tt, tt)))
+
+    word_test_length : length (below_word_code h words) ≤ 4
+    word_test_length =
+        let e = length-append {A = Instr} in
+        omega (arith, e, load_length 5 (words + 4))
+
+    abbrev Beginning : StraightState → machine.State → Type 0
+    Beginning env s = AtLoop z words ((bounds env).1 - (bounds env).0) (bounds env).0 env s
+
+    abbrev word_code : List Instr
+    word_code = test_code words ++ guarded_code 5 h 6 (below_word_code h words) ys
+
+    word_at : (b : ℕ × ℕ) → b.1 - b.0 ≤ slice_index z.counts x
+        → Runs z (7 + (2 + (1 + (turns_cost 4 + 1)) + 0)) (λ env. path_by env (bounds env)) word_code
+        (With Beginning b) Looped
+    word_at b few =
+        let limit = b.0 + (b.1 - b.0) in
+        along_fit (λ env s known. ap (path_by env) known.is)
+        (gives
+        (λ env s t fine known done.
+        let m = done.middle in
+        looped_by b env s t known.is
+        (done.second.0, hidden_then z depth s m t (hidden_by z depth s m done.first.1) done.second.1))
+        (quietly
+        (weaken {P' = With Beginning b}
+        {R = λ env s t. Guarded z depth x h known at 4 n limit (InWord limit) body
+        (word_kept limit) (λ bytes there. there.1) (word_tests limit) unset inner
+        (round_near _ word_test_length) 5 6 (b.1 - b.0) b.0 env t × (t.bytes ≡ s.bytes)}
+        (λ env s fine known. subst (λ (c : ℕ × ℕ). AtLoop z words (c.1 - c.0) c.0 env s) known.is known.given)
+        (λ env s t fine known tested.
+        let at' = subst (λ (c : ℕ × ℕ). AtLoop z words (c.1 - c.0) c.0 env s) known.is known.given in
+        let counts = at'.counts in
+        let left = counts.left_is in
+        let small = counts.bound_small in (
+          record {
+            ready = ready_with z env s t at'.ready tested.held tested.same tested.homes;
+            start = tested.six;
+            any = tested.five;
+            there = λ some.
+                let e : counts.bound ≡ limit = omega (arith, some, left) in (
+                  ap (λ (bytes : ByteMap). number_at bytes 4 (z.frame + (words + 4))) tested.same
+                      ∙ (counts.bound_there ∙ ap Some e),
+                  omega (arith, small, e),
+                );
+          },
+          tested.same,
+        ))
+        (test_runs z depth within (b.1 - b.0) b.0))
+        (guarded_runs z depth x h known at 4 n limit (InWord limit) body (word_kept limit) (λ bytes there. there.1)
+        (word_tests limit) unset inner (round_near _ word_test_length) 5 6 (omega arith) (omega arith) (omega arith)
+        (omega arith) (b.1 - b.0) b.0 refl (slice_index z.counts x) few)
+        (λ env s t known done. done.0)))
+
+    pub to_word_runs : Runs z (16 * term_nodes low + 3 + (16 * term_nodes high + 3)
+        + (7 + (2 + (1 + (turns_cost 4 + 1)) + 0))) (λ env. path_at env (repeats x low high body))
+        (bounds_code z.declared z.allocation words (base_of z) low high ++ word_code) (Ready z)
+        (Shown z depth (λ env. after env (repeats x low high body)))
+    to_word_runs =
+        gives
+        (λ env s t fine ready done. record {
+          ready = done.second.0;
+          hidden = hidden_then z depth s done.middle t done.first.1 done.second.1;
+        })
+        (seq (bounds_runs z depth within low high has_low has_high room_low room_high) (by_bounds z x bounds word_at)
+        (λ env s t ready begun. begun.0))

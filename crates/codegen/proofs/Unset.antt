@@ -1,0 +1,66 @@
+-- A variable that statements do not set holds behind them what it held before.
+use Rattle.std.proofs.Common.{◌≡◌, ℕ, zero, suc, ◌+◌, ◌-◌, ◌==◌, ◌||◌, Bool, true, false, cond, if◌then◌else◌}
+use Rattle.std.proofs.Common.{List, []}
+use Rattle.std.proofs.Common.{◌∷◌, refl, sym, ap, ◌∙◌}
+use Rattle.std.proofs.lemmas.Bool.{eqb-false, ne_eqb}
+use Rattle.codegen.proofs.Language.{StraightTree, set, clear, fill, put, take, set_under, put_under, branch, repeats}
+use Rattle.codegen.proofs.Language.{StraightBlock, nothing, first, StraightState, with_variable, counted, after}
+use Rattle.codegen.proofs.Language.{after_all, turns, value_in, Values}
+use Rattle.codegen.specs.private.Loops.{any_sets, sets}
+use Rattle.inline.specs.FlatMeaning.{with_value}
+
+-- neither of two
+none_left : (a b : Bool) → (a || b) ≡ false → a ≡ false
+none_left false b h = refl
+none_left true b h = h
+
+none_right : (a b : Bool) → (a || b) ≡ false → b ≡ false
+none_right false b h = h
+none_right true b h = absurd cc
+
+beside : (m : Values) (x y : ℕ) (l : List ℕ) → (x == y) ≡ false → with_value m x l y ≡ m y
+beside m x y l apart = ap (λ b. cond b l (m y)) (ne_eqb y x (λ e. eqb-false x y apart (sym e)))
+
+beside_under : (b : Bool) (s : StraightState) (x y : ℕ) (l : List ℕ) → (x == y) ≡ false
+    → (if b then with_variable s x l else s).variables y ≡ s.variables y
+beside_under true s x y l apart = beside s.variables x y l apart
+beside_under false s x y l apart = refl
+
+either : (b : Bool) (s t u : StraightState) (y : ℕ) → s.variables y ≡ u.variables y → t.variables y ≡ u.variables y
+    → (if b then s else t).variables y ≡ u.variables y
+either true s t u y one other = one
+either false s t u y one other = other
+
+turns_keep : (turn : ℕ → StraightState → StraightState) (y : ℕ)
+    → ((i : ℕ) (s : StraightState) → (turn i s).variables y ≡ s.variables y)
+    → (n i : ℕ) (s : StraightState) → (turns n i turn s).variables y ≡ s.variables y
+turns_keep turn y keep zero i s = refl
+turns_keep turn y keep (suc n) i s = turns_keep turn y keep n (i + 1) (turn i s) ∙ keep i s
+
+mutual
+  left_alone : (statement : StraightTree) (y : ℕ) → sets y statement ≡ false → (s : StraightState)
+      → (after s statement).variables y ≡ s.variables y
+  left_alone (set x value) y unset s = beside s.variables x y _ unset
+  left_alone (clear x size) y unset s = beside s.variables x y _ unset
+  left_alone (fill x values) y unset s = beside s.variables x y _ unset
+  left_alone (put place x size index value) y unset s = beside s.variables x y _ unset
+  left_alone (take control within condition) y unset s = refl
+  left_alone (set_under control x value) y unset s = beside_under (s.controls control) s x y _ unset
+  left_alone (put_under control place x size index value) y unset s =
+      beside_under (s.controls control) s x y _ unset
+  left_alone (branch condition accepted otherwise) y unset s =
+      either (value_in s.variables condition == 0) (after_all s otherwise) (after_all s accepted) s y
+      (all_left_alone otherwise y (none_right (any_sets y accepted) (any_sets y otherwise) unset) s)
+      (all_left_alone accepted y (none_left (any_sets y accepted) (any_sets y otherwise) unset) s)
+  left_alone (repeats x low high body) y unset s =
+      turns_keep (λ i t. after_all (counted x i t) body) y
+      (λ i t. all_left_alone body y (none_right (x == y) (any_sets y body) unset) (counted x i t)
+      ∙ beside t.variables x y (i ∷ []) (none_left (x == y) (any_sets y body) unset))
+      (value_in s.variables high - value_in s.variables low) (value_in s.variables low) s
+
+  pub all_left_alone : (body : StraightBlock) (y : ℕ) → any_sets y body ≡ false → (s : StraightState)
+      → (after_all s body).variables y ≡ s.variables y
+  all_left_alone nothing y unset s = refl
+  all_left_alone (first statement rest) y unset s =
+      all_left_alone rest y (none_right (sets y statement) (any_sets y rest) unset) (after s statement)
+      ∙ left_alone statement y (none_left (sets y statement) (any_sets y rest) unset) s

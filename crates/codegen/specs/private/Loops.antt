@@ -1,0 +1,131 @@
+-- The instructions that are emitted for loops. A loop whose counter has a home, and whose body sets the counter
+-- nowhere and is no longer than a branch reaches, counts there, and its test stands behind the body. In any other the
+-- next number lies in the frame, and the test comes first.
+use Rattle.std.specs.Prelude.{ℕ, ◌+◌, ◌==◌, ◌&&◌, ◌||◌, Bool, false, not, nat_lt, List, [], ◌∷◌, ◌++◌, length}
+use Rattle.std.specs.Prelude.{Option, None, Some, if◌then◌else◌}
+use Rattle.branch_removal.specs.Straight.{StraightTree, set, clear, fill, put, take, set_under, put_under, branch}
+use Rattle.branch_removal.specs.Straight.{repeats, StraightBlock, nothing, first}
+use Rattle.codegen.specs.private.Jumps.{again_code, branch_code, loop_code}
+use Rattle.codegen.specs.private.Words.{assign_code, put_word_code, read_code, read_register}
+use Rattle.expression_code.specs.Allocation.{Allocation}
+use Rattle.expression_code.specs.Registers.{value_register, second_register}
+use Rattle.expression_code.specs.TermCode.{into_code, is_near, load_code, move_code, store_code}
+use Rattle.expression_code.specs.declared.locations.Location.{Location}
+use Rattle.expression_code.specs.declared.locations.Location.TheVariants.{InRegister, InSlot}
+use Rattle.inline.specs.declared.flat.FlatVariable.{FlatVariable}
+use Rattle.inline.specs.Flat.{TermTree, number}
+use Rattle.rv_code.specs.declared.instructions.Instr.{Instr}
+use Rattle.rv_code.specs.declared.instructions.Instr.TheVariants.{Immediate, Register}
+use Rattle.rv_code.specs.declared.operations.ImmediateOperation.TheVariants.{Addi, Sltiu}
+use Rattle.rv_code.specs.declared.operations.RegisterOperation.TheVariants.{Sltu}
+
+-- Which loops count.
+
+abbrev mutual
+  -- whether a statement sets a variable
+  pub sets : ℕ → StraightTree → Bool
+  sets y (set x value) = x == y
+  sets y (clear x size) = x == y
+  sets y (fill x values) = x == y
+  sets y (put place x size index value) = x == y
+  sets y (take control within condition) = false
+  sets y (set_under control x value) = x == y
+  sets y (put_under control place x size index value) = x == y
+  sets y (branch condition accepted otherwise) = any_sets y accepted || any_sets y otherwise
+  sets y (repeats x low high body) = (x == y) || any_sets y body
+
+  -- whether one of them does
+  pub any_sets : ℕ → StraightBlock → Bool
+  any_sets y nothing = false
+  any_sets y (first statement rest) = sets y statement || any_sets y rest
+
+-- the home that a loop's counter is counted in, with the code of its body, where the body sets the counter or not
+abbrev pub counting_home : Location → Bool → List Instr → Option ℕ
+counting_home (InRegister home) is_set body =
+    if not is_set && nat_lt (length body) 1000 then Some home else None
+counting_home (InSlot offset) is_set body = None
+
+-- Loops that count in a home.
+
+-- a body, one more in the home, and a test whether that is below the bound: as long as it is, the body again. In the
+-- end the counter is at the last number.
+abbrev pub turns_code : ℕ → List Instr → List Instr → List Instr
+turns_code home test body =
+    again_code value_register (body ++ Immediate Addi home home 1 ∷ test) ++ Immediate Addi home home 4095 ∷ []
+
+-- the same from the number in a register on, where another is not 0
+abbrev pub guarded_code : ℕ → ℕ → ℕ → List Instr → List Instr → List Instr
+guarded_code below home start test body =
+    branch_code below (move_code home start ++ turns_code home test body) []
+
+-- a bound that an instruction holds
+abbrev pub short_number : TermTree → Option ℕ
+short_number (number value kind) = if is_near value then Some value else None
+short_number e = None
+
+-- a first number that is known to be below the bound
+abbrev pub is_below : ℕ → TermTree → Bool
+is_below bound (number value kind) = nat_lt value bound
+is_below bound e = false
+
+-- whether a register is below a number
+abbrev pub below_number_code : ℕ → ℕ → ℕ → List Instr
+below_number_code d register bound = Immediate Sltiu d register bound ∷ []
+
+-- or below the bound in the loop's second word
+abbrev pub below_word_code : ℕ → ℕ → List Instr
+below_word_code home next =
+    load_code value_register (next + 4) ++ Register Sltu value_register home value_register ∷ []
+
+-- up to a number
+abbrev pub to_number_code : List FlatVariable → Allocation → ℕ → ℕ → TermTree → ℕ → List Instr → List Instr
+to_number_code declared allocation free home low bound body =
+    if is_below bound low
+    then into_code declared allocation free home 0 low
+    ++ turns_code home (below_number_code value_register home bound) body
+    else read_code declared allocation free value_register 0 low
+    ++ (below_number_code second_register (read_register allocation value_register low) bound
+    ++ guarded_code second_register home (read_register allocation value_register low)
+    (below_number_code value_register home bound) body)
+
+-- Bounds in the frame.
+
+-- both bounds into the loop's words, the first one first
+abbrev pub bounds_code : List FlatVariable → Allocation → ℕ → ℕ → TermTree → TermTree → List Instr
+bounds_code declared allocation next free low high =
+    assign_code declared allocation free low next ++ assign_code declared allocation free high (next + 4)
+
+-- whether the next number is below the bound
+abbrev pub test_code : ℕ → List Instr
+test_code next =
+    load_code second_register next ++ load_code value_register (next + 4)
+    ++ Register Sltu value_register second_register value_register ∷ []
+
+-- the next number into the counter, and one more for the turn after this one
+abbrev pub count_code : ℕ → Location → List Instr
+count_code next counter =
+    put_word_code second_register counter ++ Immediate Addi second_register second_register 1 ∷ []
+    ++ store_code second_register next
+
+-- up to the bound in the frame, counted in a home or not
+abbrev pub to_word_code : ℕ → Location → List Instr → Option ℕ → List Instr
+to_word_code next counter body None = loop_code (test_code next) (count_code next counter ++ body)
+to_word_code next counter body (Some home) =
+    test_code next
+    ++ guarded_code value_register home second_register (below_word_code home next) body
+
+-- A loop.
+
+abbrev pub loop_from : List FlatVariable → Allocation → ℕ → ℕ → Location → TermTree → TermTree → List Instr → Option ℕ
+    → Option ℕ → List Instr
+loop_from declared allocation next free counter low high body (Some home) (Some bound) =
+    to_number_code declared allocation free home low bound body
+loop_from declared allocation next free counter low high body home bound =
+    bounds_code declared allocation next free low high ++ to_word_code next counter body home
+
+-- from one expression up to another, with the code of its body, which sets the counter or does not
+abbrev pub repeat_code : List FlatVariable → Allocation → ℕ → ℕ → Location → TermTree → TermTree → Bool → List Instr
+    → List Instr
+repeat_code declared allocation next free counter low high is_set body =
+    loop_from declared allocation next free counter low high body (counting_home counter is_set body)
+    (short_number high)

@@ -1,0 +1,47 @@
+-- The instructions that are emitted for words: an expression's value is read where it is, and put where it belongs.
+use Rattle.std.specs.Prelude.{ℕ, List, [], ◌++◌, Option, None, Some}
+use Rattle.expression_code.specs.Allocation.{Allocation, home_of}
+use Rattle.expression_code.specs.Registers.{value_register}
+use Rattle.expression_code.specs.TermCode.{into_code, move_code, store_code}
+use Rattle.expression_code.specs.declared.locations.Location.{Location}
+use Rattle.expression_code.specs.declared.locations.Location.TheVariants.{InRegister, InSlot}
+use Rattle.inline.specs.declared.flat.FlatVariable.{FlatVariable}
+use Rattle.inline.specs.Flat.{TermTree, variable}
+use Rattle.rv_code.specs.declared.instructions.Instr.{Instr}
+
+-- The value of an expression, read where it is: in its home, where it is a variable that has one, and else in the
+-- register that it is brought into.
+
+-- the home of an expression
+abbrev pub home_of_term : Allocation → TermTree → Option ℕ
+home_of_term allocation (variable x) = home_of allocation.homes x
+home_of_term allocation e = None
+
+-- no code is needed for what is at home
+abbrev pub unless_home : Option ℕ → List Instr → List Instr
+unless_home None into = into
+unless_home (Some home) into = []
+
+abbrev pub home_or : Option ℕ → ℕ → ℕ
+home_or None register = register
+home_or (Some home) register = home
+
+-- an expression, with its temporaries in the places from this one on, into a register
+abbrev pub read_code : List FlatVariable → Allocation → ℕ → ℕ → ℕ → TermTree → List Instr
+read_code declared allocation free register place e =
+    unless_home (home_of_term allocation e) (into_code declared allocation free register place e)
+
+-- and the register where it is then
+abbrev pub read_register : Allocation → ℕ → TermTree → ℕ
+read_register allocation register e = home_or (home_of_term allocation e) register
+
+-- the value of an expression into a slot
+abbrev pub assign_code : List FlatVariable → Allocation → ℕ → TermTree → ℕ → List Instr
+assign_code declared allocation free e offset =
+    read_code declared allocation free value_register 0 e
+    ++ store_code (read_register allocation value_register e) offset
+
+-- a register into a variable: its home, or its slot
+abbrev pub put_word_code : ℕ → Location → List Instr
+put_word_code register (InRegister home) = move_code home register
+put_word_code register (InSlot offset) = store_code register offset

@@ -1,0 +1,285 @@
+// The code of loops. One whose counter has a home, and whose body sets the counter nowhere and is short, counts there,
+// and its test stands behind the body. In any other the next number lies in the frame, and the test comes first.
+
+ghost use Rattle.std.specs.Prelude.{◌≡◌, ◌++◌, ◌+◌, ◌*◌, ◌<◌, ◌≤◌, [], ◌∷◌, length, None, Some, IfErr, OnOk};
+ghost use Rattle.codegen.specs.private.Loops.{bounds_code, test_code, count_code, below_number_code, below_word_code, counting_home, guarded_code, is_below, repeat_code, short_number, to_number_code, to_word_code, turns_code};
+ghost use Rattle.codegen.specs.private.Jumps.{IsFar};
+ghost use Rattle.codegen.specs.private.Placed.{IsPlaced};
+ghost use Rattle.expression_code.specs.Layout.{next_offset, temporaries_offset, variable_location};
+ghost use Rattle.inline.specs.Flat.{term_tree};
+ghost use Rattle.rv_code.specs.declared.instructions.Instr.TheVariants.{Immediate};
+ghost use Rattle.rv_code.specs.declared.operations.ImmediateOperation.TheVariants.{Addi};
+
+use crate::jumping;
+use crate::reading::{assign, read};
+use crate::unemitted::Unemitted;
+use expression_code::emit::{MINUS_ONE, NEAR, load, store};
+use expression_code::{Layout, Location, WORD_BYTES, into, move_register};
+use inline::Term;
+use rv_code::{Immediate12, ImmediateOperation, Instr, Reg, RegisterOperation};
+use std::alloc::{AllocError, Global};
+
+/// How many instructions the body of a loop that counts has less than.
+const SHORT_BODY: usize = 1000;
+
+/// A loop: its counter, the first number and the bound, and whether its body sets the counter.
+#[derive(Drop)]
+pub struct Loop<'a> {
+    pub counter: u32,
+    pub low: &'a Term,
+    pub high: &'a Term,
+    pub is_set: bool,
+}
+
+/// A loop that counts in a home, and the code of its body.
+#[derive(Drop)]
+struct Counting<'a> {
+    home: Reg,
+    body: &'a [Instr],
+}
+
+/// The home that a loop counts in, with the code of its body.
+fn counting_home(counter: &Location, is_set: bool, body: &[Instr]) -> Option<Reg>
+    ensures { result ≡ counting_home counter.now is_set body.now }
+{
+    match counter {
+        Location::InRegister(home) if !is_set && body.len() < SHORT_BODY => Some(*home),
+        _ => None,
+    }
+}
+
+/// A bound that an instruction holds.
+fn short_number(bound: &Term) -> Option<u32>
+    ensures { result ≡ short_number (term_tree bound.now) }
+{
+    match bound {
+        Term::Number(number, _) if *number < NEAR => Some(*number),
+        _ => None,
+    }
+}
+
+/// Whether the first number is known to be below the bound.
+fn is_below(bound: u32, low: &Term) -> bool
+    ensures { result ≡ is_below bound (term_tree low.now) }
+{
+    match low {
+        Term::Number(number, _) => *number < bound,
+        _ => false,
+    }
+}
+
+/// A number that is added to a register, in its place.
+fn add(code: &mut Vec<Instr>, register: Reg, field: u32) -> Result<(), AllocError>
+    requires { field < 4096 }
+    ensures { OnOk result (code.new.items ≡ code.old.items ++ Immediate Addi register register field ∷ []) }
+{
+    let number = Immediate12::from_bits(field);
+    code.push(Instr::Immediate(ImmediateOperation::Addi, register, register, number))?;
+    Ok(())
+}
+
+/// Whether a register is below a number.
+fn below_number(
+    code: &mut Vec<Instr>,
+    target: Reg,
+    register: Reg,
+    bound: u32,
+) -> Result<(), AllocError>
+    requires { bound < 2048 }
+    ensures { OnOk result (code.new.items ≡ code.old.items ++ below_number_code target register bound) }
+{
+    let below = ImmediateOperation::Sltiu;
+    let bound = Immediate12::from_bits(bound);
+    code.push(Instr::Immediate(below, target, register, bound))?;
+    Ok(())
+}
+
+/// Whether a home is below the bound in the loop's second word.
+fn below_word(code: &mut Vec<Instr>, home: Reg, next: u32) -> Result<(), AllocError>
+    requires { next ≤ 65536 }
+    ensures { OnOk result (code.new.items ≡ code.old.items ++ below_word_code home next) }
+{
+    load(code, Reg::X5, next + WORD_BYTES)?;
+    let below = RegisterOperation::Sltu;
+    code.push(Instr::Register(below, Reg::X5, home, Reg::X5))?;
+    Ok(())
+}
+
+/// The turns of a loop that counts, at least one: the test stands behind the body and the next number.
+fn turns(
+    alloc: Global,
+    code: &mut Vec<Instr>,
+    test: &[Instr],
+    counting: &Counting<'_>,
+) -> Result<(), AllocError>
+    requires test { length test.now ≤ 4 }
+    requires body { length counting.now.body.now < 1000 }
+    ensures { OnOk result (code.new.items ≡ code.old.items ++ turns_code counting.now.home test.now counting.now.body.now) }
+{
+    let home = counting.home;
+    let mut round = Vec::new(alloc);
+    round.extend_from_slice(counting.body)?;
+    add(&mut round, home, 1)?;
+    round.extend_from_slice(test)?;
+    jumping::again(code, Reg::X5, round.as_slice())?;
+    add(code, home, MINUS_ONE)
+}
+
+/// The same from the number in a register on, where another is not 0.
+fn guarded(
+    alloc: Global,
+    code: &mut Vec<Instr>,
+    below: Reg,
+    start: Reg,
+    test: &[Instr],
+    counting: &Counting<'_>,
+) -> Result<(), AllocError>
+    requires test { length test.now ≤ 4 }
+    requires body { length counting.now.body.now < 1000 }
+    ensures { OnOk result (code.new.items ≡ code.old.items ++ guarded_code below counting.now.home start test.now counting.now.body.now) }
+{
+    let mut arm = Vec::new(alloc);
+    move_register(&mut arm, counting.home, start)?;
+    turns(alloc, &mut arm, test, counting)?;
+    jumping::branch(code, below, arm.as_slice(), &[])
+}
+
+/// A loop that counts up to a number.
+fn to_number(
+    alloc: Global,
+    code: &mut Vec<Instr>,
+    layout: &Layout<'_>,
+    low: &Term,
+    bound: u32,
+    counting: &Counting<'_>,
+) -> Result<(), AllocError>
+    requires low { IsPlaced (length layout.now.declared) layout.now.allocation.count (temporaries_offset layout.now.declared layout.now.controls layout.now.depths) 0 (term_tree low.now) }
+    requires bound { bound < 2048 }
+    requires body { length counting.now.body.now < 1000 }
+    ensures { OnOk result (code.new.items ≡ code.old.items ++ to_number_code layout.now.declared layout.now.allocation (temporaries_offset layout.now.declared layout.now.controls layout.now.depths) counting.now.home (term_tree low.now) bound counting.now.body.now) }
+{
+    let home = counting.home;
+    let mut test = Vec::new(alloc);
+    below_number(&mut test, Reg::X5, home, bound)?;
+    if is_below(bound, low) {
+        into(code, layout, home, 0, low)?;
+        return turns(alloc, code, test.as_slice(), counting);
+    }
+    let start = read(code, layout, Reg::X5, 0, low)?;
+    below_number(code, Reg::X6, start, bound)?;
+    guarded(alloc, code, Reg::X6, start, test.as_slice(), counting)
+}
+
+/// Both bounds of a loop into its words.
+fn bounds(
+    code: &mut Vec<Instr>,
+    layout: &Layout<'_>,
+    next: u32,
+    low: &Term,
+    high: &Term,
+) -> Result<(), AllocError>
+    requires low { IsPlaced (length layout.now.declared) layout.now.allocation.count (temporaries_offset layout.now.declared layout.now.controls layout.now.depths) 0 (term_tree low.now) }
+    requires high { IsPlaced (length layout.now.declared) layout.now.allocation.count (temporaries_offset layout.now.declared layout.now.controls layout.now.depths) 0 (term_tree high.now) }
+    requires next { next ≤ 65536 }
+    ensures { OnOk result (code.new.items ≡ code.old.items ++ bounds_code layout.now.declared layout.now.allocation next (temporaries_offset layout.now.declared layout.now.controls layout.now.depths) (term_tree low.now) (term_tree high.now)) }
+{
+    assign(code, layout, low, next)?;
+    assign(code, layout, high, next + WORD_BYTES)
+}
+
+/// Whether the next number of a loop is below its bound.
+fn test(code: &mut Vec<Instr>, next: u32) -> Result<(), AllocError>
+    requires { next ≤ 65536 }
+    ensures { OnOk result (code.new.items ≡ code.old.items ++ test_code next) }
+{
+    load(code, Reg::X6, next)?;
+    load(code, Reg::X5, next + WORD_BYTES)?;
+    let below = RegisterOperation::Sltu;
+    code.push(Instr::Register(below, Reg::X5, Reg::X6, Reg::X5))?;
+    Ok(())
+}
+
+/// The next number into the counter, and one more for the turn after this one.
+fn count(code: &mut Vec<Instr>, next: u32, counter: &Location) -> Result<(), AllocError>
+    ensures { OnOk result (code.new.items ≡ code.old.items ++ count_code next counter.now) }
+{
+    match counter {
+        Location::InRegister(home) => move_register(code, *home, Reg::X6)?,
+        Location::InSlot(offset) => store(code, Reg::X6, *offset)?,
+    }
+    add(code, Reg::X6, 1)?;
+    store(code, Reg::X6, next)
+}
+
+/// A loop whose next number lies in the frame, behind its bounds. A jump that does not reach refuses it, or want of
+/// memory.
+fn tested(
+    alloc: Global,
+    code: &mut Vec<Instr>,
+    next: u32,
+    counter: &Location,
+    body: &[Instr],
+) -> Result<(), Unemitted>
+    requires next { next ≤ 65536 }
+    ensures code { OnOk result (code.new.items ≡ code.old.items ++ to_word_code next counter.now body.now None) }
+    ensures far { IfErr result (IsFar (length (to_word_code next counter.now body.now None))) }
+{
+    let mut head = Vec::new(alloc);
+    test(&mut head, next)?;
+    let mut turn = Vec::new(alloc);
+    count(&mut turn, next, counter)?;
+    turn.extend_from_slice(body)?;
+    jumping::reach(head.len(), turn.len())?;
+    Ok(jumping::repeat(code, head.as_slice(), turn.as_slice())?)
+}
+
+/// A loop that counts up to the bound in its second word, behind its bounds.
+fn to_word(
+    alloc: Global,
+    code: &mut Vec<Instr>,
+    next: u32,
+    counter: &Location,
+    counting: &Counting<'_>,
+) -> Result<(), AllocError>
+    requires next { next ≤ 65536 }
+    requires body { length counting.now.body.now < 1000 }
+    ensures { OnOk result (code.new.items ≡ code.old.items ++ to_word_code next counter.now counting.now.body.now (Some counting.now.home)) }
+{
+    test(code, next)?;
+    let mut below = Vec::new(alloc);
+    below_word(&mut below, counting.home, next)?;
+    guarded(alloc, code, Reg::X5, Reg::X6, below.as_slice(), counting)
+}
+
+/// A loop that so many others are around, of the code of its body. A jump that does not reach refuses it, or want of
+/// memory.
+pub fn repeat(
+    alloc: Global,
+    code: &mut Vec<Instr>,
+    layout: &Layout<'_>,
+    depth: u32,
+    repeat: &Loop<'_>,
+    body: &[Instr],
+) -> Result<(), Unemitted>
+    requires counter { repeat.now.counter < length layout.now.declared }
+    requires depth { depth < layout.now.depths }
+    requires low { IsPlaced (length layout.now.declared) layout.now.allocation.count (temporaries_offset layout.now.declared layout.now.controls layout.now.depths) 0 (term_tree repeat.now.low.now) }
+    requires high { IsPlaced (length layout.now.declared) layout.now.allocation.count (temporaries_offset layout.now.declared layout.now.controls layout.now.depths) 0 (term_tree repeat.now.high.now) }
+    ensures code { OnOk result (code.new.items ≡ code.old.items ++ repeat_code layout.now.declared layout.now.allocation (next_offset layout.now.declared layout.now.controls depth) (temporaries_offset layout.now.declared layout.now.controls layout.now.depths) (variable_location layout.now.declared layout.now.allocation repeat.now.counter) (term_tree repeat.now.low.now) (term_tree repeat.now.high.now) repeat.now.is_set body.now) }
+    ensures far { IfErr result (IsFar (length (repeat_code layout.now.declared layout.now.allocation (next_offset layout.now.declared layout.now.controls depth) (temporaries_offset layout.now.declared layout.now.controls layout.now.depths) (variable_location layout.now.declared layout.now.allocation repeat.now.counter) (term_tree repeat.now.low.now) (term_tree repeat.now.high.now) repeat.now.is_set body.now))) }
+{
+    let next = layout.next(depth);
+    let counter = layout.variable_location(repeat.counter);
+    let Some(home) = counting_home(&counter, repeat.is_set, body) else {
+        bounds(code, layout, next, repeat.low, repeat.high)?;
+        return tested(alloc, code, next, &counter, body);
+    };
+    let counting = Counting { home, body };
+    match short_number(repeat.high) {
+        Some(bound) => Ok(to_number(alloc, code, layout, repeat.low, bound, &counting)?),
+        None => {
+            bounds(code, layout, next, repeat.low, repeat.high)?;
+            Ok(to_word(alloc, code, next, &counter, &counting)?)
+        }
+    }
+}
