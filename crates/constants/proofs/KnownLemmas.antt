@@ -1,5 +1,5 @@
 -- What is known of variables once something is noted or forgotten.
-use Rattle.std.proofs.Common.{◌≡◌, ℕ, zero, suc, List, [], ◌∷◌, Option, None, Some, replicate, slice_set, slice_index}
+use Rattle.std.proofs.Common.{◌≡◌, ℕ, zero, suc, [], ◌∷◌, Option, None, Some, replicate, slice_set, slice_index}
 use Rattle.std.proofs.Common.{refl, ap, arith}
 use Rattle.std.proofs.lemmas.Option.{none-some}
 use Rattle.inline.specs.FlatMeaning.{Values}

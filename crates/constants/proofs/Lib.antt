@@ -3,8 +3,10 @@ pub mod TermLemmas
 pub mod TermTypes
 pub mod Unset
 pub mod Learned
+pub mod Turns
 pub mod Same
 pub mod Typed
 pub mod Bounds
 pub mod Whole
 pub mod StatementTrees
+pub mod ChoiceLemmas

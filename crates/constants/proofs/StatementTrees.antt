@@ -1,18 +1,22 @@
 -- The tree of a statement that holds others, by the lists of its arms or its body.
-use Rattle.std.proofs.Common.{◌≡◌, ℕ, zero, suc, ◌+◌, ◌*◌, ◌≤◌, ◌<◌, ◌++◌, Bool, true, if◌then◌else◌, List, [], ◌∷◌}
-use Rattle.std.proofs.Common.{drop, get_or, length, Vec, Global, refl, sym, ap, ap₂, ◌∙◌, arith}
+use Rattle.std.proofs.Common.{◌≡◌, ℕ, zero, suc, ◌+◌, ◌≤◌, ◌<◌, ◌++◌, List, [], ◌∷◌}
+use Rattle.std.proofs.Common.{drop, get_or, length, slice_index, Option, None, Some, ◌-◌, Vec, Global, refl, sym, ap}
+use Rattle.std.proofs.Common.{ap₂, ◌∙◌, arith}
 use Rattle.std.proofs.lemmas.List.{drop_more}
 use mathlib.Core.Former.{Count}
 use Rattle.inline.specs.declared.flat.Term.{Term}
-use Rattle.inline.specs.Flat.{TermTree, term_tree}
+use Rattle.inline.specs.Flat.{TermTree, term_tree, number, counter_type}
 use Rattle.branch_removal.specs.Bounds.{statement_nodes, block_nodes}
 use Rattle.branch_removal.specs.declared.straight.StraightStatement.{StraightStatement}
 use Rattle.branch_removal.specs.declared.straight.StraightStatement as code
-use Rattle.constants.specs.private.Folding.{simple, constant_of, makes_no_turn}
-use Rattle.constants.specs.private.Known.{Words, in_loop}
+use Rattle.constants.specs.private.Folding.{simple, constant_of, numbers_of}
+use Rattle.constants.specs.private.Known.{Words, in_loop, forgotten_all}
 use Rattle.constants.specs.private.Simplification.{single, knowing, simplified, simplified_all, branch_code}
-use Rattle.constants.specs.private.Simplification.{branch_known, loop_code, loop_known}
-use Rattle.branch_removal.specs.Straight.{StraightTree, StraightBlock, nothing, first, chain, branch, repeats}
+use Rattle.constants.specs.private.Simplification.{branch_known, loop_code, loop_known, turns_code, turns_known}
+use Rattle.constants.specs.private.Simplification.{unrolled, knowing_all, code_of_turns, at_turn}
+use Rattle.constants.specs.declared.terms.Numbers.{Numbers}
+use Rattle.branch_removal.specs.Straight.{StraightTree, StraightBlock, nothing, first, chain, set, branch, repeats}
+use Rattle.inline.specs.FlatMeaning.{turns}
 use Rattle.branch_removal.specs.Straight.{straight_tree, straight_row, straight_block}
 
 rows : (n : _) (row : code.Row_of-StraightStatement n)
@@ -114,75 +118,149 @@ smaller_here statements i item here =
     omega (arith, ap (λ xs. block_nodes (straight_block xs)) here, nodes_behind statements i)
 
 -- a statement whose code is one statement
-pub code_of_one : (statement shape : StraightStatement) (words : Words) (tree : StraightTree) → statement ≡ shape
-    → simplified words (straight_tree shape) ≡ first tree nothing
+pub code_of_one : (copies : List ℕ) (statement shape : StraightStatement) (words : Words) (tree : StraightTree)
+    → statement ≡ shape
+    → simplified copies words (straight_tree shape) ≡ first tree nothing
     → (old new : StraightBlock) (made : StraightTree) → new ≡ chain old (first made nothing) → made ≡ tree
-    → new ≡ chain old (simplified words (straight_tree statement))
-code_of_one statement shape words tree is code old new made items same =
+    → new ≡ chain old (simplified copies words (straight_tree statement))
+code_of_one copies statement shape words tree is code old new made items same =
     items ∙ (ap (λ t. chain old (first t nothing)) same
-    ∙ ap (chain old) (sym (ap (λ s. simplified words (straight_tree s)) is ∙ code)))
+    ∙ ap (chain old) (sym (ap (λ s. simplified copies words (straight_tree s)) is ∙ code)))
 
 -- Branches.
 
 module _ {statement : StraightStatement} {condition : Term} (accepted otherwise : Vec StraightStatement Global)
     (is : statement ≡ code.Branch condition accepted otherwise)
     {ones others : List StraightStatement} (one : ones ≡ accepted.items) (other : others ≡ otherwise.items)
-    (words : Words) (made : Term) (simpler : term_tree made ≡ simple words (term_tree condition)) where
-  -- both arms have fewer nodes
-  pub arms_smaller : 1 + block_nodes (straight_block ones) + block_nodes (straight_block others)
-      ≤ statement_nodes (straight_tree statement)
-  arms_smaller = omega (arith, ap statement_nodes (tree_of_branch accepted otherwise is one other))
+    (copies : List ℕ) (words : Words) (made : Term) (simpler : term_tree made ≡ simple words (term_tree condition))
+  where
+    -- both arms have fewer nodes
+    pub arms_smaller : 1 + block_nodes (straight_block ones) + block_nodes (straight_block others)
+        ≤ statement_nodes (straight_tree statement)
+    arms_smaller = omega (arith, ap statement_nodes (tree_of_branch accepted otherwise is one other))
 
-  pub code_of_branch : simplified words (straight_tree statement)
-      ≡ branch_code words (term_tree made) (straight_block ones) (straight_block others)
-  code_of_branch =
-      ap (simplified words) (tree_of_branch accepted otherwise is one other)
-      ∙ ap (λ e. branch_code words e (straight_block ones) (straight_block others)) (sym simpler)
+    pub code_of_branch : simplified copies words (straight_tree statement)
+        ≡ branch_code copies words (term_tree made) (straight_block ones) (straight_block others)
+    code_of_branch =
+        ap (simplified copies words) (tree_of_branch accepted otherwise is one other)
+        ∙ ap (λ e. branch_code copies words e (straight_block ones) (straight_block others)) (sym simpler)
 
-  pub known_of_branch : knowing words (straight_tree statement)
-      ≡ branch_known words (term_tree made) (straight_block ones) (straight_block others)
-  known_of_branch =
-      ap (knowing words) (tree_of_branch accepted otherwise is one other)
-      ∙ ap (λ e. branch_known words e (straight_block ones) (straight_block others)) (sym simpler)
+    pub known_of_branch : knowing copies words (straight_tree statement)
+        ≡ branch_known copies words (term_tree made) (straight_block ones) (straight_block others)
+    known_of_branch =
+        ap (knowing copies words) (tree_of_branch accepted otherwise is one other)
+        ∙ ap (λ e. branch_known copies words e (straight_block ones) (straight_block others)) (sym simpler)
 
 -- Loops.
 
 module _ {statement : StraightStatement} {x : ℕ} {low high : Term} (body : Vec StraightStatement Global)
     (is : statement ≡ code.Repeat x low high body)
     {inner : List StraightStatement} (items : inner ≡ body.items)
-    (words : Words) (l h : Term) (at_low : term_tree l ≡ simple words (term_tree low))
+    (copies : List ℕ) (words : Words) (l h : Term) (at_low : term_tree l ≡ simple words (term_tree low))
     (at_high : term_tree h ≡ simple words (term_tree high)) where
-  pub code_of_loop : simplified words (straight_tree statement)
-      ≡ loop_code words x (term_tree l) (term_tree h) (straight_block inner)
+  pub code_of_loop : simplified copies words (straight_tree statement)
+      ≡ loop_code copies words x (term_tree l) (term_tree h) (straight_block inner)
   code_of_loop =
-      ap (simplified words) (tree_of_loop body is items)
-      ∙ ap₂ (λ e f. loop_code words x e f (straight_block inner)) (sym at_low) (sym at_high)
+      ap (simplified copies words) (tree_of_loop body is items)
+      ∙ ap₂ (λ e f. loop_code copies words x e f (straight_block inner)) (sym at_low) (sym at_high)
 
-  pub known_of_loop : knowing words (straight_tree statement)
-      ≡ loop_known words x (term_tree l) (term_tree h) (straight_block inner)
+  pub known_of_loop : knowing copies words (straight_tree statement)
+      ≡ loop_known copies words x (term_tree l) (term_tree h) (straight_block inner)
   known_of_loop =
-      ap (knowing words) (tree_of_loop body is items)
-      ∙ ap₂ (λ e f. loop_known words x e f (straight_block inner)) (sym at_low) (sym at_high)
+      ap (knowing copies words) (tree_of_loop body is items)
+      ∙ ap₂ (λ e f. loop_known copies words x e f (straight_block inner)) (sym at_low) (sym at_high)
 
--- a loop that makes no turn
-pub no_loop : (words : Words) (x : ℕ) (l h : TermTree) (body : StraightBlock) (b : Bool)
-    → b ≡ makes_no_turn (constant_of l) (constant_of h) → b ≡ true
-    → (old : StraightBlock) → old ≡ chain old (loop_code words x l h body)
-no_loop words x l h body b says is old =
-    sym (chain-nothing old)
-    ∙ ap (λ t. chain old (if t then nothing else single (repeats x l h (simplified_all (in_loop words x body) body))))
-    (sym (sym says ∙ is))
+-- a loop that becomes its turns, or stays
+module _ (copies : List ℕ) (words : Words) (x : ℕ) (l h : TermTree) (body : StraightBlock) (o : Option Numbers)
+    (says : o ≡ numbers_of (slice_index copies x) (constant_of l) (constant_of h)) where
+  pub copied_code : (each : Numbers) → o ≡ Some each
+      → loop_code copies words x l h body ≡ turns_code copies words x each body
+  copied_code each is =
+      ap (λ (p : Option Numbers). unrolled p (λ each. turns_code copies words x each body)
+      (single (repeats x l h (simplified_all copies (in_loop words x body) body)))) (sym says ∙ is)
+
+  pub copied_known : (each : Numbers) → o ≡ Some each
+      → loop_known copies words x l h body ≡ turns_known copies words x each body
+  copied_known each is =
+      ap (λ (p : Option Numbers). unrolled p (λ each. turns_known copies words x each body)
+      (forgotten_all (knowing_all copies (in_loop words x body) body) body)) (sym says ∙ is)
+
+  pub looped_code : o ≡ None → loop_code copies words x l h body
+      ≡ single (repeats x l h (simplified_all copies (in_loop words x body) body))
+  looped_code is =
+      ap (λ (p : Option Numbers). unrolled p (λ each. turns_code copies words x each body)
+      (single (repeats x l h (simplified_all copies (in_loop words x body) body)))) (sym says ∙ is)
+
+  pub looped_known : o ≡ None → loop_known copies words x l h body
+      ≡ forgotten_all (knowing_all copies (in_loop words x body) body) body
+  looped_known is =
+      ap (λ (p : Option Numbers). unrolled p (λ each. turns_known copies words x each body)
+      (forgotten_all (knowing_all copies (in_loop words x body) body) body)) (sym says ∙ is)
 
 -- of some statements one more
-pub passed : (words between : Words) (body : List StraightStatement) (i : ℕ) (item : StraightStatement)
+pub passed : (copies : List ℕ) (words between : Words) (body : List StraightStatement) (i : ℕ)
+    (item : StraightStatement)
     → drop i body ≡ item ∷ drop (i + 1) body
     → (before after whole : StraightBlock)
-    → chain before (simplified_all words (straight_block (drop i body))) ≡ whole
-    → after ≡ chain before (simplified words (straight_tree item)) → between ≡ knowing words (straight_tree item)
-    → chain after (simplified_all between (straight_block (drop (i + 1) body))) ≡ whole
-passed words between body i item here before after whole so_far one known =
+    → chain before (simplified_all copies words (straight_block (drop i body))) ≡ whole
+    → after ≡ chain before (simplified copies words (straight_tree item))
+    → between ≡ knowing copies words (straight_tree item)
+    → chain after (simplified_all copies between (straight_block (drop (i + 1) body))) ≡ whole
+passed copies words between body i item here before after whole so_far one known =
     let rest = straight_block (drop (i + 1) body) in
-    ap₂ (λ front w. chain front (simplified_all w rest)) one known
-    ∙ (chain-assoc before (simplified words (straight_tree item))
-    (simplified_all (knowing words (straight_tree item)) rest)
-    ∙ (ap (λ xs. chain before (simplified_all words (straight_block xs))) (sym here) ∙ so_far))
+    ap₂ (λ front w. chain front (simplified_all copies w rest)) one known
+    ∙ (chain-assoc before (simplified copies words (straight_tree item))
+    (simplified_all copies (knowing copies words (straight_tree item)) rest)
+    ∙ (ap (λ xs. chain before (simplified_all copies words (straight_block xs))) (sym here) ∙ so_far))
+
+-- the turns of a loop, of which one more is done
+module _ (copies : List ℕ) (x : ℕ) (body : StraightBlock) where
+  abbrev turn_learns : ℕ → Words → Words
+  turn_learns i w = knowing_all copies (at_turn x i w) body
+
+  abbrev turn_code : ℕ → Words → StraightBlock
+  turn_code i w = first (set x (number i counter_type.kind)) (simplified_all copies (at_turn x i w) body)
+
+  abbrev pub turns_left : ℕ → ℕ → StraightBlock → Words → StraightBlock
+  turns_left high i front words = chain front (code_of_turns (high - i) i turn_learns turn_code words)
+
+  abbrev pub known_left : ℕ → ℕ → Words → Words
+  known_left high i words = turns (high - i) i turn_learns words
+
+  pub turn_passed : (high i : ℕ) (words noted after : Words) (before counter_set behind whole : StraightBlock)
+      → i < high
+      → turns_left high i before words ≡ whole → noted ≡ at_turn x i words
+      → counter_set ≡ chain before (first (set x (number i counter_type.kind)) nothing)
+      → behind ≡ chain counter_set (simplified_all copies noted body) → after ≡ knowing_all copies noted body
+      → turns_left high (i + 1) behind after ≡ whole
+  turn_passed high i words noted after before counter_set behind whole below so_far here counter turn known =
+      let more : high - i ≡ suc (high - (i + 1)) = omega (arith, below) in
+      let rest = code_of_turns (high - (i + 1)) (i + 1) turn_learns turn_code (turn_learns i words) in
+      ap₂ (λ front w. chain front (code_of_turns (high - (i + 1)) (i + 1) turn_learns turn_code w))
+      (turn ∙ ap₂ (λ front w. chain front (simplified_all copies w body)) counter here
+      ∙ chain-assoc before (first (set x (number i counter_type.kind)) nothing)
+      (simplified_all copies (at_turn x i words) body))
+      (known ∙ ap (λ w. knowing_all copies w body) here)
+      ∙ (chain-assoc before (turn_code i words) rest
+      ∙ (ap (λ n. chain before (code_of_turns n i turn_learns turn_code words)) (sym more) ∙ so_far))
+
+  pub turn_learnt : (high i : ℕ) (words noted after whole : Words) → i < high
+      → known_left high i words ≡ whole → noted ≡ at_turn x i words → after ≡ knowing_all copies noted body
+      → known_left high (i + 1) after ≡ whole
+  turn_learnt high i words noted after whole below so_far here known =
+      let more : high - i ≡ suc (high - (i + 1)) = omega (arith, below) in
+      ap (λ w. turns (high - (i + 1)) (i + 1) turn_learns w) (known ∙ ap (λ w. knowing_all copies w body) here)
+      ∙ (ap (λ n. turns n i turn_learns words) (sym more) ∙ so_far)
+
+  pub no_turns_left : (high i : ℕ) (words : Words) (before whole : StraightBlock) → high ≤ i
+      → turns_left high i before words ≡ whole → before ≡ whole
+  no_turns_left high i words before whole above so_far =
+      let none : high - i ≡ 0 = omega (arith, above) in
+      sym (chain-nothing before)
+      ∙ (ap (λ n. chain before (code_of_turns n i turn_learns turn_code words)) (sym none) ∙ so_far)
+
+  pub none_left_known : (high i : ℕ) (words whole : Words) → high ≤ i → known_left high i words ≡ whole
+      → words ≡ whole
+  none_left_known high i words whole above so_far =
+      let none : high - i ≡ 0 = omega (arith, above) in
+      ap (λ n. turns n i turn_learns words) (sym none) ∙ so_far

@@ -1,16 +1,16 @@
--- A simpler expression has the value and the path that the expression has, and no more nodes.
-use Rattle.std.proofs.Common.{◌≡◌, ℕ, ◌+◌, ◌≤◌, ◌==◌, ◌&&◌, ◌||◌, Bool, true, false, not, cond, if◌then◌else◌, List}
-use Rattle.std.proofs.Common.{[], ◌∷◌, ◌++◌, map, length, slice_index, Option, None, Some, option_map, refl, sym, ap}
-use Rattle.std.proofs.Common.{ap₂, ◌∙◌, subst, append-nil, arith}
+-- A simpler expression has the value and the path that the expression has, no more nodes, and no more temporaries.
+use Rattle.std.proofs.Common.{◌≡◌, ℕ, ◌+◌, ◌≤◌, ◌==◌, ◌&&◌, Bool, true, false, not, if◌then◌else◌, List}
+use Rattle.std.proofs.Common.{[], ◌∷◌, ◌++◌, map, slice_index, Option, None, Some, option_map, refl, sym, ap}
+use Rattle.std.proofs.Common.{ap₂, ◌∙◌, append-nil, arith}
 use Rattle.std.proofs.lemmas.Bool.{cond-false, cond-true, or_parts, and_parts, not-true}
 use Rattle.std.proofs.lemmas.Option.{none-some, same_Some}
+use Rattle.branch_removal.specs.Heights.{height_of, height_of_all}
 use Rattle.inline.specs.Flat.{TermTree, number, truth, variable, prefix, binary, rotate, convert, select, element}
 use Rattle.inline.specs.FlatMeaning.{Values, value_in, path_in, path_in_all, marks_of}
 use Rattle.inline.specs.FlatSize.{term_nodes, terms_nodes}
 use Rattle.inline.specs.Path.{Path, indexed}
 use Rattle.language.specs.declared.signature.Kind.{Kind}
 use Rattle.language.specs.declared.tree.BinaryOperator.{BinaryOperator}
-use Rattle.language.specs.declared.tree.PrefixOperator.{PrefixOperator}
 use Rattle.language.specs.ExprTyping.{operation_of, operation_kind}
 use Rattle.language.specs.Operators.{divides, multiplies, operated, prefix_value, truth_of, width_of}
 use Rattle.word.specs.Operators.{rotated_left, converted}
@@ -18,8 +18,8 @@ use Rattle.word.specs.declared.place.Place.{Place}
 use Rattle.word.specs.declared.width.Width.{Width}
 use Rattle.constants.specs.declared.known.Constant.{Constant}
 use Rattle.constants.specs.private.Known.{Words, known}
-use Rattle.constants.specs.private.Folding.{constant, constant_of, number_of, known_or, decision, is_marked, is_quiet}
-use Rattle.constants.specs.private.Folding.{folded, between, chosen, simple}
+use Rattle.constants.specs.private.Folding.{constant, constant_of, known_or, decision, is_marked, is_quiet}
+use Rattle.constants.specs.private.Folding.{between, chosen, simple}
 use Rattle.constants.proofs.KnownLemmas.{Agrees}
 
 -- Nodes.
@@ -89,6 +89,62 @@ module _ (words : Words) where
   pub fewer_nodes_all : (es : List TermTree) → terms_nodes (map (simple words) es) ≤ terms_nodes es
   fewer_nodes_all [] = omega arith
   fewer_nodes_all (e ∷ es) = omega (arith, fewer_nodes e, fewer_nodes_all es)
+
+-- Temporaries.
+
+known_height : (o : Option Constant) (e : TermTree) → height_of (known_or o e) ≤ height_of e
+known_height None e = omega arith
+known_height (Some c) e = omega arith
+
+either_height : (b : Bool) (one other : TermTree) (n : ℕ) → height_of one ≤ n → height_of other ≤ n
+    → height_of (if b then one else other) ≤ n
+either_height true one other n a b = a
+either_height false one other n a b = b
+
+chosen_height : (d : Option Bool) (condition accepted otherwise : TermTree)
+    → height_of (chosen d condition accepted otherwise) ≤ height_of (select condition accepted otherwise)
+chosen_height None condition accepted otherwise = omega arith
+chosen_height (Some true) condition accepted otherwise =
+    either_height (is_quiet otherwise) accepted (select condition accepted otherwise)
+    (height_of (select condition accepted otherwise)) (omega arith) (omega arith)
+chosen_height (Some false) condition accepted otherwise =
+    either_height (is_quiet accepted) otherwise (select condition accepted otherwise)
+    (height_of (select condition accepted otherwise)) (omega arith) (omega arith)
+
+module _ (words : Words) where
+  pub lower : (e : TermTree) → height_of (simple words e) ≤ height_of e
+  lower (number value kind) = omega arith
+  lower (truth value) = omega arith
+  lower (variable x) = known_height (known words x) (variable x)
+  lower (prefix operator width operand) =
+      let whole =
+      known_height (option_map (λ c. constant (prefix_value operator width c.value) c.kind)
+      (constant_of (simple words operand))) (prefix operator width (simple words operand)) in
+      omega (arith, whole, lower operand)
+  lower (binary place operator width left right) =
+      let whole =
+      known_height (between operator width (constant_of (simple words left)) (constant_of (simple words right)))
+      (binary place operator width (simple words left) (simple words right)) in
+      omega (arith, whole, lower left, lower right)
+  lower (rotate width operand amount) =
+      let whole =
+      known_height (option_map (λ c. constant (rotated_left width c.value amount) c.kind)
+      (constant_of (simple words operand))) (rotate width (simple words operand) amount) in
+      omega (arith, whole, lower operand)
+  lower (convert kind operand) =
+      let whole =
+      known_height (option_map (λ c. constant (converted (width_of kind) c.value) kind)
+      (constant_of (simple words operand))) (convert kind (simple words operand)) in
+      omega (arith, whole, lower operand)
+  lower (select condition accepted otherwise) =
+      let whole = chosen_height (decision (simple words condition)) (simple words condition) (simple words accepted)
+      (simple words otherwise) in
+      omega (arith, whole, lower condition, lower accepted, lower otherwise)
+  lower (element place x size index) = lower index
+
+  pub lower_all : (es : List TermTree) → height_of_all (map (simple words) es) ≤ height_of_all es
+  lower_all [] = omega arith
+  lower_all (e ∷ es) = omega (arith, lower e, lower_all es)
 
 -- Values and paths.
 

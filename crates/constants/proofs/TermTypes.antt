@@ -1,16 +1,16 @@
 -- A simpler expression suits where the expression suits: it is of the same kind, and public where that one is.
-use Rattle.std.proofs.Common.{◌≡◌, ℕ, ◌^◌, ◌<◌, ◌==◌, Bool, true, false, if◌then◌else◌, List, [], ◌∷◌, map, Option}
+use Rattle.std.proofs.Common.{◌≡◌, ℕ, ◌<◌, Bool, true, false, if◌then◌else◌, List, [], ◌∷◌, map, Option}
 use Rattle.std.proofs.Common.{None, Some, option_map, refl, sym, ap, ◌∙◌, subst}
 use Rattle.std.proofs.lemmas.Option.{none-some, same_Some}
 use Rattle.inline.proofs.Fitting.{value_fits}
-use Rattle.inline.specs.Fitting.{IsWithinKind, Fits}
-use Rattle.inline.specs.Flat.{TermTree, number, truth, variable, prefix, binary, rotate, convert, select, element}
+use Rattle.inline.specs.Fitting.{IsWithinKind}
+use Rattle.inline.specs.Flat.{TermTree, number, truth, variable, prefix, binary, rotate, convert, select}
 use Rattle.inline.specs.Flat.{word_as}
 use Rattle.inline.specs.FlatMeaning.{Values, value_in}
 use Rattle.inline.specs.FlatTyping.{Types, HasType, of_number, of_truth, of_variable, of_prefix, of_binary}
 use Rattle.inline.specs.FlatTyping.{of_rotation, of_conversion, of_selection, of_element, Suits, AllSuit, IsResult}
 use Rattle.language.specs.declared.signature.Kind.{Kind}
-use Rattle.language.specs.declared.signature.Kind.TheVariants.{Boolean, Uint32}
+use Rattle.language.specs.declared.signature.Kind.TheVariants.{Boolean}
 use Rattle.language.specs.declared.signature.Label.{Label}
 use Rattle.language.specs.declared.signature.Label.TheVariants.{Public, Secret}
 use Rattle.language.specs.declared.tree.BinaryOperator.{BinaryOperator}
@@ -20,14 +20,14 @@ use Rattle.language.specs.declared.operation.Operation.TheVariants.{Division}
 use Rattle.language.specs.declared.typing.WordType.{WordType}
 use Rattle.language.specs.ExprTyping.{operation_of, operation_kind}
 use Rattle.language.specs.Grammatical.{IsNumberKind}
-use Rattle.language.specs.Operators.{operated, prefix_value, truth_of, width_of}
+use Rattle.language.specs.Operators.{operated, prefix_value, width_of}
 use Rattle.language.specs.Types.{bits_of, joined, is_secret}
 use Rattle.language.specs.WellTyped.{labelled, MayBeMultiplied, unseen, both_public, Makes, arithmetic}
 use Rattle.language.specs.WellTyped.{multiplication, division, shift, equality, order, logic, Takes}
 use Rattle.word.specs.Operators.{rotated_left, converted, word_of}
 use Rattle.word.specs.declared.place.Place.{Place}
 use Rattle.word.specs.declared.profile.Profile.{Profile}
-use Rattle.word.specs.declared.profile.Profile.TheVariants.{P1, P2}
+use Rattle.word.specs.declared.profile.Profile.TheVariants.{P2}
 use Rattle.word.specs.declared.width.Width.{Width}
 use Rattle.constants.specs.declared.known.Constant.{Constant}
 use Rattle.constants.specs.private.Known.{Words, known}

@@ -1,29 +1,35 @@
 -- Simpler statements are well typed where the statements are, and set under a control value what those set.
-use Rattle.std.proofs.Common.{◌≡◌, ℕ, ◌==◌, Bool, true, false, cond, List, [], ◌∷◌, map, length, Option, None, Some}
-use Rattle.std.proofs.Common.{slice_get, slice_set, refl, sym, ap, ◌∙◌, subst}
+use Rattle.std.proofs.Common.{◌≡◌, ℕ, ◌==◌, Bool, true, false, cond, List, map, length, None, Some}
+use Rattle.std.proofs.Common.{slice_get, slice_set, slice_index, ◌+◌, ◌-◌, ◌^◌, ◌≤◌, ◌<◌, refl, sym, ap, ◌∙◌, subst}
+use Rattle.std.proofs.Common.{arith}
+use Rattle.language.specs.Types.{bits_of}
 use Rattle.std.proofs.lemmas.Bool.{eqb-true, eqb-false}
 use Rattle.std.proofs.lemmas.List.{length-map}
 use Rattle.std.proofs.lemmas.Option.{none-some, same_Some}
 use Rattle.inline.specs.declared.flat.FlatVariable.{FlatVariable}
 use Rattle.inline.specs.Fitting.{IsWithinKind}
-use Rattle.inline.specs.Flat.{TermTree, word_as, array_as}
-use Rattle.inline.specs.FlatTyping.{Types, types_of}
-use Rattle.language.specs.declared.typing.WordType.{WordType}
+use Rattle.inline.specs.Flat.{TermTree, number, counter_type, word_as, array_as}
+use Rattle.inline.specs.FlatMeaning.{turns}
+use Rattle.inline.specs.FlatTyping.{types_of, HasType, of_number}
 use Rattle.word.specs.declared.profile.Profile.{Profile}
 use Rattle.branch_removal.specs.Straight.{StraightTree, set, clear, fill, put, take, set_under, put_under, branch}
 use Rattle.branch_removal.specs.Straight.{repeats, StraightBlock, nothing, first, chain}
 use Rattle.branch_removal.specs.StraightTyping.{IsSet, IsFilled, IsPut, types_but, IsTyped, AreTyped, IsHidden}
 use Rattle.branch_removal.specs.StraightTyping.{AreHidden}
 use Rattle.constants.specs.declared.known.Constant.{Constant}
-use Rattle.constants.specs.private.Folding.{simple, constant_of, decision, makes_no_turn}
+use Rattle.constants.specs.private.Folding.{simple, constant_of, decision, numbers_of}
 use Rattle.constants.specs.private.Known.{Words, known, without, forgotten_all}
-use Rattle.constants.specs.private.Simplification.{decided, knowing, knowing_all, single, simplified, simplified_all}
+use Rattle.constants.specs.declared.terms.Numbers.{Numbers}
+use Rattle.constants.specs.private.Simplification.{at_turn, code_of_turns, knowing, knowing_all}
+use Rattle.constants.specs.private.Simplification.{single, simplified, simplified_all}
 use Rattle.constants.proofs.KnownLemmas.{known_beside, known_here, without_same, IsBelow}
-use Rattle.constants.proofs.TermTypes.{AreOfKind, suited_number, still_suits, still_public, still_typed}
+use Rattle.constants.proofs.TermTypes.{AreOfKind, number_kind, suited_number, still_suits, still_public, still_typed}
 use Rattle.constants.proofs.TermTypes.{all_still_suit}
-use Rattle.constants.proofs.Unset.{behind_part, within_loop, decided_any, either_any}
+use Rattle.constants.proofs.Turns.{of_all_turns, of_turns_below, kept_below}
+use Rattle.constants.proofs.Unset.{behind_part, within_loop, decided_any, unrolled_any}
+use Rattle.constants.proofs.Learned.{bounds_of, unrolled_by}
 
-module _ (declared : List FlatVariable) where
+module _ (copies : List ℕ) (declared : List FlatVariable) where
   hidden-chain : (these those : StraightBlock) → AreHidden declared these → AreHidden declared those
       → AreHidden declared (chain these those)
   hidden-chain nothing those one other = other
@@ -31,7 +37,7 @@ module _ (declared : List FlatVariable) where
 
   mutual
     pub still_hidden : (words : Words) (statement : StraightTree) → IsHidden declared statement
-        → AreHidden declared (simplified words statement)
+        → AreHidden declared (simplified copies words statement)
     still_hidden words (set x value) hidden = (tt, tt)
     still_hidden words (clear x size) hidden = (tt, tt)
     still_hidden words (fill x values) hidden = (tt, tt)
@@ -40,27 +46,35 @@ module _ (declared : List FlatVariable) where
     still_hidden words (set_under control x value) hidden = (hidden, tt)
     still_hidden words (put_under control place x size index value) hidden = (hidden, tt)
     still_hidden words (branch condition accepted otherwise) hidden =
-        let arm = forgotten_all (knowing_all words accepted) accepted in
+        let arm = forgotten_all (knowing_all copies words accepted) accepted in
         let one = still_hidden_all words accepted hidden.0 in
-        decided_any (AreHidden declared) (decision (simple words condition)) (simplified_all words accepted)
-        (simplified_all words otherwise)
-        (single (branch (simple words condition) (simplified_all words accepted) (simplified_all arm otherwise)))
+        decided_any (AreHidden declared) (decision (simple words condition)) (simplified_all copies words accepted)
+        (simplified_all copies words otherwise)
+        (single (branch (simple words condition) (simplified_all copies words accepted)
+        (simplified_all copies arm otherwise)))
         one (still_hidden_all words otherwise hidden.1) ((one, still_hidden_all arm otherwise hidden.1), tt)
     still_hidden words (repeats x low high body) hidden =
         let inside = forgotten_all (without words x) body in
-        either_any (AreHidden declared)
-        (makes_no_turn (constant_of (simple words low)) (constant_of (simple words high))) nothing
-        (single (repeats x (simple words low) (simple words high) (simplified_all inside body)))
-        tt (still_hidden_all inside body hidden, tt)
+        unrolled_any (AreHidden declared)
+        (numbers_of (slice_index copies x) (constant_of (simple words low)) (constant_of (simple words high)))
+        (λ each. code_of_turns (each.high - each.low) each.low (λ i w. knowing_all copies (at_turn x i w) body)
+        (λ i w. first (set x (number i counter_type.kind)) (simplified_all copies (at_turn x i w) body)) words)
+        (single (repeats x (simple words low) (simple words high) (simplified_all copies inside body)))
+        (λ each. of_all_turns (λ i w. knowing_all copies (at_turn x i w) body)
+        (λ i w. first (set x (number i counter_type.kind)) (simplified_all copies (at_turn x i w) body))
+        (AreHidden declared) tt hidden-chain
+        (λ i w. (tt, still_hidden_all (at_turn x i w) body hidden))
+        (each.high - each.low) each.low words)
+        (still_hidden_all inside body hidden, tt)
 
     pub still_hidden_all : (words : Words) (body : StraightBlock) → AreHidden declared body
-        → AreHidden declared (simplified_all words body)
+        → AreHidden declared (simplified_all copies words body)
     still_hidden_all words nothing hidden = tt
     still_hidden_all words (first statement rest) hidden =
-        hidden-chain (simplified words statement) (simplified_all (knowing words statement) rest)
-        (still_hidden words statement hidden.0) (still_hidden_all (knowing words statement) rest hidden.1)
+        hidden-chain (simplified copies words statement) (simplified_all copies (knowing copies words statement) rest)
+        (still_hidden words statement hidden.0) (still_hidden_all (knowing copies words statement) rest hidden.1)
 
-module _ (profile : Profile) (declared : List FlatVariable) (controls : ℕ) where
+module _ (copies : List ℕ) (profile : Profile) (declared : List FlatVariable) (controls : ℕ) where
   abbrev pub AreKinds : Words → Type 0
   AreKinds words = AreOfKind (types_of profile declared) words
 
@@ -81,10 +95,10 @@ module _ (profile : Profile) (declared : List FlatVariable) (controls : ℕ) whe
   without_kinds words x kinds = fewer_kinds (without words x) words (λ y c is. without_same words x y c is) kinds
 
   part_kinds : (words : Words) (body : StraightBlock) → AreKinds words
-      → AreKinds (forgotten_all (knowing_all words body) body)
+      → AreKinds (forgotten_all (knowing_all copies words body) body)
   part_kinds words body kinds =
-      fewer_kinds (forgotten_all (knowing_all words body) body) words
-      (λ y c is. (behind_part words body y c is).0) kinds
+      fewer_kinds (forgotten_all (knowing_all copies words body) body) words
+      (λ y c is. (behind_part copies words body y c is).0) kinds
 
   inside_kinds : (words : Words) (x : ℕ) (body : StraightBlock) → AreKinds words
       → AreKinds (forgotten_all (without words x) body)
@@ -112,9 +126,48 @@ module _ (profile : Profile) (declared : List FlatVariable) (controls : ℕ) whe
           kinds y c word mutable
           (sym (known_beside words x y (constant_of (simple words value)) (eqb-false y x apart)) ∙ found) there
 
+  -- Counters.
+
+  abbrev counter_limit : ℕ
+  counter_limit = 2 ^ bits_of counter_type.kind
+
+  -- a counter may be set to a number of its kind
+  counter_set : (x i : ℕ) → slice_get declared x ≡ Some (word_as counter_type false) → i < counter_limit
+      → IsSet profile declared x (number i counter_type.kind)
+  counter_set x i there below = record {
+    word = counter_type;
+    mutable = false;
+    known = there;
+    suits = record { word = counter_type; has_type = of_number below; kind = refl; label = λ public. refl };
+  }
+
+  turn_kinds : (words : Words) (x i : ℕ) → AreKinds words → slice_get declared x ≡ Some (word_as counter_type false)
+      → i < counter_limit → AreKinds (at_turn x i words)
+  turn_kinds words x i kinds there below =
+      set_kinds words x (number i counter_type.kind) kinds (counter_set x i there below)
+
+  below_limit : (words : Words) (e : TermTree) → AreKinds words → HasType (types_of profile declared) e counter_type
+      → (c : Constant) → constant_of (simple words e) ≡ Some c → c.value < counter_limit
+  below_limit words e kinds has c is =
+      let number = number_kind (types_of profile declared) (still_public (types_of profile declared) words kinds has)
+      c is in
+      subst (λ k. c.value < 2 ^ bits_of k) number.0 number.1
+
+  -- all numbers of a loop are of their kind
+  within_limit : (words : Words) (x : ℕ) (low high : TermTree) (each : Numbers) → AreKinds words
+      → HasType (types_of profile declared) low counter_type → HasType (types_of profile declared) high counter_type
+      → numbers_of (slice_index copies x) (constant_of (simple words low)) (constant_of (simple words high))
+      ≡ Some each
+      → each.low + (each.high - each.low) ≤ counter_limit
+  within_limit words x low high each kinds has_low has_high numbers =
+      let both = bounds_of (slice_index copies x) _ _ each numbers in
+      let below = below_limit words low kinds has_low both.a both.is_low in
+      let under = below_limit words high kinds has_high both.b both.is_high in
+      omega (arith, both.at_low, both.at_high, below, under)
+
   mutual
     pub kinds_after : (words : Words) (statement : StraightTree) → AreKinds words
-        → IsTyped profile declared controls statement → AreKinds (knowing words statement)
+        → IsTyped profile declared controls statement → AreKinds (knowing copies words statement)
     kinds_after words (set x value) kinds is = set_kinds words x value kinds is
     kinds_after words (clear x size) kinds is = without_kinds words x kinds
     kinds_after words (fill x values) kinds is = without_kinds words x kinds
@@ -123,22 +176,27 @@ module _ (profile : Profile) (declared : List FlatVariable) (controls : ℕ) whe
     kinds_after words (set_under control x value) kinds is = without_kinds words x kinds
     kinds_after words (put_under control place x size index value) kinds is = without_kinds words x kinds
     kinds_after words (branch condition accepted otherwise) kinds is =
-        let arm = forgotten_all (knowing_all words accepted) accepted in
-        decided_any AreKinds (decision (simple words condition)) (knowing_all words accepted)
-        (knowing_all words otherwise) (forgotten_all (knowing_all arm otherwise) otherwise)
+        let arm = forgotten_all (knowing_all copies words accepted) accepted in
+        decided_any AreKinds (decision (simple words condition)) (knowing_all copies words accepted)
+        (knowing_all copies words otherwise) (forgotten_all (knowing_all copies arm otherwise) otherwise)
         (kinds_after_all words accepted kinds is.1) (kinds_after_all words otherwise kinds is.2)
         (part_kinds arm otherwise (part_kinds words accepted kinds))
     kinds_after words (repeats x low high body) kinds is =
         let inside = forgotten_all (without words x) body in
-        either_any AreKinds (makes_no_turn (constant_of (simple words low)) (constant_of (simple words high))) words
-        (forgotten_all (knowing_all inside body) body)
-        kinds (part_kinds inside body (inside_kinds words x body kinds))
+        unrolled_by AreKinds
+        (numbers_of (slice_index copies x) (constant_of (simple words low)) (constant_of (simple words high)))
+        (λ each. turns (each.high - each.low) each.low (λ i w. knowing_all copies (at_turn x i w) body) words)
+        (forgotten_all (knowing_all copies inside body) body)
+        (λ each numbers. kept_below AreKinds (λ i w. knowing_all copies (at_turn x i w) body) counter_limit
+        (λ i w below known. kinds_after_all (at_turn x i w) body (turn_kinds w x i known is.2 below) is.3)
+        (each.high - each.low) each.low words (within_limit words x low high each kinds is.0 is.1 numbers) kinds)
+        (part_kinds inside body (inside_kinds words x body kinds))
 
     pub kinds_after_all : (words : Words) (body : StraightBlock) → AreKinds words
-        → AreTyped profile declared controls body → AreKinds (knowing_all words body)
+        → AreTyped profile declared controls body → AreKinds (knowing_all copies words body)
     kinds_after_all words nothing kinds is = kinds
     kinds_after_all words (first statement rest) kinds is =
-        kinds_after_all (knowing words statement) rest (kinds_after words statement kinds is.0) is.1
+        kinds_after_all (knowing copies words statement) rest (kinds_after words statement kinds is.0) is.1
 
   still_set : (words : Words) (x : ℕ) (value : TermTree) → AreKinds words → IsSet profile declared x value
       → IsSet profile declared x (simple words value)
@@ -180,7 +238,7 @@ module _ (profile : Profile) (declared : List FlatVariable) (controls : ℕ) whe
   mutual
     pub still_well_typed : (words : Words) (statement : StraightTree) → AreKinds words
         → IsTyped profile declared controls statement
-        → AreTyped profile declared controls (simplified words statement)
+        → AreTyped profile declared controls (simplified copies words statement)
     still_well_typed words (set x value) kinds is = (still_set words x value kinds is, tt)
     still_well_typed words (clear x size) kinds is = (is, tt)
     still_well_typed words (fill x values) kinds is = (still_filled words x values kinds is, tt)
@@ -191,11 +249,12 @@ module _ (profile : Profile) (declared : List FlatVariable) (controls : ℕ) whe
     still_well_typed words (put_under control place x size index value) kinds is =
         ((is.0, still_put words x size index value kinds is.1), tt)
     still_well_typed words (branch condition accepted otherwise) kinds is =
-        let arm = forgotten_all (knowing_all words accepted) accepted in
+        let arm = forgotten_all (knowing_all copies words accepted) accepted in
         let one = still_all_typed words accepted kinds is.1 in
         decided_any (AreTyped profile declared controls) (decision (simple words condition))
-        (simplified_all words accepted) (simplified_all words otherwise)
-        (single (branch (simple words condition) (simplified_all words accepted) (simplified_all arm otherwise)))
+        (simplified_all copies words accepted) (simplified_all copies words otherwise)
+        (single (branch (simple words condition) (simplified_all copies words accepted)
+        (simplified_all copies arm otherwise)))
         one (still_all_typed words otherwise kinds is.2) (
           (
             still_public (types_of profile declared) words kinds is.0,
@@ -206,10 +265,18 @@ module _ (profile : Profile) (declared : List FlatVariable) (controls : ℕ) whe
         )
     still_well_typed words (repeats x low high body) kinds is =
         let inside = forgotten_all (without words x) body in
-        either_any (AreTyped profile declared controls)
-        (makes_no_turn (constant_of (simple words low)) (constant_of (simple words high))) nothing
-        (single (repeats x (simple words low) (simple words high) (simplified_all inside body)))
-        tt (
+        unrolled_by (AreTyped profile declared controls)
+        (numbers_of (slice_index copies x) (constant_of (simple words low)) (constant_of (simple words high)))
+        (λ each. code_of_turns (each.high - each.low) each.low (λ i w. knowing_all copies (at_turn x i w) body)
+        (λ i w. first (set x (number i counter_type.kind)) (simplified_all copies (at_turn x i w) body)) words)
+        (single (repeats x (simple words low) (simple words high) (simplified_all copies inside body)))
+        (λ each numbers. of_turns_below (λ i w. knowing_all copies (at_turn x i w) body)
+        (λ i w. first (set x (number i counter_type.kind)) (simplified_all copies (at_turn x i w) body))
+        (AreTyped profile declared controls) tt typed-chain AreKinds counter_limit
+        (λ i w below known.
+        (counter_set x i is.2 below, still_all_typed (at_turn x i w) body (turn_kinds w x i known is.2 below) is.3))
+        (λ i w below known. kinds_after_all (at_turn x i w) body (turn_kinds w x i known is.2 below) is.3)
+        (each.high - each.low) each.low words (within_limit words x low high each kinds is.0 is.1 numbers) kinds) (
           (
             still_public (types_of profile declared) words kinds is.0,
             still_public (types_of profile declared) words kinds is.1,
@@ -220,9 +287,10 @@ module _ (profile : Profile) (declared : List FlatVariable) (controls : ℕ) whe
         )
 
     pub still_all_typed : (words : Words) (body : StraightBlock) → AreKinds words
-        → AreTyped profile declared controls body → AreTyped profile declared controls (simplified_all words body)
+        → AreTyped profile declared controls body
+        → AreTyped profile declared controls (simplified_all copies words body)
     still_all_typed words nothing kinds is = tt
     still_all_typed words (first statement rest) kinds is =
-        typed-chain (simplified words statement) (simplified_all (knowing words statement) rest)
+        typed-chain (simplified copies words statement) (simplified_all copies (knowing copies words statement) rest)
         (still_well_typed words statement kinds is.0)
-        (still_all_typed (knowing words statement) rest (kinds_after words statement kinds is.0) is.1)
+        (still_all_typed (knowing copies words statement) rest (kinds_after words statement kinds is.0) is.1)

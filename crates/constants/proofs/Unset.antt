@@ -1,17 +1,17 @@
 -- Variables that statements leave alone: they hold what they held, and what is still known of them was known before.
-use Rattle.std.proofs.Common.{◌≡◌, ℕ, zero, suc, ◌+◌, ◌-◌, ◌==◌, Bool, true, false, cond, if◌then◌else◌, List, []}
-use Rattle.std.proofs.Common.{◌∷◌, Option, None, Some, slice_set, slice_index, refl, sym, ap, ◌∙◌}
+use Rattle.std.proofs.Common.{◌≡◌, ℕ, zero, suc, ◌+◌, ◌-◌, ◌==◌, Bool, true, false, if◌then◌else◌, List, []}
+use Rattle.std.proofs.Common.{◌∷◌, Option, None, Some, slice_index, refl, sym, ap, ◌∙◌}
 use Rattle.std.proofs.lemmas.Bool.{cond-false, ne_eqb}
-use Rattle.inline.specs.Flat.{TermTree}
 use Rattle.inline.specs.FlatMeaning.{Values, with_value, turns}
 use Rattle.branch_removal.specs.Straight.{StraightTree, set, clear, fill, put, take, set_under, put_under, branch}
 use Rattle.branch_removal.specs.Straight.{repeats, StraightBlock, nothing, first}
 use Rattle.branch_removal.specs.StraightMeaning.{StraightState, with_variable, value_at, counted, after, after_all}
 use Rattle.constants.specs.declared.known.Constant.{Constant}
-use Rattle.constants.specs.private.Folding.{simple, constant_of, decision, makes_no_turn}
+use Rattle.constants.specs.private.Folding.{simple, constant_of, decision, numbers_of}
 use Rattle.constants.specs.private.Known.{Words, known, without, forgotten, forgotten_all}
-use Rattle.constants.specs.private.Simplification.{decided, knowing, knowing_all}
-use Rattle.constants.proofs.KnownLemmas.{known_beside, without_apart, without_same, Agrees, IsBelow}
+use Rattle.constants.specs.declared.terms.Numbers.{Numbers}
+use Rattle.constants.specs.private.Simplification.{decided, unrolled, at_turn, knowing, knowing_all}
+use Rattle.constants.proofs.KnownLemmas.{known_beside, without_apart, without_same, Agrees}
 
 abbrev mutual
   -- a statement does not set this variable
@@ -72,54 +72,72 @@ pub either_any : {A : Type 0} (P : A → Type 0) (b : Bool) (one other : A) → 
 either_any P true one other a b = a
 either_any P false one other a b = b
 
-mutual
-  -- nothing is learned of a variable that is not set
-  pub unlearned : (words : Words) (statement : StraightTree) (y : ℕ) (c : Constant) → IsUnset y statement
-      → known (knowing words statement) y ≡ Some c → known words y ≡ Some c
-  unlearned words (set x value) y c unset is = sym (known_beside words x y (constant_of (simple words value)) unset)
-      ∙ is
-  unlearned words (clear x size) y c unset is = without_same words x y c is
-  unlearned words (fill x values) y c unset is = without_same words x y c is
-  unlearned words (put place x size index value) y c unset is = without_same words x y c is
-  unlearned words (take control within condition) y c unset is = is
-  unlearned words (set_under control x value) y c unset is = without_same words x y c is
-  unlearned words (put_under control place x size index value) y c unset is = without_same words x y c is
-  unlearned words (branch condition accepted otherwise) y c unset is =
-      let arm = forgotten_all (knowing_all words accepted) accepted in
-      decided_any (λ (w : Words). known w y ≡ Some c → known words y ≡ Some c) (decision (simple words condition))
-      (knowing_all words accepted) (knowing_all words otherwise) (forgotten_all (knowing_all arm otherwise) otherwise)
-      (λ h. unlearned_all words accepted y c unset.0 h)
-      (λ h. unlearned_all words otherwise y c unset.1 h)
-      (λ h. unlearned_all words accepted y c unset.0
-      (remembered_all (knowing_all words accepted) accepted y c
-      (unlearned_all arm otherwise y c unset.1 (remembered_all (knowing_all arm otherwise) otherwise y c h).0)).0)
-      is
-  unlearned words (repeats x low high body) y c unset is =
-      let inside = forgotten_all (without words x) body in
-      either_any (λ (w : Words). known w y ≡ Some c
-      → known words y ≡ Some c)
-      (makes_no_turn (constant_of (simple words low)) (constant_of (simple words high)))
-      words (forgotten_all (knowing_all inside body) body)
-      (λ h. h)
-      (λ h. without_same words x y c
-      (remembered_all (without words x) body y c
-      (unlearned_all inside body y c unset.1 (remembered_all (knowing_all inside body) body y c h).0)).0)
-      is
+pub unrolled_any : {A : Type 0} (P : A → Type 0) (o : Option Numbers) (copied : Numbers → A) (loop : A)
+    → ((each : Numbers) → P (copied each)) → P loop → P (unrolled o copied loop)
+unrolled_any P (Some each) copied loop a b = a each
+unrolled_any P None copied loop a b = b
 
-  pub unlearned_all : (words : Words) (body : StraightBlock) (y : ℕ) (c : Constant) → AreUnset y body
-      → known (knowing_all words body) y ≡ Some c → known words y ≡ Some c
-  unlearned_all words nothing y c unset is = is
-  unlearned_all words (first statement rest) y c unset is =
-      unlearned words statement y c unset.0 (unlearned_all (knowing words statement) rest y c unset.1 is)
+-- what each turn keeps, all turns keep
+pub turns_keep : {S : Type 0} (P : S → Type 0) (turn : ℕ → S → S) → ((i : ℕ) (s : S) → P s → P (turn i s))
+    → (n i : ℕ) (s : S) → P s → P (turns n i turn s)
+turns_keep P turn keep zero i s p = p
+turns_keep P turn keep (suc n) i s p = turns_keep P turn keep n (i + 1) (turn i s) (keep i s p)
 
--- What is known behind an arm or a turn, and within a loop.
+module _ (copies : List ℕ) where
+  mutual
+    -- nothing is learned of a variable that is not set
+    pub unlearned : (words : Words) (statement : StraightTree) (y : ℕ) (c : Constant) → IsUnset y statement
+        → known (knowing copies words statement) y ≡ Some c → known words y ≡ Some c
+    unlearned words (set x value) y c unset is = sym (known_beside words x y (constant_of (simple words value)) unset)
+        ∙ is
+    unlearned words (clear x size) y c unset is = without_same words x y c is
+    unlearned words (fill x values) y c unset is = without_same words x y c is
+    unlearned words (put place x size index value) y c unset is = without_same words x y c is
+    unlearned words (take control within condition) y c unset is = is
+    unlearned words (set_under control x value) y c unset is = without_same words x y c is
+    unlearned words (put_under control place x size index value) y c unset is = without_same words x y c is
+    unlearned words (branch condition accepted otherwise) y c unset is =
+        let arm = forgotten_all (knowing_all copies words accepted) accepted in
+        decided_any (λ (w : Words). known w y ≡ Some c → known words y ≡ Some c) (decision (simple words condition))
+        (knowing_all copies words accepted) (knowing_all copies words otherwise)
+        (forgotten_all (knowing_all copies arm otherwise) otherwise)
+        (λ h. unlearned_all words accepted y c unset.0 h)
+        (λ h. unlearned_all words otherwise y c unset.1 h)
+        (λ h. unlearned_all words accepted y c unset.0
+        (remembered_all (knowing_all copies words accepted) accepted y c
+        (unlearned_all arm otherwise y c unset.1
+        (remembered_all (knowing_all copies arm otherwise) otherwise y c h).0)).0)
+        is
+    unlearned words (repeats x low high body) y c unset is =
+        let inside = forgotten_all (without words x) body in
+        unrolled_any (λ (w : Words). known w y ≡ Some c → known words y ≡ Some c)
+        (numbers_of (slice_index copies x) (constant_of (simple words low)) (constant_of (simple words high)))
+        (λ each. turns (each.high - each.low) each.low (λ i w. knowing_all copies (at_turn x i w) body) words)
+        (forgotten_all (knowing_all copies inside body) body)
+        (λ each. turns_keep (λ (w : Words). known w y ≡ Some c → known words y ≡ Some c)
+        (λ i w. knowing_all copies (at_turn x i w) body)
+        (λ i w before h. before (sym (known_beside w x y _ unset.0)
+        ∙ unlearned_all (at_turn x i w) body y c unset.1 h))
+        (each.high - each.low) each.low words (λ h. h))
+        (λ h. without_same words x y c
+        (remembered_all (without words x) body y c
+        (unlearned_all inside body y c unset.1 (remembered_all (knowing_all copies inside body) body y c h).0)).0)
+        is
 
-pub behind_part : (words : Words) (body : StraightBlock) (y : ℕ) (c : Constant)
-    → known (forgotten_all (knowing_all words body) body) y ≡ Some c
-    → (known words y ≡ Some c) × AreUnset y body
-behind_part words body y c is =
-    let found = remembered_all (knowing_all words body) body y c is in
-    (unlearned_all words body y c found.1 found.0, found.1)
+    pub unlearned_all : (words : Words) (body : StraightBlock) (y : ℕ) (c : Constant) → AreUnset y body
+        → known (knowing_all copies words body) y ≡ Some c → known words y ≡ Some c
+    unlearned_all words nothing y c unset is = is
+    unlearned_all words (first statement rest) y c unset is =
+        unlearned words statement y c unset.0 (unlearned_all (knowing copies words statement) rest y c unset.1 is)
+
+  -- What is known behind an arm or a turn, and within a loop.
+
+  pub behind_part : (words : Words) (body : StraightBlock) (y : ℕ) (c : Constant)
+      → known (forgotten_all (knowing_all copies words body) body) y ≡ Some c
+      → (known words y ≡ Some c) × AreUnset y body
+  behind_part words body y c is =
+      let found = remembered_all (knowing_all copies words body) body y c is in
+      (unlearned_all words body y c found.1 found.0, found.1)
 
 pub within_loop : (words : Words) (x : ℕ) (body : StraightBlock) (y : ℕ) (c : Constant)
     → known (forgotten_all (without words x) body) y ≡ Some c
@@ -129,12 +147,6 @@ within_loop words x body y c is =
     (without_same words x y c found.0, (without_apart words x y c found.0, found.1))
 
 -- Runs.
-
--- what each turn keeps, all turns keep
-pub turns_keep : {S : Type 0} (P : S → Type 0) (turn : ℕ → S → S) → ((i : ℕ) (s : S) → P s → P (turn i s))
-    → (n i : ℕ) (s : S) → P s → P (turns n i turn s)
-turns_keep P turn keep zero i s p = p
-turns_keep P turn keep (suc n) i s p = turns_keep P turn keep n (i + 1) (turn i s) (keep i s p)
 
 beside : (m : Values) (x y : ℕ) (v : List ℕ) → (y ≡ x → ⊥) → with_value m x v y ≡ m y
 beside m x y v apart = cond-false (y == x) v (m y) (ne_eqb y x apart)

@@ -1,19 +1,17 @@
 -- The simpler program may stand in the place of the program.
-use Rattle.std.proofs.Common.{◌≡◌, ℕ, List, length, replicate, Option, None, Some, option_map, refl, sym, ap, ap₂}
+use Rattle.std.proofs.Common.{◌≡◌, ℕ, List, length, Option, None, Some, option_map, refl, sym, ap, ap₂}
 use Rattle.std.proofs.Common.{◌∙◌, subst, arith}
-use Rattle.arguments.specs.Within.{AreWithin}
 use Rattle.inline.specs.Flat.{TermTree}
 use Rattle.inline.specs.FlatMeaning.{Values, value_in, results_of, path_of_result}
 use Rattle.inline.specs.FlatTyping.{types_of}
-use Rattle.inline.specs.Path.{Path, AreFine}
+use Rattle.inline.specs.Path.{AreFine}
 use Rattle.language.specs.declared.values.Arg.{Arg}
-use Rattle.language.specs.Results.{Results}
 use Rattle.branch_removal.specs.Kept.{IsStraight}
 use Rattle.branch_removal.specs.Replaced.{IsReplaced}
 use Rattle.branch_removal.specs.Straight.{StraightBlock, StraightProgram, with_body}
 use Rattle.branch_removal.specs.StraightMeaning.{StraightState, start, end_of, outcome_of, path_of, path_along}
-use Rattle.branch_removal.specs.StraightMeaning.{after_all}
 use Rattle.constants.specs.private.Folding.{simple}
+use Rattle.constants.specs.private.Choice.{AreAllowed}
 use Rattle.constants.specs.private.Known.{Words}
 use Rattle.constants.specs.private.Simplification.{knowing_all, simplified_all, nothing_known, simplified_program}
 use Rattle.constants.proofs.KnownLemmas.{nothing_first, Agrees}
@@ -22,7 +20,7 @@ use Rattle.constants.proofs.TermTypes.{still_result}
 use Rattle.constants.proofs.Learned.{learned_all}
 use Rattle.constants.proofs.Same.{same_after_all, still_fine_all, fine_both, fine_front, fine_back}
 use Rattle.constants.proofs.Typed.{AreKinds, kinds_after_all, still_all_typed, still_hidden_all}
-use Rattle.constants.proofs.Bounds.{fewer_all, no_more_nodes, less_all, fewer_in_value}
+use Rattle.constants.proofs.Bounds.{stays_low_all, less_all, lower_result, fewer_in_value}
 
 -- the result's value and path
 same_result : (words : Words) (m : Values) → Agrees words m → (value : Option TermTree)
@@ -35,80 +33,77 @@ same_result_path : (words : Words) (m : Values) → Agrees words m → (value : 
 same_result_path words m agrees None = refl
 same_result_path words m agrees (Some value) = same_path words m agrees value
 
-module _ (p : StraightProgram) where
+module _ (copies : List ℕ) (p : StraightProgram) where
   first_agrees : (m : Values) → Agrees (nothing_known p) m
   first_agrees m x c is = absurd (nothing_first (length p.declared) x c is)
 
   module _ (args : List Arg) where
-    same_end : end_of (simplified_program p) args ≡ end_of p args
+    same_end : end_of (simplified_program copies p) args ≡ end_of p args
     same_end = ap (λ (s : StraightState). s.variables)
-        (same_after_all (nothing_known p) p.body (start p args) (first_agrees (start p args).variables))
+        (same_after_all copies (nothing_known p) p.body (start p args) (first_agrees (start p args).variables))
 
-    last_agrees : Agrees (knowing_all (nothing_known p) p.body) (end_of p args)
-    last_agrees = learned_all (nothing_known p) p.body (start p args) (first_agrees (start p args).variables)
+    last_agrees : Agrees (knowing_all copies (nothing_known p) p.body) (end_of p args)
+    last_agrees = learned_all copies (nothing_known p) p.body (start p args) (first_agrees (start p args).variables)
 
-    same_outcome : outcome_of (simplified_program p) args ≡ outcome_of p args
+    same_outcome : outcome_of (simplified_program copies p) args ≡ outcome_of p args
     same_outcome =
-        ap (results_of p.parameters (simplified_program p).value) same_end
+        ap (results_of p.parameters (simplified_program copies p).value) same_end
         ∙ ap (λ (v : Option ℕ). record { returned = v; arrays = (outcome_of p args).arrays })
-        (same_result (knowing_all (nothing_known p) p.body) (end_of p args) last_agrees p.value)
+        (same_result (knowing_all copies (nothing_known p) p.body) (end_of p args) last_agrees p.value)
 
-    still_fine_path : AreFine p.turns (path_of p args) → AreFine p.turns (path_of (simplified_program p) args)
+    still_fine_path : AreFine p.turns (path_of p args) → AreFine p.turns (path_of (simplified_program copies p) args)
     still_fine_path fine =
         let s = start p args in
         let front = path_along s p.body in
         let back = path_of_result (end_of p args) p.value in
-        fine_both p.turns (path_along s (simplified_program p).body)
-        (path_of_result (end_of (simplified_program p) args) (simplified_program p).value)
-        (still_fine_all p.turns (nothing_known p) p.body s (first_agrees s.variables)
+        fine_both p.turns (path_along s (simplified_program copies p).body)
+        (path_of_result (end_of (simplified_program copies p) args) (simplified_program copies p).value)
+        (still_fine_all p.turns copies (nothing_known p) p.body s (first_agrees s.variables)
         (fine_front p.turns front back fine))
         (subst (AreFine p.turns)
-        (sym (ap (λ (m : Values). path_of_result m (simplified_program p).value) same_end
-        ∙ same_result_path (knowing_all (nothing_known p) p.body) (end_of p args) last_agrees p.value))
+        (sym (ap (λ (m : Values). path_of_result m (simplified_program copies p).value) same_end
+        ∙ same_result_path (knowing_all copies (nothing_known p) p.body) (end_of p args) last_agrees p.value))
         (fine_back p.turns front back fine))
 
-  module _ (kept : IsStraight p) where
-    first_kinds : AreKinds p.profile p.declared p.controls (nothing_known p)
+  module _ (kept : IsStraight p) (allowed : AreAllowed copies p.turns) where
+    first_kinds : AreKinds copies p.profile p.declared p.controls (nothing_known p)
     first_kinds x c word mutable is there = absurd (nothing_first (length p.declared) x c is)
 
-    pub still_straight : IsStraight (simplified_program p)
+    pub still_straight : IsStraight (simplified_program copies p)
     still_straight = record {
       typed = record {
         parameters = kept.typed.parameters;
-        body = still_all_typed p.profile p.declared p.controls (nothing_known p) p.body first_kinds kept.typed.body;
-        hidden = still_hidden_all p.declared (nothing_known p) p.body kept.typed.hidden;
-        result = still_result (types_of p.profile p.declared) (knowing_all (nothing_known p) p.body)
-            (kinds_after_all p.profile p.declared p.controls (nothing_known p) p.body first_kinds kept.typed.body)
+        body = still_all_typed copies p.profile p.declared p.controls (nothing_known p) p.body first_kinds
+            kept.typed.body;
+        hidden = still_hidden_all copies p.declared (nothing_known p) p.body kept.typed.hidden;
+        result = still_result (types_of p.profile p.declared) (knowing_all copies (nothing_known p) p.body)
+            (kinds_after_all copies p.profile p.declared p.controls (nothing_known p) p.body first_kinds
+            kept.typed.body)
             p.returned p.value kept.typed.result;
       };
       bounded = record {
         lengths = kept.bounded.lengths;
         parameters = kept.bounded.parameters;
         declared = kept.bounded.declared;
-        counted = omega (
-          arith,
-          no_more_nodes (nothing_known p) p.body,
-          fewer_in_value (knowing_all (nothing_known p) p.body) p.value,
-          kept.bounded.counted,
-        );
         nodes = kept.bounded.nodes;
         worked = omega (
           arith,
-          less_all p.turns (nothing_known p) p.body,
-          fewer_in_value (knowing_all (nothing_known p) p.body) p.value,
+          less_all copies p.turns allowed (nothing_known p) p.body,
+          fewer_in_value (knowing_all copies (nothing_known p) p.body) p.value,
           kept.bounded.worked,
         );
         work_fits = kept.bounded.work_fits;
-        controls = omega (
+        framed = omega (
           arith,
-          fewer_all (nothing_known p) p.body,
-          fewer_in_value (knowing_all (nothing_known p) p.body) p.value,
-          kept.bounded.controls,
+          (stays_low_all copies (nothing_known p) p.body).height,
+          (stays_low_all copies (nothing_known p) p.body).depth,
+          lower_result (knowing_all copies (nothing_known p) p.body) p.value,
+          kept.bounded.framed,
         );
       };
     }
 
-    pub replaced : IsReplaced p (simplified_program p)
+    pub replaced : IsReplaced p (simplified_program copies p)
     replaced = record {
       profile = refl;
       parameters = refl;
@@ -116,18 +111,18 @@ module _ (p : StraightProgram) where
       nodes = refl;
       work = refl;
       turns = refl;
-      declared = refl;
       straight = still_straight;
       outcome = λ args within. same_outcome args;
       fine = λ args within fine. still_fine_path args fine;
     }
 
 -- a program of these parts is the simpler one
-pub as_simplified : (p : StraightProgram) (words last : Words) (body code : StraightBlock)
+pub as_simplified : (copies : List ℕ) (p : StraightProgram) (words last : Words) (body code : StraightBlock)
     (given value : Option TermTree)
-    → words ≡ nothing_known p → body ≡ p.body → code ≡ simplified_all words body → last ≡ knowing_all words body
-    → given ≡ p.value → value ≡ option_map (simple last) given → with_body p code value ≡ simplified_program p
-as_simplified p words last body code given value at_first whole made known result simpler =
-    ap₂ (with_body p) (made ∙ ap₂ simplified_all at_first whole)
+    → words ≡ nothing_known p → body ≡ p.body → code ≡ simplified_all copies words body
+    → last ≡ knowing_all copies words body
+    → given ≡ p.value → value ≡ option_map (simple last) given → with_body p code value ≡ simplified_program copies p
+as_simplified copies p words last body code given value at_first whole made known result simpler =
+    ap₂ (with_body p) (made ∙ ap₂ (simplified_all copies) at_first whole)
     (simpler ∙ ap₂ (λ (w : Words) (v : Option TermTree). option_map (simple w) v) (known
-    ∙ ap₂ knowing_all at_first whole) result)
+    ∙ ap₂ (knowing_all copies) at_first whole) result)

@@ -2,3 +2,4 @@
 pub mod Known
 pub mod Folding
 pub mod Simplification
+pub mod Choice

@@ -1,17 +1,35 @@
-// Statements in which what is known is a number, each put behind what there is.
+// Statements in which what is known is a number, each put behind what there is. A loop becomes its turns where it may.
 
 ghost use Rattle.std.specs.Prelude.{◌≡◌, IfOk, OnOk};
 ghost use Rattle.branch_removal.specs.Straight as straight;
 ghost use Rattle.branch_removal.specs.Straight.{chain, straight_block, straight_tree};
 ghost use Rattle.inline.specs.Flat.{term_tree};
 ghost use Rattle.constants.specs.private.Known.{forgotten_all};
-ghost use Rattle.constants.specs.private.Simplification.{branch_code, branch_known, knowing, knowing_all, loop_code, loop_known, simplified, simplified_all, single};
+ghost use Rattle.constants.specs.private.Simplification.{branch_code, branch_known, knowing, knowing_all, loop_code, loop_known, simplified, simplified_all, single, turns_code, turns_known};
 
-use crate::known::Known;
-use crate::terms::{all_simple, constant_of, decision, makes_no_turn, simple};
+use crate::choice::copies_of;
+use crate::known::{Constant, Known};
+use crate::terms::{Numbers, all_simple, constant_of, decision, number_of, numbers_of, simple};
 use branch_removal::StraightStatement;
 use inline::Term;
+use language::Kind;
 use std::alloc::{AllocError, Global};
+
+/// How statements are made simpler.
+#[derive(Drop)]
+pub struct Pass<'p> {
+    pub alloc: Global,
+    /// How many turns the loop of each counter may become, at the counter's number.
+    pub copies: &'p [u32],
+}
+
+/// The counter of a loop and its bounds.
+#[derive(Drop)]
+struct Bounds {
+    counter: u32,
+    low: Term,
+    high: Term,
+}
 
 /// Puts a statement behind a block.
 fn push(code: &mut Vec<StraightStatement>, statement: StraightStatement) -> Result<(), AllocError>
@@ -33,26 +51,26 @@ fn branch_of(
 }
 
 /// A loop with this body.
-fn loop_of(counter: u32, low: Term, high: Term, body: Vec<StraightStatement>) -> StraightStatement
-    ensures { straight_tree result ≡ straight.repeats counter (term_tree low) (term_tree high) (straight_block body.items) }
+fn loop_of(bounds: Bounds, body: Vec<StraightStatement>) -> StraightStatement
+    ensures { straight_tree result ≡ straight.repeats bounds.counter (term_tree bounds.low) (term_tree bounds.high) (straight_block body.items) }
 {
-    StraightStatement::Repeat(counter, low, high, body)
+    StraightStatement::Repeat(bounds.counter, bounds.low, bounds.high, body)
 }
 
 /// A statement. What is known after it is noted.
 #[cycle(simplification)]
 fn statement(
-    alloc: Global,
+    pass: &Pass<'_>,
     known: &mut Known,
     code: &mut Vec<StraightStatement>,
     statement: &StraightStatement,
 ) -> Result<(), AllocError>
-    ensures code { OnOk result (straight_block code.new.items ≡ chain (straight_block code.old.items) (simplified known.old.words.items (straight_tree statement.now))) }
-    ensures known { OnOk result (known.new.words.items ≡ knowing known.old.words.items (straight_tree statement.now)) }
+    ensures code { OnOk result (straight_block code.new.items ≡ chain (straight_block code.old.items) (simplified pass.now.copies.now known.old.words.items (straight_tree statement.now))) }
+    ensures known { OnOk result (known.new.words.items ≡ knowing pass.now.copies.now known.old.words.items (straight_tree statement.now)) }
 {
     match statement {
         StraightStatement::Set(variable, value) => {
-            let value = simple(alloc, known, value)?;
+            let value = simple(pass.alloc, known, value)?;
             known.note(*variable, constant_of(&value));
             push(code, StraightStatement::Set(*variable, value))?;
         }
@@ -61,13 +79,13 @@ fn statement(
             push(code, StraightStatement::Clear(*array, *size))?;
         }
         StraightStatement::Fill(array, values) => {
-            let values = all_simple(alloc, known, values)?;
+            let values = all_simple(pass.alloc, known, values)?;
             known.note(*array, None);
             push(code, StraightStatement::Fill(*array, values))?;
         }
         StraightStatement::Put(place, array, size, index, value) => {
-            let index = simple(alloc, known, index)?;
-            let value = simple(alloc, known, value)?;
+            let index = simple(pass.alloc, known, index)?;
+            let value = simple(pass.alloc, known, value)?;
             known.note(*array, None);
             push(
                 code,
@@ -75,11 +93,11 @@ fn statement(
             )?;
         }
         StraightStatement::Take(control, within, condition) => {
-            let condition = simple(alloc, known, condition)?;
+            let condition = simple(pass.alloc, known, condition)?;
             push(code, StraightStatement::Take(*control, *within, condition))?;
         }
         StraightStatement::SetUnder(control, variable, value) => {
-            let value = simple(alloc, known, value)?;
+            let value = simple(pass.alloc, known, value)?;
             known.note(*variable, None);
             push(
                 code,
@@ -87,20 +105,25 @@ fn statement(
             )?;
         }
         StraightStatement::PutUnder(control, place, array, size, index, value) => {
-            let index = simple(alloc, known, index)?;
-            let value = simple(alloc, known, value)?;
+            let index = simple(pass.alloc, known, index)?;
+            let value = simple(pass.alloc, known, value)?;
             known.note(*array, None);
             let put = StraightStatement::PutUnder(*control, *place, *array, *size, index, value);
             push(code, put)?;
         }
         StraightStatement::Branch(condition, accepted, otherwise) => {
-            let condition = simple(alloc, known, condition)?;
-            branch(alloc, known, code, condition, accepted, otherwise)?;
+            let condition = simple(pass.alloc, known, condition)?;
+            branch(pass, known, code, condition, accepted, otherwise)?;
         }
         StraightStatement::Repeat(counter, low, high, body) => {
-            let low = simple(alloc, known, low)?;
-            let high = simple(alloc, known, high)?;
-            repeat(alloc, known, code, *counter, low, high, body)?;
+            let low = simple(pass.alloc, known, low)?;
+            let high = simple(pass.alloc, known, high)?;
+            let bounds = Bounds {
+                counter: *counter,
+                low,
+                high,
+            };
+            repeat(pass, known, code, bounds, body)?;
         }
     }
     Ok(())
@@ -109,61 +132,87 @@ fn statement(
 /// A branch, its condition simple: where that is a number, the one arm that it decides for.
 #[cycle(simplification)]
 fn branch(
-    alloc: Global,
+    pass: &Pass<'_>,
     known: &mut Known,
     code: &mut Vec<StraightStatement>,
     condition: Term,
     accepted: &[StraightStatement],
     otherwise: &[StraightStatement],
 ) -> Result<(), AllocError>
-    ensures code { OnOk result (straight_block code.new.items ≡ chain (straight_block code.old.items) (branch_code known.old.words.items (term_tree condition) (straight_block accepted.now) (straight_block otherwise.now))) }
-    ensures known { OnOk result (known.new.words.items ≡ branch_known known.old.words.items (term_tree condition) (straight_block accepted.now) (straight_block otherwise.now)) }
+    ensures code { OnOk result (straight_block code.new.items ≡ chain (straight_block code.old.items) (branch_code pass.now.copies.now known.old.words.items (term_tree condition) (straight_block accepted.now) (straight_block otherwise.now))) }
+    ensures known { OnOk result (known.new.words.items ≡ branch_known pass.now.copies.now known.old.words.items (term_tree condition) (straight_block accepted.now) (straight_block otherwise.now)) }
 {
     match decision(&condition) {
-        Some(true) => statements(alloc, known, code, accepted),
-        Some(false) => statements(alloc, known, code, otherwise),
+        Some(true) => statements(pass, known, code, accepted),
+        Some(false) => statements(pass, known, code, otherwise),
         None => {
-            let one = part(alloc, known, accepted)?;
-            let other = part(alloc, known, otherwise)?;
+            let one = part(pass, known, accepted)?;
+            let other = part(pass, known, otherwise)?;
             push(code, branch_of(condition, one, other))
         }
     }
 }
 
-/// A loop, its bounds simple: where these are numbers that leave it no turn, nothing.
+/// A loop, its bounds simple: where these are numbers, and it may become its turns, these.
 #[cycle(simplification)]
 fn repeat(
-    alloc: Global,
+    pass: &Pass<'_>,
+    known: &mut Known,
+    code: &mut Vec<StraightStatement>,
+    bounds: Bounds,
+    body: &[StraightStatement],
+) -> Result<(), AllocError>
+    ensures code { OnOk result (straight_block code.new.items ≡ chain (straight_block code.old.items) (loop_code pass.now.copies.now known.old.words.items bounds.counter (term_tree bounds.low) (term_tree bounds.high) (straight_block body.now))) }
+    ensures known { OnOk result (known.new.words.items ≡ loop_known pass.now.copies.now known.old.words.items bounds.counter (term_tree bounds.low) (term_tree bounds.high) (straight_block body.now)) }
+{
+    let most = copies_of(pass.copies, bounds.counter);
+    match numbers_of(most, &bounds.low, &bounds.high) {
+        Some(numbers) => turns(pass, known, code, bounds.counter, numbers, body),
+        None => {
+            known.begin_loop(bounds.counter, body);
+            let turn = part(pass, known, body)?;
+            push(code, loop_of(bounds, turn))
+        }
+    }
+}
+
+/// The turns of a loop, one after the other: for each number its counter is set, and then its body runs.
+#[cycle(simplification)]
+fn turns(
+    pass: &Pass<'_>,
     known: &mut Known,
     code: &mut Vec<StraightStatement>,
     counter: u32,
-    low: Term,
-    high: Term,
+    numbers: Numbers,
     body: &[StraightStatement],
 ) -> Result<(), AllocError>
-    ensures code { OnOk result (straight_block code.new.items ≡ chain (straight_block code.old.items) (loop_code known.old.words.items counter (term_tree low) (term_tree high) (straight_block body.now))) }
-    ensures known { OnOk result (known.new.words.items ≡ loop_known known.old.words.items counter (term_tree low) (term_tree high) (straight_block body.now)) }
+    ensures code { OnOk result (straight_block code.new.items ≡ chain (straight_block code.old.items) (turns_code pass.now.copies.now known.old.words.items counter numbers (straight_block body.now))) }
+    ensures known { OnOk result (known.new.words.items ≡ turns_known pass.now.copies.now known.old.words.items counter numbers (straight_block body.now)) }
 {
-    if makes_no_turn(&low, &high) {
-        return Ok(());
+    for value in numbers.low..numbers.high {
+        let number = Constant {
+            value,
+            kind: Kind::Uint32,
+        };
+        known.note(counter, Some(number));
+        push(code, StraightStatement::Set(counter, number_of(number)))?;
+        statements(pass, known, code, body)?;
     }
-    known.begin_loop(counter, body);
-    let turn = part(alloc, known, body)?;
-    push(code, loop_of(counter, low, high, turn))
+    Ok(())
 }
 
 /// An arm, or the body of a loop: it may run or not, so nothing is known behind it of what it sets.
 #[cycle(simplification)]
 fn part(
-    alloc: Global,
+    pass: &Pass<'_>,
     known: &mut Known,
     body: &[StraightStatement],
 ) -> Result<Vec<StraightStatement>, AllocError>
-    ensures code { IfOk result (λ code. straight_block code.items ≡ simplified_all known.old.words.items (straight_block body.now)) }
-    ensures known { OnOk result (known.new.words.items ≡ forgotten_all (knowing_all known.old.words.items (straight_block body.now)) (straight_block body.now)) }
+    ensures code { IfOk result (λ code. straight_block code.items ≡ simplified_all pass.now.copies.now known.old.words.items (straight_block body.now)) }
+    ensures known { OnOk result (known.new.words.items ≡ forgotten_all (knowing_all pass.now.copies.now known.old.words.items (straight_block body.now)) (straight_block body.now)) }
 {
-    let mut code = Vec::new(alloc);
-    statements(alloc, known, &mut code, body)?;
+    let mut code = Vec::new(pass.alloc);
+    statements(pass, known, &mut code, body)?;
     known.forget_all(body);
     Ok(code)
 }
@@ -171,16 +220,16 @@ fn part(
 /// Statements, one after the other.
 #[cycle(simplification)]
 pub fn statements(
-    alloc: Global,
+    pass: &Pass<'_>,
     known: &mut Known,
     code: &mut Vec<StraightStatement>,
     body: &[StraightStatement],
 ) -> Result<(), AllocError>
-    ensures code { OnOk result (straight_block code.new.items ≡ chain (straight_block code.old.items) (simplified_all known.old.words.items (straight_block body.now))) }
-    ensures known { OnOk result (known.new.words.items ≡ knowing_all known.old.words.items (straight_block body.now)) }
+    ensures code { OnOk result (straight_block code.new.items ≡ chain (straight_block code.old.items) (simplified_all pass.now.copies.now known.old.words.items (straight_block body.now))) }
+    ensures known { OnOk result (known.new.words.items ≡ knowing_all pass.now.copies.now known.old.words.items (straight_block body.now)) }
 {
     for each in body {
-        statement(alloc, known, code, each)?;
+        statement(pass, known, code, each)?;
     }
     Ok(())
 }

@@ -4,7 +4,7 @@ ghost use Rattle.std.specs.Prelude.{◌≡◌, map, IfOk};
 ghost use Rattle.std.specs.Option.{option_map};
 ghost use Rattle.inline.specs.Flat.{term_tree};
 ghost use Rattle.constants.specs.private.Folding as folding;
-ghost use Rattle.constants.specs.private.Folding.{chosen, constant_of, decision, is_quiet, makes_no_turn, number_of, simple};
+ghost use Rattle.constants.specs.private.Folding.{chosen, constant_of, decision, is_quiet, number_of, numbers_of, simple};
 ghost use Rattle.inline.specs.Flat as flat;
 
 use crate::known::{Constant, Known};
@@ -13,6 +13,13 @@ use inline::Term;
 use language::{BinaryOperator, Kind, Place, PrefixOperator};
 use std::alloc::{AllocError, Global};
 use word::Width;
+
+/// The numbers of a counter: from the first up to the last before the second.
+#[derive(Clone, Copy)]
+pub struct Numbers {
+    pub low: u32,
+    pub high: u32,
+}
 
 /// What an expression is, where it is a number.
 pub fn constant_of(term: &Term) -> Option<Constant>
@@ -32,7 +39,7 @@ pub fn constant_of(term: &Term) -> Option<Constant>
 }
 
 /// A number that is known.
-fn number_of(constant: Constant) -> Term
+pub fn number_of(constant: Constant) -> Term
     ensures { term_tree result ≡ number_of constant }
 {
     Term::Number(constant.value, constant.kind)
@@ -251,12 +258,15 @@ pub fn simple_where_any(
     }
 }
 
-/// Whether a loop makes no turn, where both its bounds are numbers.
-pub fn makes_no_turn(low: &Term, high: &Term) -> bool
-    ensures { result ≡ makes_no_turn (constant_of (term_tree low.now)) (constant_of (term_tree high.now)) }
+/// The numbers of a loop's counter, where both its bounds are numbers, and it makes no more turns than this.
+pub fn numbers_of(most: u32, low: &Term, high: &Term) -> Option<Numbers>
+    ensures { result ≡ numbers_of most (constant_of (term_tree low.now)) (constant_of (term_tree high.now)) }
 {
-    match (constant_of(low), constant_of(high)) {
-        (Some(low), Some(high)) => high.value <= low.value,
-        _ => false,
+    let low = constant_of(low)?.value;
+    let high = constant_of(high)?.value;
+    if high.saturating_sub(low) <= most {
+        Some(Numbers { low, high })
+    } else {
+        None
     }
 }

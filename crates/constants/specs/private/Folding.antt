@@ -1,6 +1,6 @@
 -- Expressions in which what is known is a number: an operator between numbers is what it comes to. Operators that may
 -- meet a fault, or whose operands an observer may see, stay.
-use Rattle.std.specs.Prelude.{ℕ, ◌==◌, ◌&&◌, ◌||◌, Bool, true, false, not, nat_le, Option, None, Some, if◌then◌else◌}
+use Rattle.std.specs.Prelude.{ℕ, ◌-◌, ◌&&◌, ◌||◌, Bool, true, false, not, nat_le, Option, None, Some, if◌then◌else◌}
 use Rattle.std.specs.Option.{option_map}
 use Rattle.inline.specs.Flat.{TermTree, number, truth, variable, prefix, binary, rotate, convert, select, element}
 use Rattle.language.specs.declared.signature.Kind.{Kind}
@@ -13,6 +13,7 @@ use Rattle.word.specs.Operators.{rotated_left, converted, word_of}
 use Rattle.word.specs.declared.place.Place.{Place}
 use Rattle.word.specs.declared.width.Width.{Width}
 use Rattle.constants.specs.declared.known.Constant.{Constant}
+use Rattle.constants.specs.declared.terms.Numbers.{Numbers}
 use Rattle.constants.specs.private.Known.{Words, known}
 
 -- a number of this value and kind
@@ -108,7 +109,8 @@ simple words (select condition accepted otherwise) =
     (simple words otherwise)
 simple words (element place x size index) = element place x size (simple words index)
 
--- both bounds of a loop are known, and it makes no turn
-abbrev pub makes_no_turn : Option Constant → Option Constant → Bool
-makes_no_turn (Some low) (Some high) = nat_le high.value low.value
-makes_no_turn _ _ = false
+-- the numbers of a loop's counter, where both its bounds are known, and it makes no more turns than this
+abbrev pub numbers_of : ℕ → Option Constant → Option Constant → Option Numbers
+numbers_of most (Some low) (Some high) = if nat_le (high.value - low.value) most
+    then Some (record { low = low.value; high = high.value }) else None
+numbers_of most _ _ = None

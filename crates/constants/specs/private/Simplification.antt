@@ -1,11 +1,15 @@
--- How straight code is made simpler: from the first statement on, what is known of the variables is carried along.
-use Rattle.std.specs.Prelude.{ℕ, Bool, true, false, map, length, replicate, slice_set, Option, None, Some}
-use Rattle.std.specs.Prelude.{if◌then◌else◌}
+-- How straight code is made simpler: from the first statement on, what is known of the variables is carried along. A
+-- loop whose bounds are numbers becomes its turns, where these are no more than are allowed: how many are is in a
+-- list, at the counter's number.
+use Rattle.std.specs.Prelude.{ℕ, zero, suc, ◌+◌, ◌-◌, Bool, true, false, List, map, length, replicate, slice_index}
+use Rattle.std.specs.Prelude.{slice_set, Option, None, Some}
 use Rattle.std.specs.Option.{option_map}
 use Rattle.branch_removal.specs.Straight.{StraightTree, set, clear, fill, put, take, set_under, put_under, branch}
 use Rattle.branch_removal.specs.Straight.{repeats, StraightBlock, nothing, first, chain, StraightProgram, with_body}
-use Rattle.inline.specs.Flat.{TermTree}
-use Rattle.constants.specs.private.Folding.{simple, constant_of, decision, makes_no_turn}
+use Rattle.inline.specs.Flat.{TermTree, number, counter_type}
+use Rattle.inline.specs.FlatMeaning.{turns}
+use Rattle.constants.specs.declared.terms.Numbers.{Numbers}
+use Rattle.constants.specs.private.Folding.{simple, constant, constant_of, decision, numbers_of}
 use Rattle.constants.specs.private.Known.{Words, without, in_loop, behind}
 
 -- one of these, by a decision, where there is one
@@ -14,84 +18,115 @@ decided (Some true) one other both = one
 decided (Some false) one other both = other
 decided None one other both = both
 
+-- one of two, by whether a loop becomes its turns
+abbrev pub unrolled : {A : Type 0} → Option Numbers → (Numbers → A) → A → A
+unrolled (Some numbers) as_turns as_loop = as_turns numbers
+unrolled None as_turns as_loop = as_loop
+
+-- what is known where a counter is at this number
+abbrev pub at_turn : ℕ → ℕ → Words → Words
+at_turn x i words = slice_set words x (Some (constant i counter_type.kind))
+
+-- the code of so many turns, the first at this number. Each has its own, by its number and by what is known where it
+-- begins, and so has what is known behind it
+abbrev pub code_of_turns : ℕ → ℕ → (ℕ → Words → Words) → (ℕ → Words → StraightBlock) → Words → StraightBlock
+code_of_turns zero i behind_turn code words = nothing
+code_of_turns (suc n) i behind_turn code words =
+    chain (code i words) (code_of_turns n (i + 1) behind_turn code (behind_turn i words))
+
 abbrev mutual
   -- what is known after a statement. Of two arms one runs, and a loop makes some turns: of what they set nothing is
   -- known
-  pub knowing : Words → StraightTree → Words
-  knowing words (set x value) = slice_set words x (constant_of (simple words value))
-  knowing words (clear x size) = without words x
-  knowing words (fill x values) = without words x
-  knowing words (put place x size index value) = without words x
-  knowing words (take control within condition) = words
-  knowing words (set_under control x value) = without words x
-  knowing words (put_under control place x size index value) = without words x
-  knowing words (branch condition accepted otherwise) =
-      decided (decision (simple words condition)) (knowing_all words accepted) (knowing_all words otherwise)
-      (behind (knowing_all (behind (knowing_all words accepted) accepted) otherwise) otherwise)
-  knowing words (repeats x low high body) =
-      if makes_no_turn (constant_of (simple words low)) (constant_of (simple words high)) then words
-      else behind (knowing_all (in_loop words x body) body) body
+  pub knowing : List ℕ → Words → StraightTree → Words
+  knowing copies words (set x value) = slice_set words x (constant_of (simple words value))
+  knowing copies words (clear x size) = without words x
+  knowing copies words (fill x values) = without words x
+  knowing copies words (put place x size index value) = without words x
+  knowing copies words (take control within condition) = words
+  knowing copies words (set_under control x value) = without words x
+  knowing copies words (put_under control place x size index value) = without words x
+  knowing copies words (branch condition accepted otherwise) =
+      decided (decision (simple words condition)) (knowing_all copies words accepted)
+      (knowing_all copies words otherwise)
+      (behind (knowing_all copies (behind (knowing_all copies words accepted) accepted) otherwise) otherwise)
+  knowing copies words (repeats x low high body) =
+      unrolled (numbers_of (slice_index copies x) (constant_of (simple words low)) (constant_of (simple words high)))
+      (λ each. turns (each.high - each.low) each.low (λ i w. knowing_all copies (at_turn x i w) body) words)
+      (behind (knowing_all copies (in_loop words x body) body) body)
 
-  pub knowing_all : Words → StraightBlock → Words
-  knowing_all words nothing = words
-  knowing_all words (first statement rest) = knowing_all (knowing words statement) rest
+  pub knowing_all : List ℕ → Words → StraightBlock → Words
+  knowing_all copies words nothing = words
+  knowing_all copies words (first statement rest) = knowing_all copies (knowing copies words statement) rest
 
 abbrev pub single : StraightTree → StraightBlock
 single statement = first statement nothing
 
 abbrev mutual
   -- a statement, where this is known of the variables
-  pub simplified : Words → StraightTree → StraightBlock
-  simplified words (set x value) = single (set x (simple words value))
-  simplified words (clear x size) = single (clear x size)
-  simplified words (fill x values) = single (fill x (map (simple words) values))
-  simplified words (put place x size index value) =
+  pub simplified : List ℕ → Words → StraightTree → StraightBlock
+  simplified copies words (set x value) = single (set x (simple words value))
+  simplified copies words (clear x size) = single (clear x size)
+  simplified copies words (fill x values) = single (fill x (map (simple words) values))
+  simplified copies words (put place x size index value) =
       single (put place x size (simple words index) (simple words value))
-  simplified words (take control within condition) = single (take control within (simple words condition))
-  simplified words (set_under control x value) = single (set_under control x (simple words value))
-  simplified words (put_under control place x size index value) =
+  simplified copies words (take control within condition) = single (take control within (simple words condition))
+  simplified copies words (set_under control x value) = single (set_under control x (simple words value))
+  simplified copies words (put_under control place x size index value) =
       single (put_under control place x size (simple words index) (simple words value))
-  simplified words (branch condition accepted otherwise) =
-      decided (decision (simple words condition)) (simplified_all words accepted) (simplified_all words otherwise)
-      (single (branch (simple words condition) (simplified_all words accepted)
-      (simplified_all (behind (knowing_all words accepted) accepted) otherwise)))
-  simplified words (repeats x low high body) =
-      if makes_no_turn (constant_of (simple words low)) (constant_of (simple words high)) then nothing
-      else single (repeats x (simple words low) (simple words high) (simplified_all (in_loop words x body) body))
+  simplified copies words (branch condition accepted otherwise) =
+      decided (decision (simple words condition)) (simplified_all copies words accepted)
+      (simplified_all copies words otherwise)
+      (single (branch (simple words condition) (simplified_all copies words accepted)
+      (simplified_all copies (behind (knowing_all copies words accepted) accepted) otherwise)))
+  simplified copies words (repeats x low high body) =
+      unrolled (numbers_of (slice_index copies x) (constant_of (simple words low)) (constant_of (simple words high)))
+      (λ each. code_of_turns (each.high - each.low) each.low (λ i w. knowing_all copies (at_turn x i w) body)
+      (λ i w. first (set x (number i counter_type.kind)) (simplified_all copies (at_turn x i w) body)) words)
+      (single (repeats x (simple words low) (simple words high) (simplified_all copies (in_loop words x body) body)))
 
-  pub simplified_all : Words → StraightBlock → StraightBlock
-  simplified_all words nothing = nothing
-  simplified_all words (first statement rest) =
-      chain (simplified words statement) (simplified_all (knowing words statement) rest)
+  pub simplified_all : List ℕ → Words → StraightBlock → StraightBlock
+  simplified_all copies words nothing = nothing
+  simplified_all copies words (first statement rest) =
+      chain (simplified copies words statement) (simplified_all copies (knowing copies words statement) rest)
 
 -- So of a branch on this condition, and of a loop between these bounds, once they are simple.
 
-abbrev pub branch_known : Words → TermTree → StraightBlock → StraightBlock → Words
-branch_known words condition accepted otherwise =
-    decided (decision condition) (knowing_all words accepted) (knowing_all words otherwise)
-    (behind (knowing_all (behind (knowing_all words accepted) accepted) otherwise) otherwise)
+abbrev pub branch_known : List ℕ → Words → TermTree → StraightBlock → StraightBlock → Words
+branch_known copies words condition accepted otherwise =
+    decided (decision condition) (knowing_all copies words accepted) (knowing_all copies words otherwise)
+    (behind (knowing_all copies (behind (knowing_all copies words accepted) accepted) otherwise) otherwise)
 
-abbrev pub branch_code : Words → TermTree → StraightBlock → StraightBlock → StraightBlock
-branch_code words condition accepted otherwise =
-    decided (decision condition) (simplified_all words accepted) (simplified_all words otherwise)
-    (single (branch condition (simplified_all words accepted)
-    (simplified_all (behind (knowing_all words accepted) accepted) otherwise)))
+abbrev pub branch_code : List ℕ → Words → TermTree → StraightBlock → StraightBlock → StraightBlock
+branch_code copies words condition accepted otherwise =
+    decided (decision condition) (simplified_all copies words accepted) (simplified_all copies words otherwise)
+    (single (branch condition (simplified_all copies words accepted)
+    (simplified_all copies (behind (knowing_all copies words accepted) accepted) otherwise)))
 
-abbrev pub loop_known : Words → ℕ → TermTree → TermTree → StraightBlock → Words
-loop_known words x low high body =
-    if makes_no_turn (constant_of low) (constant_of high) then words
-    else behind (knowing_all (in_loop words x body) body) body
+abbrev pub turns_known : List ℕ → Words → ℕ → Numbers → StraightBlock → Words
+turns_known copies words x each body =
+    turns (each.high - each.low) each.low (λ i w. knowing_all copies (at_turn x i w) body) words
 
-abbrev pub loop_code : Words → ℕ → TermTree → TermTree → StraightBlock → StraightBlock
-loop_code words x low high body =
-    if makes_no_turn (constant_of low) (constant_of high) then nothing
-    else single (repeats x low high (simplified_all (in_loop words x body) body))
+abbrev pub turns_code : List ℕ → Words → ℕ → Numbers → StraightBlock → StraightBlock
+turns_code copies words x each body =
+    code_of_turns (each.high - each.low) each.low (λ i w. knowing_all copies (at_turn x i w) body)
+    (λ i w. first (set x (number i counter_type.kind)) (simplified_all copies (at_turn x i w) body)) words
+
+abbrev pub loop_known : List ℕ → Words → ℕ → TermTree → TermTree → StraightBlock → Words
+loop_known copies words x low high body =
+    unrolled (numbers_of (slice_index copies x) (constant_of low) (constant_of high))
+    (λ each. turns_known copies words x each body) (behind (knowing_all copies (in_loop words x body) body) body)
+
+abbrev pub loop_code : List ℕ → Words → ℕ → TermTree → TermTree → StraightBlock → StraightBlock
+loop_code copies words x low high body =
+    unrolled (numbers_of (slice_index copies x) (constant_of low) (constant_of high))
+    (λ each. turns_code copies words x each body)
+    (single (repeats x low high (simplified_all copies (in_loop words x body) body)))
 
 -- nothing is known where a program begins
 abbrev pub nothing_known : StraightProgram → Words
 nothing_known p = replicate (length p.declared) None
 
-abbrev pub simplified_program : StraightProgram → StraightProgram
-simplified_program p =
-    with_body p (simplified_all (nothing_known p) p.body)
-    (option_map (simple (knowing_all (nothing_known p) p.body)) p.value)
+abbrev pub simplified_program : List ℕ → StraightProgram → StraightProgram
+simplified_program copies p =
+    with_body p (simplified_all copies (nothing_known p) p.body)
+    (option_map (simple (knowing_all copies (nothing_known p) p.body)) p.value)
