@@ -1,0 +1,11 @@
+pub mod PartLemmas
+pub mod Known
+pub mod StatementTrees
+pub mod CodeLemmas
+pub mod Values
+pub mod Held
+pub mod Given
+pub mod Runs
+pub mod Typed
+pub mod Bounds
+pub mod Whole

@@ -1,0 +1,77 @@
+// Expressions in which an element of an array that is split is a word.
+
+ghost use Rattle.std.specs.Prelude.{◌≡◌, map, IfOk};
+ghost use Rattle.std.specs.Option.{option_map};
+ghost use Rattle.inline.specs.Flat.{term_tree};
+ghost use Rattle.element_words.specs.private.Splitting as splitting;
+ghost use Rattle.element_words.specs.private.Splitting.{split};
+
+use crate::parts::Parts;
+use inline::Term;
+use std::alloc::{AllocError, Global};
+
+/// An expression.
+pub fn split(alloc: Global, parts: &Parts, term: &Term) -> Result<Term, AllocError>
+    ensures { IfOk result (λ made. term_tree made ≡ split parts.now.arrays.items (term_tree term.now)) }
+{
+    match term {
+        Term::Number(value, kind) => Ok(Term::Number(*value, *kind)),
+        Term::Truth(value) => Ok(Term::Truth(*value)),
+        Term::Variable(number) => Ok(Term::Variable(*number)),
+        Term::Prefix(operator, width, operand) => {
+            let operand = Box::new(alloc, split(alloc, parts, operand)?)?;
+            Ok(Term::Prefix(*operator, *width, operand))
+        }
+        Term::Binary(place, operator, width, left, right) => {
+            let left = Box::new(alloc, split(alloc, parts, left)?)?;
+            let right = Box::new(alloc, split(alloc, parts, right)?)?;
+            Ok(Term::Binary(*place, *operator, *width, left, right))
+        }
+        Term::Rotate(width, operand, amount) => {
+            let operand = Box::new(alloc, split(alloc, parts, operand)?)?;
+            Ok(Term::Rotate(*width, operand, *amount))
+        }
+        Term::Convert(kind, operand) => {
+            let operand = Box::new(alloc, split(alloc, parts, operand)?)?;
+            Ok(Term::Convert(*kind, operand))
+        }
+        Term::Select(condition, accepted, otherwise) => {
+            let condition = Box::new(alloc, split(alloc, parts, condition)?)?;
+            let accepted = Box::new(alloc, split(alloc, parts, accepted)?)?;
+            let otherwise = Box::new(alloc, split(alloc, parts, otherwise)?)?;
+            Ok(Term::Select(condition, accepted, otherwise))
+        }
+        Term::Element(place, array, size, index) => match parts.word(*array, index) {
+            Some(word) => Ok(Term::Variable(word)),
+            None => {
+                let index = Box::new(alloc, split(alloc, parts, index)?)?;
+                Ok(Term::Element(*place, *array, *size, index))
+            }
+        },
+    }
+}
+
+/// Expressions, in their order.
+pub fn all_split(alloc: Global, parts: &Parts, terms: &[Term]) -> Result<Vec<Term>, AllocError>
+    ensures { IfOk result (λ made. map term_tree made.items ≡ map (split parts.now.arrays.items) (map term_tree terms.now)) }
+{
+    let mut made = Vec::new(alloc);
+    for term in terms {
+        made.push(split(alloc, parts, term)?)?;
+    }
+    Ok(made)
+}
+
+/// An expression, where there is one.
+pub fn split_where_any(
+    alloc: Global,
+    parts: &Parts,
+    term: Option<&Term>,
+) -> Result<Option<Term>, AllocError>
+    ensures { IfOk result (λ made. option_map term_tree made ≡ option_map (split parts.now.arrays.items) (option_map (λ term. term_tree term.now) term.entry)) }
+{
+    match term {
+        Some(term) => Ok(Some(split(alloc, parts, term)?)),
+        None => Ok(None),
+    }
+}
