@@ -1,0 +1,117 @@
+ghost use Rattle.std.specs.Prelude.{◌≡◌, ◌<◌, ◌^◌, length, IfErr, IfOk, OnOk};
+ghost use Rattle.std.specs.Option.{option_map};
+ghost use Rattle.inline.specs.Flat.{term_tree};
+ghost use Rattle.branch_removal.specs.Kept.{IsStraight};
+ghost use Rattle.branch_removal.specs.Replaced.{IsReplaced};
+ghost use Rattle.branch_removal.specs.Straight.{straight_block, with_body};
+ghost use Rattle.language.specs.WantOfMemory.{IsWantOfMemory};
+ghost use Rattle.live_words.specs.Exact.{shared_of};
+ghost use Rattle.live_words.specs.private.Held.{held_by};
+ghost use Rattle.live_words.specs.private.Whole.{all_fits, at_end, at_start, kept, most_sharing, nothing_live, over, table_for, with_results};
+
+use crate::choice::{Words, all_allowed, choose};
+use crate::live::{Live, hold_own, share};
+use crate::statements::statements;
+use crate::terms::{read_any, renamed_any};
+use branch_removal::{Straight, StraightStatement};
+use inline::Term;
+use language::{Form, Param, Refusal};
+use std::alloc::{AllocError, Global};
+
+/// So many variables may share, for each pair of words is looked at.
+const MOST_SHARING: usize = 12288;
+
+/// A parameter's elements are results: it is live at the end, and keeps its number.
+fn keep(live: &mut Live, table: &[u32], parameter: u32)
+    ensures { held_by live.new ≡ kept table.now (held_by live.old) parameter }
+{
+    live.live(table, parameter);
+    live.require(share(table, parameter) == parameter);
+}
+
+/// The arrays among the parameters that are assigned to are live at the end.
+fn keep_results(live: &mut Live, table: &[u32], parameters: &[Param])
+    requires numbered { length parameters.now < 2 ^ 32 }
+    ensures { held_by live.new ≡ with_results table.now 0 parameters.now (held_by live.old) }
+{
+    for (number, parameter) in parameters.iter().enumerate() {
+        if matches!(parameter.form, Form::MutableArray) {
+            keep(live, table, number as u32);
+        }
+    }
+}
+
+/// A body and a result.
+#[derive(Drop)]
+struct Parts {
+    body: Vec<StraightStatement>,
+    value: Option<Term>,
+}
+
+/// A program's body and result over the variables that words live in. What is live before it is noted.
+fn over(
+    alloc: Global,
+    live: &mut Live,
+    table: &[u32],
+    straight: &Straight<'_>,
+) -> Result<Parts, AllocError>
+    ensures code { IfOk result (λ parts. with_body straight.now (straight_block parts.body.items) (option_map term_tree parts.value) ≡ over table.now (held_by live.old) straight.now) }
+    ensures live { OnOk result (held_by live.new ≡ at_start table.now (held_by live.old) straight.now) }
+    ensures straight { IsStraight straight.now }
+{
+    let code = straight.body();
+    keep_results(live, table, straight.parameters());
+    read_any(live, table, straight.value());
+    let body = statements(alloc, live, table, code)?;
+    let value = renamed_any(alloc, table, straight.value())?;
+    Ok(Parts { body, value })
+}
+
+/// Whether sharing fits: no variable has to hold two words at once, what is live at the beginning keeps its number, and
+/// words live in variables that are declared as they are.
+fn all_fits(live: &Live, table: &[u32], straight: &Straight<'_>) -> bool
+    ensures { result ≡ all_fits table.now (held_by live.now) straight.now }
+{
+    live.fits && hold_own(live.holders.as_slice()) && all_allowed(straight.declared(), table)
+}
+
+/// Nothing is live yet.
+fn nothing_live(alloc: Global, straight: &Straight<'_>) -> Result<Live, AllocError>
+    ensures { IfOk result (λ live. held_by live ≡ nothing_live straight.now) }
+{
+    Live::nothing(alloc, straight.declared().len().min(MOST_SHARING) as u32)
+}
+
+/// The variables that words live in.
+fn table_for(alloc: Global, straight: &Straight<'_>) -> Result<Vec<u32>, AllocError>
+    ensures { IfOk result (λ table. table.items ≡ table_for straight.now) }
+{
+    let mut live = nothing_live(alloc, straight)?;
+    over(alloc, &mut live, &[], straight)?;
+    let words = Words {
+        declared: straight.declared(),
+        starts: live.holders.as_slice(),
+        width: live.width,
+    };
+    choose(alloc, words, &mut live.conflicts)
+}
+
+/// Straight code in which a word that nobody reads is not set, and words that are never live at once share a variable.
+/// It may stand in the place of the code that it is made of, which alone decides it. Running out of memory alone
+/// refuses it.
+pub fn share_words<'f>(alloc: Global, straight: &Straight<'f>) -> Result<Straight<'f>, Refusal>
+    ensures replaced { IfOk result (IsReplaced straight.now) }
+    ensures exact { IfOk result (λ shared. shared ≡ shared_of straight.now) }
+    ensures memory { IfErr result (λ refusal. IsWantOfMemory refusal.rule refusal.place) }
+{
+    let table = table_for(alloc, straight)?;
+    let mut live = nothing_live(alloc, straight)?;
+    let parts = over(alloc, &mut live, table.as_slice(), straight)?;
+    if all_fits(&live, table.as_slice(), straight) {
+        return Ok(straight.with_body(parts.body, parts.value));
+    }
+    let mut live = nothing_live(alloc, straight)?;
+    live.require(false);
+    let parts = over(alloc, &mut live, &[], straight)?;
+    Ok(straight.with_body(parts.body, parts.value))
+}
