@@ -1,5 +1,4 @@
 -- What these proofs take from the proofs of the crates below, in one place.
-pub use Rattle.arguments.proofs.FaultLemmas.{None-from_fault_of, fault_by-same, fault_from-broken, fault_from-passed}
 pub use Rattle.grammar_laws.proofs.Existence.{answer_to}
 pub use Rattle.grammar_laws.proofs.HeadPlaces.{heads_in_place, one_place}
 pub use Rattle.grammar_laws.proofs.Light.{both, light_of, more, none}

@@ -1,23 +1,43 @@
 -- The one image for an exported procedure, behind those before it, for an observer, plain or optimised: what the
 -- passes make of it, one after another.
-use Rattle.std.specs.Prelude.{List}
+use Rattle.std.specs.Prelude.{List, [], ◌∷◌, Option, None, Some}
 use Rattle.branch_removal.specs.Exact.{straight_of}
 use Rattle.branch_removal.specs.Straight.{StraightProgram}
 use Rattle.codegen.specs.Exact.{fields_of, optimised_fields_of}
-use Rattle.constants.specs.Exact.{simplified_of}
+use Rattle.constants.specs.Exact.{simplified_of, unrolled_of}
+use Rattle.element_words.specs.Exact.{split_of}
 use Rattle.hepurita.specs.declared.optimisation.Optimisation.{Optimisation}
 use Rattle.hepurita.specs.declared.optimisation.Optimisation.TheVariants.{Off, On}
 use Rattle.image_fields.specs.Fields.{Fields}
 use Rattle.inline.specs.Numbering.{flattened}
 use Rattle.intervals.specs.Work.{ranged}
 use Rattle.language.specs.Tree.{ProcedureTree}
+use Rattle.live_words.specs.Exact.{shared_of}
 use Rattle.word.specs.declared.profile.Profile.{Profile}
 
--- the image for straight code, which is simplified first where optimised code is asked for: only from here on do the
--- two codes differ
+-- the first image of those that are there, and else another
+abbrev pub first_of : List (Option Fields) → Fields → Fields
+first_of [] otherwise = otherwise
+first_of (None ∷ images) otherwise = first_of images otherwise
+first_of (Some image ∷ images) otherwise = image
+
+-- what the passes make of straight code whose loops are as they stay: its short arrays are words, what is known then is
+-- a number, and words share variables
+abbrev pub finished_of : StraightProgram → StraightProgram
+finished_of straight = shared_of (simplified_of (split_of straight))
+
+-- the images that are tried for straight code where optimised code is asked for: with its loops unrolled, and else with
+-- its loops. Each is there where it is within the limit on words
+abbrev pub optimised_for : StraightProgram → List (Option Fields)
+optimised_for straight =
+    optimised_fields_of (finished_of (unrolled_of straight))
+    ∷ optimised_fields_of (finished_of (simplified_of straight)) ∷ []
+
+-- the image for straight code, which is the plain one where no optimised one is there: only from here on do the two
+-- codes differ
 abbrev pub code_for : Optimisation → StraightProgram → Fields
 code_for Off straight = fields_of straight
-code_for On straight = optimised_fields_of (simplified_of straight)
+code_for On straight = first_of (optimised_for straight) (fields_of straight)
 
 unfoldable pub image_for : Optimisation → Profile → List ProcedureTree → ProcedureTree → Fields
 image_for optimisation profile before export =

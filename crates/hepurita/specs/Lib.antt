@@ -4,7 +4,6 @@ pub mod Meant
 pub mod Linked
 pub mod Compiled
 pub mod Executed
-pub mod Faults
 pub mod Paired
 pub mod Exact
 pub mod CodeFor

@@ -1,8 +1,10 @@
 // A text, compiled to the bytes of an image.
 
-ghost use Rattle.std.specs.Prelude.{◌≡◌, ℕ, List, IfOk, IfErr};
+ghost use Rattle.std.specs.Prelude.{◌≡◌, ℕ, List, IfOk, IfErr, IfSome};
+ghost use Rattle.branch_removal.specs.Bounds.{IsCounted};
 ghost use Rattle.branch_removal.specs.Removed.{IsRemoved};
 ghost use Rattle.branch_removal.specs.Straight.{StraightProgram};
+ghost use Rattle.codegen.specs.Exact.{fields_of};
 ghost use Rattle.codegen.specs.Followed.{IsGenerated};
 ghost use Rattle.image_fields.specs.Fields.{IsImage};
 ghost use Rattle.inline.specs.Numbering.{flattened};
@@ -13,27 +15,45 @@ ghost use Rattle.language.specs.declared.rule.Rule.{Rule};
 ghost use Rattle.syntax.specs.Reading.{Reads, accepted};
 ghost use Rattle.language.specs.WantOfMemory.{IsWantOfMemory};
 ghost use Rattle.hepurita.specs.CodeFor.{IsCodeFor};
-ghost use Rattle.hepurita.specs.Exact.{code_for, image_for};
+ghost use Rattle.hepurita.specs.Exact.{code_for, first_of, image_for, optimised_for};
 ghost use Rattle.hepurita.specs.Built.{Judgement, Judges, JudgesProgram, IsRefusal, IsBuilt, accepts, refuses};
 
 use crate::judging::flat_of;
 use crate::optimisation::Optimisation;
-use branch_removal::{Straight, remove, replaced_is_removed};
-use codegen::{Code, generate, generate_optimised};
-use constants::simplify;
+use crate::optimising::{rolled, unrolled};
+use branch_removal::{Straight, remove};
+use codegen::{Code, generate};
 use image::write;
 use intervals::check_ranges;
 use language::{Profile, Program, Refusal};
 use std::alloc::Global;
 use syntax::{one_answer_for_a_text, parse};
 
-/// The code of a straight program: plain, or optimised and then of a simpler program that may stand in its place. Only
-/// memory refuses it.
+/// The first optimised code of a straight program that is within the limit on words, or else its plain code. Only memory
+/// refuses it.
+fn first_code(alloc: Global, straight: &Straight<'_>) -> Result<Code, Refusal>
+    requires { IsCounted straight.now }
+    ensures generated { IfOk result (IsCodeFor straight.now) }
+    ensures exact { IfOk result (λ code. code ≡ first_of (optimised_for straight.now) (fields_of straight.now)) }
+    ensures allowed { IfOk result IsImage }
+    ensures memory { IfErr result (λ refusal. IsWantOfMemory refusal.rule refusal.place) }
+{
+    if let Some(code) = unrolled(alloc, straight)? {
+        return Ok(code);
+    }
+    if let Some(code) = rolled(alloc, straight)? {
+        return Ok(code);
+    }
+    generate(alloc, straight)
+}
+
+/// The code of a straight program, plain or optimised. Only memory refuses it.
 fn code_for(
     alloc: Global,
     straight: &Straight<'_>,
     optimisation: Optimisation,
 ) -> Result<Code, Refusal>
+    requires { IsCounted straight.now }
     ensures generated { IfOk result (IsCodeFor straight.now) }
     ensures exact { IfOk result (λ code. code ≡ code_for optimisation straight.now) }
     ensures allowed { IfOk result IsImage }
@@ -41,11 +61,7 @@ fn code_for(
 {
     match optimisation {
         Optimisation::Off => generate(alloc, straight),
-        Optimisation::On => {
-            let simpler = simplify(alloc, straight)?;
-            replaced_is_removed();
-            generate_optimised(alloc, &simpler)
-        }
+        Optimisation::On => first_code(alloc, straight),
     }
 }
 

@@ -13,13 +13,14 @@ mod judging;
 mod laws;
 mod loading;
 mod optimisation;
+mod optimising;
 mod reading;
 mod results;
 
 pub use building::{
     accepted_or_refused, build, build_as, build_with, each_text_is_judged, one_refusal,
 };
-pub use checking::{first_fault, first_fault_by};
+pub use checking::first_fault;
 pub use comparing::pair;
 pub use executing::execute;
 pub use fault::RunFault;

@@ -1,0 +1,59 @@
+// Optimised code: rows of passes over straight code, each program of which may stand in the place of the one before.
+
+ghost use Rattle.std.specs.Prelude.{◌≡◌, IfOk, IfErr, IfSome};
+ghost use Rattle.codegen.specs.Exact.{optimised_fields_of};
+ghost use Rattle.constants.specs.Exact.{simplified_of, unrolled_of};
+ghost use Rattle.hepurita.specs.CodeFor.{IsCodeFor};
+ghost use Rattle.hepurita.specs.Exact.{finished_of};
+ghost use Rattle.image_fields.specs.Fields.{IsImage};
+ghost use Rattle.language.specs.WantOfMemory.{IsWantOfMemory};
+
+use branch_removal::{Straight, replaced_is_removed};
+use codegen::{Code, generate_optimised};
+use constants::{simplify, unroll};
+use element_words::Words;
+use language::Refusal;
+use live_words::share_words;
+use std::alloc::Global;
+
+/// The optimised code of a program whose loops are as they stay, where it is within the limit on words: short arrays become
+/// words, what is known then is a number, and words share variables. Only memory refuses it.
+fn finished(alloc: Global, straight: &Straight<'_>) -> Result<Option<Code>, Refusal>
+    ensures generated { IfOk result (λ made. IfSome made (IsCodeFor straight.now)) }
+    ensures exact { IfOk result (λ made. made ≡ optimised_fields_of (finished_of straight.now)) }
+    ensures allowed { IfOk result (λ made. IfSome made IsImage) }
+    ensures memory { IfErr result (λ refusal. IsWantOfMemory refusal.rule refusal.place) }
+{
+    let words = Words::of(alloc, straight)?;
+    let split = words.apply(alloc, straight)?;
+    let simpler = simplify(alloc, &split)?;
+    let shared = share_words(alloc, &simpler)?;
+    replaced_is_removed();
+    generate_optimised(alloc, &shared)
+}
+
+/// The optimised code of a program in which loops become their turns, where it is within the limit on words. Only memory
+/// refuses it.
+pub fn unrolled(alloc: Global, straight: &Straight<'_>) -> Result<Option<Code>, Refusal>
+    ensures generated { IfOk result (λ made. IfSome made (IsCodeFor straight.now)) }
+    ensures exact { IfOk result (λ made. made ≡ optimised_fields_of (finished_of (unrolled_of straight.now))) }
+    ensures allowed { IfOk result (λ made. IfSome made IsImage) }
+    ensures memory { IfErr result (λ refusal. IsWantOfMemory refusal.rule refusal.place) }
+{
+    let without_loops = unroll(alloc, straight)?;
+    replaced_is_removed();
+    finished(alloc, &without_loops)
+}
+
+/// The optimised code of a program in which all loops that make turns stay, where it is within the limit on words. Only
+/// memory refuses it.
+pub fn rolled(alloc: Global, straight: &Straight<'_>) -> Result<Option<Code>, Refusal>
+    ensures generated { IfOk result (λ made. IfSome made (IsCodeFor straight.now)) }
+    ensures exact { IfOk result (λ made. made ≡ optimised_fields_of (finished_of (simplified_of straight.now))) }
+    ensures allowed { IfOk result (λ made. IfSome made IsImage) }
+    ensures memory { IfErr result (λ refusal. IsWantOfMemory refusal.rule refusal.place) }
+{
+    let simpler = simplify(alloc, straight)?;
+    replaced_is_removed();
+    finished(alloc, &simpler)
+}
