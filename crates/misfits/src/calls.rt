@@ -19,10 +19,10 @@ use scopes::Scope;
 use std::alloc::{AllocError, Global};
 
 /// How many arguments a call has, and how many its procedure takes.
-fn count_line(
+fn count_line<'a>(
     alloc: Global,
-    procedure: &Procedure<'_>,
-    arguments: &[Expr<'_>],
+    procedure: &Procedure<'a>,
+    arguments: &[Expr<'a>],
 ) -> Result<String, AllocError>
     ensures { IfOk result (λ line. string_bytes line ≡ count_line (procedure_tree procedure.now) (map expr_tree arguments.now)) }
 {
@@ -42,8 +42,8 @@ fn is_mutable(form: Form) -> bool
 
 /// An array that is not `mut`, given for a parameter that is.
 fn fixed_for<'a>(
-    names: &Scope<'_>,
-    parameter: &Parameter<'_>,
+    names: &Scope<'a>,
+    parameter: &Parameter<'a>,
     argument: &Expr<'a>,
 ) -> Option<&'a str>
     ensures { option_map (λ name. name.now) result ≡ fixed_for names.now (parameter_tree parameter.now) (expr_tree argument.now) }
@@ -57,8 +57,8 @@ fn fixed_for<'a>(
 
 /// The first of them in a call.
 fn first_fixed<'a>(
-    names: &Scope<'_>,
-    parameters: &[Parameter<'_>],
+    names: &Scope<'a>,
+    parameters: &[Parameter<'a>],
     arguments: &[Expr<'a>],
 ) -> Option<&'a str>
     ensures { option_map (λ name. name.now) result ≡ first_fixed names.now (map parameter_tree parameters.now) (map expr_tree arguments.now) }
@@ -90,12 +90,12 @@ fn fixed_argument_line(
 }
 
 /// Whether this array is given for a parameter, where that or the other one may be changed.
-fn shares(
-    names: &Scope<'_>,
+fn shares<'a>(
+    names: &Scope<'a>,
     array: &str,
     mutable: bool,
-    parameter: &Parameter<'_>,
-    argument: &Expr<'_>,
+    parameter: &Parameter<'a>,
+    argument: &Expr<'a>,
 ) -> bool
     ensures { result ≡ shares names.now array.now mutable (parameter_tree parameter.now) (expr_tree argument.now) }
 {
@@ -107,11 +107,11 @@ fn shares(
 
 /// The first of these parameters for which it is given.
 fn partner<'p, 'a>(
-    names: &Scope<'_>,
+    names: &Scope<'a>,
     array: &str,
     mutable: bool,
     parameters: &'p [Parameter<'a>],
-    arguments: &[Expr<'_>],
+    arguments: &[Expr<'a>],
 ) -> Option<&'p Parameter<'a>>
     ensures { option_map (λ found. parameter_tree found.now) result ≡ partner names.now array.now mutable (map parameter_tree parameters.now) (map expr_tree arguments.now) }
 {
@@ -136,11 +136,11 @@ pub struct Shared<'p, 'a> {
 
 /// The same parameter, if one is found that the array is given for too.
 fn shared_with<'p, 'a>(
-    names: &Scope<'_>,
+    names: &Scope<'a>,
     one: &'p Parameter<'a>,
     array: Option<&'a str>,
     parameters: &'p [Parameter<'a>],
-    arguments: &[Expr<'_>],
+    arguments: &[Expr<'a>],
 ) -> Option<Shared<'p, 'a>>
     ensures { option_map shared result ≡ shared_with names.now (parameter_tree one.now) (option_map (λ name. name.now) array.entry) (map parameter_tree parameters.now) (map expr_tree arguments.now) }
 {
@@ -151,7 +151,7 @@ fn shared_with<'p, 'a>(
 
 /// The array that the first argument names, if it is given for a later parameter too.
 fn shared_first<'p, 'a>(
-    names: &Scope<'_>,
+    names: &Scope<'a>,
     parameters: &'p [Parameter<'a>],
     arguments: &[Expr<'a>],
 ) -> Option<Shared<'p, 'a>>
@@ -164,7 +164,7 @@ fn shared_first<'p, 'a>(
 
 /// The first array of a call that is given for two parameters, one of which may be changed.
 fn first_shared<'p, 'a>(
-    names: &Scope<'_>,
+    names: &Scope<'a>,
     parameters: &'p [Parameter<'a>],
     arguments: &[Expr<'a>],
 ) -> Option<Shared<'p, 'a>>
@@ -201,7 +201,7 @@ fn shared_line(alloc: Global, found: Option<Shared<'_, '_>>) -> Result<String, A
 fn misfit_of_call<'p, 'a>(
     alloc: Global,
     misfit: Misfit,
-    around: &Around<'_>,
+    around: &Around<'a>,
     arguments: &'p [Expr<'a>],
     procedure: &'p Procedure<'a>,
 ) -> Result<String, AllocError>
@@ -224,7 +224,7 @@ pub fn call_line<'p, 'a>(
     alloc: Global,
     misfit: Misfit,
     earlier: &'p [Procedure<'a>],
-    around: &Around<'_>,
+    around: &Around<'a>,
     call: &'p Call<'a>,
 ) -> Result<String, AllocError>
     ensures { IfOk result (λ line. string_bytes line

@@ -72,7 +72,7 @@ fn named_in<'a>(expr: &Expr<'a>) -> Option<&'a str>
 }
 
 /// The array that an argument names.
-pub fn array_argument<'a>(names: &Scope<'_>, expr: &Expr<'a>) -> Option<&'a str>
+pub fn array_argument<'a>(names: &Scope<'a>, expr: &Expr<'a>) -> Option<&'a str>
     ensures { option_map (λ name. name.now) result ≡ array_argument names.now (expr_tree expr.now) }
 {
     let name = named_in(expr)?;
@@ -83,7 +83,7 @@ pub fn array_argument<'a>(names: &Scope<'_>, expr: &Expr<'a>) -> Option<&'a str>
 }
 
 /// The array that an argument names, where that is not `mut`.
-pub fn fixed_argument<'a>(names: &Scope<'_>, expr: &Expr<'a>) -> Option<&'a str>
+pub fn fixed_argument<'a>(names: &Scope<'a>, expr: &Expr<'a>) -> Option<&'a str>
     ensures { option_map (λ name. name.now) result ≡ fixed_argument names.now (expr_tree expr.now) }
 {
     let name = array_argument(names, expr)?;

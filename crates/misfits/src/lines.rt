@@ -38,11 +38,11 @@ fn value_lines(alloc: Global, array: &ArrayDeclaration<'_>) -> Result<String, Al
 }
 
 /// What does not fit in an expression.
-fn number_lines(
+fn number_lines<'a>(
     alloc: Global,
     misfit: Misfit,
-    names: &Scope<'_>,
-    expr: &Expr<'_>,
+    names: &Scope<'a>,
+    expr: &Expr<'a>,
 ) -> Result<String, AllocError>
     ensures { IfOk result (λ line. string_bytes line ≡ number_lines misfit names.now (expr_tree expr.now)) }
 {
@@ -89,7 +89,7 @@ fn statement_line<'p, 'a>(
     alloc: Global,
     misfit: Misfit,
     earlier: &'p [Procedure<'a>],
-    around: &Around<'_>,
+    around: &Around<'a>,
     statement: &'p Statement<'a>,
 ) -> Result<String, AllocError>
     ensures { IfOk result (λ line. string_bytes line ≡ statement_line misfit (map procedure_tree earlier.now) around.now (statement_tree statement.now)) }

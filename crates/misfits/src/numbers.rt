@@ -48,7 +48,11 @@ fn amount_line(alloc: Global, amount: u32, operand: ValueType) -> Result<String,
 }
 
 /// The same of an expression.
-pub fn literal_line(alloc: Global, names: &Scope<'_>, expr: &Expr<'_>) -> Result<String, AllocError>
+pub fn literal_line<'a>(
+    alloc: Global,
+    names: &Scope<'a>,
+    expr: &Expr<'a>,
+) -> Result<String, AllocError>
     ensures { IfOk result (λ line. string_bytes line ≡ literal_line names.now (expr_tree expr.now)) }
 {
     match expr {

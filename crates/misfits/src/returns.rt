@@ -28,11 +28,11 @@ fn void_line(alloc: Global, given: Option<ValueType>) -> Result<String, AllocErr
 }
 
 /// The same of a `return` in a procedure with this type of result.
-fn returned_line(
+fn returned_line<'a>(
     alloc: Global,
-    names: &Scope<'_>,
+    names: &Scope<'a>,
     wanted: Option<WordType>,
-    value: &Expr<'_>,
+    value: &Expr<'a>,
 ) -> Result<String, AllocError>
     ensures { IfOk result (λ line. string_bytes line ≡ returned_line names.now wanted (expr_tree value.now)) }
 {
@@ -43,12 +43,12 @@ fn returned_line(
 }
 
 /// What does not fit in a `return`.
-pub fn return_line(
+pub fn return_line<'a>(
     alloc: Global,
     misfit: Misfit,
-    names: &Scope<'_>,
+    names: &Scope<'a>,
     wanted: Option<WordType>,
-    value: &Expr<'_>,
+    value: &Expr<'a>,
 ) -> Result<String, AllocError>
     ensures { IfOk result (λ line. string_bytes line ≡ return_line misfit names.now wanted (expr_tree value.now)) }
 {

@@ -144,7 +144,7 @@ fn enter_turns<'a>(around: &mut Around<'a>, counter: &Counter<'a>) -> Result<(),
 }
 
 /// Whether an expression is something secret.
-fn is_secret_expr(names: &Scope<'_>, expr: &Expr<'_>) -> bool
+fn is_secret_expr<'a>(names: &Scope<'a>, expr: &Expr<'a>) -> bool
     ensures { result ≡ of_one false is_hidden (type_of names.now (expr_tree expr.now)) }
 {
     match type_of(names, expr) {
@@ -154,7 +154,7 @@ fn is_secret_expr(names: &Scope<'_>, expr: &Expr<'_>) -> bool
 }
 
 /// Control in the arms of a conditional is secret under a secret condition.
-fn enter_arms(around: &mut Around<'_>, place: Place, condition: &Expr<'_>)
+fn enter_arms<'a>(around: &mut Around<'a>, place: Place, condition: &Expr<'a>)
     ensures { around.new ≡ in_arms around.old place (expr_tree condition.now) }
 {
     if is_secret_expr(&around.scope, condition) {

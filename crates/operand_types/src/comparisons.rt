@@ -80,12 +80,12 @@ fn choice_lines(
 }
 
 /// The line of an index, and of what it is put to.
-fn index_line(
+fn index_line<'a>(
     alloc: Global,
     mismatch: Mismatch,
-    names: &Scope<'_>,
+    names: &Scope<'a>,
     name: &str,
-    index: &Expr<'_>,
+    index: &Expr<'a>,
 ) -> Result<String, AllocError>
     ensures { IfOk result (λ line. string_bytes line
         ≡ of_two [] (two_line mismatch (codes "variable") (codes "index")) (name_type names.now name.now) (type_of names.now (expr_tree index.now))) }
@@ -101,11 +101,11 @@ fn index_line(
 }
 
 /// The lines of the operands of an expression.
-fn expr_lines(
+fn expr_lines<'a>(
     alloc: Global,
     mismatch: Mismatch,
-    names: &Scope<'_>,
-    expr: &Expr<'_>,
+    names: &Scope<'a>,
+    expr: &Expr<'a>,
 ) -> Result<String, AllocError>
     ensures { IfOk result (λ lines. string_bytes lines ≡ expr_lines mismatch names.now (expr_tree expr.now)) }
 {
@@ -145,8 +145,8 @@ fn expr_lines(
 /// The procedure that is called, with what is known of it.
 pub fn called_one<'p, 'a>(
     earlier: &'p [Procedure<'a>],
-    names: &Scope<'_>,
-    call: &Call<'_>,
+    names: &Scope<'a>,
+    call: &Call<'a>,
 ) -> Option<(Callee, &'p Procedure<'a>)>
     ensures { option_map (λ known. (known.0, procedure_tree known.1.now)) result
         ≡ called_one (map procedure_tree earlier.now) (callee (found names.now (call_tree call.now).name)) }
@@ -166,10 +166,10 @@ fn result_value(of: Option<WordType>) -> ValueType
 }
 
 /// What a right side gives, where it is well typed.
-fn right_gives(
-    earlier: &[Procedure<'_>],
-    names: &Scope<'_>,
-    right: &RightSide<'_>,
+fn right_gives<'a>(
+    earlier: &[Procedure<'a>],
+    names: &Scope<'a>,
+    right: &RightSide<'a>,
 ) -> Option<ValueType>
     ensures { result ≡ right_gives (map procedure_tree earlier.now) names.now (right_tree right.now) }
 {
@@ -183,11 +183,11 @@ fn right_gives(
 }
 
 /// The line of an argument, and of its parameter.
-fn argument_line(
+fn argument_line<'a>(
     alloc: Global,
     mismatch: Mismatch,
-    names: &Scope<'_>,
-    argument: Option<(&Parameter<'_>, &Expr<'_>)>,
+    names: &Scope<'a>,
+    argument: Option<(&Parameter<'a>, &Expr<'a>)>,
 ) -> Result<String, AllocError>
     ensures { IfOk result (λ line. string_bytes line
         ≡ argument_line mismatch names.now (option_map (λ both. (parameter_tree both.0.now, expr_tree both.1.now)) argument.entry)) }
@@ -209,7 +209,7 @@ fn call_line<'p, 'a>(
     alloc: Global,
     mismatch: Mismatch,
     earlier: &'p [Procedure<'a>],
-    names: &Scope<'_>,
+    names: &Scope<'a>,
     call: &'p Call<'a>,
 ) -> Result<String, AllocError>
     ensures { IfOk result (λ line. string_bytes line
@@ -242,7 +242,7 @@ fn value_line(
 /// The first of an array's values that violates the rule, where values are written.
 pub fn first_of_values<'p, 'a>(
     mismatch: Mismatch,
-    names: &Scope<'_>,
+    names: &Scope<'a>,
     array: &'p ArrayDeclaration<'a>,
 ) -> Option<&'p Expr<'a>>
     ensures { option_map (λ found. expr_tree found.now) result
@@ -262,11 +262,11 @@ pub fn first_of_values<'p, 'a>(
 }
 
 /// The line of the first of an array's values that violates the rule.
-fn element_line(
+fn element_line<'a>(
     alloc: Global,
     mismatch: Mismatch,
-    names: &Scope<'_>,
-    array: &ArrayDeclaration<'_>,
+    names: &Scope<'a>,
+    array: &ArrayDeclaration<'a>,
 ) -> Result<String, AllocError>
     ensures { IfOk result (λ line. string_bytes line ≡ element_line mismatch names.now (word array.now.kind array.now.label)
         (first_value mismatch names.now (word array.now.kind array.now.label) (written (values_tree array.now.values)))) }
@@ -285,7 +285,7 @@ fn statement_line<'p, 'a>(
     alloc: Global,
     mismatch: Mismatch,
     earlier: &'p [Procedure<'a>],
-    names: &Scope<'_>,
+    names: &Scope<'a>,
     statement: &'p Statement<'a>,
 ) -> Result<String, AllocError>
     ensures { IfOk result (λ line. string_bytes line ≡ statement_line mismatch (map procedure_tree earlier.now) names.now (statement_tree statement.now)) }
@@ -316,12 +316,12 @@ fn statement_line<'p, 'a>(
 }
 
 /// The line of the bounds of a loop.
-fn bounds_line(
+fn bounds_line<'a>(
     alloc: Global,
     mismatch: Mismatch,
-    names: &Scope<'_>,
-    low: &Expr<'_>,
-    high: &Expr<'_>,
+    names: &Scope<'a>,
+    low: &Expr<'a>,
+    high: &Expr<'a>,
 ) -> Result<String, AllocError>
     ensures { IfOk result (λ line. string_bytes line
         ≡ of_two [] (two_line mismatch (codes "first bound") (codes "second bound")) (type_of names.now (expr_tree low.now)) (type_of names.now (expr_tree high.now))) }
@@ -332,12 +332,12 @@ fn bounds_line(
 }
 
 /// The line of a `return` in a procedure with this type of result.
-fn return_line(
+fn return_line<'a>(
     alloc: Global,
     mismatch: Mismatch,
-    names: &Scope<'_>,
+    names: &Scope<'a>,
     wanted: Option<WordType>,
-    returned: &Return<'_>,
+    returned: &Return<'a>,
 ) -> Result<String, AllocError>
     ensures { IfOk result (λ line. string_bytes line ≡ return_line mismatch names.now wanted (expr_tree returned.now.value)) }
 {

@@ -26,7 +26,7 @@ pub fn name_type(names: &Scope<'_>, text: &str) -> Option<ValueType>
 }
 
 /// The type of an expression, where it is well typed.
-pub fn type_of(names: &Scope<'_>, expr: &Expr<'_>) -> Option<ValueType>
+pub fn type_of<'a>(names: &Scope<'a>, expr: &Expr<'a>) -> Option<ValueType>
     ensures { result ≡ type_of names.now (expr_tree expr.now) }
 {
     match expr {

@@ -58,7 +58,7 @@ fn literal_as(expr: &Expr<'_>, wanted: Option<ValueType>) -> Option<(u32, Kind)>
 }
 
 /// One of two operands of one width.
-fn either_literal(names: &Scope<'_>, left: &Expr<'_>, right: &Expr<'_>) -> Option<(u32, Kind)>
+fn either_literal<'a>(names: &Scope<'a>, left: &Expr<'a>, right: &Expr<'a>) -> Option<(u32, Kind)>
     ensures { result ≡ either_literal names.now (expr_tree left.now) (expr_tree right.now) }
 {
     literal_as(left, type_of(names, right)).or(literal_as(right, type_of(names, left)))
@@ -72,11 +72,11 @@ fn whole_literal(expr: &Expr<'_>) -> Option<(u32, Kind)>
 }
 
 /// One of the operands of an operation.
-fn operand_literal(
+fn operand_literal<'a>(
     operation: Operation,
-    names: &Scope<'_>,
-    left: &Expr<'_>,
-    right: &Expr<'_>,
+    names: &Scope<'a>,
+    left: &Expr<'a>,
+    right: &Expr<'a>,
 ) -> Option<(u32, Kind)>
     ensures { result ≡ operand_literal operation names.now (expr_tree left.now) (expr_tree right.now) }
 {
@@ -92,7 +92,7 @@ fn operand_literal(
 }
 
 /// One of the operands of an expression.
-fn expr_literal(names: &Scope<'_>, expr: &Expr<'_>) -> Option<(u32, Kind)>
+fn expr_literal<'a>(names: &Scope<'a>, expr: &Expr<'a>) -> Option<(u32, Kind)>
     ensures { result ≡ expr_literal names.now (expr_tree expr.now) }
 {
     match expr {
@@ -121,7 +121,7 @@ fn right_literal(right: &RightSide<'_>, wanted: Option<ValueType>) -> Option<(u3
 }
 
 /// An argument, by the type of its parameter.
-fn argument_literal(argument: Option<(&Parameter<'_>, &Expr<'_>)>) -> Option<(u32, Kind)>
+fn argument_literal<'a>(argument: Option<(&Parameter<'a>, &Expr<'a>)>) -> Option<(u32, Kind)>
     ensures { result ≡ argument_literal (option_map (λ both. (parameter_tree both.0.now, expr_tree both.1.now)) argument.entry) }
 {
     match argument {
@@ -133,7 +133,7 @@ fn argument_literal(argument: Option<(&Parameter<'_>, &Expr<'_>)>) -> Option<(u3
 /// The first argument of another width than its parameter.
 fn call_literal<'p, 'a>(
     earlier: &'p [Procedure<'a>],
-    names: &Scope<'_>,
+    names: &Scope<'a>,
     call: &'p Call<'a>,
 ) -> Option<(u32, Kind)>
     ensures { result
@@ -150,7 +150,7 @@ fn call_literal<'p, 'a>(
 }
 
 /// The first of an array's values of another width.
-fn value_literal(names: &Scope<'_>, array: &ArrayDeclaration<'_>) -> Option<(u32, Kind)>
+fn value_literal<'a>(names: &Scope<'a>, array: &ArrayDeclaration<'a>) -> Option<(u32, Kind)>
     ensures { result ≡ value_literal (word array.now.kind array.now.label)
         (first_value Widths names.now (word array.now.kind array.now.label) (written (values_tree array.now.values))) }
 {
@@ -163,7 +163,7 @@ fn value_literal(names: &Scope<'_>, array: &ArrayDeclaration<'_>) -> Option<(u32
 /// The value of a statement.
 fn statement_literal<'p, 'a>(
     earlier: &'p [Procedure<'a>],
-    names: &Scope<'_>,
+    names: &Scope<'a>,
     statement: &'p Statement<'a>,
 ) -> Option<(u32, Kind)>
     ensures { result ≡ statement_literal (map procedure_tree earlier.now) names.now (statement_tree statement.now) }

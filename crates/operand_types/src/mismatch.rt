@@ -90,7 +90,12 @@ fn violates(mismatch: Mismatch, wanted: ValueType, given: ValueType) -> bool
 }
 
 /// Whether an expression does.
-fn is_violated_by(mismatch: Mismatch, names: &Scope<'_>, wanted: ValueType, expr: &Expr<'_>) -> bool
+fn is_violated_by<'a>(
+    mismatch: Mismatch,
+    names: &Scope<'a>,
+    wanted: ValueType,
+    expr: &Expr<'a>,
+) -> bool
     ensures { result ≡ is_violated_by mismatch names.now wanted (expr_tree expr.now) }
 {
     match type_of(names, expr) {
@@ -102,7 +107,7 @@ fn is_violated_by(mismatch: Mismatch, names: &Scope<'_>, wanted: ValueType, expr
 /// The first argument that violates the rule, and its parameter.
 pub fn first_argument<'p, 'a>(
     mismatch: Mismatch,
-    names: &Scope<'_>,
+    names: &Scope<'a>,
     parameters: &'p [Parameter<'a>],
     arguments: &'p [Expr<'a>],
 ) -> Option<(&'p Parameter<'a>, &'p Expr<'a>)>
@@ -124,7 +129,7 @@ pub fn first_argument<'p, 'a>(
 /// The first of an array's values that violates the rule.
 pub fn first_value<'p, 'a>(
     mismatch: Mismatch,
-    names: &Scope<'_>,
+    names: &Scope<'a>,
     wanted: ValueType,
     values: &'p [Expr<'a>],
 ) -> Option<&'p Expr<'a>>

@@ -12,7 +12,7 @@ use language::{
 };
 
 /// A node of which rules are asked.
-#[derive(Clone, Copy, Debug)]
+#[derive(Clone, Copy)]
 pub enum Node<'p, 'a> {
     Expr(&'p Expr<'a>),
     Call(&'p Call<'a>),

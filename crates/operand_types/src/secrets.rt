@@ -27,7 +27,7 @@ pub struct Secret<'a> {
 }
 
 /// A name, where it is a secret variable's.
-fn secret_name<'a>(around: &Around<'_>, name: &'a str) -> Option<Secret<'a>>
+fn secret_name<'a>(around: &Around<'a>, name: &'a str) -> Option<Secret<'a>>
     ensures { option_map secret result ≡ secret_name around.now name.now }
 {
     if !name_type(&around.scope, name)?.is_hidden() {
@@ -38,7 +38,7 @@ fn secret_name<'a>(around: &Around<'_>, name: &'a str) -> Option<Secret<'a>>
 }
 
 /// The first in an expression.
-fn secret_in<'a>(around: &Around<'_>, expr: &Expr<'a>) -> Option<Secret<'a>>
+fn secret_in<'a>(around: &Around<'a>, expr: &Expr<'a>) -> Option<Secret<'a>>
     ensures { option_map secret result ≡ secret_in around.now (expr_tree expr.now) }
 {
     match expr {
@@ -58,7 +58,7 @@ fn secret_in<'a>(around: &Around<'_>, expr: &Expr<'a>) -> Option<Secret<'a>>
 }
 
 /// The first in a right side; a call has none.
-fn secret_in_right<'a>(around: &Around<'_>, right: &RightSide<'a>) -> Option<Secret<'a>>
+fn secret_in_right<'a>(around: &Around<'a>, right: &RightSide<'a>) -> Option<Secret<'a>>
     ensures { option_map secret result ≡ secret_in_right around.now (right_tree right.now) }
 {
     match right {
@@ -68,7 +68,7 @@ fn secret_in_right<'a>(around: &Around<'_>, right: &RightSide<'a>) -> Option<Sec
 }
 
 /// The first in an expression, where there is one.
-fn secret_in_found<'a>(around: &Around<'_>, expr: Option<&Expr<'a>>) -> Option<Secret<'a>>
+fn secret_in_found<'a>(around: &Around<'a>, expr: Option<&Expr<'a>>) -> Option<Secret<'a>>
     ensures { option_map secret result ≡ secret_in_found around.now (option_map (λ found. expr_tree found.now) expr.entry) }
 {
     match expr {
@@ -80,7 +80,7 @@ fn secret_in_found<'a>(around: &Around<'_>, expr: Option<&Expr<'a>>) -> Option<S
 /// The first in the first secret argument for a public parameter.
 fn secret_argument<'p, 'a>(
     earlier: &'p [Procedure<'a>],
-    around: &Around<'_>,
+    around: &Around<'a>,
     call: &'p Call<'a>,
 ) -> Option<Secret<'a>>
     ensures { option_map secret result
@@ -94,7 +94,7 @@ fn secret_argument<'p, 'a>(
 }
 
 /// The first in the operands of `/`, `%` and `*`, and in an index.
-fn secret_operand<'a>(around: &Around<'_>, expr: &Expr<'a>) -> Option<Secret<'a>>
+fn secret_operand<'a>(around: &Around<'a>, expr: &Expr<'a>) -> Option<Secret<'a>>
     ensures { option_map secret result ≡ secret_operand around.now (expr_tree expr.now) }
 {
     match expr {
@@ -113,7 +113,7 @@ fn secret_operand<'a>(around: &Around<'_>, expr: &Expr<'a>) -> Option<Secret<'a>
 /// The first in a value, in a condition, or in the bounds of a loop.
 fn secret_of_statement<'p, 'a>(
     earlier: &'p [Procedure<'a>],
-    around: &Around<'_>,
+    around: &Around<'a>,
     statement: &'p Statement<'a>,
 ) -> Option<Secret<'a>>
     ensures { option_map secret result ≡ secret_of_statement (map procedure_tree earlier.now) around.now (statement_tree statement.now) }
@@ -132,7 +132,7 @@ fn secret_of_statement<'p, 'a>(
 }
 
 /// The first among the operands of a node.
-fn secret_of_node<'a>(site: &Site<'_, 'a>) -> Option<Secret<'a>>
+fn secret_of_node<'a>(site: &Site<'a, '_>) -> Option<Secret<'a>>
     ensures { option_map secret result ≡ secret_of_node (map procedure_tree site.now.earlier.now) site.now.around (node site.now.node) }
 {
     let around = &site.around;
@@ -146,7 +146,7 @@ fn secret_of_node<'a>(site: &Site<'_, 'a>) -> Option<Secret<'a>>
 }
 
 /// The first secret name among the operands at a place.
-fn secret_at<'a>(found: &Option<Site<'_, 'a>>) -> Option<Secret<'a>>
+fn secret_at<'a>(found: &Option<Site<'a, '_>>) -> Option<Secret<'a>>
     ensures { option_map secret result ≡ secret_at (option_map site_of found.now) }
 {
     match found {

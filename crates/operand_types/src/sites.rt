@@ -16,7 +16,7 @@ use std::alloc::{AllocError, Global};
 
 /// A node, what is in scope there, and the procedures before the one that it is in.
 #[derive(Drop)]
-pub struct Site<'p, 'a> {
+pub struct Site<'a, 'p> {
     pub node: Node<'p, 'a>,
     pub around: Around<'a>,
     pub earlier: &'p [Procedure<'a>],
@@ -25,9 +25,9 @@ pub struct Site<'p, 'a> {
 /// What is in scope at a place in a procedure, whose own name and those of the earlier ones are in this scope.
 fn around_in<'a>(
     alloc: Global,
-    at: u32,
-    scope: Scope<'a>,
     procedure: &Procedure<'a>,
+    scope: Scope<'a>,
+    at: u32,
 ) -> Result<Around<'a>, AllocError>
     ensures { IfOk result (λ around. around ≡ around_in at (in_body scope.entry (procedure_tree procedure.now)) (procedure_tree procedure.now).body) }
 {
@@ -48,7 +48,7 @@ pub fn site_at<'p, 'a>(
     at: u32,
     profile: Profile,
     program: &'p Program<'a>,
-) -> Result<Option<Site<'p, 'a>>, AllocError>
+) -> Result<Option<Site<'a, 'p>>, AllocError>
     ensures { IfOk result (λ found. option_map site found ≡ site_at at [] (empty profile) (program_tree program.now).procedures) }
 {
     let mut scope = Scope::new(alloc, profile);
@@ -57,7 +57,7 @@ pub fn site_at<'p, 'a>(
         let earlier = &procedures[..index];
         enter_procedure(&mut scope, earlier, procedure)?;
         if let Some(node) = node_in_procedure(at, procedure) {
-            let around = around_in(alloc, at, scope, procedure)?;
+            let around = around_in(alloc, procedure, scope, at)?;
             return Ok(Some(Site {
                 node,
                 around,

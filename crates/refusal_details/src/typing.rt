@@ -37,11 +37,11 @@ fn label_lines(alloc: Global, site: &Option<Site<'_, '_>>) -> Result<String, All
 }
 
 /// What is returned or is not, behind so many bytes.
-fn return_lines(
+fn return_lines<'a>(
     alloc: Global,
-    site: &Option<Site<'_, '_>>,
+    site: &Option<Site<'a, '_>>,
     at: u32,
-    program: &Program<'_>,
+    program: &Program<'a>,
 ) -> Result<String, AllocError>
     ensures { IfOk result (λ lines. string_bytes lines
         ≡ misfit_line Returns (option_map site_of site.now) ++ missing_return_line (named_at at (program_tree program.now).procedures)) }
@@ -71,10 +71,10 @@ fn condition_lines(
 }
 
 /// What is said of what stands at a place, where it violates a rule that is about this.
-fn topic_lines(
+fn topic_lines<'a>(
     alloc: Global,
-    site: &Option<Site<'_, '_>>,
-    program: &Program<'_>,
+    site: &Option<Site<'a, '_>>,
+    program: &Program<'a>,
     at: u32,
     topic: Topic,
 ) -> Result<String, AllocError>

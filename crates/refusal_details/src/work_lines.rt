@@ -59,7 +59,7 @@ fn export_line<'a>(
     ensures { IfOk result (λ line. string_bytes line ≡ work_line (work_cost (map procedure_tree earlier.now) (procedure_tree export.now))) }
 {
     let turns = turns(alloc, flat)?;
-    let cost = measured_work(alloc, turns.as_slice(), flat, earlier, export)?;
+    let cost = measured_work(alloc, earlier, export, turns.as_slice(), flat)?;
     work_line(alloc, cost)
 }
 

@@ -28,18 +28,18 @@ pub fn push_sizes(
     ensures { OnOk result (string_bytes text.new ≡ string_bytes text.old ++ export_lines (exported [] (program_tree program.now).procedures)) }
 {
     match program.exported() {
-        Some((earlier, export)) => push_export(alloc, text, ranged, earlier, export),
+        Some((earlier, export)) => push_export(alloc, earlier, export, ranged, text),
         None => Ok(()),
     }
 }
 
 /// The same of an export behind the procedures that it may call.
-fn push_export(
+fn push_export<'a>(
     alloc: Global,
-    text: &mut String,
+    earlier: &[Procedure<'a>],
+    export: &Procedure<'a>,
     ranged: &Ranged<'_>,
-    earlier: &[Procedure<'_>],
-    export: &Procedure<'_>,
+    text: &mut String,
 ) -> Result<(), AllocError>
     requires { ranged.now.flat ≡ flattened ranged.now.flat.profile (map procedure_tree earlier.now) (procedure_tree export.now) }
     ensures { OnOk result (string_bytes text.new ≡ string_bytes text.old ++ size_lines (map procedure_tree earlier.now) (procedure_tree export.now)) }
@@ -47,21 +47,21 @@ fn push_export(
     let nodes = measured(alloc, Limit::Nodes, earlier, export)?;
     let bodies = measured(alloc, Limit::Bodies, earlier, export)?;
     let bytes = measured(alloc, Limit::DeclaredBytes, earlier, export)?;
-    let work = work_of(alloc, ranged, earlier, export)?;
+    let work = work_of(alloc, earlier, export, ranged)?;
     push_costs(text, nodes, bodies, bytes, work)
 }
 
 /// What it costs of the limit on work.
-fn work_of(
+fn work_of<'a>(
     alloc: Global,
+    earlier: &[Procedure<'a>],
+    export: &Procedure<'a>,
     ranged: &Ranged<'_>,
-    earlier: &[Procedure<'_>],
-    export: &Procedure<'_>,
 ) -> Result<Cost, AllocError>
     requires { ranged.now.flat ≡ flattened ranged.now.flat.profile (map procedure_tree earlier.now) (procedure_tree export.now) }
     ensures { IfOk result (λ cost. cost ≡ work_cost (map procedure_tree earlier.now) (procedure_tree export.now)) }
 {
-    measured_work(alloc, ranged.turns(), ranged.flat(), earlier, export)
+    measured_work(alloc, earlier, export, ranged.turns(), ranged.flat())
 }
 
 /// Puts the lines of what was counted at the end.

@@ -21,7 +21,7 @@ fn bodies_of_called(called: Option<Size<'_, '_>>) -> u64
 }
 
 /// How many bodies are open in a right side.
-fn right_bodies(earlier: &Names<'_, Size<'_, '_>>, right: &RightSide<'_>) -> u64
+fn right_bodies<'a>(earlier: &Names<'a, Size<'_, 'a>>, right: &RightSide<'a>) -> u64
     ensures { result ≡ right_bodies (extents_in earlier.now) (right_tree right.now) }
 {
     match right {
@@ -32,7 +32,7 @@ fn right_bodies(earlier: &Names<'_, Size<'_, '_>>, right: &RightSide<'_>) -> u64
 
 /// How many bodies are open in a statement at once.
 #[cycle(bodies)]
-pub fn bodies_in_statement(earlier: &Names<'_, Size<'_, '_>>, statement: &Statement<'_>) -> u64
+pub fn bodies_in_statement<'a>(earlier: &Names<'a, Size<'_, 'a>>, statement: &Statement<'a>) -> u64
     ensures { result ≡ statement_bodies (extents_in earlier.now) (statement_tree statement.now) }
 {
     match statement {
@@ -50,7 +50,7 @@ pub fn bodies_in_statement(earlier: &Names<'_, Size<'_, '_>>, statement: &Statem
 
 /// How many bodies are open in some statements at once.
 #[cycle(bodies)]
-fn bodies_in_block(earlier: &Names<'_, Size<'_, '_>>, block: &[Statement<'_>]) -> u64
+fn bodies_in_block<'a>(earlier: &Names<'a, Size<'_, 'a>>, block: &[Statement<'a>]) -> u64
     ensures { result ≡ block_bodies (extents_in earlier.now) (block_tree block.now) }
 {
     let mut most = 0;
@@ -61,7 +61,7 @@ fn bodies_in_block(earlier: &Names<'_, Size<'_, '_>>, block: &[Statement<'_>]) -
 }
 
 /// How many bodies are open in a procedure at once, its own among them.
-pub fn bodies_in_procedure(earlier: &Names<'_, Size<'_, '_>>, procedure: &Procedure<'_>) -> u64
+pub fn bodies_in_procedure<'a>(earlier: &Names<'a, Size<'_, 'a>>, procedure: &Procedure<'a>) -> u64
     ensures { result ≡ counted (bodies_of (extents_in earlier.now) (procedure_tree procedure.now)) }
 {
     bodies_in_block(earlier, &procedure.body).saturating_add(1)

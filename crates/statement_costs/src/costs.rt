@@ -44,11 +44,11 @@ pub struct Cost {
 }
 
 /// What an export behind the procedures that it may call costs of a limit, and its first part of those that cost most.
-pub fn measured(
+pub fn measured<'a>(
     alloc: Global,
     limit: Limit,
-    earlier: &[Procedure<'_>],
-    export: &Procedure<'_>,
+    earlier: &[Procedure<'a>],
+    export: &Procedure<'a>,
 ) -> Result<Cost, AllocError>
     ensures { IfOk result (λ cost. cost ≡ cost_of limit (map procedure_tree earlier.now) (procedure_tree export.now)) }
 {
@@ -60,7 +60,7 @@ pub fn measured(
 }
 
 /// What a procedure costs of a limit.
-fn whole(earlier: &Names<'_, Size<'_, '_>>, limit: Limit, export: &Procedure<'_>) -> u64
+fn whole<'a>(earlier: &Names<'a, Size<'_, 'a>>, limit: Limit, export: &Procedure<'a>) -> u64
     ensures { result ≡ counted (whole limit (extents_in earlier.now) (procedure_tree export.now)) }
 {
     match limit {
@@ -73,10 +73,10 @@ fn whole(earlier: &Names<'_, Size<'_, '_>>, limit: Limit, export: &Procedure<'_>
 }
 
 /// The first of the parts of a procedure that cost most.
-fn costliest(
-    earlier: &Names<'_, Size<'_, '_>>,
+fn costliest<'a>(
+    earlier: &Names<'a, Size<'_, 'a>>,
     limit: Limit,
-    export: &Procedure<'_>,
+    export: &Procedure<'a>,
 ) -> Option<Part>
     ensures { result ≡ costliest (map counted_part (parts limit (extents_in earlier.now) (procedure_tree export.now))) }
 {

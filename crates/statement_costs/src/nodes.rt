@@ -55,7 +55,7 @@ fn nodes_in_argument(form: Form, argument: &Expr<'_>) -> u64
 }
 
 /// How many nodes arguments cost.
-fn nodes_passed(parameters: &[Parameter<'_>], arguments: &[Expr<'_>]) -> u64
+fn nodes_passed<'a>(parameters: &[Parameter<'a>], arguments: &[Expr<'a>]) -> u64
     ensures { result ≡ counted (nodes_passed (word_arguments (map parameter_tree parameters.now) (map expr_tree arguments.now))) }
 {
     let mut sum = 0u64;
@@ -69,7 +69,7 @@ fn nodes_passed(parameters: &[Parameter<'_>], arguments: &[Expr<'_>]) -> u64
 }
 
 /// How many nodes a call of such a procedure has.
-fn called_nodes(called: Option<Size<'_, '_>>, call: &Call<'_>) -> u64
+fn called_nodes<'a>(called: Option<Size<'_, 'a>>, call: &Call<'a>) -> u64
     ensures { result ≡ counted (called_nodes (option_map extent_of_size called.entry) (call_tree call.now)) }
 {
     match called {
@@ -81,7 +81,7 @@ fn called_nodes(called: Option<Size<'_, '_>>, call: &Call<'_>) -> u64
 }
 
 /// How many nodes a right side has.
-fn right_nodes(earlier: &Names<'_, Size<'_, '_>>, right: &RightSide<'_>) -> u64
+fn right_nodes<'a>(earlier: &Names<'a, Size<'_, 'a>>, right: &RightSide<'a>) -> u64
     ensures { result ≡ counted (right_nodes (extents_in earlier.now) (right_tree right.now)) }
 {
     match right {
@@ -92,7 +92,7 @@ fn right_nodes(earlier: &Names<'_, Size<'_, '_>>, right: &RightSide<'_>) -> u64
 
 /// How many nodes a statement has.
 #[cycle(nodes)]
-pub fn nodes_in_statement(earlier: &Names<'_, Size<'_, '_>>, statement: &Statement<'_>) -> u64
+pub fn nodes_in_statement<'a>(earlier: &Names<'a, Size<'_, 'a>>, statement: &Statement<'a>) -> u64
     ensures { result ≡ counted (statement_nodes (extents_in earlier.now) (statement_tree statement.now)) }
 {
     match statement {
@@ -119,7 +119,7 @@ pub fn nodes_in_statement(earlier: &Names<'_, Size<'_, '_>>, statement: &Stateme
 
 /// How many nodes some statements have.
 #[cycle(nodes)]
-fn nodes_in_block(earlier: &Names<'_, Size<'_, '_>>, block: &[Statement<'_>]) -> u64
+fn nodes_in_block<'a>(earlier: &Names<'a, Size<'_, 'a>>, block: &[Statement<'a>]) -> u64
     ensures { result ≡ counted (block_nodes (extents_in earlier.now) (block_tree block.now)) }
 {
     let mut sum = 0u64;
@@ -137,7 +137,7 @@ pub fn nodes_in_return(returned: &Return<'_>) -> u64
 }
 
 /// How many nodes a procedure has.
-pub fn nodes_in_procedure(earlier: &Names<'_, Size<'_, '_>>, procedure: &Procedure<'_>) -> u64
+pub fn nodes_in_procedure<'a>(earlier: &Names<'a, Size<'_, 'a>>, procedure: &Procedure<'a>) -> u64
     ensures { result ≡ counted (nodes_of (extents_in earlier.now) (procedure_tree procedure.now)) }
 {
     let statements = nodes_in_block(earlier, &procedure.body);

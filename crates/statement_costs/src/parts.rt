@@ -46,7 +46,11 @@ pub fn place_of(statement: &Statement<'_>) -> Place
 }
 
 /// What a statement costs of a limit.
-fn statement_cost(earlier: &Names<'_, Size<'_, '_>>, limit: Limit, statement: &Statement<'_>) -> u64
+fn statement_cost<'a>(
+    earlier: &Names<'a, Size<'_, 'a>>,
+    limit: Limit,
+    statement: &Statement<'a>,
+) -> u64
     ensures { result ≡ counted (statement_cost limit (extents_in earlier.now) (statement_tree statement.now)) }
 {
     match limit {
@@ -57,10 +61,10 @@ fn statement_cost(earlier: &Names<'_, Size<'_, '_>>, limit: Limit, statement: &S
 }
 
 /// The part that costs most among statements and one before them.
-pub fn costliest_of_statements(
-    earlier: &Names<'_, Size<'_, '_>>,
+pub fn costliest_of_statements<'a>(
+    earlier: &Names<'a, Size<'_, 'a>>,
     limit: Limit,
-    block: &[Statement<'_>],
+    block: &[Statement<'a>],
     before: Option<Part>,
 ) -> Option<Part>
     ensures { result ≡ fold costlier before (map counted_part (statement_parts limit (extents_in earlier.now) (block_tree block.now))) }

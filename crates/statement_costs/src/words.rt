@@ -21,7 +21,7 @@ fn words_of_called(called: Option<Size<'_, '_>>) -> u64
 }
 
 /// How many words a right side declares.
-fn right_words(earlier: &Names<'_, Size<'_, '_>>, right: &RightSide<'_>) -> u64
+fn right_words<'a>(earlier: &Names<'a, Size<'_, 'a>>, right: &RightSide<'a>) -> u64
     ensures { result ≡ right_words (extents_in earlier.now) (right_tree right.now) }
 {
     match right {
@@ -32,7 +32,7 @@ fn right_words(earlier: &Names<'_, Size<'_, '_>>, right: &RightSide<'_>) -> u64
 
 /// How many words a statement declares.
 #[cycle(words)]
-pub fn words_in_statement(earlier: &Names<'_, Size<'_, '_>>, statement: &Statement<'_>) -> u64
+pub fn words_in_statement<'a>(earlier: &Names<'a, Size<'_, 'a>>, statement: &Statement<'a>) -> u64
     ensures { result ≡ counted (statement_words (extents_in earlier.now) (statement_tree statement.now)) }
 {
     match statement {
@@ -50,7 +50,7 @@ pub fn words_in_statement(earlier: &Names<'_, Size<'_, '_>>, statement: &Stateme
 
 /// How many words some statements declare.
 #[cycle(words)]
-pub fn words_in_block(earlier: &Names<'_, Size<'_, '_>>, block: &[Statement<'_>]) -> u64
+pub fn words_in_block<'a>(earlier: &Names<'a, Size<'_, 'a>>, block: &[Statement<'a>]) -> u64
     ensures { result ≡ counted (block_words (extents_in earlier.now) (block_tree block.now)) }
 {
     let mut sum = 0u64;

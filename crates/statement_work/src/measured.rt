@@ -20,12 +20,12 @@ use std::alloc::{AllocError, Global};
 
 /// What an export behind the procedures that it may call costs of the limit on work, and its first part of those that cost
 /// most. They are given as one body with numbered variables too, and with the turns that are counted for its loops.
-pub fn measured_work(
+pub fn measured_work<'a>(
     alloc: Global,
+    earlier: &[Procedure<'a>],
+    export: &Procedure<'a>,
     turns: &[u32],
     flat: &Flat,
-    earlier: &[Procedure<'_>],
-    export: &Procedure<'_>,
 ) -> Result<Cost, AllocError>
     requires flat { flat.now ≡ flattened flat.now.profile (map procedure_tree earlier.now) (procedure_tree export.now) }
     requires turns { turns.now ≡ turns_of flat.now }

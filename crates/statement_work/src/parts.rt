@@ -24,11 +24,11 @@ fn split(body: &[FlatStatement], count: u64) -> (&[FlatStatement], &[FlatStateme
 }
 
 /// The part that costs most among statements, which become these of the one body.
-pub fn costliest_of_statements(
-    earlier: &Names<'_, Inlined<'_, '_>>,
+pub fn costliest_of_statements<'a>(
+    earlier: &Names<'a, Inlined<'_, 'a>>,
     turns: &[u32],
     body: &[FlatStatement],
-    block: &[Statement<'_>],
+    block: &[Statement<'a>],
 ) -> Option<Part>
     ensures { result ≡ fold costlier None (map counted_part (pieces turns.now (lengths_in earlier.now) body.now (block_tree block.now))) }
 {

@@ -51,14 +51,14 @@ impl<T: Drop> From<AllocFailed<T>> for Fault {
 
 /// What is left to read, and what the tokens before it say of it.
 #[derive(Drop)]
-struct Parser<'t, 'a> {
+struct Parser<'a, 't> {
     alloc: Global,
     rest: &'t [Token<'a>],
     end: ListEnd,
     nesting: Nesting,
 }
 
-impl<'t, 'a> Parser<'t, 'a> {
+impl<'a, 't> Parser<'a, 't> {
     fn procedures(&mut self) -> Result<Vec<Procedure<'a>>, Fault>
         ensures leads { MatchResult result (λ procedures. ahead program_state self.old ≡ accepted (program_tree procedures.items))
             (λ f. FaultIs f (ahead program_state self.old)) }

@@ -11,7 +11,7 @@ use crate::{
     Place, Sign, Statement, Token, TokenKind,
 };
 
-impl<'t, 'a> Parser<'t, 'a> {
+impl<'a, 't> Parser<'a, 't> {
     /// The first values of an array, where they are written.
     fn first_values(&mut self) -> Result<Option<Vec<Expr<'a>>>, Fault>
         ensures leads { (k : Option (List ExprTree) → State)

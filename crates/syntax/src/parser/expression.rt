@@ -10,7 +10,6 @@ use super::operator::{
 use super::step::unexpected;
 use super::{Fault, Parser};
 use crate::{BinaryOperator, Expr, Kind, Place, PrefixOperator, Sign, Token, TokenKind};
-use std::alloc::Global;
 
 /// A sign between operands, and where it stands.
 #[derive(Clone, Copy)]
@@ -19,93 +18,78 @@ struct Joint {
     place: Place,
 }
 
-fn prefix<'a>(
-    alloc: Global,
-    place: Place,
-    operator: PrefixOperator,
-    operand: Expr<'a>,
-) -> Result<Expr<'a>, Fault>
-    ensures tree { IfOk result (λ e. expr_tree e ≡ prefix_tree place operator (expr_tree operand.entry)) }
-    ensures memory { IfErr result (λ f. f ≡ Fault.Memory) }
-{
-    let operand = Box::new(alloc, operand)?;
-    Ok(Expr::Prefix(place, operator, operand))
-}
+impl<'a, 't> Parser<'a, 't> {
+    fn prefix(
+        &self,
+        place: Place,
+        operator: PrefixOperator,
+        operand: Expr<'a>,
+    ) -> Result<Expr<'a>, Fault>
+        ensures tree { IfOk result (λ e. expr_tree e ≡ prefix_tree place operator (expr_tree operand.entry)) }
+        ensures memory { IfErr result (λ f. f ≡ Fault.Memory) }
+    {
+        let operand = Box::new(self.alloc, operand)?;
+        Ok(Expr::Prefix(place, operator, operand))
+    }
 
-fn binary<'a>(
-    alloc: Global,
-    place: Place,
-    operator: BinaryOperator,
-    left: Expr<'a>,
-    right: Expr<'a>,
-) -> Result<Expr<'a>, Fault>
-    ensures tree { IfOk result (λ e. expr_tree e
-        ≡ binary_tree place operator (expr_tree left.entry) (expr_tree right.entry)) }
-    ensures memory { IfErr result (λ f. f ≡ Fault.Memory) }
-{
-    let left = Box::new(alloc, left)?;
-    let right = Box::new(alloc, right)?;
-    Ok(Expr::Binary(place, operator, left, right))
-}
+    fn binary(
+        &self,
+        place: Place,
+        operator: BinaryOperator,
+        left: Expr<'a>,
+        right: Expr<'a>,
+    ) -> Result<Expr<'a>, Fault>
+        ensures tree { IfOk result (λ e. expr_tree e
+            ≡ binary_tree place operator (expr_tree left.entry) (expr_tree right.entry)) }
+        ensures memory { IfErr result (λ f. f ≡ Fault.Memory) }
+    {
+        let left = Box::new(self.alloc, left)?;
+        let right = Box::new(self.alloc, right)?;
+        Ok(Expr::Binary(place, operator, left, right))
+    }
 
-fn rotate<'a>(
-    alloc: Global,
-    place: Place,
-    operand: Expr<'a>,
-    amount: u32,
-) -> Result<Expr<'a>, Fault>
-    ensures tree { IfOk result (λ e. expr_tree e ≡ rotate_tree place (expr_tree operand.entry) amount) }
-    ensures memory { IfErr result (λ f. f ≡ Fault.Memory) }
-{
-    let operand = Box::new(alloc, operand)?;
-    Ok(Expr::Rotate(place, operand, amount))
-}
+    fn rotate(&self, place: Place, operand: Expr<'a>, amount: u32) -> Result<Expr<'a>, Fault>
+        ensures tree { IfOk result (λ e. expr_tree e ≡ rotate_tree place (expr_tree operand.entry) amount) }
+        ensures memory { IfErr result (λ f. f ≡ Fault.Memory) }
+    {
+        let operand = Box::new(self.alloc, operand)?;
+        Ok(Expr::Rotate(place, operand, amount))
+    }
 
-fn convert<'a>(
-    alloc: Global,
-    place: Place,
-    kind: Kind,
-    operand: Expr<'a>,
-) -> Result<Expr<'a>, Fault>
-    ensures tree { IfOk result (λ e. expr_tree e ≡ convert_tree place kind (expr_tree operand.entry)) }
-    ensures memory { IfErr result (λ f. f ≡ Fault.Memory) }
-{
-    let operand = Box::new(alloc, operand)?;
-    Ok(Expr::Convert(place, kind, operand))
-}
+    fn convert(&self, place: Place, kind: Kind, operand: Expr<'a>) -> Result<Expr<'a>, Fault>
+        ensures tree { IfOk result (λ e. expr_tree e ≡ convert_tree place kind (expr_tree operand.entry)) }
+        ensures memory { IfErr result (λ f. f ≡ Fault.Memory) }
+    {
+        let operand = Box::new(self.alloc, operand)?;
+        Ok(Expr::Convert(place, kind, operand))
+    }
 
-fn element<'a>(
-    alloc: Global,
-    place: Place,
-    array: Token<'a>,
-    index: Expr<'a>,
-) -> Result<Expr<'a>, Fault>
-    ensures tree { IfOk result (λ e. expr_tree e
-        ≡ element_tree place array.entry.place array.entry.text.now (expr_tree index.entry)) }
-    ensures memory { IfErr result (λ f. f ≡ Fault.Memory) }
-{
-    let index = Box::new(alloc, index)?;
-    Ok(Expr::Element(place, array.place, array.text, index))
-}
+    fn element(&self, place: Place, array: Token<'a>, index: Expr<'a>) -> Result<Expr<'a>, Fault>
+        ensures tree { IfOk result (λ e. expr_tree e
+            ≡ element_tree place array.entry.place array.entry.text.now (expr_tree index.entry)) }
+        ensures memory { IfErr result (λ f. f ≡ Fault.Memory) }
+    {
+        let index = Box::new(self.alloc, index)?;
+        Ok(Expr::Element(place, array.place, array.text, index))
+    }
 
-fn select<'a>(
-    alloc: Global,
-    place: Place,
-    condition: Expr<'a>,
-    accepted: Expr<'a>,
-    otherwise: Expr<'a>,
-) -> Result<Expr<'a>, Fault>
-    ensures tree { IfOk result (λ e. expr_tree e
-        ≡ select_tree place (expr_tree condition.entry) (expr_tree accepted.entry) (expr_tree otherwise.entry)) }
-    ensures memory { IfErr result (λ f. f ≡ Fault.Memory) }
-{
-    let condition = Box::new(alloc, condition)?;
-    let accepted = Box::new(alloc, accepted)?;
-    let otherwise = Box::new(alloc, otherwise)?;
-    Ok(Expr::Select(place, condition, accepted, otherwise))
-}
+    fn selection(
+        &self,
+        place: Place,
+        condition: Expr<'a>,
+        accepted: Expr<'a>,
+        otherwise: Expr<'a>,
+    ) -> Result<Expr<'a>, Fault>
+        ensures tree { IfOk result (λ e. expr_tree e
+            ≡ select_tree place (expr_tree condition.entry) (expr_tree accepted.entry) (expr_tree otherwise.entry)) }
+        ensures memory { IfErr result (λ f. f ≡ Fault.Memory) }
+    {
+        let condition = Box::new(self.alloc, condition)?;
+        let accepted = Box::new(self.alloc, accepted)?;
+        let otherwise = Box::new(self.alloc, otherwise)?;
+        Ok(Expr::Select(place, condition, accepted, otherwise))
+    }
 
-impl<'t, 'a> Parser<'t, 'a> {
     /// An expression in which no sign between operands, outside all brackets, binds below the
     /// level.
     #[cycle(expression)]
@@ -168,11 +152,11 @@ impl<'t, 'a> Parser<'t, 'a> {
         match joint.link {
             Link::Operator(operator) => {
                 let right = self.expression(level_of(operator) + 1)?;
-                binary(self.alloc, joint.place, operator, left, right)
+                self.binary(joint.place, operator, left, right)
             }
             Link::Rotation => {
                 let amount = self.amount()?;
-                rotate(self.alloc, joint.place, left, amount)
+                self.rotate(joint.place, left, amount)
             }
         }
     }
@@ -209,7 +193,7 @@ impl<'t, 'a> Parser<'t, 'a> {
             Begins::Bracket => self.expression_to(TokenKind::Sign(Sign::CloseRound)),
             Begins::Prefix(operator) => {
                 let operand = self.expression(PREFIX_LEVEL)?;
-                prefix(self.alloc, token.place, operator, operand)
+                self.prefix(token.place, operator, operand)
             }
             Begins::Conversion(kind) => self.conversion(token.place, kind),
             Begins::Select => self.select(token.place),
@@ -227,7 +211,7 @@ impl<'t, 'a> Parser<'t, 'a> {
             None => Ok(Expr::Name(name.place, name.text)),
             Some(opening) => {
                 let index = self.expression_to(TokenKind::Sign(Sign::CloseSquare))?;
-                element(self.alloc, opening.place, name, index)
+                self.element(opening.place, name, index)
             }
         }
     }
@@ -253,7 +237,7 @@ impl<'t, 'a> Parser<'t, 'a> {
     {
         self.expect(TokenKind::Sign(Sign::OpenRound))?;
         let operand = self.expression_to(TokenKind::Sign(Sign::CloseRound))?;
-        convert(self.alloc, place, kind, operand)
+        self.convert(place, kind, operand)
     }
 
     /// A `select`, after its keyword.
@@ -267,6 +251,6 @@ impl<'t, 'a> Parser<'t, 'a> {
         let condition = self.expression_to(TokenKind::Sign(Sign::Comma))?;
         let accepted = self.expression_to(TokenKind::Sign(Sign::Comma))?;
         let otherwise = self.expression_to(TokenKind::Sign(Sign::CloseRound))?;
-        select(self.alloc, place, condition, accepted, otherwise)
+        self.selection(place, condition, accepted, otherwise)
     }
 }

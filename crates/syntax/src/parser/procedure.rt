@@ -11,7 +11,7 @@ use crate::{
     Form, Keyword, Kind, Label, Parameter, Place, Procedure, Return, Sign, TokenKind, WordType,
 };
 
-impl<'t, 'a> Parser<'t, 'a> {
+impl<'a, 't> Parser<'a, 't> {
     pub fn procedure(&mut self) -> Result<Procedure<'a>, Fault>
         ensures leads { (k : ProcedureTree → State)
             → Leads (procedure_state k) (λ p. k (procedure_tree p)) result self.old self.new }

@@ -7,7 +7,7 @@ ghost use Rattle.language.specs.Tree.{ExprTree, CallTree, RightTree, expr_tree, 
 use super::{Fault, Parser};
 use crate::{Call, Expr, RightSide, Sign, Token, TokenKind};
 
-impl<'t, 'a> Parser<'t, 'a> {
+impl<'a, 't> Parser<'a, 't> {
     /// Expressions, each but the first after a comma, and the token that ends them.
     pub fn expressions(&mut self, end: TokenKind) -> Result<Vec<Expr<'a>>, Fault>
         ensures leads { (k : List ExprTree → State)

@@ -36,7 +36,7 @@ fn starts_with(kind: TokenKind) -> Option<Start>
     }
 }
 
-impl<'t, 'a> Parser<'t, 'a> {
+impl<'a, 't> Parser<'a, 't> {
     /// Statements, up to a token that begins none.
     #[cycle(statement)]
     pub fn statements(&mut self) -> Result<Vec<Statement<'a>>, Fault>

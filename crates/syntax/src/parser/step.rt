@@ -85,7 +85,7 @@ fn at_end(end: ListEnd) -> Fault
     }
 }
 
-impl<'t, 'a> Parser<'t, 'a> {
+impl<'a, 't> Parser<'a, 't> {
     /// The next token, and those after it.
     pub fn first(&self) -> Result<(Token<'a>, &'t [Token<'a>]), Fault>
         ensures found { IfOk result (λ f. self.now.rest.now ≡ f.0 ∷ f.1.now) }
