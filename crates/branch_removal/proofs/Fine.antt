@@ -19,37 +19,18 @@ use Rattle.language.specs.declared.typing.WordType.{WordType}
 use Rattle.word.specs.declared.place.Place.{Place}
 use Rattle.word.specs.declared.profile.Profile.{Profile}
 use Rattle.branch_removal.specs.private.Removal.{take_within, removed, removed_all}
-use Rattle.branch_removal.specs.Straight.{take, StraightBlock}
+use Rattle.branch_removal.specs.Straight.{StraightBlock}
 use Rattle.branch_removal.specs.Straight as straight
 use Rattle.branch_removal.specs.StraightMeaning.{StraightState, value_at, counted, after, after_all, path_along}
 use Rattle.branch_removal.proofs.Agreement.{Agree, what_is_public, declared_in_both}
 use Rattle.branch_removal.proofs.Loose.{holding, comes, come_all, FollowedAll, follow_turns, either_way, that_way}
 use Rattle.branch_removal.proofs.Loose.{in_scope, follow, follow_all}
-use Rattle.branch_removal.proofs.Runs.{path-chain}
+use Rattle.branch_removal.proofs.Sequences.{path-chain, fine_both, fine_front, fine_back, fine_alone}
 use Rattle.branch_removal.proofs.Scopes.{AreAmong, among_beside, among_after, stays_beside}
 use Rattle.branch_removal.proofs.Typed.{IsUnder}
 use Rattle.branch_removal.proofs.Unchanged.{hidden, unchanged_all}
 use Rattle.branch_removal.proofs.SeenLemmas.{both_seen, fine_alike}
 use Rattle.branch_removal.proofs.Values.{public_value, one_seen, all_seen}
-
--- Paths.
-
-module _ (most : List ℕ) where
-  pub fine_both : (p q : Path) → AreFine most p → AreFine most q → AreFine most (p ++ q)
-  fine_both [] q one other = other
-  fine_both (mark ∷ p) q one other = (one.0, fine_both p q one.1 other)
-
-  pub fine_front : (p q : Path) → AreFine most (p ++ q) → AreFine most p
-  fine_front [] q both = tt
-  fine_front (mark ∷ p) q both = (both.0, fine_front p q both.1)
-
-  pub fine_back : (p q : Path) → AreFine most (p ++ q) → AreFine most q
-  fine_back [] q both = both
-  fine_back (mark ∷ p) q both = fine_back p q both.1
-
-  -- one statement, and nothing behind it
-  pub fine_alone : (p : Path) → AreFine most p → AreFine most (p ++ [])
-  fine_alone p fine = fine_both p [] fine tt
 
 module _ (profile : Profile) (declared : List FlatVariable) (most : List ℕ) where
   -- no loose run from here meets a fault

@@ -2,6 +2,7 @@ pub mod Scopes
 pub mod Agreement
 pub mod SeenLemmas
 pub mod Values
+pub mod Sequences
 pub mod Runs
 pub mod Unchanged
 pub mod Same
@@ -13,4 +14,6 @@ pub mod BoundLemmas
 pub mod Results
 pub mod Shown
 pub mod Removed
+pub mod StatementTrees
 pub mod Statements
+pub mod QuietLemmas

@@ -21,11 +21,11 @@ use Rattle.language.specs.declared.signature.Label.{Label}
 use Rattle.language.specs.declared.signature.Label.TheVariants.{Public, Secret}
 use Rattle.word.specs.declared.profile.Profile.{Profile}
 use Rattle.branch_removal.specs.private.Removal.{take_within, removed, removed_all}
-use Rattle.branch_removal.specs.Straight.{take, StraightBlock}
+use Rattle.branch_removal.specs.Straight.{StraightBlock}
 use Rattle.branch_removal.specs.Straight as straight
 use Rattle.branch_removal.specs.StraightMeaning.{StraightState, with_variable, value_at, counted, after, after_all}
 use Rattle.branch_removal.proofs.Agreement.{Agree, what_is_public, set_in_both, declared_in_both}
-use Rattle.branch_removal.proofs.Runs.{after-chain}
+use Rattle.branch_removal.proofs.Sequences.{after-chain}
 use Rattle.branch_removal.proofs.Scopes.{AreAmong, has_type_among, among_beside, among_after, stays_beside}
 use Rattle.branch_removal.proofs.Same.{narrowed}
 use Rattle.branch_removal.proofs.Typed.{IsUnder}

@@ -1,13 +1,14 @@
 -- Straight code is what is promised of it.
-use Rattle.std.proofs.Common.{◌≡◌, ℕ, ◌≤◌, List, Option, None, Some, slice_get, refl, ap₂, subst, sym, arith}
+use Rattle.std.proofs.Common.{◌≡◌, ℕ, ◌≤◌, List, [], Option, None, Some, slice_get, refl, ap, ap₂, ◌∙◌, subst, sym}
+use Rattle.std.proofs.Common.{arith}
 use Rattle.arguments.specs.Within.{AreWithin}
-use Rattle.inline.specs.Flat.{FlatProgram, TermTree, declaration_of}
-use Rattle.inline.specs.FlatMeaning.{given, value_in, path_of_result}
+use Rattle.inline.specs.Flat.{FlatBlock, FlatProgram, TermTree, declaration_of}
+use Rattle.inline.specs.FlatMeaning.{given, path_of_result}
 use Rattle.inline.specs.FlatMeaning as flat
 use Rattle.inline.specs.FlatSize.{IsSized}
 use Rattle.inline.specs.FlatTyping.{types_of, end_types, parameter_types, IsTypedProgram}
 use Rattle.inline.specs.Kept.{IsFlat}
-use Rattle.inline.specs.Path.{AreFine, seen}
+use Rattle.inline.specs.Path.{AreFine}
 use Rattle.intervals.specs.Kept.{IsRanged}
 use Rattle.intervals.specs.Loose.{IsSafe}
 use Rattle.intervals.specs.Ranged.{RangedProgram}
@@ -18,13 +19,15 @@ use Rattle.language.specs.declared.signature.Param.{Param}
 use Rattle.language.specs.declared.values.Arg.{Arg}
 use Rattle.branch_removal.specs.private.Removal.{controls_in_all, removed_all, straightened}
 use Rattle.branch_removal.specs.Removed.{IsRemoved}
-use Rattle.branch_removal.specs.Straight.{StraightBlock}
+use Rattle.branch_removal.specs.declared.straight.StraightStatement.{StraightStatement}
+use Rattle.branch_removal.specs.Straight.{StraightBlock, chain, straight_block}
 use Rattle.branch_removal.specs.StraightMeaning.{start, end_of, path_along, outcome_of, path_of}
 use Rattle.branch_removal.specs.StraightTyping.{IsTypedStraight}
-use Rattle.branch_removal.proofs.Agreement.{Agree, everything, what_is_public}
+use Rattle.branch_removal.proofs.Agreement.{Agree, everything}
 use Rattle.branch_removal.proofs.BoundLemmas.{bounded, counted}
 use Rattle.branch_removal.specs.Bounds.{IsCounted}
-use Rattle.branch_removal.proofs.Fine.{fine_all, fine_both, fine_front, fine_back}
+use Rattle.branch_removal.proofs.Fine.{fine_all}
+use Rattle.branch_removal.proofs.Sequences.{fine_both, fine_front, fine_back}
 use Rattle.branch_removal.proofs.Loose.{returns, follow_all}
 use Rattle.branch_removal.proofs.Results.{parameters_among, parameter_at, all_arrays}
 use Rattle.branch_removal.proofs.Same.{same_all}
@@ -120,9 +123,11 @@ is_removed p typed sized safe fits = record {
   public = λ one other agree. same_public (straightened (ranged p)) (typed_straight p typed) one other agree;
 }
 
--- straight code of these controls and statements
-pub as_listed : (r : RangedProgram) (controls : ℕ) (body : StraightBlock) (value : Option TermTree)
-    → controls ≡ controls_in_all r.flat.body → body ≡ removed_all None 0 r.flat.body → value ≡ r.flat.value
+-- straight code of these controls and statements, made behind none
+pub as_listed : (r : RangedProgram) (flat : FlatProgram) (read : FlatBlock) (controls : ℕ)
+    (front : List StraightStatement) (body : StraightBlock) (given value : Option TermTree)
+    → flat ≡ r.flat → read ≡ flat.body → controls ≡ controls_in_all read → front ≡ []
+    → body ≡ chain (straight_block front) (removed_all None 0 read) → given ≡ flat.value → value ≡ given
     → record {
       profile = r.flat.profile;
       parameters = r.flat.parameters;
@@ -135,7 +140,15 @@ pub as_listed : (r : RangedProgram) (controls : ℕ) (body : StraightBlock) (val
       body = body;
       value = value;
     } ≡ straightened r
-as_listed r controls body value counted same given = rw (counted, same, given) refl
+as_listed r flat read controls front body given value same whole counted none made result copied =
+    let at = whole ∙ ap (λ (p : FlatProgram). p.body) same in
+    let made_of = made ∙ ap₂ (λ (xs : List StraightStatement) (b : FlatBlock). chain (straight_block xs)
+    (removed_all None 0 b)) none at in
+    rw (
+      counted ∙ ap controls_in_all at,
+      made_of,
+      copied ∙ (result ∙ ap (λ (p : FlatProgram). p.value) same),
+    ) refl
 
 -- so of a body with what is counted for it
 pub removed_as_promised : (r : RangedProgram) → IsFlat r.flat → IsRanged r → IsRemoved r (straightened r)

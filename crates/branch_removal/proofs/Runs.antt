@@ -1,6 +1,6 @@
 -- Runs of straight code one after the other, turns of loops, and the control values that statements leave alone.
-use Rattle.std.proofs.Common.{◌≡◌, ℕ, zero, suc, ◌+◌, ◌-◌, ◌<◌, ◌==◌, Bool, true, false, cond, List, [], ◌∷◌, ◌++◌}
-use Rattle.std.proofs.Common.{Option, None, Some, slice_set, refl, sym, ap, ◌∙◌, append_assoc, subst, arith}
+use Rattle.std.proofs.Common.{◌≡◌, ℕ, zero, suc, ◌+◌, ◌-◌, ◌<◌, ◌==◌, Bool, true, false, cond, List, [], ◌∷◌}
+use Rattle.std.proofs.Common.{Option, None, Some, slice_set, refl, ap, ◌∙◌, subst, arith}
 use Rattle.std.proofs.lemmas.Bool.{cond-false, cond-true, ne_eqb, eq-eqb}
 use Rattle.inline.specs.Flat.{FlatTree, declare, array, assign, put, hold, skip, branch, loop, FlatBlock, nothing}
 use Rattle.inline.specs.Flat.{first}
@@ -9,26 +9,11 @@ use Rattle.inline.specs.Path.{Path, seen}
 use Rattle.language.specs.declared.signature.Label.TheVariants.{Public, Secret}
 use Rattle.word.specs.declared.profile.Profile.{Profile}
 use Rattle.branch_removal.specs.private.Removal.{take_within, removed, removed_all}
-use Rattle.branch_removal.specs.Straight.{StraightTree, take, StraightBlock, chain}
-use Rattle.branch_removal.specs.Straight as straight
+use Rattle.branch_removal.specs.Straight.{StraightBlock}
 use Rattle.branch_removal.specs.StraightMeaning.{StraightState, with_variable, with_controls, value_at, counted}
-use Rattle.branch_removal.specs.StraightMeaning.{after, after_all, path_at, path_along}
+use Rattle.branch_removal.specs.StraightMeaning.{after, after_all}
 use Rattle.branch_removal.proofs.SeenLemmas.{both_seen}
-
--- One block and then another.
-
-pub after-chain : (s : StraightState) (these those : StraightBlock)
-    → after_all s (chain these those) ≡ after_all (after_all s these) those
-after-chain s straight.nothing those = refl
-after-chain s (straight.first statement these) those = after-chain (after s statement) these those
-
-pub path-chain : (s : StraightState) (these those : StraightBlock)
-    → path_along s (chain these those) ≡ path_along s these ++ path_along (after_all s these) those
-path-chain s straight.nothing those = refl
-path-chain s (straight.first statement these) those =
-    ap (λ rest. path_at s statement ++ rest) (path-chain (after s statement) these those)
-    ∙ sym (append_assoc (path_at s statement) (path_along (after s statement) these)
-    (path_along (after_all (after s statement) these) those))
+use Rattle.branch_removal.proofs.Sequences.{after-chain}
 
 -- Turns.
 

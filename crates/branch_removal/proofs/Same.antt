@@ -16,7 +16,8 @@ use Rattle.branch_removal.specs.Straight.{StraightBlock}
 use Rattle.branch_removal.specs.StraightMeaning.{StraightState, holds, with_variable, with_element, value_at, counted}
 use Rattle.branch_removal.specs.StraightMeaning.{after, after_all}
 use Rattle.branch_removal.proofs.Agreement.{Sees, Agree, everything, set_in_both, declared_in_both}
-use Rattle.branch_removal.proofs.Runs.{after-chain, turns_relate_from, first_control, second_control, controls_stay}
+use Rattle.branch_removal.proofs.Sequences.{after-chain}
+use Rattle.branch_removal.proofs.Runs.{turns_relate_from, first_control, second_control, controls_stay}
 use Rattle.branch_removal.proofs.Runs.{controls_stay_all}
 use Rattle.branch_removal.proofs.Scopes.{stays_all, stays_beside}
 use Rattle.branch_removal.proofs.Unchanged.{switched_off, unchanged_all}

@@ -1,16 +1,15 @@
 -- What a run of well-typed straight code shows, and its public results, are decided by what is public.
-use Rattle.std.proofs.Common.{◌≡◌, ℕ, List, Some, slice_get, refl, sym, ap, ◌∙◌, subst}
+use Rattle.std.proofs.Common.{◌≡◌, List, ◌∙◌, subst}
 use Rattle.arguments.specs.Agreement as arguments
 use Rattle.arguments.specs.PublicResults.{AgreeInPublic}
 use Rattle.arguments.specs.Within.{AreWithin}
 use Rattle.inline.specs.Flat.{declaration_of}
 use Rattle.inline.specs.FlatMeaning.{given, path_of_result}
 use Rattle.inline.specs.FlatTyping.{types_of, parameter_types}
-use Rattle.inline.specs.Path.{AreFine, seen}
+use Rattle.inline.specs.Path.{seen}
 use Rattle.intervals.specs.Ranged.{RangedProgram}
 use Rattle.language.specs.declared.signature.Param.{Param}
 use Rattle.language.specs.declared.values.Arg.{Arg}
-use Rattle.language.specs.Results.{Results}
 use Rattle.branch_removal.specs.Removed.{IsRemoved}
 use Rattle.branch_removal.specs.Replaced.{IsReplaced}
 use Rattle.branch_removal.specs.Straight.{StraightProgram}

@@ -1,13 +1,11 @@
--- The tree of a statement that holds others, by the lists of its arms or its body.
-use Rattle.std.proofs.Common.{◌≡◌, ℕ, zero, suc, ◌+◌, ◌*◌, ◌≤◌, ◌<◌, ◌++◌, max, List, [], ◌∷◌, drop, Vec, Global, Bor, Option, Some, refl, sym, ap, ap₂, ◌∙◌, arith}
+-- How a statement that holds others loses its branches on secrets, by the lists of its arms or its body.
+use Rattle.std.proofs.Common.{◌≡◌, ℕ, zero, suc, ◌+◌, ◌*◌, ◌≤◌, ◌<◌, ◌++◌, max, List, [], ◌∷◌, drop, Vec, Global}
+use Rattle.std.proofs.Common.{Option, Some, refl, sym, ap, ap₂, ◌∙◌, arith}
 use Rattle.std.proofs.Math.Nat.{le-max_left, le-max_right}
-use mathlib.Core.Former.{Count}
-use Rattle.inline.specs.declared.flat.FlatStatement.{FlatStatement, Branch, Branch', Loop, Loop'}
-use Rattle.inline.specs.declared.flat.FlatStatement.{Row_of-FlatStatement, end_of-FlatStatement}
-use Rattle.inline.specs.declared.flat.FlatStatement.{more_of-FlatStatement, items-the_row-FlatStatement}
-use Rattle.inline.specs.declared.flat.FlatStatement.{items_hidden-the_row-FlatStatement-0}
+use Rattle.inline.proofs.RowLemmas as rows
+use Rattle.inline.specs.declared.flat.FlatStatement.{FlatStatement, Branch, Loop}
 use Rattle.inline.specs.declared.flat.Term.{Term}
-use Rattle.inline.specs.Flat.{TermTree, term_tree, flat_tree, row_tree, flat_block}
+use Rattle.inline.specs.Flat.{TermTree, term_tree, flat_tree, flat_block}
 use Rattle.inline.specs.Flat as flat
 use Rattle.inline.specs.FlatSize.{body_nodes, tree_nodes}
 use Rattle.language.specs.declared.signature.Label.{Label}
@@ -17,93 +15,11 @@ use Rattle.branch_removal.specs.declared.straight.StraightStatement as code
 use Rattle.branch_removal.specs.private.Removal.{take_within, controls_in, controls_in_all, own_controls, removed}
 use Rattle.branch_removal.specs.private.Removal.{removed_all}
 use Rattle.branch_removal.specs.Straight.{StraightTree, StraightBlock, nothing, first, chain, branch, repeats}
-use Rattle.branch_removal.specs.Straight.{straight_tree, straight_row, straight_block}
-
--- Statements of the body.
-
-rows : (n : _) (row : Row_of-FlatStatement n) → row_tree row ≡ flat_block (items-the_row-FlatStatement n row)
-rows n end_of-FlatStatement = refl
-rows n (more_of-FlatStatement s rest) = ap (flat.first (flat_tree s)) (rows _ rest)
-
-abbrev arms : FlatStatement → ((n : Count) × Row_of-FlatStatement n) × ((n : Count) × Row_of-FlatStatement n)
-arms (Branch' label condition shape accepted shape' otherwise) = ((_, accepted), (_, otherwise))
-arms _ = ((_, end_of-FlatStatement), (_, end_of-FlatStatement))
-
-abbrev body_of : FlatStatement → (n : Count) × Row_of-FlatStatement n
-body_of (Loop' x low high shape body) = (_, body)
-body_of _ = (_, end_of-FlatStatement)
-
-branch_tree : (label : Label) (condition : Term) (accepted otherwise : Vec FlatStatement Global) →
-    flat_tree (Branch label condition accepted otherwise)
-    ≡ flat.branch label (term_tree condition) (flat_block accepted.items) (flat_block otherwise.items)
-branch_tree label condition accepted otherwise =
-    let both = arms (Branch label condition accepted otherwise) in
-    ap₂ (flat.branch label (term_tree condition))
-    (rows both.0.0 both.0.1 ∙ ap flat_block (items_hidden-the_row-FlatStatement-0 accepted))
-    (rows both.1.0 both.1.1 ∙ ap flat_block (items_hidden-the_row-FlatStatement-0 otherwise))
-
-loop_tree : (x : ℕ) (low high : Term) (body : Vec FlatStatement Global) →
-    flat_tree (Loop x low high body) ≡ flat.loop x (term_tree low) (term_tree high) (flat_block body.items)
-loop_tree x low high body =
-    let inner = body_of (Loop x low high body) in
-    ap (flat.loop x (term_tree low) (term_tree high)) (rows inner.0 inner.1
-    ∙ ap flat_block (items_hidden-the_row-FlatStatement-0 body))
-
--- Statements of straight code.
-
-code_rows : (n : _) (row : code.Row_of-StraightStatement n)
-    → straight_row row ≡ straight_block (code.items-the_row-StraightStatement n row)
-code_rows n code.end_of-StraightStatement = refl
-code_rows n (code.more_of-StraightStatement s rest) = ap (first (straight_tree s)) (code_rows _ rest)
-
-abbrev code_arms : StraightStatement → ((n : Count) × code.Row_of-StraightStatement n)
-    × ((n : Count) × code.Row_of-StraightStatement n)
-code_arms (code.Branch' condition shape accepted shape' otherwise) = ((_, accepted), (_, otherwise))
-code_arms _ = ((_, code.end_of-StraightStatement), (_, code.end_of-StraightStatement))
-
-abbrev code_of_body : StraightStatement → (n : Count) × code.Row_of-StraightStatement n
-code_of_body (code.Repeat' x low high shape body) = (_, body)
-code_of_body _ = (_, code.end_of-StraightStatement)
-
-straight_branch : (condition : Term) (accepted otherwise : Vec StraightStatement Global) →
-    straight_tree (code.Branch condition accepted otherwise)
-    ≡ branch (term_tree condition) (straight_block accepted.items) (straight_block otherwise.items)
-straight_branch condition accepted otherwise =
-    let both = code_arms (code.Branch condition accepted otherwise) in
-    ap₂ (branch (term_tree condition))
-    (code_rows both.0.0 both.0.1 ∙ ap straight_block (code.items_hidden-the_row-StraightStatement-0 accepted))
-    (code_rows both.1.0 both.1.1 ∙ ap straight_block (code.items_hidden-the_row-StraightStatement-0 otherwise))
-
-straight_loop : (x : ℕ) (low high : Term) (body : Vec StraightStatement Global) →
-    straight_tree (code.Repeat x low high body)
-    ≡ repeats x (term_tree low) (term_tree high) (straight_block body.items)
-straight_loop x low high body =
-    let inner = code_of_body (code.Repeat x low high body) in
-    ap (repeats x (term_tree low) (term_tree high)) (code_rows inner.0 inner.1
-    ∙ ap straight_block (code.items_hidden-the_row-StraightStatement-0 body))
+use Rattle.branch_removal.specs.Straight.{straight_tree, straight_block}
+use Rattle.branch_removal.proofs.StatementTrees as trees
+use Rattle.branch_removal.proofs.StatementTrees.{chain-assoc, pushed}
 
 -- Lists of statements.
-
-pub chain-assoc : (these those more : StraightBlock) → chain (chain these those) more ≡ chain these (chain those more)
-chain-assoc nothing those more = refl
-chain-assoc (first statement these) those more = ap (first statement) (chain-assoc these those more)
-
-pub chain-nothing : (these : StraightBlock) → chain these nothing ≡ these
-chain-nothing nothing = refl
-chain-nothing (first statement these) = ap (first statement) (chain-nothing these)
-
--- one statement more
-pub block-push : (xs : List StraightStatement) (x : StraightStatement)
-    → straight_block (xs ++ x ∷ []) ≡ chain (straight_block xs) (first (straight_tree x) nothing)
-block-push [] x = refl
-block-push (y ∷ xs) x = ap (first (straight_tree y)) (block-push xs x)
-
--- so the code is as long, and one statement more
-pub pushed : (old new : List StraightStatement) (x : StraightStatement) (tree : StraightTree) → new ≡ old ++ x ∷ []
-    → straight_tree x ≡ tree
-    → straight_block new ≡ chain (straight_block old) (first tree nothing)
-pushed old new x tree items is = ap straight_block items
-    ∙ (block-push old x ∙ ap (λ t. chain (straight_block old) (first t nothing)) is)
 
 nodes_behind : (body : List FlatStatement) (i : ℕ)
     → body_nodes (flat_block (drop i body)) ≤ body_nodes (flat_block body)
@@ -119,7 +35,7 @@ pub pushed_branch : (old new : List StraightStatement) (condition : Term) (tree 
     (first (branch tree (straight_block accepted.items) (straight_block otherwise.items)) nothing)
 pushed_branch old new condition tree accepted otherwise same items =
     pushed old new (code.Branch condition accepted otherwise) _ items
-    (straight_branch condition accepted otherwise
+    (trees.branch_tree condition accepted otherwise
     ∙ ap (λ e. branch e (straight_block accepted.items) (straight_block otherwise.items)) same)
 
 pub pushed_loop : (old new : List StraightStatement) (x : ℕ) (low high : Term) (from to : TermTree)
@@ -128,7 +44,7 @@ pub pushed_loop : (old new : List StraightStatement) (x : ℕ) (low high : Term)
     → straight_block new ≡ chain (straight_block old) (first (repeats x from to (straight_block body.items)) nothing)
 pushed_loop old new x low high from to body at_low at_high items =
     pushed old new (code.Repeat x low high body) _ items
-    (straight_loop x low high body ∙ ap₂ (λ e f. repeats x e f (straight_block body.items)) at_low at_high)
+    (trees.loop_tree x low high body ∙ ap₂ (λ e f. repeats x e f (straight_block body.items)) at_low at_high)
 
 -- of some statements one more
 pub passed : (within : Option ℕ) (control : ℕ) (body : List FlatStatement) (i : ℕ) (item : FlatStatement)
@@ -194,7 +110,7 @@ module _ (statement : FlatStatement) (label : Label) (condition : Term)
   tree_of_branch : (ones others : List FlatStatement) → ones ≡ accepted.items → others ≡ otherwise.items
       → flat_tree statement ≡ flat.branch label (term_tree condition) (flat_block ones) (flat_block others)
   tree_of_branch ones others one other =
-      ap flat_tree is ∙ (branch_tree label condition accepted otherwise
+      ap flat_tree is ∙ (rows.branch_tree label condition accepted otherwise
       ∙ ap₂ (λ (xs ys : List FlatStatement). flat.branch label (term_tree condition) (flat_block xs) (flat_block ys))
       (sym one) (sym other))
 
@@ -281,7 +197,7 @@ module _ (statement : FlatStatement) (x : ℕ) (low high : Term) (body : Vec Fla
   tree_of_loop : (inner : List FlatStatement) → inner ≡ body.items
       → flat_tree statement ≡ flat.loop x (term_tree low) (term_tree high) (flat_block inner)
   tree_of_loop inner items = ap flat_tree is
-      ∙ (loop_tree x low high body
+      ∙ (rows.loop_tree x low high body
       ∙ ap (λ (xs : List FlatStatement). flat.loop x (term_tree low) (term_tree high) (flat_block xs)) (sym items))
 
   -- a loop takes the control values of its body

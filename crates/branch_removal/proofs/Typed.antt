@@ -12,7 +12,6 @@ use Rattle.language.specs.declared.signature.Label.{Label}
 use Rattle.language.specs.declared.signature.Label.TheVariants.{Public, Secret}
 use Rattle.word.specs.declared.profile.Profile.{Profile}
 use Rattle.branch_removal.specs.private.Removal.{removed, removed_all, controls_in, controls_in_all}
-use Rattle.branch_removal.specs.Straight.{StraightTree, set, clear, fill, take, set_under, put_under, repeats}
 use Rattle.branch_removal.specs.Straight.{StraightBlock, chain}
 use Rattle.branch_removal.specs.Straight as straight
 use Rattle.branch_removal.specs.StraightTyping.{AreTyped, IsAmong, types_but, IsSecret, AreHidden}

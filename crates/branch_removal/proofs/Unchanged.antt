@@ -15,7 +15,8 @@ use Rattle.branch_removal.specs.Straight.{StraightBlock}
 use Rattle.branch_removal.specs.StraightMeaning.{StraightState, holds, with_variable, value_at, counted, after}
 use Rattle.branch_removal.specs.StraightMeaning.{after_all}
 use Rattle.branch_removal.proofs.Agreement.{Sees, Agree, what_is_public}
-use Rattle.branch_removal.proofs.Runs.{after-chain, turns_keep, first_control, second_control, controls_stay}
+use Rattle.branch_removal.proofs.Sequences.{after-chain}
+use Rattle.branch_removal.proofs.Runs.{turns_keep, first_control, second_control, controls_stay}
 use Rattle.branch_removal.proofs.Runs.{controls_stay_all}
 use Rattle.branch_removal.proofs.Scopes.{apart, stays, stays_beside}
 use Rattle.branch_removal.proofs.Values.{secret≢public}

@@ -7,4 +7,5 @@ pub mod Kept
 pub mod Removed
 pub mod Exact
 pub mod Replaced
+pub mod Quiet
 pub mod private

@@ -8,6 +8,7 @@ use inline::Term;
 use std::alloc::{AllocError, Global};
 
 /// A copy of an expression.
+#[cycle(copied)]
 pub fn copied(alloc: Global, term: &Term) -> Result<Term, AllocError>
     ensures { IfOk result (λ copy. term_tree copy ≡ term_tree term.now) }
 {
@@ -16,33 +17,42 @@ pub fn copied(alloc: Global, term: &Term) -> Result<Term, AllocError>
         Term::Truth(value) => Ok(Term::Truth(*value)),
         Term::Variable(number) => Ok(Term::Variable(*number)),
         Term::Prefix(operator, width, operand) => {
-            let operand = Box::new(alloc, copied(alloc, operand)?)?;
+            let operand = boxed(alloc, operand)?;
             Ok(Term::Prefix(*operator, *width, operand))
         }
         Term::Binary(place, operator, width, left, right) => {
-            let left = Box::new(alloc, copied(alloc, left)?)?;
-            let right = Box::new(alloc, copied(alloc, right)?)?;
+            let left = boxed(alloc, left)?;
+            let right = boxed(alloc, right)?;
             Ok(Term::Binary(*place, *operator, *width, left, right))
         }
         Term::Rotate(width, operand, amount) => {
-            let operand = Box::new(alloc, copied(alloc, operand)?)?;
+            let operand = boxed(alloc, operand)?;
             Ok(Term::Rotate(*width, operand, *amount))
         }
         Term::Convert(kind, operand) => {
-            let operand = Box::new(alloc, copied(alloc, operand)?)?;
+            let operand = boxed(alloc, operand)?;
             Ok(Term::Convert(*kind, operand))
         }
         Term::Select(condition, accepted, otherwise) => {
-            let condition = Box::new(alloc, copied(alloc, condition)?)?;
-            let accepted = Box::new(alloc, copied(alloc, accepted)?)?;
-            let otherwise = Box::new(alloc, copied(alloc, otherwise)?)?;
+            let condition = boxed(alloc, condition)?;
+            let accepted = boxed(alloc, accepted)?;
+            let otherwise = boxed(alloc, otherwise)?;
             Ok(Term::Select(condition, accepted, otherwise))
         }
         Term::Element(place, array, size, index) => {
-            let index = Box::new(alloc, copied(alloc, index)?)?;
+            let index = boxed(alloc, index)?;
             Ok(Term::Element(*place, *array, *size, index))
         }
     }
+}
+
+/// A copy of an expression, in a box of its own.
+#[cycle(copied)]
+fn boxed(alloc: Global, term: &Term) -> Result<Box<Term>, AllocError>
+    ensures { IfOk result (λ copy. term_tree copy.value ≡ term_tree term.now) }
+{
+    let copy = copied(alloc, term)?;
+    Ok(Box::new(alloc, copy)?)
 }
 
 /// Copies of expressions, in their order.

@@ -1,13 +1,16 @@
 // The laws, which hold of the definitions alone.
 
-ghost use Rattle.std.specs.Prelude.{◌≡◌, List};
+ghost use Rattle.std.specs.Prelude.{◌≡◌, List, [], true};
 ghost use Rattle.arguments.specs.Agreement.{Agree};
 ghost use Rattle.arguments.specs.PublicResults.{AgreeInPublic};
+ghost use Rattle.branch_removal.specs.Quiet.{is_quiet};
 ghost use Rattle.branch_removal.specs.Removed.{IsRemoved};
 ghost use Rattle.branch_removal.specs.Replaced.{IsReplaced};
 ghost use Rattle.branch_removal.specs.Straight.{StraightProgram};
 ghost use Rattle.branch_removal.specs.StraightMeaning.{outcome_of, path_of};
 ghost use Rattle.branch_removal.specs.StraightTyping.{IsTypedStraight};
+ghost use Rattle.inline.specs.Flat.{TermTree};
+ghost use Rattle.inline.specs.FlatMeaning.{Values, path_in};
 ghost use Rattle.inline.specs.Path.{seen};
 ghost use Rattle.intervals.specs.Ranged.{RangedProgram};
 ghost use Rattle.language.specs.declared.values.Arg.{Arg};
@@ -23,4 +26,9 @@ pub fn straight_shows_what_is_public()
 /// What may stand in the place of a body's straight code is straight code for that body.
 pub fn replaced_is_removed()
     ensures { (ranged : RangedProgram) (before after : StraightProgram) → IsRemoved ranged before → IsReplaced before after → IsRemoved ranged after }
+{}
+
+/// An expression without an index, a division or a multiplication has nothing on its path.
+pub fn quiet_shows_nothing()
+    ensures { (variables : Values) (e : TermTree) → is_quiet e ≡ true → path_in variables e ≡ [] }
 {}

@@ -6,9 +6,13 @@
 mod controls;
 mod copies;
 mod laws;
+mod nesting;
+mod quiet;
 mod removal;
 mod straight;
 
-pub use laws::{replaced_is_removed, straight_shows_what_is_public};
+pub use laws::{quiet_shows_nothing, replaced_is_removed, straight_shows_what_is_public};
+pub use nesting::{branch_of, loop_of};
+pub use quiet::is_quiet;
 pub use removal::remove;
 pub use straight::{Straight, StraightStatement};

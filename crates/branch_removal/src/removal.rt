@@ -1,4 +1,4 @@
-ghost use Rattle.std.specs.Prelude.{◌≡◌, ◌+◌, ◌^◌, ◌<◌, ◌≤◌, map, IfOk, IfErr, OnOk};
+ghost use Rattle.std.specs.Prelude.{◌≡◌, ◌+◌, ◌++◌, ◌∷◌, ◌^◌, ◌<◌, ◌≤◌, [], map, IfOk, IfErr, OnOk};
 ghost use Rattle.inline.specs.Flat.{term_tree, flat_tree, flat_block};
 ghost use Rattle.language.specs.WantOfMemory.{IsWantOfMemory};
 ghost use Rattle.branch_removal.specs.private.Removal.{set_within, put_within, made, removed, removed_all, controls_in, controls_in_all};
@@ -54,6 +54,14 @@ fn made(variable: u32, size: u32, values: Vec<Term>) -> StraightStatement
     }
 }
 
+/// Puts a statement behind what there is.
+fn push(code: &mut Vec<StraightStatement>, one: StraightStatement) -> Result<(), AllocError>
+    ensures { OnOk result (code.new.items ≡ code.old.items ++ one ∷ []) }
+{
+    code.push(one)?;
+    Ok(())
+}
+
 /// Puts a statement's straight code behind what there is. Its own control values are from `control` on.
 #[cycle(removal)]
 fn push_removed(
@@ -68,27 +76,36 @@ fn push_removed(
 {
     match statement {
         FlatStatement::Declare(variable, _, _, value) => {
-            code.push(StraightStatement::Set(*variable, copied(alloc, value)?))?;
+            push(
+                code,
+                StraightStatement::Set(*variable, copied(alloc, value)?),
+            )?;
         }
         FlatStatement::DeclareArray(variable, _, _, size, values) => {
-            code.push(made(*variable, *size, all_copied(alloc, values)?))?;
+            push(code, made(*variable, *size, all_copied(alloc, values)?))?;
         }
         FlatStatement::Assign(variable, value) => {
-            code.push(set_within(within, *variable, copied(alloc, value)?))?;
+            push(code, set_within(within, *variable, copied(alloc, value)?))?;
         }
         FlatStatement::AssignElement(place, variable, size, index, value) => {
             let index = copied(alloc, index)?;
             let value = copied(alloc, value)?;
-            code.push(put_within(within, *place, *variable, *size, index, value))?;
+            push(
+                code,
+                put_within(within, *place, *variable, *size, index, value),
+            )?;
         }
         FlatStatement::Hold(variable, _, _, index) => {
-            code.push(StraightStatement::Set(*variable, copied(alloc, index)?))?;
+            push(
+                code,
+                StraightStatement::Set(*variable, copied(alloc, index)?),
+            )?;
         }
         FlatStatement::Skip => {}
         FlatStatement::Branch(label, condition, accepted, otherwise) => match label {
             Label::Secret => {
                 let condition = copied(alloc, condition)?;
-                code.push(StraightStatement::Take(control, within, condition))?;
+                push(code, StraightStatement::Take(control, within, condition))?;
                 push_removed_all(alloc, code, Some(control), control + 2, accepted)?;
                 push_removed_all(alloc, code, Some(control + 1), control + 2, otherwise)?;
             }
@@ -97,7 +114,10 @@ fn push_removed(
                 push_removed_all(alloc, &mut one, within, control, accepted)?;
                 let mut other = Vec::new(alloc);
                 push_removed_all(alloc, &mut other, within, control, otherwise)?;
-                code.push(StraightStatement::Branch(copied(alloc, condition)?, one, other))?;
+                push(
+                    code,
+                    StraightStatement::Branch(copied(alloc, condition)?, one, other),
+                )?;
             }
         },
         FlatStatement::Loop(counter, low, high, body) => {
@@ -105,7 +125,7 @@ fn push_removed(
             push_removed_all(alloc, &mut turn, within, control, body)?;
             let low = copied(alloc, low)?;
             let high = copied(alloc, high)?;
-            code.push(StraightStatement::Repeat(*counter, low, high, turn))?;
+            push(code, StraightStatement::Repeat(*counter, low, high, turn))?;
         }
     }
     Ok(())

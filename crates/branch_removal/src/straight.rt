@@ -11,7 +11,7 @@ use std::marker::Model;
 use word::{Place, Profile};
 
 /// A statement of straight code. Branches and loops are left only where what decides them is public.
-#[derive(Debug, Drop)]
+#[derive(Drop)]
 pub enum StraightStatement {
     /// Sets a variable.
     Set(u32, Term),
@@ -36,7 +36,7 @@ pub enum StraightStatement {
 
 /// Straight code: the export without branches on secrets. Its parameters are the first variables. It is well typed, and
 /// within the limits on size.
-#[derive(Debug, Drop)]
+#[derive(Drop)]
 pub struct Straight<'f> {
     profile: Profile,
     parameters: &'f [Param],

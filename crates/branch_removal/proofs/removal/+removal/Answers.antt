@@ -4,9 +4,10 @@ use Rattle.inline.specs.Flat.{flat_block, flat_tree, term_tree}
 use Rattle.branch_removal.specs.private.Removal.{made, own_controls, removed, removed_all, set_within, put_within}
 use Rattle.branch_removal.specs.Straight.{set, take, chain, straight_block}
 use Rattle.branch_removal.proofs.Statements.{accepted_fewer, accepted_smaller, otherwise_fewer, otherwise_smaller}
-use Rattle.branch_removal.proofs.Statements.{controls_of_loop, body_smaller, smaller_here, chain-nothing, passed}
+use Rattle.branch_removal.proofs.Statements.{controls_of_loop, body_smaller, smaller_here, passed}
 use Rattle.branch_removal.proofs.Statements.{fewer_here, fewer_behind, code_of_one, code_of_secret, code_of_public}
-use Rattle.branch_removal.proofs.Statements.{code_of_loop, pushed, pushed_branch, pushed_loop}
+use Rattle.branch_removal.proofs.Statements.{code_of_loop, pushed_branch, pushed_loop}
+use Rattle.branch_removal.proofs.StatementTrees.{chain-nothing, pushed}
 use Rattle.branch_removal.proofs.removal.+removal.Goals as goal
 
 pub push_removed-push_removed_all-requires : goal.push_removed-push_removed_all-requires
@@ -52,26 +53,26 @@ push_removed-push_removed_all-requires-in-Loop t c =
 pub push_removed-returns-in_ok-push-in-Declare : goal.push_removed-returns-in_ok-push-in-Declare
 push_removed-returns-in_ok-push-in-Declare t c =
     code_of_one c.args.statement.now _ c.args.within c.args.control _ c.in-Declare.is refl c.args.code.now.items
-    c.push.new.self.items _ c.in_ok-push-in-Declare.ensures.items
+    c.push.new.code.items _ c.in_ok-push-in-Declare.ensures
     (ap (set c.in-Declare.variable) c.in_ok-copied-in-Declare.ensures)
 
 pub push_removed-returns-in_ok-push-in-DeclareArray : goal.push_removed-returns-in_ok-push-in-DeclareArray
 push_removed-returns-in_ok-push-in-DeclareArray t c =
     code_of_one c.args.statement.now _ c.args.within c.args.control _ c.in-DeclareArray.is refl c.args.code.now.items
-    c.push-in-DeclareArray.new.self.items _ c.in_ok-push-in-DeclareArray.ensures.items
+    c.push-in-DeclareArray.new.code.items _ c.in_ok-push-in-DeclareArray.ensures
     (c.made.ensures ∙ ap (made c.in-DeclareArray.variable c.in-DeclareArray.size)
     (c.in_ok-all_copied-in-DeclareArray.ensures ∙ ap (map term_tree) c.deref.ensures.value))
 
 pub push_removed-returns-in_ok-push-in-Assign : goal.push_removed-returns-in_ok-push-in-Assign
 push_removed-returns-in_ok-push-in-Assign t c =
     code_of_one c.args.statement.now _ c.args.within c.args.control _ c.in-Assign.is refl c.args.code.now.items
-    c.push-in-Assign.new.self.items _ c.in_ok-push-in-Assign.ensures.items
+    c.push-in-Assign.new.code.items _ c.in_ok-push-in-Assign.ensures
     (c.set_within.ensures ∙ ap (set_within c.args.within c.in-Assign.variable) c.in_ok-copied-in-Assign.ensures)
 
 pub push_removed-returns-in_ok-push-in-AssignElement : goal.push_removed-returns-in_ok-push-in-AssignElement
 push_removed-returns-in_ok-push-in-AssignElement t c =
     code_of_one c.args.statement.now _ c.args.within c.args.control _ c.in-AssignElement.is refl c.args.code.now.items
-    c.push-in-AssignElement.new.self.items _ c.in_ok-push-in-AssignElement.ensures.items
+    c.push-in-AssignElement.new.code.items _ c.in_ok-push-in-AssignElement.ensures
     (c.put_within.ensures
     ∙ ap₂ (put_within c.args.within c.in-AssignElement.place c.in-AssignElement.variable
     c.in-AssignElement.size) c.in_ok-index-in-AssignElement.ensures c.in_ok-value-in-AssignElement.ensures)
@@ -79,7 +80,7 @@ push_removed-returns-in_ok-push-in-AssignElement t c =
 pub push_removed-returns-in_ok-push-in-Hold : goal.push_removed-returns-in_ok-push-in-Hold
 push_removed-returns-in_ok-push-in-Hold t c =
     code_of_one c.args.statement.now _ c.args.within c.args.control _ c.in-Hold.is refl c.args.code.now.items
-    c.push-in-Hold.new.self.items _ c.in_ok-push-in-Hold.ensures.items
+    c.push-in-Hold.new.code.items _ c.in_ok-push-in-Hold.ensures
     (ap (set c.in-Hold.variable) c.in_ok-copied-in-Hold.ensures)
 
 pub push_removed-returns-in-Skip : goal.push_removed-returns-in-Skip
@@ -95,7 +96,7 @@ push_removed-returns-in_ok-push_removed_all-in-Secret-2 t c =
     c.in-Branch.otherwise c.in-Branch.is c.in-Secret.is c.args.within c.args.control
     _ _ _ _ c.deref-in-Secret.result.now c.deref-in-Secret-2.result.now c.deref-in-Secret.ensures.value
     c.deref-in-Secret-2.ensures.value
-    (pushed c.args.code.now.items c.push-in-Secret.new.self.items _ _ c.in_ok-push-in-Secret.ensures.items
+    (pushed c.args.code.now.items c.push-in-Secret.new.code.items _ _ c.in_ok-push-in-Secret.ensures
     (ap (take c.args.control c.args.within) c.in_ok-condition-in-Secret.ensures))
     c.in_ok-push_removed_all-in-Secret.ensures c.in_ok-push_removed_all-in-Secret-2.ensures
 
@@ -113,8 +114,8 @@ push_removed-returns-in_ok-push-in-Public t c =
     ∙ ap (λ xs. chain (straight_block xs)
     (removed_all c.args.within c.args.control (flat_block c.deref-in-Public-2.result.now)))
     c.new-other.ensures.items)
-    (pushed_branch c.args.code.now.items c.push-in-Public.new.self.items _ _ _ _ c.in_ok-copied-in-Public.ensures
-    c.in_ok-push-in-Public.ensures.items)
+    (pushed_branch c.args.code.now.items c.push-in-Public.new.code.items _ _ _ _ c.in_ok-copied-in-Public.ensures
+    c.in_ok-push-in-Public.ensures)
 
 pub push_removed-returns-in_ok-push-in-Loop : goal.push_removed-returns-in_ok-push-in-Loop
 push_removed-returns-in_ok-push-in-Loop t c =
@@ -122,8 +123,8 @@ push_removed-returns-in_ok-push-in-Loop t c =
     c.args.within c.args.control
     _ _ _ c.deref-in-Loop.result.now c.deref-in-Loop.ensures.value
     (c.in_ok-push_removed_all-in-Loop.ensures ∙ ap (λ xs. chain (straight_block xs) (removed_all c.args.within c.args.control (flat_block c.deref-in-Loop.result.now))) c.new-turn.ensures.items)
-    (pushed_loop c.args.code.now.items c.push-in-Loop.new.self.items _ _ _ _ _ _ c.in_ok-low-in-Loop.ensures
-    c.in_ok-high-in-Loop.ensures c.in_ok-push-in-Loop.ensures.items)
+    (pushed_loop c.args.code.now.items c.push-in-Loop.new.code.items _ _ _ _ _ _ c.in_ok-low-in-Loop.ensures
+    c.in_ok-high-in-Loop.ensures c.in_ok-push-in-Loop.ensures)
 
 pub push_removed_all-push_removed-requires : goal.push_removed_all-push_removed-requires
 push_removed_all-push_removed-requires t c =

@@ -1,0 +1,41 @@
+-- What is quiet has no path.
+use Rattle.std.proofs.Common.{◌≡◌, ℕ, ◌&&◌, true, false, not, [], ◌++◌, refl, ap₂, ◌∙◌}
+use Rattle.std.proofs.lemmas.Bool.{cond-false, or_parts, and_parts, not-true}
+use Rattle.branch_removal.specs.Quiet.{is_marked, is_quiet}
+use Rattle.inline.specs.Flat.{TermTree, number, truth, variable, prefix, binary, rotate, convert, select, element}
+use Rattle.inline.specs.FlatMeaning.{Values, value_in, path_in, marks_of}
+use Rattle.inline.specs.Path.{Path}
+use Rattle.language.specs.declared.tree.BinaryOperator.{BinaryOperator}
+use Rattle.language.specs.Operators.{divides, multiplies}
+use Rattle.word.specs.declared.place.Place.{Place}
+
+-- operands of an operator without marks are not on the path
+pub no_marks : (place : Place) (operator : BinaryOperator) (a b : ℕ) → is_marked operator ≡ false
+    → marks_of place operator a b ≡ []
+no_marks place operator a b unmarked =
+    let parts = or_parts (divides operator) (multiplies operator) unmarked in
+    cond-false (divides operator) _ _ parts.0 ∙ cond-false (multiplies operator) _ _ parts.1
+
+pub quiet_path : (m : Values) (e : TermTree) → is_quiet e ≡ true → path_in m e ≡ []
+quiet_path m (number value kind) quiet = refl
+quiet_path m (truth value) quiet = refl
+quiet_path m (variable x) quiet = refl
+quiet_path m (prefix operator width operand) quiet = quiet_path m operand quiet
+quiet_path m (binary place operator width left right) quiet =
+    let outer = and_parts (not (is_marked operator) && is_quiet left) (is_quiet right) quiet in
+    let inner = and_parts (not (is_marked operator)) (is_quiet left) outer.0 in
+    ap₂ (λ (p q : Path). p ++ q)
+    (ap₂ (λ (p q : Path). p ++ q) (quiet_path m left inner.1) (quiet_path m right outer.1))
+    (no_marks place operator (value_in m left) (value_in m right) (not-true (is_marked operator) inner.0))
+quiet_path m (rotate width operand amount) quiet = quiet_path m operand quiet
+quiet_path m (convert kind operand) quiet = quiet_path m operand quiet
+quiet_path m (select condition accepted otherwise) quiet =
+    let outer = and_parts (is_quiet condition && is_quiet accepted) (is_quiet otherwise) quiet in
+    let inner = and_parts (is_quiet condition) (is_quiet accepted) outer.0 in
+    ap₂ (λ (p q : Path). p ++ q)
+    (ap₂ (λ (p q : Path). p ++ q) (quiet_path m condition inner.0) (quiet_path m accepted inner.1))
+    (quiet_path m otherwise outer.1)
+quiet_path m (element place x size index) quiet = absurd (none_true quiet)
+  where
+    none_true : false ≡ true → ⊥
+    none_true h = cc
