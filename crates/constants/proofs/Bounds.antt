@@ -11,7 +11,7 @@ use Rattle.branch_removal.specs.Heights.{depth_in, depth_in_all, height_in, heig
 use Rattle.branch_removal.specs.Straight.{StraightTree, set, clear, fill, put, take, set_under, put_under, branch}
 use Rattle.branch_removal.specs.Straight.{repeats, StraightBlock, nothing, first, chain}
 use Rattle.constants.specs.private.Folding.{simple, constant_of, decision, numbers_of}
-use Rattle.constants.specs.private.Known.{Words, without, forgotten_all}
+use Rattle.constants.specs.private.Known.{Words, forgotten_all, in_loop}
 use Rattle.constants.specs.private.Choice.{AreAllowed}
 use Rattle.constants.specs.private.Simplification.{at_turn, code_of_turns, knowing, knowing_all, single}
 use Rattle.constants.specs.private.Simplification.{simplified, simplified_all}
@@ -83,7 +83,7 @@ module _ (copies : List ℕ) where
         (omega (arith, one.depth, second.depth)))
     stays_low words (repeats x low high body) =
         let whole = repeats x low high body in
-        let inside = forgotten_all (without words x) body in
+        let inside = in_loop words x body in
         let inner = stays_low_all inside body in
         let simpler = repeats x (simple words low) (simple words high) (simplified_all copies inside body) in
         unrolled_any (IsLow (height_in whole) (depth_in whole))
@@ -191,7 +191,7 @@ module _ (copies counts : List ℕ) (allowed : AreAllowed copies counts) where
         (simplified_all copies arm otherwise)))
         (omega (arith, one)) (omega (arith, other)) (omega (arith, one, second, fewer_nodes words condition))
     less words (repeats x low high body) =
-        let inside = forgotten_all (without words x) body in
+        let inside = in_loop words x body in
         let code = simplified_all copies inside body in
         let inner = less_all inside body in
         let loops : (slice_index counts x + 1) * (1 + block_work counts code)

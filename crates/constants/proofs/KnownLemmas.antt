@@ -1,10 +1,11 @@
 -- What is known of variables once something is noted or forgotten.
-use Rattle.std.proofs.Common.{◌≡◌, ℕ, zero, suc, [], ◌∷◌, Option, None, Some, replicate, slice_set, slice_index}
+use Rattle.std.proofs.Common.{◌≡◌, ◌≤◌, ℕ, zero, suc, length, Bool, true, false, if◌then◌else◌, nat_lt, [], ◌∷◌, map, Option, None}
+use Rattle.std.proofs.Common.{Some, replicate, slice_set, slice_index}
 use Rattle.std.proofs.Common.{refl, ap, arith}
 use Rattle.std.proofs.lemmas.Option.{none-some}
 use Rattle.inline.specs.FlatMeaning.{Values}
 use Rattle.constants.specs.declared.known.Constant.{Constant}
-use Rattle.constants.specs.private.Known.{Words, known, without}
+use Rattle.constants.specs.private.Known.{Words, known, without, short}
 
 pub known_beside : (words : Words) (x y : ℕ) (word : Option Constant) → (y ≡ x → ⊥)
     → known (slice_set words x word) y ≡ known words y
@@ -35,6 +36,36 @@ without_same (w ∷ words) zero zero c is = absurd (none-some c is)
 without_same (w ∷ words) zero (suc y) c is = is
 without_same (w ∷ words) (suc x) zero c is = is
 without_same (w ∷ words) (suc x) (suc y) c is = without_same words x y c is
+
+short_here : (b : Bool) (d c : Constant) → (if b then Some d else None) ≡ Some c → Some d ≡ Some c
+short_here true d c is = is
+short_here false d c is = absurd (none-some c is)
+
+-- of short words no more is known
+pub short_same : (words : Words) (y : ℕ) (c : Constant) → known (map short words) y ≡ Some c → known words y ≡ Some c
+short_same [] y c is = is
+short_same (None ∷ words) zero c is = is
+short_same (Some d ∷ words) zero c is = short_here (nat_lt d.value 2048) d c is
+short_same (w ∷ words) (suc y) c is = short_same words y c is
+
+-- the words from a number on where they are short, and those before it as they are
+abbrev pub shorts_from : ℕ → Words → Words
+shorts_from zero words = map short words
+shorts_from (suc n) [] = []
+shorts_from (suc n) (w ∷ words) = w ∷ shorts_from n words
+
+pub shorts_step : (n : ℕ) (words : Words)
+    → shorts_from (suc n) (slice_set words n (short (known words n))) ≡ shorts_from n words
+shorts_step zero [] = refl
+shorts_step zero (w ∷ words) = refl
+shorts_step (suc n) [] = refl
+shorts_step (suc n) (w ∷ words) = ap (λ rest. w ∷ rest) (shorts_step n words)
+
+pub shorts_end : (n : ℕ) (words : Words) → length words ≤ n → shorts_from n words ≡ words
+shorts_end zero [] within = refl
+shorts_end zero (w ∷ words) within = absurd (omega (arith, within))
+shorts_end (suc n) [] within = refl
+shorts_end (suc n) (w ∷ words) within = ap (λ rest. w ∷ rest) (shorts_end n words (omega (arith, within)))
 
 -- where a program begins nothing is known
 pub nothing_first : (n x : ℕ) (c : Constant) → known (replicate n None) x ≡ Some c → ⊥

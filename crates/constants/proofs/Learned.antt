@@ -12,7 +12,7 @@ use Rattle.branch_removal.specs.Straight.{repeats, StraightBlock, nothing, first
 use Rattle.branch_removal.specs.StraightMeaning.{StraightState, value_at, counted, after, after_all}
 use Rattle.constants.specs.declared.known.Constant.{Constant}
 use Rattle.constants.specs.private.Folding.{simple, constant, constant_of, decision, numbers_of}
-use Rattle.constants.specs.private.Known.{Words, known, without, forgotten_all}
+use Rattle.constants.specs.private.Known.{Words, known, without, forgotten_all, in_loop}
 use Rattle.constants.specs.declared.terms.Numbers.{Numbers}
 use Rattle.constants.specs.private.Simplification.{decided, unrolled, at_turn, knowing, knowing_all}
 use Rattle.constants.proofs.KnownLemmas.{known_beside, known_here, without_apart, without_same, Agrees}
@@ -187,7 +187,7 @@ module _ (copies : List ℕ) where
         left_alone whole y ((behind_part copies words accepted y c second.0).1, second.1) s))
     learned words (repeats x low high body) s agrees =
         let whole = repeats x low high body in
-        let inside = forgotten_all (without words x) body in
+        let inside = in_loop words x body in
         unrolled_by (λ (w : Words). Agrees w (after s whole).variables)
         (numbers_of (slice_index copies x) (constant_of (simple words low)) (constant_of (simple words high)))
         (λ each. turns (each.high - each.low) each.low (λ i w. knowing_all copies (at_turn x i w) body) words)

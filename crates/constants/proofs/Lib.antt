@@ -8,5 +8,5 @@ pub mod Same
 pub mod Typed
 pub mod Bounds
 pub mod Whole
-pub mod StatementTrees
+pub mod StatementCode
 pub mod ChoiceLemmas

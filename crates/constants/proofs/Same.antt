@@ -1,42 +1,28 @@
 -- Simpler statements leave the state that the statements leave, and their path is fine where that of the statements
 -- is.
-use Rattle.std.proofs.Common.{◌≡◌, ℕ, zero, suc, ◌+◌, ◌-◌, ◌==◌, ◌&&◌, not, Bool, true, false, if◌then◌else◌, List}
-use Rattle.std.proofs.Common.{[], ◌∷◌, ◌++◌, Some, refl, sym, ap, ap₂, ◌∙◌, subst}
-use Rattle.std.proofs.Common.{append_assoc, slice_index}
+use Rattle.std.proofs.Common.{◌≡◌, ℕ, zero, suc, ◌+◌, ◌-◌, ◌<◌, ◌==◌, ◌&&◌, not, Bool, true, false, if◌then◌else◌, List}
+use Rattle.std.proofs.Common.{[], ◌∷◌, ◌++◌, map, Some, refl, sym, ap, ap₂, ◌∙◌, subst}
+use Rattle.std.proofs.Common.{slice_index}
 use Rattle.std.proofs.lemmas.Bool.{cond-false, cond-true}
 use Rattle.inline.specs.Flat.{TermTree, number, counter_type}
-use Rattle.inline.specs.FlatMeaning.{path_in, turns, path_of_turns}
+use Rattle.inline.specs.FlatMeaning.{path_in, path_in_all, turns, path_of_turns}
 use Rattle.inline.specs.Path.{Path, AreFine, decided as decided_mark, bounded, indexed}
 use Rattle.word.specs.declared.place.Place.{Place}
 use Rattle.branch_removal.specs.Straight.{StraightTree, set, clear, fill, put, take, set_under, put_under, branch}
-use Rattle.branch_removal.specs.Straight.{repeats, StraightBlock, nothing, first, chain}
+use Rattle.branch_removal.specs.Straight.{repeats, StraightBlock, nothing, first}
 use Rattle.branch_removal.specs.StraightMeaning.{StraightState, holds, with_variable, with_element, with_controls}
 use Rattle.branch_removal.specs.StraightMeaning.{value_at, counted, after, after_all, path_at, path_along}
+use Rattle.branch_removal.proofs.Sequences.{after-chain, path-chain, fine_both, fine_front, fine_back, fine_alone}
 use Rattle.constants.specs.private.Folding.{simple, constant_of, decision, numbers_of}
-use Rattle.constants.specs.private.Known.{Words, without, forgotten_all}
+use Rattle.constants.specs.private.Known.{Words, forgotten_all, in_loop}
 use Rattle.constants.specs.declared.terms.Numbers.{Numbers}
 use Rattle.constants.specs.private.Simplification.{at_turn, code_of_turns, knowing, knowing_all}
 use Rattle.constants.specs.private.Simplification.{single, simplified, simplified_all}
 use Rattle.constants.proofs.KnownLemmas.{Agrees}
-use Rattle.constants.proofs.TermLemmas.{same_value, same_path, same_values, same_path_all}
+use Rattle.constants.proofs.TermLemmas.{same_value, same_values, fine_path, fine_path_all}
 use Rattle.constants.proofs.Unset.{behind_part, within_loop, turn_begins, turn_ends}
 use Rattle.constants.proofs.Learned.{decided_by, unrolled_by, decided_here, takes_accepted, takes_otherwise}
 use Rattle.constants.proofs.Learned.{first_and_end, turns_between, turn_known, learned, learned_all}
-
--- Blocks one after the other.
-
-pub after-chain : (s : StraightState) (these those : StraightBlock)
-    → after_all s (chain these those) ≡ after_all (after_all s these) those
-after-chain s nothing those = refl
-after-chain s (first statement these) those = after-chain (after s statement) these those
-
-pub path-chain : (s : StraightState) (these those : StraightBlock)
-    → path_along s (chain these those) ≡ path_along s these ++ path_along (after_all s these) those
-path-chain s nothing those = refl
-path-chain s (first statement these) those =
-    ap (λ rest. path_at s statement ++ rest) (path-chain (after s statement) these those)
-    ∙ sym (append_assoc (path_at s statement) (path_along (after s statement) these)
-    (path_along (after_all (after s statement) these) those))
 
 -- two loops whose turns do the same
 turns_alike : {S : Type 0} (P : S → Type 0) (f g : ℕ → S → S) → ((i : ℕ) (s : S) → P s → f i s ≡ g i s)
@@ -47,7 +33,7 @@ turns_alike P f g same keep (suc n) i s p =
     ap (turns n (i + 1) f) (same i s p) ∙ turns_alike P f g same keep n (i + 1) (g i s) (keep i s p)
 
 loop_begins : (words : Words) (x : ℕ) (body : StraightBlock) (s : StraightState) → Agrees words s.variables
-    → Agrees (forgotten_all (without words x) body) s.variables
+    → Agrees (in_loop words x body) s.variables
 loop_begins words x body s agrees y c is = agrees y c (within_loop words x body y c is).0
 
 -- the code of turns leaves the state that the turns leave
@@ -105,7 +91,7 @@ module _ (copies : List ℕ) where
         else u) (same_after_all arm otherwise s (arm_begins words accepted s agrees)) one)
     same_after words (repeats x low high body) s agrees =
         let whole = repeats x low high body in
-        let inside = forgotten_all (without words x) body in
+        let inside = in_loop words x body in
         let code = simplified_all copies inside body in
         let turn : ℕ → StraightState → StraightState = λ i t. after_all (counted x i t) body in
         let simpler : ℕ → StraightState → StraightState = λ i t. after_all (counted x i t) code in
@@ -142,22 +128,6 @@ module _ (copies : List ℕ) where
 -- Paths.
 
 module _ (most : List ℕ) where
-  pub fine_both : (p q : Path) → AreFine most p → AreFine most q → AreFine most (p ++ q)
-  fine_both [] q one other = other
-  fine_both (mark ∷ p) q one other = (one.0, fine_both p q one.1 other)
-
-  pub fine_front : (p q : Path) → AreFine most (p ++ q) → AreFine most p
-  fine_front [] q both = tt
-  fine_front (mark ∷ p) q both = (both.0, fine_front p q both.1)
-
-  pub fine_back : (p q : Path) → AreFine most (p ++ q) → AreFine most q
-  fine_back [] q both = both
-  fine_back (mark ∷ p) q both = fine_back p q both.1
-
-  -- the same path, with nothing behind it
-  alone : (p q : Path) → p ≡ q → AreFine most q → AreFine most (p ++ [])
-  alone p q same fine = fine_both p [] (subst (AreFine most) (sym same) fine) tt
-
   -- two loops whose turns do the same
   turns_fine : {S : Type 0} (P : S → Type 0) (f g : ℕ → S → S) (p q : ℕ → S → Path)
       → ((i : ℕ) (s : S) → P s → f i s ≡ g i s) → ((i : ℕ) (s : S) → P s → P (g i s))
@@ -165,21 +135,28 @@ module _ (most : List ℕ) where
       → (n i : ℕ) (s : S) → P s → AreFine most (path_of_turns n i g q s) → AreFine most (path_of_turns n i f p s)
   turns_fine P f g p q same keep each zero i s holds fine = fine
   turns_fine P f g p q same keep each (suc n) i s holds fine =
-      fine_both (p i s) (path_of_turns n (i + 1) f p (f i s))
-      (each i s holds (fine_front (q i s) (path_of_turns n (i + 1) g q (g i s)) fine))
+      fine_both most (p i s) (path_of_turns n (i + 1) f p (f i s))
+      (each i s holds (fine_front most (q i s) (path_of_turns n (i + 1) g q (g i s)) fine))
       (subst (λ t. AreFine most (path_of_turns n (i + 1) f p t)) (sym (same i s holds))
       (turns_fine P f g p q same keep each n (i + 1) (g i s) (keep i s holds)
-      (fine_back (q i s) (path_of_turns n (i + 1) g q (g i s)) fine)))
+      (fine_back most (q i s) (path_of_turns n (i + 1) g q (g i s)) fine)))
 
-  put_path : (words : Words) (place : Place) (x size : ℕ) (index value : TermTree) (s : StraightState)
+  put_fine : (words : Words) (place : Place) (x size : ℕ) (index value : TermTree) (s : StraightState)
       → Agrees words s.variables
-      → path_in s.variables (simple words index) ++ indexed place size (value_at s (simple words index))
-      ∷ path_in s.variables (simple words value)
-      ≡ path_in s.variables index ++ indexed place size (value_at s index) ∷ path_in s.variables value
-  put_path words place x size index value s agrees =
-      ap₂ (λ (p q : Path). p ++ q) (same_path words s.variables agrees index)
-      (ap₂ (λ (i : ℕ) (p : Path). indexed place size i ∷ p) (same_value words s.variables agrees index)
-      (same_path words s.variables agrees value))
+      → AreFine most (path_in s.variables index ++ indexed place size (value_at s index) ∷ path_in s.variables value)
+      → AreFine most ((path_in s.variables (simple words index)
+      ++ indexed place size (value_at s (simple words index)) ∷ path_in s.variables (simple words value)) ++ [])
+  put_fine words place x size index value s agrees fine =
+      let i = simple words index in
+      let v = simple words value in
+      let run : Path = indexed place size (value_at s index) ∷ path_in s.variables value in
+      let behind = fine_back most (path_in s.variables index) run fine in
+      fine_alone most (path_in s.variables i ++ indexed place size (value_at s i) ∷ path_in s.variables v)
+      (fine_both most (path_in s.variables i) (indexed place size (value_at s i) ∷ path_in s.variables v)
+      (fine_path most words s.variables agrees index (fine_front most (path_in s.variables index) run fine)) (
+        subst (λ n. n < size) (sym (same_value words s.variables agrees index)) behind.0,
+        fine_path most words s.variables agrees value behind.1,
+      ))
 
   -- of two arms the one that runs
   either_fine : (b : Bool) (one other one' other' : Path) → (AreFine most one → AreFine most one')
@@ -201,11 +178,11 @@ module _ (most : List ℕ) where
   copies_fine P f code g q same keep each (suc n) i w s holds fine =
       let rest = code_of_turns n (i + 1) f code (f i w) in
       subst (AreFine most) (sym (path-chain s (code i w) rest))
-      (fine_both (path_along s (code i w)) (path_along (after_all s (code i w)) rest)
-      (each i w s holds (fine_front (q i s) (path_of_turns n (i + 1) g q (g i s)) fine))
+      (fine_both most (path_along s (code i w)) (path_along (after_all s (code i w)) rest)
+      (each i w s holds (fine_front most (q i s) (path_of_turns n (i + 1) g q (g i s)) fine))
       (subst (λ (t : StraightState). AreFine most (path_along t rest)) (sym (same i w s holds))
       (copies_fine P f code g q same keep each n (i + 1) (f i w) (g i s) (keep i w s holds)
-      (fine_back (q i s) (path_of_turns n (i + 1) g q (g i s)) fine))))
+      (fine_back most (q i s) (path_of_turns n (i + 1) g q (g i s)) fine))))
 
   -- of the turns between two numbers
   path_between : (words : Words) (s : StraightState) → Agrees words s.variables → (x : ℕ) (low high : TermTree)
@@ -224,17 +201,17 @@ module _ (most : List ℕ) where
     mutual
       pub still_fine : (words : Words) (statement : StraightTree) (s : StraightState) → Agrees words s.variables
           → AreFine most (path_at s statement) → AreFine most (path_along s (simplified copies words statement))
-      still_fine words (set x value) s agrees fine = alone _ _ (same_path words s.variables agrees value) fine
+      still_fine words (set x value) s agrees fine = fine_alone most (path_in s.variables (simple words value)) (fine_path most words s.variables agrees value fine)
       still_fine words (clear x size) s agrees fine = tt
-      still_fine words (fill x values) s agrees fine = alone _ _ (same_path_all words s.variables agrees values) fine
+      still_fine words (fill x values) s agrees fine = fine_alone most (path_in_all s.variables (map (simple words) values)) (fine_path_all most words s.variables agrees values fine)
       still_fine words (put place x size index value) s agrees fine =
-          alone _ _ (put_path words place x size index value s agrees) fine
+          put_fine words place x size index value s agrees fine
       still_fine words (take control within condition) s agrees fine =
-          alone _ _ (same_path words s.variables agrees condition) fine
+          fine_alone most (path_in s.variables (simple words condition)) (fine_path most words s.variables agrees condition fine)
       still_fine words (set_under control x value) s agrees fine =
-          alone _ _ (same_path words s.variables agrees value) fine
+          fine_alone most (path_in s.variables (simple words value)) (fine_path most words s.variables agrees value fine)
       still_fine words (put_under control place x size index value) s agrees fine =
-          alone _ _ (put_path words place x size index value s agrees) fine
+          put_fine words place x size index value s agrees fine
       still_fine words (branch condition accepted otherwise) s agrees fine =
           let c = simple words condition in
           let arm = forgotten_all (knowing_all copies words accepted) accepted in
@@ -242,7 +219,7 @@ module _ (most : List ℕ) where
           let other = simplified_all copies arm otherwise in
           let run : Path = decided_mark (value_at s condition)
           ∷ (if value_at s condition == 0 then path_along s otherwise else path_along s accepted) in
-          let arms = (fine_back (path_in s.variables condition) run fine).1 in
+          let arms = (fine_back most (path_in s.variables condition) run fine).1 in
           decided_by (λ (code : StraightBlock). AreFine most (path_along s code)) (decision c) one
           (simplified_all copies words otherwise) (single (branch c one other))
           (λ is. still_fine_all words accepted s agrees
@@ -253,11 +230,11 @@ module _ (most : List ℕ) where
           (subst (AreFine most) (cond-true (value_at s condition == 0) (path_along s otherwise)
           (path_along s accepted)
           (decided_here words s agrees condition accepted otherwise false is)) arms))
-          (fine_both (path_at s (branch c one other)) []
-          (fine_both (path_in s.variables c) (decided_mark (value_at s c)
+          (fine_both most (path_at s (branch c one other)) []
+          (fine_both most (path_in s.variables c) (decided_mark (value_at s c)
           ∷ (if value_at s c == 0 then path_along s other else path_along s one))
-          (subst (AreFine most) (sym (same_path words s.variables agrees condition))
-          (fine_front (path_in s.variables condition) run fine)) (
+          (fine_path most words s.variables agrees condition
+          (fine_front most (path_in s.variables condition) run fine)) (
             tt,
             subst (λ v. AreFine most (if v == 0 then path_along s other else path_along s one))
                 (sym (same_value words s.variables agrees condition))
@@ -270,7 +247,7 @@ module _ (most : List ℕ) where
       still_fine words (repeats x low high body) s agrees fine =
           let l = simple words low in
           let h = simple words high in
-          let inside = forgotten_all (without words x) body in
+          let inside = in_loop words x body in
           let code = simplified_all copies inside body in
           let turn : ℕ → StraightState → StraightState = λ i t. after_all (counted x i t) body in
           let simpler : ℕ → StraightState → StraightState = λ i t. after_all (counted x i t) code in
@@ -281,7 +258,7 @@ module _ (most : List ℕ) where
           ∷ path_of_turns (value_at s high - value_at s low) (value_at s low) turn along s in
           let new_run : Path = bounded x (value_at s l) (value_at s h)
           ∷ path_of_turns (value_at s h - value_at s l) (value_at s l) simpler shorter s in
-          let inner = fine_back bounds run fine in
+          let inner = fine_back most bounds run fine in
           unrolled_by (λ (b : StraightBlock). AreFine most (path_along s b))
           (numbers_of (slice_index copies x) (constant_of l) (constant_of h))
           (λ each. code_of_turns (each.high - each.low) each.low (λ i w. knowing_all copies (at_turn x i w) body)
@@ -295,11 +272,13 @@ module _ (most : List ℕ) where
           (λ i w t known. still_fine_all (at_turn x i w) body (counted x i t) (turn_known w t x i known))
           (each.high - each.low) each.low words s agrees
           (path_between words s agrees x low high body (slice_index copies x) each is inner.1))
-          (fine_both (path_at s (repeats x l h code)) []
-          (fine_both (path_in s.variables l ++ path_in s.variables h) new_run
-          (subst (AreFine most)
-          (sym (ap₂ (λ (p q : Path). p ++ q) (same_path words s.variables agrees low)
-          (same_path words s.variables agrees high))) (fine_front bounds run fine))
+          (fine_both most (path_at s (repeats x l h code)) []
+          (fine_both most (path_in s.variables l ++ path_in s.variables h) new_run
+          (fine_both most (path_in s.variables l) (path_in s.variables h)
+          (fine_path most words s.variables agrees low
+          (fine_front most (path_in s.variables low) (path_in s.variables high) (fine_front most bounds run fine)))
+          (fine_path most words s.variables agrees high
+          (fine_back most (path_in s.variables low) (path_in s.variables high) (fine_front most bounds run fine))))
           (subst (AreFine most)
           (sym (ap₂ (λ (a b : ℕ). bounded x a b ∷ path_of_turns (b - a) a simpler shorter s)
           (same_value words s.variables agrees low) (same_value words s.variables agrees high))) (
@@ -319,11 +298,11 @@ module _ (most : List ℕ) where
           let code = simplified copies words statement in
           let more = simplified_all copies (knowing copies words statement) rest in
           subst (AreFine most) (sym (path-chain s code more))
-          (fine_both (path_along s code) (path_along (after_all s code) more)
+          (fine_both most (path_along s code) (path_along (after_all s code) more)
           (still_fine words statement s agrees
-          (fine_front (path_at s statement) (path_along (after s statement) rest) fine))
+          (fine_front most (path_at s statement) (path_along (after s statement) rest) fine))
           (subst (λ (t : StraightState). AreFine most (path_along t more))
           (sym (same_after copies words statement s agrees))
           (still_fine_all (knowing copies words statement) rest (after s statement)
           (learned copies words statement s agrees)
-          (fine_back (path_at s statement) (path_along (after s statement) rest) fine))))
+          (fine_back most (path_at s statement) (path_along (after s statement) rest) fine))))

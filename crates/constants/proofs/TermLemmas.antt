@@ -1,24 +1,26 @@
--- A simpler expression has the value and the path that the expression has, no more nodes, and no more temporaries.
+-- A simpler expression has the value that the expression has, its path is fine where that one's is, and it has no more
+-- nodes and no more temporaries.
 use Rattle.std.proofs.Common.{◌≡◌, ℕ, ◌+◌, ◌≤◌, ◌==◌, ◌&&◌, Bool, true, false, not, if◌then◌else◌, List}
 use Rattle.std.proofs.Common.{[], ◌∷◌, ◌++◌, map, slice_index, Option, None, Some, option_map, refl, sym, ap}
-use Rattle.std.proofs.Common.{ap₂, ◌∙◌, append-nil, arith}
-use Rattle.std.proofs.lemmas.Bool.{cond-false, cond-true, or_parts, and_parts, not-true}
+use Rattle.std.proofs.Common.{ap₂, ◌∙◌, subst, arith}
+use Rattle.std.proofs.lemmas.Bool.{cond-false, cond-true}
 use Rattle.std.proofs.lemmas.Option.{none-some, same_Some}
 use Rattle.branch_removal.specs.Heights.{height_of, height_of_all}
 use Rattle.inline.specs.Flat.{TermTree, number, truth, variable, prefix, binary, rotate, convert, select, element}
 use Rattle.inline.specs.FlatMeaning.{Values, value_in, path_in, path_in_all, marks_of}
 use Rattle.inline.specs.FlatSize.{term_nodes, terms_nodes}
-use Rattle.inline.specs.Path.{Path, indexed}
+use Rattle.branch_removal.proofs.Sequences.{fine_both, fine_front, fine_back}
+use Rattle.inline.specs.Path.{AreFine, indexed}
 use Rattle.language.specs.declared.signature.Kind.{Kind}
 use Rattle.language.specs.declared.tree.BinaryOperator.{BinaryOperator}
 use Rattle.language.specs.ExprTyping.{operation_of, operation_kind}
-use Rattle.language.specs.Operators.{divides, multiplies, operated, prefix_value, truth_of, width_of}
+use Rattle.language.specs.Operators.{divides, operated, prefix_value, truth_of, width_of}
 use Rattle.word.specs.Operators.{rotated_left, converted}
 use Rattle.word.specs.declared.place.Place.{Place}
 use Rattle.word.specs.declared.width.Width.{Width}
 use Rattle.constants.specs.declared.known.Constant.{Constant}
 use Rattle.constants.specs.private.Known.{Words, known}
-use Rattle.constants.specs.private.Folding.{constant, constant_of, known_or, decision, is_marked, is_quiet}
+use Rattle.constants.specs.private.Folding.{constant, constant_of, known_or, decision}
 use Rattle.constants.specs.private.Folding.{between, chosen, simple}
 use Rattle.constants.proofs.KnownLemmas.{Agrees}
 
@@ -39,21 +41,12 @@ known_nodes : (o : Option Constant) (e : TermTree) → term_nodes (known_or o e)
 known_nodes None e = omega arith
 known_nodes (Some c) e = some_node e
 
-either_nodes : (b : Bool) (one other : TermTree) (n : ℕ) → term_nodes one ≤ n → term_nodes other ≤ n
-    → term_nodes (if b then one else other) ≤ n
-either_nodes true one other n a b = a
-either_nodes false one other n a b = b
-
 chosen_nodes : (d : Option Bool) (condition accepted otherwise : TermTree)
     → term_nodes (chosen d condition accepted otherwise) ≤ 1 + term_nodes condition + term_nodes accepted
     + term_nodes otherwise
 chosen_nodes None condition accepted otherwise = omega arith
-chosen_nodes (Some true) condition accepted otherwise =
-    either_nodes (is_quiet otherwise) accepted (select condition accepted otherwise)
-    (1 + term_nodes condition + term_nodes accepted + term_nodes otherwise) (omega arith) (omega arith)
-chosen_nodes (Some false) condition accepted otherwise =
-    either_nodes (is_quiet accepted) otherwise (select condition accepted otherwise)
-    (1 + term_nodes condition + term_nodes accepted + term_nodes otherwise) (omega arith) (omega arith)
+chosen_nodes (Some true) condition accepted otherwise = omega arith
+chosen_nodes (Some false) condition accepted otherwise = omega arith
 
 module _ (words : Words) where
   pub fewer_nodes : (e : TermTree) → term_nodes (simple words e) ≤ term_nodes e
@@ -96,20 +89,11 @@ known_height : (o : Option Constant) (e : TermTree) → height_of (known_or o e)
 known_height None e = omega arith
 known_height (Some c) e = omega arith
 
-either_height : (b : Bool) (one other : TermTree) (n : ℕ) → height_of one ≤ n → height_of other ≤ n
-    → height_of (if b then one else other) ≤ n
-either_height true one other n a b = a
-either_height false one other n a b = b
-
 chosen_height : (d : Option Bool) (condition accepted otherwise : TermTree)
     → height_of (chosen d condition accepted otherwise) ≤ height_of (select condition accepted otherwise)
 chosen_height None condition accepted otherwise = omega arith
-chosen_height (Some true) condition accepted otherwise =
-    either_height (is_quiet otherwise) accepted (select condition accepted otherwise)
-    (height_of (select condition accepted otherwise)) (omega arith) (omega arith)
-chosen_height (Some false) condition accepted otherwise =
-    either_height (is_quiet accepted) otherwise (select condition accepted otherwise)
-    (height_of (select condition accepted otherwise)) (omega arith) (omega arith)
+chosen_height (Some true) condition accepted otherwise = omega arith
+chosen_height (Some false) condition accepted otherwise = omega arith
 
 module _ (words : Words) where
   pub lower : (e : TermTree) → height_of (simple words e) ≤ height_of e
@@ -146,7 +130,7 @@ module _ (words : Words) where
   lower_all [] = omega arith
   lower_all (e ∷ es) = omega (arith, lower e, lower_all es)
 
--- Values and paths.
+-- Values.
 
 module _ (m : Values) where
   pub constant_value : (e : TermTree) (c : Constant) → constant_of e ≡ Some c → value_in m e ≡ c.value
@@ -160,17 +144,6 @@ module _ (m : Values) where
   constant_value (select condition accepted otherwise) c is = absurd (none-some c is)
   constant_value (element place x size index) c is = absurd (none-some c is)
 
-  constant_path : (e : TermTree) (c : Constant) → constant_of e ≡ Some c → path_in m e ≡ []
-  constant_path (number value kind) c is = refl
-  constant_path (truth value) c is = refl
-  constant_path (variable x) c is = refl
-  constant_path (prefix operator width operand) c is = absurd (none-some c is)
-  constant_path (binary place operator width left right) c is = absurd (none-some c is)
-  constant_path (rotate width operand amount) c is = absurd (none-some c is)
-  constant_path (convert kind operand) c is = absurd (none-some c is)
-  constant_path (select condition accepted otherwise) c is = absurd (none-some c is)
-  constant_path (element place x size index) c is = absurd (none-some c is)
-
   -- an operator on one operand
   one_value : (f : ℕ → ℕ) (k : Constant → Kind) (e whole : TermTree) (o : Option Constant) → constant_of e ≡ o
       → value_in m whole ≡ f (value_in m e)
@@ -178,25 +151,13 @@ module _ (m : Values) where
   one_value f k e whole None is same = same
   one_value f k e whole (Some c) is same = ap f (sym (constant_value e c is))
 
-  one_path : (g : Constant → Constant) (e whole : TermTree) (o : Option Constant) → constant_of e ≡ o
-      → path_in m whole ≡ path_in m e
-      → path_in m (known_or (option_map g o) whole) ≡ path_in m e
-  one_path g e whole None is same = same
-  one_path g e whole (Some c) is same = sym (constant_path e c is)
-
-  no_marks : (place : Place) (operator : BinaryOperator) (a b : ℕ) → is_marked operator ≡ false
-      → marks_of place operator a b ≡ []
-  no_marks place operator a b unmarked =
-      let parts = or_parts (divides operator) (multiplies operator) unmarked in
-      cond-false (divides operator) _ _ parts.0 ∙ cond-false (multiplies operator) _ _ parts.1
-
   -- an operator on two operands
   module _ (place : Place) (operator : BinaryOperator) (width : Width) (left right : TermTree) where
     abbrev whole : TermTree
     whole = binary place operator width left right
 
     abbrev number_by : Constant → Constant → Bool → Option Constant
-    number_by a b marked = option_map (λ v. constant v (operation_kind (operation_of operator) a.kind)) (if marked
+    number_by a b stays = option_map (λ v. constant v (operation_kind (operation_of operator) a.kind)) (if stays
         then None else Some (operated operator width a.value b.value))
 
     both_value : (one other : Option Constant) → constant_of left ≡ one → constant_of right ≡ other
@@ -204,51 +165,13 @@ module _ (m : Values) where
         ≡ operated operator width (value_in m left) (value_in m right)
     both_value None other is also = refl
     both_value (Some a) None is also = refl
-    both_value (Some a) (Some b) is also = by_marks (is_marked operator)
+    both_value (Some a) (Some b) is also = by_zero (divides operator && (b.value == 0))
       where
-        by_marks : (marked : Bool) → value_in m (known_or (number_by a b marked) whole)
+        by_zero : (stays : Bool) → value_in m (known_or (number_by a b stays) whole)
             ≡ operated operator width (value_in m left) (value_in m right)
-        by_marks true = refl
-        by_marks false = ap₂ (operated operator width) (sym (constant_value left a is))
+        by_zero true = refl
+        by_zero false = ap₂ (operated operator width) (sym (constant_value left a is))
             (sym (constant_value right b also))
-
-    both_path : (one other : Option Constant) → constant_of left ≡ one → constant_of right ≡ other
-        → path_in m (known_or (between operator width one other) whole) ≡ path_in m whole
-    both_path None other is also = refl
-    both_path (Some a) None is also = refl
-    both_path (Some a) (Some b) is also = by_marks (is_marked operator) refl
-      where
-        by_marks : (marked : Bool) → is_marked operator ≡ marked
-            → path_in m (known_or (number_by a b marked) whole) ≡ path_in m whole
-        by_marks true h = refl
-        by_marks false h =
-            sym (ap₂ (λ (p q : Path). p ++ q)
-            (ap₂ (λ (p q : Path). p ++ q) (constant_path left a is) (constant_path right b also))
-            (no_marks place operator (value_in m left) (value_in m right) h))
-
-  -- an expression without marks
-  quiet_path : (e : TermTree) → is_quiet e ≡ true → path_in m e ≡ []
-  quiet_path (number value kind) quiet = refl
-  quiet_path (truth value) quiet = refl
-  quiet_path (variable x) quiet = refl
-  quiet_path (prefix operator width operand) quiet = quiet_path operand quiet
-  quiet_path (binary place operator width left right) quiet =
-      let outer = and_parts (not (is_marked operator) && is_quiet left) (is_quiet right) quiet in
-      let inner = and_parts (not (is_marked operator)) (is_quiet left) outer.0 in
-      ap₂ (λ (p q : Path). p ++ q) (ap₂ (λ (p q : Path). p ++ q) (quiet_path left inner.1) (quiet_path right outer.1))
-      (no_marks place operator (value_in m left) (value_in m right) (not-true (is_marked operator) inner.0))
-  quiet_path (rotate width operand amount) quiet = quiet_path operand quiet
-  quiet_path (convert kind operand) quiet = quiet_path operand quiet
-  quiet_path (select condition accepted otherwise) quiet =
-      let outer = and_parts (is_quiet condition && is_quiet accepted) (is_quiet otherwise) quiet in
-      let inner = and_parts (is_quiet condition) (is_quiet accepted) outer.0 in
-      ap₂ (λ (p q : Path). p ++ q)
-      (ap₂ (λ (p q : Path). p ++ q) (quiet_path condition inner.0) (quiet_path accepted inner.1))
-      (quiet_path otherwise outer.1)
-  quiet_path (element place x size index) quiet = absurd (none_true quiet)
-    where
-      none_true : false ≡ true → ⊥
-      none_true h = cc
 
   -- a condition that is decided
   pub decided_value : (e : TermTree) (b : Bool) → decision e ≡ Some b → (value_in m e == 0) ≡ not b
@@ -264,66 +187,22 @@ module _ (m : Values) where
       by_constant (Some c) same h = ap (λ v. v == 0) (constant_value e c same)
           ∙ twice (c.value == 0) (same_Some _ b h)
 
-  decided_path : (e : TermTree) (b : Bool) → decision e ≡ Some b → path_in m e ≡ []
-  decided_path e b is = by_constant (constant_of e) refl is
-    where
-      by_constant : (o : Option Constant) → constant_of e ≡ o
-          → option_map (λ (c : Constant). truth_of c.value) o ≡ Some b → path_in m e ≡ []
-      by_constant None same h = absurd (none-some b h)
-      by_constant (Some c) same h = constant_path e c same
-
   module _ (condition accepted otherwise : TermTree) where
     chosen_value : (d : Option Bool) → decision condition ≡ d
         → value_in m (chosen d condition accepted otherwise) ≡ value_in m (select condition accepted otherwise)
     chosen_value None is = refl
-    chosen_value (Some true) is = by_quiet (is_quiet otherwise)
-      where
-        by_quiet : (quiet : Bool) → value_in m (if quiet then accepted else select condition accepted otherwise)
-            ≡ value_in m (select condition accepted otherwise)
-        by_quiet true =
-            sym (cond-false (value_in m condition == 0) (value_in m otherwise) (value_in m accepted)
-            (decided_value condition true is))
-        by_quiet false = refl
-    chosen_value (Some false) is = by_quiet (is_quiet accepted)
-      where
-        by_quiet : (quiet : Bool) → value_in m (if quiet then otherwise else select condition accepted otherwise)
-            ≡ value_in m (select condition accepted otherwise)
-        by_quiet true =
-            sym (cond-true (value_in m condition == 0) (value_in m otherwise) (value_in m accepted)
-            (decided_value condition false is))
-        by_quiet false = refl
-
-    chosen_path : (d : Option Bool) → decision condition ≡ d
-        → path_in m (chosen d condition accepted otherwise) ≡ path_in m (select condition accepted otherwise)
-    chosen_path None is = refl
-    chosen_path (Some true) is = by_quiet (is_quiet otherwise) refl
-      where
-        by_quiet : (quiet : Bool) → is_quiet otherwise ≡ quiet
-            → path_in m (if quiet then accepted else select condition accepted otherwise)
-            ≡ path_in m (select condition accepted otherwise)
-        by_quiet true h =
-            sym (ap₂ (λ (p q : Path). p ++ path_in m accepted ++ q) (decided_path condition true is)
-            (quiet_path otherwise h) ∙ append-nil (path_in m accepted))
-        by_quiet false h = refl
-    chosen_path (Some false) is = by_quiet (is_quiet accepted) refl
-      where
-        by_quiet : (quiet : Bool) → is_quiet accepted ≡ quiet
-            → path_in m (if quiet then otherwise else select condition accepted otherwise)
-            ≡ path_in m (select condition accepted otherwise)
-        by_quiet true h =
-            sym (ap₂ (λ (p q : Path). p ++ q ++ path_in m otherwise) (decided_path condition false is)
-            (quiet_path accepted h))
-        by_quiet false h = refl
+    chosen_value (Some true) is =
+        sym (cond-false (value_in m condition == 0) (value_in m otherwise) (value_in m accepted)
+        (decided_value condition true is))
+    chosen_value (Some false) is =
+        sym (cond-true (value_in m condition == 0) (value_in m otherwise) (value_in m accepted)
+        (decided_value condition false is))
 
 module _ (words : Words) (m : Values) (agrees : Agrees words m) where
   variable_value : (x : ℕ) (o : Option Constant) → known words x ≡ o
       → value_in m (known_or o (variable x)) ≡ slice_index (m x) 0
   variable_value x None is = refl
   variable_value x (Some c) is = sym (agrees x c is)
-
-  variable_path : (x : ℕ) (o : Option Constant) → path_in m (known_or o (variable x)) ≡ []
-  variable_path x None = refl
-  variable_path x (Some c) = refl
 
   pub same_value : (e : TermTree) → value_in m (simple words e) ≡ value_in m e
   same_value (number value kind) = refl
@@ -355,42 +234,82 @@ module _ (words : Words) (m : Values) (agrees : Agrees words m) where
       ∙ ap₂ (λ u v. if value_in m condition == 0 then u else v) (same_value otherwise) (same_value accepted))
   same_value (element place x size index) = ap (slice_index (m x)) (same_value index)
 
-  pub same_path : (e : TermTree) → path_in m (simple words e) ≡ path_in m e
-  same_path (number value kind) = refl
-  same_path (truth value) = refl
-  same_path (variable x) = variable_path x (known words x)
-  same_path (prefix operator width operand) =
-      let e = simple words operand in
-      one_path m (λ c. constant (prefix_value operator width c.value) c.kind) e (prefix operator width e)
-      (constant_of e) refl refl ∙ same_path operand
-  same_path (binary place operator width left right) =
-      let a = simple words left in
-      let b = simple words right in
-      both_path m place operator width a b (constant_of a) (constant_of b) refl refl
-      ∙ ap₂ (λ (p q : Path). p ++ q) (ap₂ (λ (p q : Path). p ++ q) (same_path left) (same_path right))
-      (ap₂ (marks_of place operator) (same_value left) (same_value right))
-  same_path (rotate width operand amount) =
-      let e = simple words operand in
-      one_path m (λ c. constant (rotated_left width c.value amount) c.kind) e (rotate width e amount) (constant_of e)
-      refl refl ∙ same_path operand
-  same_path (convert kind operand) =
-      let e = simple words operand in
-      one_path m (λ c. constant (converted (width_of kind) c.value) kind) e (convert kind e) (constant_of e) refl refl
-      ∙ same_path operand
-  same_path (select condition accepted otherwise) =
-      let c = simple words condition in
-      let a = simple words accepted in
-      let b = simple words otherwise in
-      chosen_path m c a b (decision c) refl
-      ∙ ap₂ (λ (p q : Path). p ++ q) (ap₂ (λ (p q : Path). p ++ q) (same_path condition) (same_path accepted))
-      (same_path otherwise)
-  same_path (element place x size index) =
-      ap₂ (λ (p : Path) (i : ℕ). p ++ indexed place size i ∷ []) (same_path index) (same_value index)
-
   pub same_values : (es : List TermTree) → map (value_in m) (map (simple words) es) ≡ map (value_in m) es
   same_values [] = refl
   same_values (e ∷ es) = ap₂ (λ (v : ℕ) (vs : List ℕ). v ∷ vs) (same_value e) (same_values es)
 
-  pub same_path_all : (es : List TermTree) → path_in_all m (map (simple words) es) ≡ path_in_all m es
-  same_path_all [] = refl
-  same_path_all (e ∷ es) = ap₂ (λ (p q : Path). p ++ q) (same_path e) (same_path_all es)
+-- Paths: what is a number meets nothing.
+
+module _ (most : List ℕ) (m : Values) where
+  known_fine : (o : Option Constant) (whole : TermTree) → AreFine most (path_in m whole)
+      → AreFine most (path_in m (known_or o whole))
+  known_fine None whole fine = fine
+  known_fine (Some c) whole fine = tt
+
+  chosen_fine : (d : Option Bool) (condition accepted otherwise : TermTree)
+      → AreFine most (path_in m (select condition accepted otherwise))
+      → AreFine most (path_in m (chosen d condition accepted otherwise))
+  chosen_fine None condition accepted otherwise fine = fine
+  chosen_fine (Some true) condition accepted otherwise fine =
+      fine_back most (path_in m condition) (path_in m accepted)
+      (fine_front most (path_in m condition ++ path_in m accepted) (path_in m otherwise) fine)
+  chosen_fine (Some false) condition accepted otherwise fine =
+      fine_back most (path_in m condition ++ path_in m accepted) (path_in m otherwise) fine
+
+module _ (most : List ℕ) (words : Words) (m : Values) (agrees : Agrees words m) where
+  pub fine_path : (e : TermTree) → AreFine most (path_in m e) → AreFine most (path_in m (simple words e))
+  fine_path (number value kind) fine = tt
+  fine_path (truth value) fine = tt
+  fine_path (variable x) fine = known_fine most m (known words x) (variable x) tt
+  fine_path (prefix operator width operand) fine =
+      let e = simple words operand in
+      known_fine most m (option_map (λ c. constant (prefix_value operator width c.value) c.kind) (constant_of e))
+      (prefix operator width e) (fine_path operand fine)
+  fine_path (binary place operator width left right) fine =
+      let a = simple words left in
+      let b = simple words right in
+      let operands = path_in m left ++ path_in m right in
+      let marks = marks_of place operator (value_in m left) (value_in m right) in
+      let before = fine_front most operands marks fine in
+      known_fine most m (between operator width (constant_of a) (constant_of b)) (binary place operator width a b)
+      (fine_both most (path_in m a ++ path_in m b) (marks_of place operator (value_in m a) (value_in m b))
+      (fine_both most (path_in m a) (path_in m b)
+      (fine_path left (fine_front most (path_in m left) (path_in m right) before))
+      (fine_path right (fine_back most (path_in m left) (path_in m right) before)))
+      (subst (AreFine most)
+      (sym (ap₂ (marks_of place operator) (same_value words m agrees left) (same_value words m agrees right)))
+      (fine_back most operands marks fine)))
+  fine_path (rotate width operand amount) fine =
+      let e = simple words operand in
+      known_fine most m (option_map (λ c. constant (rotated_left width c.value amount) c.kind) (constant_of e))
+      (rotate width e amount) (fine_path operand fine)
+  fine_path (convert kind operand) fine =
+      let e = simple words operand in
+      known_fine most m (option_map (λ c. constant (converted (width_of kind) c.value) kind) (constant_of e))
+      (convert kind e) (fine_path operand fine)
+  fine_path (select condition accepted otherwise) fine =
+      let c = simple words condition in
+      let a = simple words accepted in
+      let b = simple words otherwise in
+      let both = path_in m condition ++ path_in m accepted in
+      let before = fine_front most both (path_in m otherwise) fine in
+      chosen_fine most m (decision c) c a b
+      (fine_both most (path_in m c ++ path_in m a) (path_in m b)
+      (fine_both most (path_in m c) (path_in m a)
+      (fine_path condition (fine_front most (path_in m condition) (path_in m accepted) before))
+      (fine_path accepted (fine_back most (path_in m condition) (path_in m accepted) before)))
+      (fine_path otherwise (fine_back most both (path_in m otherwise) fine)))
+  fine_path (element place x size index) fine =
+      let i = simple words index in
+      fine_both most (path_in m i) (indexed place size (value_in m i) ∷ [])
+      (fine_path index (fine_front most (path_in m index) (indexed place size (value_in m index) ∷ []) fine))
+      (subst (λ v. AreFine most (indexed place size v ∷ [])) (sym (same_value words m agrees index))
+      (fine_back most (path_in m index) (indexed place size (value_in m index) ∷ []) fine))
+
+  pub fine_path_all : (es : List TermTree) → AreFine most (path_in_all m es)
+      → AreFine most (path_in_all m (map (simple words) es))
+  fine_path_all [] fine = tt
+  fine_path_all (e ∷ es) fine =
+      fine_both most (path_in m (simple words e)) (path_in_all m (map (simple words) es))
+      (fine_path e (fine_front most (path_in m e) (path_in_all m es) fine))
+      (fine_path_all es (fine_back most (path_in m e) (path_in_all m es) fine))

@@ -1,5 +1,5 @@
 -- A simpler expression suits where the expression suits: it is of the same kind, and public where that one is.
-use Rattle.std.proofs.Common.{◌≡◌, ℕ, ◌<◌, Bool, true, false, if◌then◌else◌, List, [], ◌∷◌, map, Option}
+use Rattle.std.proofs.Common.{◌≡◌, ℕ, ◌<◌, ◌==◌, ◌&&◌, Bool, true, false, if◌then◌else◌, List, [], ◌∷◌, map, Option}
 use Rattle.std.proofs.Common.{None, Some, option_map, refl, sym, ap, ◌∙◌, subst}
 use Rattle.std.proofs.lemmas.Option.{none-some, same_Some}
 use Rattle.inline.proofs.Fitting.{value_fits}
@@ -20,7 +20,7 @@ use Rattle.language.specs.declared.operation.Operation.TheVariants.{Division}
 use Rattle.language.specs.declared.typing.WordType.{WordType}
 use Rattle.language.specs.ExprTyping.{operation_of, operation_kind}
 use Rattle.language.specs.Grammatical.{IsNumberKind}
-use Rattle.language.specs.Operators.{operated, prefix_value, width_of}
+use Rattle.language.specs.Operators.{divides, operated, prefix_value, width_of}
 use Rattle.language.specs.Types.{bits_of, joined, is_secret}
 use Rattle.language.specs.WellTyped.{labelled, MayBeMultiplied, unseen, both_public, Makes, arithmetic}
 use Rattle.language.specs.WellTyped.{multiplication, division, shift, equality, order, logic, Takes}
@@ -31,7 +31,7 @@ use Rattle.word.specs.declared.profile.Profile.TheVariants.{P2}
 use Rattle.word.specs.declared.width.Width.{Width}
 use Rattle.constants.specs.declared.known.Constant.{Constant}
 use Rattle.constants.specs.private.Known.{Words, known}
-use Rattle.constants.specs.private.Folding.{constant, constant_of, number_of, known_or, decision, is_marked, is_quiet}
+use Rattle.constants.specs.private.Folding.{constant, constant_of, number_of, known_or, decision}
 use Rattle.constants.specs.private.Folding.{between, chosen, simple}
 
 -- Labels.
@@ -233,8 +233,8 @@ module _ (types : Types) where
       (left_suits : Suits types one left) (right_suits : Suits types other right)
       (makes : Makes types.profile (operation_of operator) one other result)
       (even : width ≡ width_of one.kind) where
-    stays : Suits types result (binary place operator width left right)
-    stays =
+    unfolded : Suits types result (binary place operator width left right)
+    unfolded =
         let lower = lowered makes left_suits.word.label right_suits.word.label left_suits.label right_suits.label in
         record {
           word = labelled result.kind lower.label;
@@ -244,14 +244,14 @@ module _ (types : Types) where
         }
 
     abbrev number_by : Constant → Constant → Bool → Option Constant
-    number_by a b marked = option_map (λ v. constant v (operation_kind (operation_of operator) a.kind)) (if marked
+    number_by a b stays = option_map (λ v. constant v (operation_kind (operation_of operator) a.kind)) (if stays
         then None else Some (operated operator width a.value b.value))
 
     binary_suits : (a b : Option Constant) → constant_of left ≡ a → constant_of right ≡ b
         → Suits types result (known_or (between operator width a b) (binary place operator width left right))
-    binary_suits None b is also = stays
-    binary_suits (Some a) None is also = stays
-    binary_suits (Some a) (Some b) is also = by_marks (is_marked operator)
+    binary_suits None b is also = unfolded
+    binary_suits (Some a) None is also = unfolded
+    binary_suits (Some a) (Some b) is also = by_zero (divides operator && (b.value == 0))
       where
         folds : Suits types result
             (number (operated operator width a.value b.value) (operation_kind (operation_of operator) a.kind))
@@ -271,10 +271,10 @@ module _ (types : Types) where
             (operation_kind (operation_of operator) a.kind)) result
             (kind, subst (λ k. IsWithinKind k (operated operator width a.value b.value)) (sym kind) fits)
 
-        by_marks : (marked : Bool)
-            → Suits types result (known_or (number_by a b marked) (binary place operator width left right))
-        by_marks true = stays
-        by_marks false = folds
+        by_zero : (stays : Bool)
+            → Suits types result (known_or (number_by a b stays) (binary place operator width left right))
+        by_zero true = unfolded
+        by_zero false = folds
 
   -- a choice
   module _ (condition accepted otherwise : TermTree) (kind : Kind) (l m n : Label)
@@ -313,18 +313,8 @@ module _ (types : Types) where
 
     choice_suits : (d : Option Bool) → Suits types chosen_type (chosen d condition accepted otherwise)
     choice_suits None = choice_stays
-    choice_suits (Some true) = by_quiet (is_quiet otherwise)
-      where
-        by_quiet : (quiet : Bool)
-            → Suits types chosen_type (if quiet then accepted else select condition accepted otherwise)
-        by_quiet true = first_suits
-        by_quiet false = choice_stays
-    choice_suits (Some false) = by_quiet (is_quiet accepted)
-      where
-        by_quiet : (quiet : Bool)
-            → Suits types chosen_type (if quiet then otherwise else select condition accepted otherwise)
-        by_quiet true = second_suits
-        by_quiet false = choice_stays
+    choice_suits (Some true) = first_suits
+    choice_suits (Some false) = second_suits
 
   module _ (words : Words) (of_kind : AreOfKind types words) where
     variable_suits : (x : ℕ) (word : WordType) (mutable : Bool) → types.at x ≡ Some (word_as word mutable)

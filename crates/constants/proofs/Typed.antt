@@ -18,7 +18,7 @@ use Rattle.branch_removal.specs.StraightTyping.{IsSet, IsFilled, IsPut, types_bu
 use Rattle.branch_removal.specs.StraightTyping.{AreHidden}
 use Rattle.constants.specs.declared.known.Constant.{Constant}
 use Rattle.constants.specs.private.Folding.{simple, constant_of, decision, numbers_of}
-use Rattle.constants.specs.private.Known.{Words, known, without, forgotten_all}
+use Rattle.constants.specs.private.Known.{Words, known, without, forgotten_all, in_loop}
 use Rattle.constants.specs.declared.terms.Numbers.{Numbers}
 use Rattle.constants.specs.private.Simplification.{at_turn, code_of_turns, knowing, knowing_all}
 use Rattle.constants.specs.private.Simplification.{single, simplified, simplified_all}
@@ -54,7 +54,7 @@ module _ (copies : List ℕ) (declared : List FlatVariable) where
         (simplified_all copies arm otherwise)))
         one (still_hidden_all words otherwise hidden.1) ((one, still_hidden_all arm otherwise hidden.1), tt)
     still_hidden words (repeats x low high body) hidden =
-        let inside = forgotten_all (without words x) body in
+        let inside = in_loop words x body in
         unrolled_any (AreHidden declared)
         (numbers_of (slice_index copies x) (constant_of (simple words low)) (constant_of (simple words high)))
         (λ each. code_of_turns (each.high - each.low) each.low (λ i w. knowing_all copies (at_turn x i w) body)
@@ -101,9 +101,9 @@ module _ (copies : List ℕ) (profile : Profile) (declared : List FlatVariable) 
       (λ y c is. (behind_part copies words body y c is).0) kinds
 
   inside_kinds : (words : Words) (x : ℕ) (body : StraightBlock) → AreKinds words
-      → AreKinds (forgotten_all (without words x) body)
+      → AreKinds (in_loop words x body)
   inside_kinds words x body kinds =
-      fewer_kinds (forgotten_all (without words x) body) words (λ y c is. (within_loop words x body y c is).0) kinds
+      fewer_kinds (in_loop words x body) words (λ y c is. (within_loop words x body y c is).0) kinds
 
   -- what is set is of its variable's kind
   set_kinds : (words : Words) (x : ℕ) (value : TermTree) → AreKinds words → IsSet profile declared x value
@@ -182,7 +182,7 @@ module _ (copies : List ℕ) (profile : Profile) (declared : List FlatVariable) 
         (kinds_after_all words accepted kinds is.1) (kinds_after_all words otherwise kinds is.2)
         (part_kinds arm otherwise (part_kinds words accepted kinds))
     kinds_after words (repeats x low high body) kinds is =
-        let inside = forgotten_all (without words x) body in
+        let inside = in_loop words x body in
         unrolled_by AreKinds
         (numbers_of (slice_index copies x) (constant_of (simple words low)) (constant_of (simple words high)))
         (λ each. turns (each.high - each.low) each.low (λ i w. knowing_all copies (at_turn x i w) body) words)
@@ -264,7 +264,7 @@ module _ (copies : List ℕ) (profile : Profile) (declared : List FlatVariable) 
           tt,
         )
     still_well_typed words (repeats x low high body) kinds is =
-        let inside = forgotten_all (without words x) body in
+        let inside = in_loop words x body in
         unrolled_by (AreTyped profile declared controls)
         (numbers_of (slice_index copies x) (constant_of (simple words low)) (constant_of (simple words high)))
         (λ each. code_of_turns (each.high - each.low) each.low (λ i w. knowing_all copies (at_turn x i w) body)

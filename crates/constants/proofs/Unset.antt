@@ -1,6 +1,6 @@
 -- Variables that statements leave alone: they hold what they held, and what is still known of them was known before.
 use Rattle.std.proofs.Common.{◌≡◌, ℕ, zero, suc, ◌+◌, ◌-◌, ◌==◌, Bool, true, false, if◌then◌else◌, List, []}
-use Rattle.std.proofs.Common.{◌∷◌, Option, None, Some, slice_index, refl, sym, ap, ◌∙◌}
+use Rattle.std.proofs.Common.{◌∷◌, map, Option, None, Some, slice_index, refl, sym, ap, ◌∙◌}
 use Rattle.std.proofs.lemmas.Bool.{cond-false, ne_eqb}
 use Rattle.inline.specs.FlatMeaning.{Values, with_value, turns}
 use Rattle.branch_removal.specs.Straight.{StraightTree, set, clear, fill, put, take, set_under, put_under, branch}
@@ -8,10 +8,10 @@ use Rattle.branch_removal.specs.Straight.{repeats, StraightBlock, nothing, first
 use Rattle.branch_removal.specs.StraightMeaning.{StraightState, with_variable, value_at, counted, after, after_all}
 use Rattle.constants.specs.declared.known.Constant.{Constant}
 use Rattle.constants.specs.private.Folding.{simple, constant_of, decision, numbers_of}
-use Rattle.constants.specs.private.Known.{Words, known, without, forgotten, forgotten_all}
+use Rattle.constants.specs.private.Known.{Words, known, without, short, forgotten, forgotten_all, in_loop}
 use Rattle.constants.specs.declared.terms.Numbers.{Numbers}
 use Rattle.constants.specs.private.Simplification.{decided, unrolled, at_turn, knowing, knowing_all}
-use Rattle.constants.proofs.KnownLemmas.{known_beside, without_apart, without_same, Agrees}
+use Rattle.constants.proofs.KnownLemmas.{known_beside, without_apart, without_same, short_same, Agrees}
 
 abbrev mutual
   -- a statement does not set this variable
@@ -109,7 +109,7 @@ module _ (copies : List ℕ) where
         (remembered_all (knowing_all copies arm otherwise) otherwise y c h).0)).0)
         is
     unlearned words (repeats x low high body) y c unset is =
-        let inside = forgotten_all (without words x) body in
+        let inside = in_loop words x body in
         unrolled_any (λ (w : Words). known w y ≡ Some c → known words y ≡ Some c)
         (numbers_of (slice_index copies x) (constant_of (simple words low)) (constant_of (simple words high)))
         (λ each. turns (each.high - each.low) each.low (λ i w. knowing_all copies (at_turn x i w) body) words)
@@ -119,9 +119,9 @@ module _ (copies : List ℕ) where
         (λ i w before h. before (sym (known_beside w x y _ unset.0)
         ∙ unlearned_all (at_turn x i w) body y c unset.1 h))
         (each.high - each.low) each.low words (λ h. h))
-        (λ h. without_same words x y c
-        (remembered_all (without words x) body y c
-        (unlearned_all inside body y c unset.1 (remembered_all (knowing_all copies inside body) body y c h).0)).0)
+        (λ h. short_same words y c (without_same (map short words) x y c
+        (remembered_all (without (map short words) x) body y c
+        (unlearned_all inside body y c unset.1 (remembered_all (knowing_all copies inside body) body y c h).0)).0))
         is
 
     pub unlearned_all : (words : Words) (body : StraightBlock) (y : ℕ) (c : Constant) → AreUnset y body
@@ -140,11 +140,13 @@ module _ (copies : List ℕ) where
       (unlearned_all words body y c found.1 found.0, found.1)
 
 pub within_loop : (words : Words) (x : ℕ) (body : StraightBlock) (y : ℕ) (c : Constant)
-    → known (forgotten_all (without words x) body) y ≡ Some c
+    → known (in_loop words x body) y ≡ Some c
     → (known words y ≡ Some c) × ((y ≡ x → ⊥) × AreUnset y body)
 within_loop words x body y c is =
-    let found = remembered_all (without words x) body y c is in
-    (without_same words x y c found.0, (without_apart words x y c found.0, found.1))
+    let found = remembered_all (without (map short words) x) body y c is in (
+      short_same words y c (without_same (map short words) x y c found.0),
+      (without_apart (map short words) x y c found.0, found.1),
+    )
 
 -- Runs.
 
@@ -186,15 +188,15 @@ mutual
 -- So within a loop what is known agrees in each turn.
 
 pub turn_begins : (words : Words) (x : ℕ) (body : StraightBlock) (i : ℕ) (t : StraightState)
-    → Agrees (forgotten_all (without words x) body) t.variables
-    → Agrees (forgotten_all (without words x) body) (counted x i t).variables
+    → Agrees (in_loop words x body) t.variables
+    → Agrees (in_loop words x body) (counted x i t).variables
 turn_begins words x body i t agrees y c is =
     ap (λ numbers. slice_index numbers 0) (beside t.variables x y (i ∷ []) (within_loop words x body y c is).1.0)
     ∙ agrees y c is
 
 pub turn_ends : (words : Words) (x : ℕ) (body : StraightBlock) (i : ℕ) (t : StraightState)
-    → Agrees (forgotten_all (without words x) body) t.variables
-    → Agrees (forgotten_all (without words x) body) (after_all (counted x i t) body).variables
+    → Agrees (in_loop words x body) t.variables
+    → Agrees (in_loop words x body) (after_all (counted x i t) body).variables
 turn_ends words x body i t agrees y c is =
     ap (λ numbers. slice_index numbers 0)
     (left_alone_all body y (within_loop words x body y c is).1.1 (counted x i t))

@@ -1,6 +1,7 @@
 -- The simpler program may stand in the place of the program.
-use Rattle.std.proofs.Common.{◌≡◌, ℕ, List, length, Option, None, Some, option_map, refl, sym, ap, ap₂}
+use Rattle.std.proofs.Common.{◌≡◌, ℕ, List, [], length, replicate, Option, None, Some, option_map, refl, sym, ap, ap₂}
 use Rattle.std.proofs.Common.{◌∙◌, subst, arith}
+use Rattle.inline.specs.declared.flat.FlatVariable.{FlatVariable}
 use Rattle.inline.specs.Flat.{TermTree}
 use Rattle.inline.specs.FlatMeaning.{Values, value_in, results_of, path_of_result}
 use Rattle.inline.specs.FlatTyping.{types_of}
@@ -8,30 +9,32 @@ use Rattle.inline.specs.Path.{AreFine}
 use Rattle.language.specs.declared.values.Arg.{Arg}
 use Rattle.branch_removal.specs.Kept.{IsStraight}
 use Rattle.branch_removal.specs.Replaced.{IsReplaced}
-use Rattle.branch_removal.specs.Straight.{StraightBlock, StraightProgram, with_body}
+use Rattle.branch_removal.specs.declared.straight.StraightStatement.{StraightStatement}
+use Rattle.branch_removal.specs.Straight.{StraightBlock, StraightProgram, chain, straight_block, with_body}
 use Rattle.branch_removal.specs.StraightMeaning.{StraightState, start, end_of, outcome_of, path_of, path_along}
 use Rattle.constants.specs.private.Folding.{simple}
 use Rattle.constants.specs.private.Choice.{AreAllowed}
 use Rattle.constants.specs.private.Known.{Words}
 use Rattle.constants.specs.private.Simplification.{knowing_all, simplified_all, nothing_known, simplified_program}
 use Rattle.constants.proofs.KnownLemmas.{nothing_first, Agrees}
-use Rattle.constants.proofs.TermLemmas.{same_value, same_path}
+use Rattle.branch_removal.proofs.Sequences.{fine_both, fine_front, fine_back}
+use Rattle.constants.proofs.TermLemmas.{same_value, fine_path}
 use Rattle.constants.proofs.TermTypes.{still_result}
 use Rattle.constants.proofs.Learned.{learned_all}
-use Rattle.constants.proofs.Same.{same_after_all, still_fine_all, fine_both, fine_front, fine_back}
+use Rattle.constants.proofs.Same.{same_after_all, still_fine_all}
 use Rattle.constants.proofs.Typed.{AreKinds, kinds_after_all, still_all_typed, still_hidden_all}
 use Rattle.constants.proofs.Bounds.{stays_low_all, less_all, lower_result, fewer_in_value}
 
--- the result's value and path
+-- the result
 same_result : (words : Words) (m : Values) → Agrees words m → (value : Option TermTree)
     → option_map (value_in m) (option_map (simple words) value) ≡ option_map (value_in m) value
 same_result words m agrees None = refl
 same_result words m agrees (Some value) = ap Some (same_value words m agrees value)
 
-same_result_path : (words : Words) (m : Values) → Agrees words m → (value : Option TermTree)
-    → path_of_result m (option_map (simple words) value) ≡ path_of_result m value
-same_result_path words m agrees None = refl
-same_result_path words m agrees (Some value) = same_path words m agrees value
+fine_result : (most : List ℕ) (words : Words) (m : Values) → Agrees words m → (value : Option TermTree)
+    → AreFine most (path_of_result m value) → AreFine most (path_of_result m (option_map (simple words) value))
+fine_result most words m agrees None fine = fine
+fine_result most words m agrees (Some value) fine = fine_path most words m agrees value fine
 
 module _ (copies : List ℕ) (p : StraightProgram) where
   first_agrees : (m : Values) → Agrees (nothing_known p) m
@@ -60,10 +63,9 @@ module _ (copies : List ℕ) (p : StraightProgram) where
         (path_of_result (end_of (simplified_program copies p) args) (simplified_program copies p).value)
         (still_fine_all p.turns copies (nothing_known p) p.body s (first_agrees s.variables)
         (fine_front p.turns front back fine))
-        (subst (AreFine p.turns)
-        (sym (ap (λ (m : Values). path_of_result m (simplified_program copies p).value) same_end
-        ∙ same_result_path (knowing_all copies (nothing_known p) p.body) (end_of p args) last_agrees p.value))
-        (fine_back p.turns front back fine))
+        (subst (λ (m : Values). AreFine p.turns (path_of_result m (simplified_program copies p).value)) (sym same_end)
+        (fine_result p.turns (knowing_all copies (nothing_known p) p.body) (end_of p args) last_agrees p.value
+        (fine_back p.turns front back fine)))
 
   module _ (kept : IsStraight p) (allowed : AreAllowed copies p.turns) where
     first_kinds : AreKinds copies p.profile p.declared p.controls (nothing_known p)
@@ -117,12 +119,16 @@ module _ (copies : List ℕ) (p : StraightProgram) where
     }
 
 -- a program of these parts is the simpler one
-pub as_simplified : (copies : List ℕ) (p : StraightProgram) (words last : Words) (body code : StraightBlock)
-    (given value : Option TermTree)
-    → words ≡ nothing_known p → body ≡ p.body → code ≡ simplified_all copies words body
-    → last ≡ knowing_all copies words body
+pub as_simplified : (copies : List ℕ) (p : StraightProgram) (declared : List FlatVariable) (words last : Words)
+    (body code : StraightBlock) (front : List StraightStatement) (given value : Option TermTree)
+    → declared ≡ p.declared → words ≡ replicate (length declared) None → body ≡ p.body → front ≡ []
+    → code ≡ chain (straight_block front) (simplified_all copies words body) → last ≡ knowing_all copies words body
     → given ≡ p.value → value ≡ option_map (simple last) given → with_body p code value ≡ simplified_program copies p
-as_simplified copies p words last body code given value at_first whole made known result simpler =
-    ap₂ (with_body p) (made ∙ ap₂ (simplified_all copies) at_first whole)
+as_simplified copies p declared words last body code front given value same nothing whole none made known result
+    simpler =
+    let at_first : words ≡ nothing_known p = nothing
+    ∙ ap (λ (ds : List FlatVariable). replicate (length ds) None) same in
+    ap₂ (with_body p) (made ∙ ap (λ (xs : List StraightStatement). chain (straight_block xs)
+    (simplified_all copies words body)) none ∙ ap₂ (simplified_all copies) at_first whole)
     (simpler ∙ ap₂ (λ (w : Words) (v : Option TermTree). option_map (simple w) v) (known
     ∙ ap₂ (knowing_all copies) at_first whole) result)

@@ -1,8 +1,8 @@
 // What is known of the variables.
 
-ghost use Rattle.std.specs.Prelude.{◌≡◌, None, replicate, slice_set, IfOk};
+ghost use Rattle.std.specs.Prelude.{◌≡◌, None, map, replicate, slice_set, IfOk};
 ghost use Rattle.branch_removal.specs.Straight.{straight_block, straight_tree};
-ghost use Rattle.constants.specs.private.Known.{forgotten, forgotten_all, in_loop, known};
+ghost use Rattle.constants.specs.private.Known.{forgotten, forgotten_all, in_loop, known, short};
 
 use branch_removal::StraightStatement;
 use language::Kind;
@@ -13,6 +13,21 @@ use std::alloc::{AllocError, Global};
 pub struct Constant {
     pub value: u32,
     pub kind: Kind,
+}
+
+/// What one instruction holds as a number is below this.
+const SHORT_END: u32 = 2048;
+
+/// A word that is known, where one instruction holds it as a number.
+fn short(word: Option<Constant>) -> Option<Constant>
+    ensures { result ≡ short word }
+{
+    let constant = word?;
+    if constant.value < SHORT_END {
+        Some(constant)
+    } else {
+        None
+    }
 }
 
 /// The variables whose words are known, at their numbers.
@@ -84,10 +99,30 @@ impl Known {
         }
     }
 
-    /// From here on in a loop, in each of its turns: of its counter and of what its body sets nothing is known.
+    /// A word stays known where one instruction holds it as a number.
+    fn shorten(&mut self, number: usize)
+        ensures { self.new.words.items ≡ slice_set self.old.words.items number (short (known self.old.words.items number)) }
+    {
+        if let Some(word) = self.words.get_mut(number) {
+            *word = short(*word);
+        }
+    }
+
+    /// So do all words.
+    fn keep_short(&mut self)
+        ensures { self.new.words.items ≡ map short self.old.words.items }
+    {
+        for number in 0..self.words.len() {
+            self.shorten(number);
+        }
+    }
+
+    /// From here on in a loop, in each of its turns: of its counter and of what its body sets nothing is known. Long numbers
+    /// are forgotten too: each turn would make them anew by two instructions, where their variables are read by one at most.
     pub fn begin_loop(&mut self, counter: u32, body: &[StraightStatement])
         ensures { self.new.words.items ≡ in_loop self.old.words.items counter (straight_block body.now) }
     {
+        self.keep_short();
         self.note(counter, None);
         self.forget_all(body);
     }

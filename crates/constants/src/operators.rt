@@ -2,7 +2,7 @@
 
 ghost use Rattle.std.specs.Prelude.{◌≡◌};
 ghost use Rattle.language.specs.Operators.{prefix_value, truth_of};
-ghost use Rattle.constants.specs.private.Folding.{folded, is_marked};
+ghost use Rattle.constants.specs.private.Folding.{folded};
 
 use language::{BinaryOperator, PrefixOperator};
 use word::Width;
@@ -25,18 +25,7 @@ pub fn prefix_value(operator: PrefixOperator, width: Width, operand: u32) -> u32
     }
 }
 
-/// Whether operands of this operator are on the path of a run: it may meet a fault at them, or an observer may see them.
-pub fn is_marked(operator: BinaryOperator) -> bool
-    ensures { result ≡ is_marked operator }
-{
-    matches!(
-        operator,
-        BinaryOperator::Multiply | BinaryOperator::Divide | BinaryOperator::Remainder
-    )
-}
-
-/// The value between two operands, the left of this width. Operators whose operands are on the
-/// path are left to the run.
+/// The value between two operands, the left of this width. A quotient or a remainder by 0 has none.
 pub fn folded(operator: BinaryOperator, width: Width, a: u32, b: u32) -> Option<u32>
     ensures { result ≡ folded operator width a b }
 {
@@ -56,8 +45,18 @@ pub fn folded(operator: BinaryOperator, width: Width, a: u32, b: u32) -> Option<
         BinaryOperator::ShiftRight => word::shift_right(width, a, b),
         BinaryOperator::Add => word::add(width, a, b),
         BinaryOperator::Subtract => word::subtract(width, a, b),
-        BinaryOperator::Multiply | BinaryOperator::Divide | BinaryOperator::Remainder => {
-            return None;
+        BinaryOperator::Multiply => word::multiply(width, a, b),
+        BinaryOperator::Divide => {
+            if b == 0 {
+                return None;
+            }
+            word::divide(a, b)
+        }
+        BinaryOperator::Remainder => {
+            if b == 0 {
+                return None;
+            }
+            word::remainder(a, b)
         }
     };
     Some(value)

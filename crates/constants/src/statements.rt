@@ -1,7 +1,6 @@
 // Statements in which what is known is a number, each put behind what there is. A loop becomes its turns where it may.
 
 ghost use Rattle.std.specs.Prelude.{◌≡◌, IfOk, OnOk};
-ghost use Rattle.branch_removal.specs.Straight as straight;
 ghost use Rattle.branch_removal.specs.Straight.{chain, straight_block, straight_tree};
 ghost use Rattle.inline.specs.Flat.{term_tree};
 ghost use Rattle.constants.specs.private.Known.{forgotten_all};
@@ -10,7 +9,7 @@ ghost use Rattle.constants.specs.private.Simplification.{branch_code, branch_kno
 use crate::choice::copies_of;
 use crate::known::{Constant, Known};
 use crate::terms::{Numbers, all_simple, constant_of, decision, number_of, numbers_of, simple};
-use branch_removal::StraightStatement;
+use branch_removal::{StraightStatement, branch_of, loop_of};
 use inline::Term;
 use language::Kind;
 use std::alloc::{AllocError, Global};
@@ -37,24 +36,6 @@ fn push(code: &mut Vec<StraightStatement>, statement: StraightStatement) -> Resu
 {
     code.push(statement)?;
     Ok(())
-}
-
-/// A branch with these arms.
-fn branch_of(
-    condition: Term,
-    accepted: Vec<StraightStatement>,
-    otherwise: Vec<StraightStatement>,
-) -> StraightStatement
-    ensures { straight_tree result ≡ straight.branch (term_tree condition) (straight_block accepted.items) (straight_block otherwise.items) }
-{
-    StraightStatement::Branch(condition, accepted, otherwise)
-}
-
-/// A loop with this body.
-fn loop_of(bounds: Bounds, body: Vec<StraightStatement>) -> StraightStatement
-    ensures { straight_tree result ≡ straight.repeats bounds.counter (term_tree bounds.low) (term_tree bounds.high) (straight_block body.items) }
-{
-    StraightStatement::Repeat(bounds.counter, bounds.low, bounds.high, body)
 }
 
 /// A statement. What is known after it is noted.
@@ -171,7 +152,7 @@ fn repeat(
         None => {
             known.begin_loop(bounds.counter, body);
             let turn = part(pass, known, body)?;
-            push(code, loop_of(bounds, turn))
+            push(code, loop_of(bounds.counter, bounds.low, bounds.high, turn))
         }
     }
 }

@@ -4,11 +4,10 @@ ghost use Rattle.std.specs.Prelude.{◌≡◌, map, IfOk};
 ghost use Rattle.std.specs.Option.{option_map};
 ghost use Rattle.inline.specs.Flat.{term_tree};
 ghost use Rattle.constants.specs.private.Folding as folding;
-ghost use Rattle.constants.specs.private.Folding.{chosen, constant_of, decision, is_quiet, number_of, numbers_of, simple};
-ghost use Rattle.inline.specs.Flat as flat;
+ghost use Rattle.constants.specs.private.Folding.{chosen, constant_of, decision, number_of, numbers_of, simple};
 
 use crate::known::{Constant, Known};
-use crate::operators::{folded, is_marked, is_true, prefix_value};
+use crate::operators::{folded, is_true, prefix_value};
 use inline::Term;
 use language::{BinaryOperator, Kind, Place, PrefixOperator};
 use std::alloc::{AllocError, Global};
@@ -50,25 +49,6 @@ pub fn decision(condition: &Term) -> Option<bool>
     ensures { result ≡ decision (term_tree condition.now) }
 {
     Some(is_true(constant_of(condition)?.value))
-}
-
-/// Whether an expression shows nothing: it meets no index, division or multiplication.
-fn is_quiet(term: &Term) -> bool
-    ensures { result ≡ is_quiet (term_tree term.now) }
-{
-    match term {
-        Term::Number(_, _) | Term::Truth(_) | Term::Variable(_) => true,
-        Term::Prefix(_, _, operand) | Term::Rotate(_, operand, _) | Term::Convert(_, operand) => {
-            is_quiet(operand)
-        }
-        Term::Binary(_, operator, _, left, right) => {
-            !is_marked(*operator) && is_quiet(left) && is_quiet(right)
-        }
-        Term::Select(condition, accepted, otherwise) => {
-            is_quiet(condition) && is_quiet(accepted) && is_quiet(otherwise)
-        }
-        Term::Element(_, _, _, _) => false,
-    }
 }
 
 /// A prefix operator and its operand.
@@ -149,22 +129,7 @@ fn convert(alloc: Global, kind: Kind, operand: Term) -> Result<Term, AllocError>
     }
 }
 
-/// A choice between two.
-fn choice(
-    alloc: Global,
-    condition: Term,
-    accepted: Term,
-    otherwise: Term,
-) -> Result<Term, AllocError>
-    ensures { IfOk result (λ term. term_tree term ≡ flat.select (term_tree condition) (term_tree accepted) (term_tree otherwise)) }
-{
-    let condition = Box::new(alloc, condition)?;
-    let accepted = Box::new(alloc, accepted)?;
-    let otherwise = Box::new(alloc, otherwise)?;
-    Ok(Term::Select(condition, accepted, otherwise))
-}
-
-/// The one of two that is chosen, where the condition is a number and the other one shows nothing; else the choice.
+/// The one of two that is chosen, where the condition is a number; else the choice between them.
 fn select(
     alloc: Global,
     condition: Term,
@@ -174,21 +139,14 @@ fn select(
     ensures { IfOk result (λ term. term_tree term ≡ chosen (decision (term_tree condition)) (term_tree condition) (term_tree accepted) (term_tree otherwise)) }
 {
     match decision(&condition) {
-        Some(true) => {
-            if is_quiet(&otherwise) {
-                Ok(accepted)
-            } else {
-                choice(alloc, condition, accepted, otherwise)
-            }
+        Some(true) => Ok(accepted),
+        Some(false) => Ok(otherwise),
+        None => {
+            let condition = Box::new(alloc, condition)?;
+            let accepted = Box::new(alloc, accepted)?;
+            let otherwise = Box::new(alloc, otherwise)?;
+            Ok(Term::Select(condition, accepted, otherwise))
         }
-        Some(false) => {
-            if is_quiet(&accepted) {
-                Ok(otherwise)
-            } else {
-                choice(alloc, condition, accepted, otherwise)
-            }
-        }
-        None => choice(alloc, condition, accepted, otherwise),
     }
 }
 

@@ -1,6 +1,6 @@
--- Expressions in which what is known is a number: an operator between numbers is what it comes to. Operators that may
--- meet a fault, or whose operands an observer may see, stay.
-use Rattle.std.specs.Prelude.{ℕ, ◌-◌, ◌&&◌, ◌||◌, Bool, true, false, not, nat_le, Option, None, Some, if◌then◌else◌}
+-- Expressions in which what is known is a number: an operator between numbers is what it comes to. A division by 0
+-- stays, since it comes to nothing.
+use Rattle.std.specs.Prelude.{ℕ, ◌-◌, ◌==◌, ◌&&◌, Bool, true, false, nat_le, Option, None, Some, if◌then◌else◌}
 use Rattle.std.specs.Option.{option_map}
 use Rattle.inline.specs.Flat.{TermTree, number, truth, variable, prefix, binary, rotate, convert, select, element}
 use Rattle.language.specs.declared.signature.Kind.{Kind}
@@ -8,7 +8,7 @@ use Rattle.language.specs.declared.signature.Kind.TheVariants.{Boolean}
 use Rattle.language.specs.declared.tree.BinaryOperator.{BinaryOperator}
 use Rattle.language.specs.declared.tree.PrefixOperator.{PrefixOperator}
 use Rattle.language.specs.ExprTyping.{operation_of, operation_kind}
-use Rattle.language.specs.Operators.{divides, multiplies, operated, prefix_value, truth_of, width_of}
+use Rattle.language.specs.Operators.{divides, operated, prefix_value, truth_of, width_of}
 use Rattle.word.specs.Operators.{rotated_left, converted, word_of}
 use Rattle.word.specs.declared.place.Place.{Place}
 use Rattle.word.specs.declared.width.Width.{Width}
@@ -39,22 +39,6 @@ known_or (Some c) e = number_of c
 abbrev pub decision : TermTree → Option Bool
 decision e = option_map (λ c. truth_of c.value) (constant_of e)
 
--- operands of this operator are on the path
-abbrev pub is_marked : BinaryOperator → Bool
-is_marked operator = divides operator || multiplies operator
-
--- no index, division or multiplication is in an expression: its path is empty
-abbrev pub is_quiet : TermTree → Bool
-is_quiet (number value kind) = true
-is_quiet (truth value) = true
-is_quiet (variable x) = true
-is_quiet (prefix operator width operand) = is_quiet operand
-is_quiet (binary place operator width left right) = not (is_marked operator) && is_quiet left && is_quiet right
-is_quiet (rotate width operand amount) = is_quiet operand
-is_quiet (convert kind operand) = is_quiet operand
-is_quiet (select condition accepted otherwise) = is_quiet condition && is_quiet accepted && is_quiet otherwise
-is_quiet (element place x size index) = false
-
 -- Nodes with their operands.
 
 abbrev pub prefixed : PrefixOperator → Width → TermTree → TermTree
@@ -62,9 +46,9 @@ prefixed operator width operand =
     known_or (option_map (λ c. constant (prefix_value operator width c.value) c.kind) (constant_of operand))
     (prefix operator width operand)
 
--- the value between two numbers
+-- the value between two numbers, where they have one
 abbrev pub folded : BinaryOperator → Width → ℕ → ℕ → Option ℕ
-folded operator width a b = if is_marked operator then None else Some (operated operator width a b)
+folded operator width a b = if divides operator && (b == 0) then None else Some (operated operator width a b)
 
 abbrev pub between : BinaryOperator → Width → Option Constant → Option Constant → Option Constant
 between operator width (Some a) (Some b) =
@@ -86,13 +70,11 @@ converted_to kind operand =
     known_or (option_map (λ c. constant (converted (width_of kind) c.value) kind) (constant_of operand))
     (convert kind operand)
 
--- of two operands the one that is chosen, where the other one shows nothing
+-- of two operands the one that is chosen, where the condition says which
 abbrev pub chosen : Option Bool → TermTree → TermTree → TermTree → TermTree
 chosen None condition accepted otherwise = select condition accepted otherwise
-chosen (Some true) condition accepted otherwise = if is_quiet otherwise then accepted
-    else select condition accepted otherwise
-chosen (Some false) condition accepted otherwise = if is_quiet accepted then otherwise
-    else select condition accepted otherwise
+chosen (Some true) condition accepted otherwise = accepted
+chosen (Some false) condition accepted otherwise = otherwise
 
 -- an expression, where this is known of the variables
 abbrev pub simple : Words → TermTree → TermTree

@@ -1,5 +1,5 @@
 -- What is known of the variables, and what statements leave of it.
-use Rattle.std.specs.Prelude.{ℕ, List, Option, None, slice_get, slice_set, unwrap_or}
+use Rattle.std.specs.Prelude.{ℕ, List, map, Option, None, Some, if◌then◌else◌, nat_lt, slice_get, slice_set, unwrap_or}
 use Rattle.branch_removal.specs.Straight.{StraightTree, set, clear, fill, put, take, set_under, put_under, branch}
 use Rattle.branch_removal.specs.Straight.{repeats, StraightBlock, nothing, first}
 use Rattle.constants.specs.declared.known.Constant.{Constant}
@@ -33,9 +33,14 @@ abbrev mutual
   forgotten_all words nothing = words
   forgotten_all words (first statement rest) = forgotten_all (forgotten words statement) rest
 
--- within a loop, in each of its turns
+-- a word that one instruction holds as a number
+abbrev pub short : Option Constant → Option Constant
+short None = None
+short (Some c) = if nat_lt c.value 2048 then Some c else None
+
+-- within a loop, in each of its turns: longer numbers are read from their variables there
 abbrev pub in_loop : Words → ℕ → StraightBlock → Words
-in_loop words x body = forgotten_all (without words x) body
+in_loop words x body = forgotten_all (without (map short words) x) body
 
 -- behind an arm or a turn, which may have run or not: of what it sets nothing is known
 abbrev pub behind : Words → StraightBlock → Words

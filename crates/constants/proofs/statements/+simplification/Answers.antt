@@ -6,18 +6,15 @@ use Rattle.branch_removal.specs.Straight.{straight_tree}
 use Rattle.inline.specs.Flat.{term_tree}
 use Rattle.constants.specs.private.Folding.{simple}
 use Rattle.constants.specs.private.Simplification.{knowing_all, simplified_all, single}
-use Rattle.constants.proofs.StatementTrees.{body_smaller, arms_smaller, code_of_branch, known_of_branch, code_of_loop}
-use Rattle.constants.proofs.StatementTrees.{known_of_loop, code_of_one, chain-nothing, item_here}
-use Rattle.constants.proofs.StatementTrees.{smaller_here, passed, turn_passed, turn_learnt, no_turns_left}
-use Rattle.constants.proofs.StatementTrees.{none_left_known}
+use Rattle.branch_removal.proofs.StatementTrees.{arms_smaller, body_smaller, chain-nothing, item_here, smaller_here}
+use Rattle.constants.proofs.StatementCode.{code_of_one, code_of_branch, known_of_branch, code_of_loop, known_of_loop}
+use Rattle.constants.proofs.StatementCode.{passed, turn_passed, turn_learnt, no_turns_left, none_left_known}
 use Rattle.constants.proofs.statements.+simplification.Goals as goal
 
 pub statement-branch-pass-requires : goal.statement-branch-pass-requires
 statement-branch-pass-requires t c =
     let both = arms_smaller c.in-Branch.accepted c.in-Branch.otherwise c.in-Branch.is c.deref-in-Branch.ensures.value
-    c.deref-in-Branch-2.ensures.value c.args.pass.now.copies.now c.args.known.now.words.items
-    c.in_ok-condition-in-Branch.condition
-    c.in_ok-condition-in-Branch.ensures in
+    c.deref-in-Branch-2.ensures.value in
     let smaller : 4 * (block_nodes (straight_block c.deref-in-Branch.result.now)
     + block_nodes (straight_block c.deref-in-Branch-2.result.now)) + 3
     < 4 * statement_nodes (straight_tree c.args.statement.now) = omega (arith, both) in

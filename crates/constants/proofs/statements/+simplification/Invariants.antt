@@ -2,7 +2,7 @@ use Rattle.std.proofs.Common.{◌≡◌, ◌+◌, ◌*◌, drop}
 use Rattle.branch_removal.specs.Bounds.{block_nodes, statement_nodes}
 use Rattle.branch_removal.specs.Straight.{chain, straight_block, straight_tree}
 use Rattle.constants.specs.private.Simplification.{knowing_all, simplified_all, turns_code, turns_known}
-use Rattle.constants.proofs.StatementTrees.{turns_left, known_left}
+use Rattle.constants.proofs.StatementCode.{turns_left, known_left}
 use Rattle.constants.proofs.statements.+simplification.Given as goal
 
 -- the code so far and that of what is left are the code of all statements, and what is known in the end is what is

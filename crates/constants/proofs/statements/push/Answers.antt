@@ -1,5 +1,5 @@
 use Rattle.std.proofs.Common.{refl}
-use Rattle.constants.proofs.StatementTrees.{pushed}
+use Rattle.branch_removal.proofs.StatementTrees.{pushed}
 use Rattle.constants.proofs.statements.push.Goals as goal
 
 pub returns : goal.returns

@@ -5,8 +5,8 @@ use Rattle.inline.specs.Flat.{term_tree}
 use Rattle.inline.specs.FlatSize.{term_nodes}
 use Rattle.constants.specs.private.Choice.{choice_of, chosen, chosen_all}
 use Rattle.constants.proofs.ChoiceLemmas.{grown_by, settled_by}
-use Rattle.constants.proofs.StatementTrees.{tree_of_branch, tree_of_loop, accepted_smaller, otherwise_smaller}
-use Rattle.constants.proofs.StatementTrees.{body_smaller, item_here, smaller_here}
+use Rattle.branch_removal.proofs.StatementTrees.{tree_of_branch, tree_of_loop, accepted_smaller, otherwise_smaller}
+use Rattle.branch_removal.proofs.StatementTrees.{body_smaller, item_here, smaller_here}
 use Rattle.constants.proofs.choice.Choice.+choice.Goals as goal
 
 pub choose-choose_all-requires : goal.choose-choose_all-requires

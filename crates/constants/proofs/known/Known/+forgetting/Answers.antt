@@ -2,8 +2,8 @@ use Rattle.std.proofs.Common.{◌+◌, ◌*◌, ◌<◌, rules, refl, ap, sym, �
 use Rattle.branch_removal.specs.Bounds.{block_nodes, statement_nodes}
 use Rattle.branch_removal.specs.Straight.{straight_block, straight_tree}
 use Rattle.constants.specs.private.Known.{forgotten, forgotten_all}
-use Rattle.constants.proofs.StatementTrees.{tree_of_branch, tree_of_loop, accepted_smaller, otherwise_smaller}
-use Rattle.constants.proofs.StatementTrees.{body_smaller, item_here, smaller_here}
+use Rattle.branch_removal.proofs.StatementTrees.{tree_of_branch, tree_of_loop, accepted_smaller, otherwise_smaller}
+use Rattle.branch_removal.proofs.StatementTrees.{body_smaller, item_here, smaller_here}
 use Rattle.constants.proofs.known.Known.+forgetting.Goals as goal
 
 pub forget-forget_all-requires : goal.forget-forget_all-requires

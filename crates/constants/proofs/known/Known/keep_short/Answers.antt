@@ -1,0 +1,28 @@
+use Rattle.std.proofs.Common.{◌≡◌, ◌+◌, ◌≤◌, suc, length, refl, sym, ap, ap₂, ◌∙◌, arith}
+use Rattle.std.proofs.lemmas.List.{length-set}
+use Rattle.constants.proofs.KnownLemmas.{shorts_from, shorts_step, shorts_end}
+use Rattle.constants.specs.private.Known.{known, short}
+use Rattle.constants.proofs.known.Known.keep_short.Goals as goal
+
+pub loop-number-init : goal.loop-number-init
+loop-number-init c = record { left = refl; lengths = refl }
+
+pub loop-number-preserved : goal.loop-number-preserved
+loop-number-preserved c =
+    let n = c.loop-number.number in
+    let words = c.loop-number.self.words.items in
+    let next : n + 1 ≡ suc n = omega arith in
+    record {
+      left =
+          ap₂ shorts_from next c.shorten.ensures
+          ∙ (shorts_step n words ∙ c.loop-number.invariant.left);
+      lengths = ap length c.shorten.ensures
+          ∙ (length-set words n (short (known words n)) ∙ c.loop-number.invariant.lengths);
+    }
+
+pub returns : goal.returns
+returns c =
+    let words = c.loop-number.self.words.items in
+    let within : length words ≤ c.loop-number.number =
+    omega (arith, c.loop-number.invariant.lengths, c.len-number-end.ensures, c.loop-number-test.false) in
+    sym (shorts_end c.loop-number.number words within) ∙ c.loop-number.invariant.left

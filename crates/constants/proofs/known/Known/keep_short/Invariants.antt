@@ -1,0 +1,11 @@
+use Rattle.std.proofs.Common.{◌≡◌, length, map}
+use Rattle.constants.specs.private.Known.{short}
+use Rattle.constants.proofs.KnownLemmas.{shorts_from}
+use Rattle.constants.proofs.known.Known.keep_short.Given as goal
+
+-- once the words that are left are short, all are
+abbrev pub invariant-loop-number : goal.invariant-loop-number
+invariant-loop-number l = record {
+  left : shorts_from l.number l.self.words.items ≡ map short l.fn.self.words.items;
+  lengths : length l.self.words.items ≡ length l.fn.self.words.items;
+}
