@@ -10,7 +10,7 @@ use Rattle.branch_removal.specs.Straight.{straight_tree, branch, repeats}
 use Rattle.language.specs.declared.signature.Kind.{Kind}
 use Rattle.element_words.specs.private.Parts.{Parts}
 use Rattle.element_words.specs.private.Splitting.{single, zeros, given_values, split, split_in, split_all}
-use Rattle.element_words.proofs.StatementTrees.{chain-assoc, chain-nothing}
+use Rattle.branch_removal.proofs.StatementTrees.{chain-assoc, chain-nothing}
 
 zeros_next : (base n m : ℕ) (kind : Kind) → n ≡ suc m
     → zeros base n kind ≡ first (set base (number 0 kind)) (zeros (base + 1) m kind)

@@ -19,7 +19,8 @@ use Rattle.element_words.specs.private.Parts.{Parts, part_of}
 use Rattle.element_words.specs.private.Splitting.{split, zeros, given_values}
 use Rattle.element_words.proofs.PartLemmas.{IsSplitting}
 use Rattle.element_words.proofs.Known.{AllHaveKnown}
-use Rattle.element_words.proofs.Values.{AreAlike, fine_both, fine_front, fine_back, same_value, still_fine}
+use Rattle.branch_removal.proofs.Sequences.{fine_both, fine_front, fine_back}
+use Rattle.element_words.proofs.Values.{AreAlike, same_value, still_fine}
 use Rattle.element_words.proofs.Held.{beside, here, no_word}
 
 pub zeros_fine : (most : List ℕ) (n base : ℕ) (kind : Kind) (t : StraightState)

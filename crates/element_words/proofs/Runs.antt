@@ -2,7 +2,7 @@
 -- elements. Its path is fine where that of the code is.
 use Rattle.std.proofs.Common.{◌≡◌, ℕ, zero, suc, ◌+◌, ◌-◌, ◌==◌, ◌&&◌, not, Bool, true, false, if◌then◌else◌, List}
 use Rattle.std.proofs.Common.{[], ◌∷◌, ◌++◌, map, length, replicate, Option, None, Some, option_map, slice_get}
-use Rattle.std.proofs.Common.{slice_set, refl, sym, ap, ap₂, ◌∙◌, subst, append_assoc, arith}
+use Rattle.std.proofs.Common.{slice_set, refl, sym, ap, ap₂, ◌∙◌, subst, arith}
 use Rattle.std.proofs.lemmas.List.{length-replicate, length-map}
 use Rattle.inline.specs.declared.flat.FlatVariable.{FlatVariable}
 use Rattle.inline.specs.Flat.{TermTree, word_as, array_as, counter_type}
@@ -10,7 +10,7 @@ use Rattle.inline.specs.FlatMeaning.{path_in, path_in_all, turns, path_of_turns}
 use Rattle.inline.specs.FlatTyping.{HasType}
 use Rattle.inline.specs.Path.{Path, AreFine, decided, bounded, indexed}
 use Rattle.branch_removal.specs.Straight.{StraightTree, set, clear, fill, put, take, set_under, put_under, branch}
-use Rattle.branch_removal.specs.Straight.{repeats, StraightBlock, nothing, first, chain}
+use Rattle.branch_removal.specs.Straight.{repeats, StraightBlock, nothing, first}
 use Rattle.branch_removal.specs.StraightMeaning.{StraightState, holds, with_variable, with_element, with_controls}
 use Rattle.branch_removal.specs.StraightMeaning.{value_at, counted, after, after_all, path_at, path_along}
 use Rattle.branch_removal.specs.StraightTyping.{IsSet, IsFilled, IsPut, types_but, IsTyped, AreTyped}
@@ -23,28 +23,14 @@ use Rattle.element_words.specs.private.Splitting.{split, single, zeros, given_va
 use Rattle.element_words.specs.private.Splitting.{put_in_under, split_in, split_all}
 use Rattle.element_words.proofs.PartLemmas.{IsSplitting}
 use Rattle.element_words.proofs.Known.{IsKnown, HasKnown, AllHaveKnown, StatementHasKnown, BlockHasKnown}
-use Rattle.element_words.proofs.Values.{AreAlike, fine_both, fine_front, fine_back, word_stays, part_word, same_value}
+use Rattle.branch_removal.proofs.Sequences.{after-chain, path-chain, fine_both, fine_front, fine_back}
+use Rattle.element_words.proofs.Values.{AreAlike, word_stays, part_word, same_value}
 use Rattle.element_words.proofs.Values.{same_values, still_fine, all_still_fine}
 use Rattle.element_words.proofs.Held.{both_set, words_set, word_set, zeros_outside, zeros_inside, zeros_controls}
 use Rattle.element_words.proofs.Held.{zeros_at}
 use Rattle.element_words.proofs.Given.{values_outside, values_inside, values_controls, values_fine, but_within}
 use Rattle.element_words.proofs.Given.{but_alike}
 use Rattle.element_words.proofs.Given.{zeros_fine}
-
--- Blocks one after the other.
-
-pub after-chain : (s : StraightState) (these those : StraightBlock)
-    → after_all s (chain these those) ≡ after_all (after_all s these) those
-after-chain s nothing those = refl
-after-chain s (first statement these) those = after-chain (after s statement) these those
-
-pub path-chain : (s : StraightState) (these those : StraightBlock)
-    → path_along s (chain these those) ≡ path_along s these ++ path_along (after_all s these) those
-path-chain s nothing those = refl
-path-chain s (first statement these) those =
-    ap (λ rest. path_at s statement ++ rest) (path-chain (after s statement) these those)
-    ∙ sym (append_assoc (path_at s statement) (path_along (after s statement) these)
-    (path_along (after_all (after s statement) these) those))
 
 -- two loops whose turns keep in step
 turns_in_step : {S : Type 0} (P : S → S → Type 0) (f g : ℕ → S → S)

@@ -10,32 +10,18 @@ use Rattle.inline.specs.Flat.{word_as, array_as}
 use Rattle.inline.specs.FlatMeaning.{Values, value_in, path_in, path_in_all, marks_of}
 use Rattle.inline.specs.FlatTyping.{Types, HasType, of_number, of_truth, of_variable, of_prefix, of_binary}
 use Rattle.inline.specs.FlatTyping.{of_rotation, of_conversion, of_selection, of_element, Suits, AllSuit, IsResult}
-use Rattle.inline.specs.Path.{Path, AreFine, indexed}
+use Rattle.inline.specs.Path.{AreFine, indexed}
 use Rattle.language.specs.Operators.{operated, prefix_value, width_of}
 use Rattle.language.specs.declared.typing.WordType.{WordType}
 use Rattle.word.specs.Operators.{rotated_left, converted}
 use Rattle.word.specs.declared.place.Place.{Place}
 use Rattle.word.specs.declared.profile.Profile.{Profile}
+use Rattle.branch_removal.proofs.Sequences.{fine_both, fine_front, fine_back}
 use Rattle.element_words.specs.declared.parts.Part.{Part}
 use Rattle.element_words.specs.private.Parts.{Parts, part_of, word_in}
 use Rattle.element_words.specs.private.Splitting.{word_or, split}
 use Rattle.element_words.proofs.PartLemmas.{IsSplitting}
 use Rattle.element_words.proofs.Known.{IsKnown, HasKnown, AllHaveKnown, ResultHasKnown}
-
--- Paths that are fine.
-
-module _ (most : List ℕ) where
-  pub fine_both : (p q : Path) → AreFine most p → AreFine most q → AreFine most (p ++ q)
-  fine_both [] q one other = other
-  fine_both (mark ∷ p) q one other = (one.0, fine_both p q one.1 other)
-
-  pub fine_front : (p q : Path) → AreFine most (p ++ q) → AreFine most p
-  fine_front [] q both = tt
-  fine_front (mark ∷ p) q both = (both.0, fine_front p q both.1)
-
-  pub fine_back : (p q : Path) → AreFine most (p ++ q) → AreFine most q
-  fine_back [] q both = both
-  fine_back (mark ∷ p) q both = fine_back p q both.1
 
 -- What the words hold.
 

@@ -32,7 +32,8 @@ use Rattle.element_words.specs.private.Splitting.{split, split_all}
 use Rattle.element_words.proofs.PartLemmas.{IsBelow, IsArray, candidate_is, made, within_room, words-append}
 use Rattle.element_words.proofs.PartLemmas.{one_word_each, IsSplitting, no_splitting, splitting}
 use Rattle.element_words.proofs.Known.{BlockHasKnown, ResultHasKnown, block_known, result_known}
-use Rattle.element_words.proofs.Values.{fine_both, fine_front, fine_back, same_value, still_fine, still_result}
+use Rattle.branch_removal.proofs.Sequences.{fine_both, fine_front, fine_back}
+use Rattle.element_words.proofs.Values.{same_value, still_fine, still_result}
 use Rattle.element_words.proofs.Held.{zeros_at}
 use Rattle.element_words.proofs.Runs.{AreInStep, all_in_step, all_fine_in_step}
 use Rattle.element_words.proofs.Typed.{still_all_typed, still_all_hidden}

@@ -1,7 +1,6 @@
 // Statements in which an array that is split is so many words, each put behind what there is.
 
 ghost use Rattle.std.specs.Prelude.{◌≡◌, map, IfOk, OnOk};
-ghost use Rattle.branch_removal.specs.Straight as straight;
 ghost use Rattle.branch_removal.specs.Straight.{chain, straight_block, straight_tree};
 ghost use Rattle.inline.specs.Flat.{term_tree};
 ghost use Rattle.element_words.specs.private.Parts.{part_of, word_of};
@@ -9,7 +8,7 @@ ghost use Rattle.element_words.specs.private.Splitting.{cleared, filled, given_v
 
 use crate::parts::{Part, Parts};
 use crate::terms::{all_split, split};
-use branch_removal::StraightStatement;
+use branch_removal::{StraightStatement, branch_of, loop_of};
 use inline::Term;
 use std::alloc::{AllocError, Global};
 use word::Place;
@@ -20,24 +19,6 @@ fn push(code: &mut Vec<StraightStatement>, statement: StraightStatement) -> Resu
 {
     code.push(statement)?;
     Ok(())
-}
-
-/// A branch with these arms.
-fn branch_of(
-    condition: Term,
-    accepted: Vec<StraightStatement>,
-    otherwise: Vec<StraightStatement>,
-) -> StraightStatement
-    ensures { straight_tree result ≡ straight.branch (term_tree condition) (straight_block accepted.items) (straight_block otherwise.items) }
-{
-    StraightStatement::Branch(condition, accepted, otherwise)
-}
-
-/// A loop with this body.
-fn loop_of(counter: u32, low: Term, high: Term, body: Vec<StraightStatement>) -> StraightStatement
-    ensures { straight_tree result ≡ straight.repeats counter (term_tree low) (term_tree high) (straight_block body.items) }
-{
-    StraightStatement::Repeat(counter, low, high, body)
 }
 
 /// The words of an array become 0.

@@ -11,6 +11,7 @@ use inline::Term;
 use std::alloc::{AllocError, Global};
 
 /// An expression.
+#[cycle(split)]
 pub fn split(alloc: Global, parts: &Parts, term: &Term) -> Result<Term, AllocError>
     ensures { IfOk result (λ made. term_tree made ≡ split parts.now.arrays.items (term_tree term.now)) }
 {
@@ -19,36 +20,45 @@ pub fn split(alloc: Global, parts: &Parts, term: &Term) -> Result<Term, AllocErr
         Term::Truth(value) => Ok(Term::Truth(*value)),
         Term::Variable(number) => Ok(Term::Variable(*number)),
         Term::Prefix(operator, width, operand) => {
-            let operand = Box::new(alloc, split(alloc, parts, operand)?)?;
+            let operand = boxed(alloc, parts, operand)?;
             Ok(Term::Prefix(*operator, *width, operand))
         }
         Term::Binary(place, operator, width, left, right) => {
-            let left = Box::new(alloc, split(alloc, parts, left)?)?;
-            let right = Box::new(alloc, split(alloc, parts, right)?)?;
+            let left = boxed(alloc, parts, left)?;
+            let right = boxed(alloc, parts, right)?;
             Ok(Term::Binary(*place, *operator, *width, left, right))
         }
         Term::Rotate(width, operand, amount) => {
-            let operand = Box::new(alloc, split(alloc, parts, operand)?)?;
+            let operand = boxed(alloc, parts, operand)?;
             Ok(Term::Rotate(*width, operand, *amount))
         }
         Term::Convert(kind, operand) => {
-            let operand = Box::new(alloc, split(alloc, parts, operand)?)?;
+            let operand = boxed(alloc, parts, operand)?;
             Ok(Term::Convert(*kind, operand))
         }
         Term::Select(condition, accepted, otherwise) => {
-            let condition = Box::new(alloc, split(alloc, parts, condition)?)?;
-            let accepted = Box::new(alloc, split(alloc, parts, accepted)?)?;
-            let otherwise = Box::new(alloc, split(alloc, parts, otherwise)?)?;
+            let condition = boxed(alloc, parts, condition)?;
+            let accepted = boxed(alloc, parts, accepted)?;
+            let otherwise = boxed(alloc, parts, otherwise)?;
             Ok(Term::Select(condition, accepted, otherwise))
         }
         Term::Element(place, array, size, index) => match parts.word(*array, index) {
             Some(word) => Ok(Term::Variable(word)),
             None => {
-                let index = Box::new(alloc, split(alloc, parts, index)?)?;
+                let index = boxed(alloc, parts, index)?;
                 Ok(Term::Element(*place, *array, *size, index))
             }
         },
     }
+}
+
+/// The same, in a box of its own.
+#[cycle(split)]
+fn boxed(alloc: Global, parts: &Parts, term: &Term) -> Result<Box<Term>, AllocError>
+    ensures { IfOk result (λ made. term_tree made.value ≡ split parts.now.arrays.items (term_tree term.now)) }
+{
+    let made = split(alloc, parts, term)?;
+    Ok(Box::new(alloc, made)?)
 }
 
 /// Expressions, in their order.

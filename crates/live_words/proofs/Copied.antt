@@ -7,7 +7,8 @@ use Rattle.inline.specs.Flat as flat
 use Rattle.branch_removal.specs.Straight.{StraightTree, set, clear, fill, put, take, set_under, put_under, branch}
 use Rattle.branch_removal.specs.Straight.{repeats, StraightBlock, nothing, first}
 use Rattle.live_words.specs.private.Held.{Held, is_live, anew}
-use Rattle.live_words.specs.private.Terms.{renamed, is_quiet, is_dead}
+use Rattle.branch_removal.specs.Quiet.{is_quiet}
+use Rattle.live_words.specs.private.Terms.{renamed, is_dead}
 use Rattle.live_words.specs.private.Gathering.{at_head}
 use Rattle.live_words.specs.private.Sharing.{before_all, in_front, shared, shared_all}
 use Rattle.live_words.proofs.Grown.{grows_head}

@@ -1,5 +1,5 @@
 -- What a loop's body reads is live beside what was.
-use Rattle.std.proofs.Common.{ℕ}
+use Rattle.std.proofs.Common.{ℕ, length}
 use Rattle.branch_removal.specs.Straight.{StraightTree, set, clear, fill, put, take, set_under, put_under, branch}
 use Rattle.branch_removal.specs.Straight.{repeats, StraightBlock, nothing, first}
 use Rattle.inline.specs.Flat.{TermTree}
@@ -56,4 +56,4 @@ module _ (table : Table) where
         (grows_gathered_all behind one rest)
 
   pub grows_head : (held : Held) (x : ℕ) (body : StraightBlock) → Grows held (at_head table held x body)
-  grows_head held x body = grows_gathered_all (with_done (none_done held.width) x) held body
+  grows_head held x body = grows_gathered_all (with_done (none_done (length held.holders)) x) held body

@@ -7,4 +7,4 @@ pub mod Allowed
 pub mod Bounds
 pub mod Copied
 pub mod Whole
-pub mod StatementTrees
+pub mod Backwards

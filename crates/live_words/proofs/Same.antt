@@ -11,17 +11,19 @@ use Rattle.branch_removal.specs.Straight.{StraightTree, set, clear, fill, put, t
 use Rattle.branch_removal.specs.Straight.{repeats, StraightBlock, nothing, first}
 use Rattle.branch_removal.specs.StraightMeaning.{StraightState, holds, with_variable, with_element}
 use Rattle.branch_removal.specs.StraightMeaning.{value_at, counted, after, after_all, path_at, path_along}
+use Rattle.branch_removal.specs.Quiet.{is_quiet}
+use Rattle.branch_removal.proofs.QuietLemmas.{quiet_path}
 use Rattle.live_words.specs.private.Held.{Table, Held, share, holder, is_live, is_free, anew, fitting}
 use Rattle.live_words.specs.private.Held.{living, setting}
 use Rattle.live_words.specs.private.Held.{counting, joined, covers}
-use Rattle.live_words.specs.private.Terms.{reading, reading_all, renamed, is_quiet, is_dead}
+use Rattle.live_words.specs.private.Terms.{reading, reading_all, renamed, is_dead}
 use Rattle.live_words.specs.private.Gathering.{at_head}
 use Rattle.live_words.specs.private.Sharing.{before_put, closed, before_bounds, before, before_all}
 use Rattle.live_words.specs.private.Sharing.{in_front, shared, shared_all}
 use Rattle.live_words.proofs.HeldLemmas.{Grows, grows_on, grows_holding, grows_joined, joined_holds, covers_holds}
 use Rattle.live_words.proofs.HeldLemmas.{AreAlike, alike_before, set_alike, under_alike, dead_alike, alike_living}
 use Rattle.live_words.proofs.TermLemmas.{grows_reading, grows_reading_all, IsRead, read_before, same_value, same_path}
-use Rattle.live_words.proofs.TermLemmas.{same_values, same_path_all, quiet_path}
+use Rattle.live_words.proofs.TermLemmas.{same_values, same_path_all}
 use Rattle.live_words.proofs.Grown.{grows_head}
 
 -- one statement, or none

@@ -1,17 +1,14 @@
 -- An expression over the variables that words live in has the value and the path that the expression has, where what
 -- it reads is live.
-use Rattle.std.proofs.Common.{◌≡◌, ℕ, ◌==◌, ◌&&◌, true, false, not, if◌then◌else◌, List, [], ◌∷◌, ◌++◌}
+use Rattle.std.proofs.Common.{◌≡◌, ℕ, ◌==◌, true, if◌then◌else◌, List, [], ◌∷◌, ◌++◌}
 use Rattle.std.proofs.Common.{map, slice_index, refl, sym, ap, ap₂, ◌∙◌}
-use Rattle.std.proofs.lemmas.Bool.{cond-false, or_parts, and_parts, not-true}
 use Rattle.inline.specs.Flat.{TermTree, number, truth, variable, prefix, binary, rotate, convert, select, element}
 use Rattle.inline.specs.FlatMeaning.{Values, value_in, path_in, path_in_all, marks_of}
 use Rattle.inline.specs.Path.{Path, indexed}
-use Rattle.language.specs.declared.tree.BinaryOperator.{BinaryOperator}
-use Rattle.language.specs.Operators.{divides, multiplies, operated, prefix_value, width_of}
+use Rattle.language.specs.Operators.{operated, prefix_value, width_of}
 use Rattle.word.specs.Operators.{rotated_left, converted}
-use Rattle.word.specs.declared.place.Place.{Place}
 use Rattle.live_words.specs.private.Held.{Table, Done, Held, living, living_where}
-use Rattle.live_words.specs.private.Terms.{reading, reading_all, renamed, is_marked, is_quiet}
+use Rattle.live_words.specs.private.Terms.{reading, reading_all, renamed}
 use Rattle.live_words.proofs.HeldLemmas.{Grows, grows_same, grows_on, grows_where, AreAlike}
 use Rattle.live_words.proofs.HeldLemmas.{alike_before, alike_living}
 
@@ -129,35 +126,3 @@ module _ (table : Table) (m n : Values) where
       ap₂ (λ (p q : Path). p ++ q)
       (same_path held e (read_before one (reading_all table [] one es) (grows_reading_all table [] one es) is))
       (same_path_all one es is)
-
--- What is quiet has no path.
-
-module _ (m : Values) where
-  no_marks : (place : Place) (operator : BinaryOperator) (a b : ℕ) → is_marked operator ≡ false
-      → marks_of place operator a b ≡ []
-  no_marks place operator a b unmarked =
-      let parts = or_parts (divides operator) (multiplies operator) unmarked in
-      cond-false (divides operator) _ _ parts.0 ∙ cond-false (multiplies operator) _ _ parts.1
-
-  pub quiet_path : (e : TermTree) → is_quiet e ≡ true → path_in m e ≡ []
-  quiet_path (number value kind) quiet = refl
-  quiet_path (truth value) quiet = refl
-  quiet_path (variable x) quiet = refl
-  quiet_path (prefix operator width operand) quiet = quiet_path operand quiet
-  quiet_path (binary place operator width left right) quiet =
-      let outer = and_parts (not (is_marked operator) && is_quiet left) (is_quiet right) quiet in
-      let inner = and_parts (not (is_marked operator)) (is_quiet left) outer.0 in
-      ap₂ (λ (p q : Path). p ++ q) (ap₂ (λ (p q : Path). p ++ q) (quiet_path left inner.1) (quiet_path right outer.1))
-      (no_marks place operator (value_in m left) (value_in m right) (not-true (is_marked operator) inner.0))
-  quiet_path (rotate width operand amount) quiet = quiet_path operand quiet
-  quiet_path (convert kind operand) quiet = quiet_path operand quiet
-  quiet_path (select condition accepted otherwise) quiet =
-      let outer = and_parts (is_quiet condition && is_quiet accepted) (is_quiet otherwise) quiet in
-      let inner = and_parts (is_quiet condition) (is_quiet accepted) outer.0 in
-      ap₂ (λ (p q : Path). p ++ q)
-      (ap₂ (λ (p q : Path). p ++ q) (quiet_path condition inner.0) (quiet_path accepted inner.1))
-      (quiet_path otherwise outer.1)
-  quiet_path (element place x size index) quiet = absurd (none_true quiet)
-    where
-      none_true : false ≡ true → ⊥
-      none_true h = cc

@@ -216,43 +216,43 @@ itself p straight = record {
   fine = λ args within fine. fine;
 }
 
-pub unshared : (p : StraightProgram) → over [] (fitting (nothing_live p) false) p ≡ p
-unshared p = same_program (fitting (nothing_live p) false) p refl
+pub unshared : (p : StraightProgram) → over [] (fitting (nothing_live p 0) false) p ≡ p
+unshared p = same_program (fitting (nothing_live p 0) false) p refl
 
 module _ (table : Table) (p : StraightProgram) where
   abbrev start_held : Held
-  start_held = at_start table (nothing_live p) p
+  start_held = at_start table (nothing_live p 0) p
 
   pub replaced : IsStraight p → IsReplaced p (shared_by table p)
   replaced straight = by_fit (all_fits table start_held p) refl
     where
       by_fit : (b : Bool) → all_fits table start_held p ≡ b
-          → IsReplaced p (if b then over table (nothing_live p) p else over [] (fitting (nothing_live p) false) p)
+          → IsReplaced p (if b then over table (nothing_live p 0) p else over [] (fitting (nothing_live p 0) false) p)
       by_fit true fit =
           let outer = and_parts (start_held.fits && hold_own 0 start_held.holders)
           (all_allowed p.declared 0 table) fit in
           let inner = and_parts start_held.fits (hold_own 0 start_held.holders) outer.0 in
-          shared_replaced table (nothing_live p) p inner.0 inner.1 straight (allowed_kept p.declared table outer.1)
+          shared_replaced table (nothing_live p 0) p inner.0 inner.1 straight (allowed_kept p.declared table outer.1)
       by_fit false fit = subst (IsReplaced p) (sym (unshared p)) (itself p straight)
 
   -- a program of these parts is the shared one
   pub as_shared : (fits : Bool) → fits ≡ all_fits table start_held p → fits ≡ true
-      → (made : StraightProgram) → made ≡ over table (nothing_live p) p → made ≡ shared_by table p
+      → (made : StraightProgram) → made ≡ over table (nothing_live p 0) p → made ≡ shared_by table p
   as_shared fits is so made same = same ∙ choose (all_fits table start_held p) (sym is ∙ so)
     where
       choose : (b : Bool) → b ≡ true
-          → over table (nothing_live p) p
-          ≡ (if b then over table (nothing_live p) p else over [] (fitting (nothing_live p) false) p)
+          → over table (nothing_live p 0) p
+          ≡ (if b then over table (nothing_live p 0) p else over [] (fitting (nothing_live p 0) false) p)
       choose true so = refl
       choose false so = cc
 
   pub as_unshared : (fits : Bool) → fits ≡ all_fits table start_held p → fits ≡ false
-      → (made : StraightProgram) → made ≡ over [] (fitting (nothing_live p) false) p → made ≡ shared_by table p
+      → (made : StraightProgram) → made ≡ over [] (fitting (nothing_live p 0) false) p → made ≡ shared_by table p
   as_unshared fits is so made same = same ∙ choose (all_fits table start_held p) (sym is ∙ so)
     where
       choose : (b : Bool) → b ≡ false
-          → over [] (fitting (nothing_live p) false) p
-          ≡ (if b then over table (nothing_live p) p else over [] (fitting (nothing_live p) false) p)
+          → over [] (fitting (nothing_live p 0) false) p
+          ≡ (if b then over table (nothing_live p 0) p else over [] (fitting (nothing_live p 0) false) p)
       choose true so = cc
       choose false so = refl
 

@@ -2,11 +2,9 @@
 
 ghost use Rattle.std.specs.Prelude.{◌≡◌, [], slice_get, IfOk};
 ghost use Rattle.language.specs.Types.{same_label};
-ghost use Rattle.live_words.specs.private.Choice as choice;
-ghost use Rattle.live_words.specs.private.Choice.{all_allowed, are_alike, chosen, conflicts_with, first_shared, is_allowed, is_conflict, is_fixed, is_some, is_word, may_share, merged, noted_where, same_mutable, same_words, variable_for};
-ghost use Rattle.live_words.specs.private.Held.{held_by};
+ghost use Rattle.live_words.specs.private.Choice.{all_allowed, are_alike, chosen, conflicts_with, first_shared, is_allowed, is_conflict, is_fixed, is_noted, is_some, is_word, may_share, merged, noted_where, same_mutable, same_words, variable_for};
 
-use crate::live::{Live, conflict_place, holder, mark, share};
+use crate::live::{conflict_place, holder, mark, share};
 use inline::FlatVariable;
 use language::Label;
 use std::alloc::{AllocError, Global};
@@ -91,14 +89,21 @@ pub fn all_allowed(declared: &[FlatVariable], table: &[u32]) -> bool
     true
 }
 
-/// Whether two words are in conflict, of so many.
-fn is_conflict(conflicts: &[bool], width: u32, word: u32, other: u32) -> bool
-    ensures { result ≡ is_conflict conflicts.now width word other }
+/// Whether a word's conflict with another is noted, of so many words.
+fn is_noted(conflicts: &[bool], width: u32, word: u32, other: u32) -> bool
+    ensures { result ≡ is_noted conflicts.now width word other }
 {
     match conflicts.get(conflict_place(width, word, other)) {
         Some(conflict) => *conflict,
         None => true,
     }
+}
+
+/// Whether two words are in conflict: that of one with the other is noted.
+fn is_conflict(conflicts: &[bool], width: u32, word: u32, other: u32) -> bool
+    ensures { result ≡ is_conflict conflicts.now width word other }
+{
+    is_noted(conflicts, width, word, other) || is_noted(conflicts, width, other, word)
 }
 
 /// Whether there is a word.
@@ -111,7 +116,7 @@ fn is_some(word: Option<u32>) -> bool
     }
 }
 
-/// What is chosen from: the variables, what is live at the beginning, and how many words there are.
+/// What is chosen from: the variables, what is live at the beginning, and how many words may share.
 #[derive(Clone, Copy)]
 pub struct Words<'w> {
     pub declared: &'w [FlatVariable],
@@ -164,13 +169,12 @@ impl<'w> Words<'w> {
     }
 }
 
-/// Notes that two words are in conflict, where they are.
-fn note_pair(conflicts: &mut Vec<bool>, width: u32, word: u32, other: u32, both: bool)
+/// Notes that a word is in conflict with another, where it is.
+fn note_where(conflicts: &mut Vec<bool>, width: u32, word: u32, other: u32, both: bool)
     ensures { conflicts.new.items ≡ noted_where both conflicts.old.items width word other }
 {
     if both {
         mark(conflicts, conflict_place(width, word, other));
-        mark(conflicts, conflict_place(width, other, word));
     }
 }
 
@@ -180,7 +184,7 @@ fn merge(conflicts: &mut Vec<bool>, width: u32, variable: u32, word: u32)
 {
     for other in 0..width {
         let both = is_conflict(conflicts, width, word, other);
-        note_pair(conflicts, width, variable, other, both);
+        note_where(conflicts, width, variable, other, both);
     }
 }
 

@@ -106,7 +106,7 @@ pub fn gather_loop(
 ) -> Result<(), AllocError>
     ensures { OnOk result (held_by live.new ≡ at_head table.now (held_by live.old) counter (straight_block body.now)) }
 {
-    let mut done = vec![in alloc; false; live.width as usize]?;
+    let mut done = vec![in alloc; false; live.holders.len()]?;
     note_done(&mut done, counter);
     gather_all(alloc, live, table, done, body)
 }

@@ -16,9 +16,9 @@ pub struct Live {
     pub holders: Vec<Option<u32>>,
     /// No variable has to hold two words at once.
     pub fits: bool,
-    /// Which words were set while which others were live: a row for each word.
+    /// Which of the first words were set while which others of them were live: a row for each.
     pub conflicts: Vec<bool>,
-    /// How many words there are.
+    /// How many words have such a row.
     pub width: u32,
 }
 
@@ -96,7 +96,6 @@ fn note_all(conflicts: &mut Vec<bool>, width: u32, word: u32, holders: &[Option<
     for holder in holders {
         if let Some(other) = *holder {
             mark(conflicts, conflict_place(width, word, other));
-            mark(conflicts, conflict_place(width, other, word));
         }
     }
 }
@@ -130,15 +129,15 @@ pub fn hold_own(holders: &[Option<u32>]) -> bool
 }
 
 impl Live {
-    /// Nothing is live of so many variables.
-    pub fn nothing(alloc: Global, variables: u32) -> Result<Self, AllocError>
-        ensures { IfOk result (λ live. held_by live ≡ none_live variables) }
+    /// Nothing is live of so many variables. Conflicts are noted of so many words.
+    pub fn nothing(alloc: Global, variables: usize, width: u32) -> Result<Self, AllocError>
+        ensures { IfOk result (λ live. held_by live ≡ none_live variables width) }
     {
         Ok(Live {
-            holders: vec![in alloc; None; variables as usize]?,
+            holders: vec![in alloc; None; variables]?,
             fits: true,
-            conflicts: vec![in alloc; false; variables as usize * variables as usize]?,
-            width: variables,
+            conflicts: vec![in alloc; false; width as usize * width as usize]?,
+            width,
         })
     }
 
@@ -202,15 +201,16 @@ impl Live {
         }
     }
 
-    /// A word is in conflict with what is live.
+    /// A word is in conflict with what the first variables hold.
     fn note(&mut self, word: u32)
         ensures { held_by self.new ≡ noted (held_by self.old) word }
     {
+        let first = self.holders.len().min(self.width as usize);
         note_all(
             &mut self.conflicts,
             self.width,
             word,
-            self.holders.as_slice(),
+            &self.holders.as_slice()[..first],
         );
     }
 

@@ -7,7 +7,7 @@ ghost use Rattle.branch_removal.specs.Straight.{straight_block, with_body};
 ghost use Rattle.language.specs.WantOfMemory.{IsWantOfMemory};
 ghost use Rattle.live_words.specs.Exact.{shared_of};
 ghost use Rattle.live_words.specs.private.Held.{held_by};
-ghost use Rattle.live_words.specs.private.Whole.{all_fits, at_end, at_start, kept, most_sharing, nothing_live, over, table_for, with_results};
+ghost use Rattle.live_words.specs.private.Whole.{all_fits, at_end, at_start, kept, nothing_live, over, shared_program, table_for, with_results};
 
 use crate::choice::{Words, all_allowed, choose};
 use crate::live::{Live, hold_own, share};
@@ -18,8 +18,8 @@ use inline::Term;
 use language::{Form, Param, Refusal};
 use std::alloc::{AllocError, Global};
 
-/// So many variables may share, for each pair of words is looked at.
-const MOST_SHARING: usize = 12288;
+/// So many words may share, the first ones, for each pair of them is looked at.
+const MOST_SHARING: usize = 1024;
 
 /// A parameter's elements are results: it is live at the end, and keeps its number.
 fn keep(live: &mut Live, table: &[u32], parameter: u32)
@@ -51,9 +51,9 @@ struct Parts {
 /// A program's body and result over the variables that words live in. What is live before it is noted.
 fn over(
     alloc: Global,
+    straight: &Straight<'_>,
     live: &mut Live,
     table: &[u32],
-    straight: &Straight<'_>,
 ) -> Result<Parts, AllocError>
     ensures code { IfOk result (λ parts. with_body straight.now (straight_block parts.body.items) (option_map term_tree parts.value) ≡ over table.now (held_by live.old) straight.now) }
     ensures live { OnOk result (held_by live.new ≡ at_start table.now (held_by live.old) straight.now) }
@@ -69,31 +69,49 @@ fn over(
 
 /// Whether sharing fits: no variable has to hold two words at once, what is live at the beginning keeps its number, and
 /// words live in variables that are declared as they are.
-fn all_fits(live: &Live, table: &[u32], straight: &Straight<'_>) -> bool
+fn all_fits(straight: &Straight<'_>, live: &Live, table: &[u32]) -> bool
     ensures { result ≡ all_fits table.now (held_by live.now) straight.now }
 {
     live.fits && hold_own(live.holders.as_slice()) && all_allowed(straight.declared(), table)
 }
 
-/// Nothing is live yet.
-fn nothing_live(alloc: Global, straight: &Straight<'_>) -> Result<Live, AllocError>
-    ensures { IfOk result (λ live. held_by live ≡ nothing_live straight.now) }
+/// Nothing is live yet. Conflicts are noted of so many words.
+fn nothing_live(alloc: Global, straight: &Straight<'_>, width: u32) -> Result<Live, AllocError>
+    ensures { IfOk result (λ live. held_by live ≡ nothing_live straight.now width) }
 {
-    Live::nothing(alloc, straight.declared().len().min(MOST_SHARING) as u32)
+    Live::nothing(alloc, straight.declared().len(), width)
 }
 
 /// The variables that words live in.
 fn table_for(alloc: Global, straight: &Straight<'_>) -> Result<Vec<u32>, AllocError>
     ensures { IfOk result (λ table. table.items ≡ table_for straight.now) }
 {
-    let mut live = nothing_live(alloc, straight)?;
-    over(alloc, &mut live, &[], straight)?;
+    let width = straight.declared().len().min(MOST_SHARING) as u32;
+    let mut live = nothing_live(alloc, straight, width)?;
+    over(alloc, straight, &mut live, &[])?;
     let words = Words {
         declared: straight.declared(),
         starts: live.holders.as_slice(),
         width: live.width,
     };
     choose(alloc, words, &mut live.conflicts)
+}
+
+/// A program's body and result in which words share variables, where that fits, and else as they are.
+fn shared_parts(alloc: Global, straight: &Straight<'_>) -> Result<Parts, AllocError>
+    ensures code { IfOk result (λ parts. with_body straight.now (straight_block parts.body.items) (option_map term_tree parts.value) ≡ shared_program straight.now) }
+    ensures straight { IfOk result (λ parts. IsStraight straight.now) }
+{
+    let table = table_for(alloc, straight)?;
+    let mut live = nothing_live(alloc, straight, 0)?;
+    let parts = over(alloc, straight, &mut live, table.as_slice())?;
+    if all_fits(straight, &live, table.as_slice()) {
+        return Ok(parts);
+    }
+    let mut live = nothing_live(alloc, straight, 0)?;
+    live.require(false);
+    let parts = over(alloc, straight, &mut live, &[])?;
+    Ok(parts)
 }
 
 /// Straight code in which a word that nobody reads is not set, and words that are never live at once share a variable.
@@ -104,14 +122,6 @@ pub fn share_words<'f>(alloc: Global, straight: &Straight<'f>) -> Result<Straigh
     ensures exact { IfOk result (λ shared. shared ≡ shared_of straight.now) }
     ensures memory { IfErr result (λ refusal. IsWantOfMemory refusal.rule refusal.place) }
 {
-    let table = table_for(alloc, straight)?;
-    let mut live = nothing_live(alloc, straight)?;
-    let parts = over(alloc, &mut live, table.as_slice(), straight)?;
-    if all_fits(&live, table.as_slice(), straight) {
-        return Ok(straight.with_body(parts.body, parts.value));
-    }
-    let mut live = nothing_live(alloc, straight)?;
-    live.require(false);
-    let parts = over(alloc, &mut live, &[], straight)?;
+    let parts = shared_parts(alloc, straight)?;
     Ok(straight.with_body(parts.body, parts.value))
 }

@@ -11,26 +11,16 @@ ghost use Rattle.live_words.specs.private.Sharing.{before, before_all, before_br
 use crate::gathering::gather_loop;
 use crate::live::{Live, share};
 use crate::terms::{all_renamed, is_dead, read, read_all, renamed};
-use branch_removal::StraightStatement;
+use branch_removal::{StraightStatement, branch_of, loop_of};
 use inline::Term;
 use std::alloc::{AllocError, Global};
 
-/// A branch with these arms.
-fn branch_of(
-    condition: Term,
-    accepted: Vec<StraightStatement>,
-    otherwise: Vec<StraightStatement>,
-) -> StraightStatement
-    ensures { straight_tree result ≡ straight.branch (term_tree condition) (straight_block accepted.items) (straight_block otherwise.items) }
-{
-    StraightStatement::Branch(condition, accepted, otherwise)
-}
-
-/// A loop with this body.
-fn loop_of(counter: u32, low: Term, high: Term, body: Vec<StraightStatement>) -> StraightStatement
-    ensures { straight_tree result ≡ straight.repeats counter (term_tree low) (term_tree high) (straight_block body.items) }
-{
-    StraightStatement::Repeat(counter, low, high, body)
+/// The counter of a loop and its bounds.
+#[derive(Clone, Copy)]
+struct Bounds<'b> {
+    counter: u32,
+    low: &'b Term,
+    high: &'b Term,
 }
 
 /// Before an array's element is set.
@@ -160,7 +150,12 @@ fn statement(
             branch(alloc, live, table, condition, accepted, otherwise)
         }
         StraightStatement::Repeat(counter, low, high, body) => {
-            repeat(alloc, live, table, *counter, low, high, body)
+            let bounds = Bounds {
+                counter: *counter,
+                low,
+                high,
+            };
+            repeat(alloc, live, table, bounds, body)
         }
     }
 }
@@ -194,23 +189,22 @@ fn repeat(
     alloc: Global,
     live: &mut Live,
     table: &[u32],
-    counter: u32,
-    low: &Term,
-    high: &Term,
+    bounds: Bounds<'_>,
     body: &[StraightStatement],
 ) -> Result<Option<StraightStatement>, AllocError>
-    ensures code { IfOk result (λ code. option_map straight_tree code ≡ Some (shared_loop table.now (held_by live.old) counter (term_tree low.now) (term_tree high.now) (straight_block body.now))) }
-    ensures live { OnOk result (held_by live.new ≡ before_loop table.now (held_by live.old) counter (term_tree low.now) (term_tree high.now) (straight_block body.now)) }
+    ensures code { IfOk result (λ code. option_map straight_tree code ≡ Some (shared_loop table.now (held_by live.old) bounds.entry.counter (term_tree bounds.entry.low.now) (term_tree bounds.entry.high.now) (straight_block body.now))) }
+    ensures live { OnOk result (held_by live.new ≡ before_loop table.now (held_by live.old) bounds.entry.counter (term_tree bounds.entry.low.now) (term_tree bounds.entry.high.now) (straight_block body.now)) }
 {
-    gather_loop(alloc, live, table, counter, body)?;
+    gather_loop(alloc, live, table, bounds.counter, body)?;
     let head = live.copy_holders(alloc)?;
     let turn = statements(alloc, live, table, body)?;
-    live.close(table, counter, head);
-    read(live, table, &[], high);
-    read(live, table, &[], low);
-    let low = renamed(alloc, table, low)?;
-    let high = renamed(alloc, table, high)?;
-    Ok(Some(loop_of(share(table, counter), low, high, turn)))
+    live.close(table, bounds.counter, head);
+    read(live, table, &[], bounds.high);
+    read(live, table, &[], bounds.low);
+    let low = renamed(alloc, table, bounds.low)?;
+    let high = renamed(alloc, table, bounds.high)?;
+    let counter = share(table, bounds.counter);
+    Ok(Some(loop_of(counter, low, high, turn)))
 }
 
 /// Statements, from the last one back to the first.

@@ -4,12 +4,12 @@ ghost use Rattle.std.specs.Prelude.{◌≡◌, map, IfOk};
 ghost use Rattle.std.specs.Option.{option_map};
 ghost use Rattle.inline.specs.Flat.{term_tree};
 ghost use Rattle.live_words.specs.private.Held.{held_by};
-ghost use Rattle.live_words.specs.private.Terms.{is_dead, is_marked, is_quiet, reading, reading_all, renamed};
+ghost use Rattle.live_words.specs.private.Terms.{is_dead, reading, reading_all, renamed};
 ghost use Rattle.live_words.specs.private.Whole.{reading_any};
 
 use crate::live::{Live, share};
+use branch_removal::is_quiet;
 use inline::Term;
-use language::BinaryOperator;
 use std::alloc::{AllocError, Global};
 
 /// What an expression reads and was not set already is live.
@@ -57,6 +57,7 @@ pub fn read_any(live: &mut Live, table: &[u32], term: Option<&Term>)
 }
 
 /// An expression over the variables that words live in.
+#[cycle(renamed)]
 pub fn renamed(alloc: Global, table: &[u32], term: &Term) -> Result<Term, AllocError>
     ensures { IfOk result (λ copy. term_tree copy ≡ renamed table.now (term_tree term.now)) }
 {
@@ -65,33 +66,42 @@ pub fn renamed(alloc: Global, table: &[u32], term: &Term) -> Result<Term, AllocE
         Term::Truth(value) => Ok(Term::Truth(*value)),
         Term::Variable(word) => Ok(Term::Variable(share(table, *word))),
         Term::Prefix(operator, width, operand) => {
-            let operand = Box::new(alloc, renamed(alloc, table, operand)?)?;
+            let operand = boxed(alloc, table, operand)?;
             Ok(Term::Prefix(*operator, *width, operand))
         }
         Term::Binary(place, operator, width, left, right) => {
-            let left = Box::new(alloc, renamed(alloc, table, left)?)?;
-            let right = Box::new(alloc, renamed(alloc, table, right)?)?;
+            let left = boxed(alloc, table, left)?;
+            let right = boxed(alloc, table, right)?;
             Ok(Term::Binary(*place, *operator, *width, left, right))
         }
         Term::Rotate(width, operand, amount) => {
-            let operand = Box::new(alloc, renamed(alloc, table, operand)?)?;
+            let operand = boxed(alloc, table, operand)?;
             Ok(Term::Rotate(*width, operand, *amount))
         }
         Term::Convert(kind, operand) => {
-            let operand = Box::new(alloc, renamed(alloc, table, operand)?)?;
+            let operand = boxed(alloc, table, operand)?;
             Ok(Term::Convert(*kind, operand))
         }
         Term::Select(condition, accepted, otherwise) => {
-            let condition = Box::new(alloc, renamed(alloc, table, condition)?)?;
-            let accepted = Box::new(alloc, renamed(alloc, table, accepted)?)?;
-            let otherwise = Box::new(alloc, renamed(alloc, table, otherwise)?)?;
+            let condition = boxed(alloc, table, condition)?;
+            let accepted = boxed(alloc, table, accepted)?;
+            let otherwise = boxed(alloc, table, otherwise)?;
             Ok(Term::Select(condition, accepted, otherwise))
         }
         Term::Element(place, array, size, index) => {
-            let index = Box::new(alloc, renamed(alloc, table, index)?)?;
+            let index = boxed(alloc, table, index)?;
             Ok(Term::Element(*place, share(table, *array), *size, index))
         }
     }
+}
+
+/// The same, in a box of its own.
+#[cycle(renamed)]
+fn boxed(alloc: Global, table: &[u32], term: &Term) -> Result<Box<Term>, AllocError>
+    ensures { IfOk result (λ copy. term_tree copy.value ≡ renamed table.now (term_tree term.now)) }
+{
+    let copy = renamed(alloc, table, term)?;
+    Ok(Box::new(alloc, copy)?)
 }
 
 /// Expressions, in their order.
@@ -116,35 +126,6 @@ pub fn renamed_any(
     match term {
         Some(term) => Ok(Some(renamed(alloc, table, term)?)),
         None => Ok(None),
-    }
-}
-
-/// Whether operands of this operator are on the path of a run: it may meet a fault at them, or an observer may see them.
-fn is_marked(operator: BinaryOperator) -> bool
-    ensures { result ≡ is_marked operator }
-{
-    matches!(
-        operator,
-        BinaryOperator::Multiply | BinaryOperator::Divide | BinaryOperator::Remainder
-    )
-}
-
-/// Whether an expression shows nothing: it meets no index, division or multiplication.
-fn is_quiet(term: &Term) -> bool
-    ensures { result ≡ is_quiet (term_tree term.now) }
-{
-    match term {
-        Term::Number(_, _) | Term::Truth(_) | Term::Variable(_) => true,
-        Term::Prefix(_, _, operand) | Term::Rotate(_, operand, _) | Term::Convert(_, operand) => {
-            is_quiet(operand)
-        }
-        Term::Binary(_, operator, _, left, right) => {
-            !is_marked(*operator) && is_quiet(left) && is_quiet(right)
-        }
-        Term::Select(condition, accepted, otherwise) => {
-            is_quiet(condition) && is_quiet(accepted) && is_quiet(otherwise)
-        }
-        Term::Element(_, _, _, _) => false,
     }
 }
 

@@ -1,10 +1,10 @@
 -- Which words share a variable: one after the other, each word takes the first variable of an earlier one that is
 -- declared as it is and with whose words it is in no conflict, else its own.
 use Rattle.std.specs.Prelude.{ℕ, zero, suc, ◌+◌, ◌*◌, ◌==◌, ◌&&◌, ◌||◌, Bool, true, false, not, List, [], ◌∷◌, ◌++◌}
-use Rattle.std.specs.Prelude.{Option, None, Some, if◌then◌else◌, slice_get, unwrap_or}
+use Rattle.std.specs.Prelude.{Option, None, Some, if◌then◌else◌, slice_get, slice_set, unwrap_or}
 use Rattle.inline.specs.declared.flat.FlatVariable.{FlatVariable}
 use Rattle.language.specs.Types.{same_kind, same_label}
-use Rattle.live_words.specs.private.Held.{Table, Holders, share, holder, noted_pair}
+use Rattle.live_words.specs.private.Held.{Table, Holders, share, holder}
 
 abbrev pub is_word : Option ℕ → Bool
 is_word None = true
@@ -34,9 +34,12 @@ abbrev pub all_allowed : List FlatVariable → ℕ → Table → Bool
 all_allowed declared x [] = true
 all_allowed declared x (v ∷ table) = is_allowed declared x v && all_allowed declared (x + 1) table
 
--- two words are in conflict
+-- two words are in conflict: that of one with the other is noted
+abbrev pub is_noted : List Bool → ℕ → ℕ → ℕ → Bool
+is_noted conflicts width x y = unwrap_or (slice_get conflicts (x * width + y)) true
+
 abbrev pub is_conflict : List Bool → ℕ → ℕ → ℕ → Bool
-is_conflict conflicts width x y = unwrap_or (slice_get conflicts (x * width + y)) true
+is_conflict conflicts width x y = is_noted conflicts width x y || is_noted conflicts width y x
 
 abbrev pub is_some : Option ℕ → Bool
 is_some None = false
@@ -59,7 +62,7 @@ first_shared declared conflicts width table x (suc count) v =
     else first_shared declared conflicts width table x count (v + 1)
 
 abbrev pub noted_where : Bool → List Bool → ℕ → ℕ → ℕ → List Bool
-noted_where both conflicts width x y = if both then noted_pair conflicts width x y else conflicts
+noted_where both conflicts width x y = if both then slice_set conflicts (x * width + y) true else conflicts
 
 -- what a word is in conflict with is in conflict with this variable's word too, for so many words from y on
 abbrev pub merged : List Bool → ℕ → ℕ → ℕ → ℕ → ℕ → List Bool

@@ -1,6 +1,6 @@
 -- What a loop's body may read of what it did not set. Of what is set in a part that may run or not nothing is known
 -- behind that part. Where too little is found, sharing does not fit.
-use Rattle.std.specs.Prelude.{ℕ, true, false, replicate, slice_set}
+use Rattle.std.specs.Prelude.{ℕ, true, false, length, replicate, slice_set}
 use Rattle.branch_removal.specs.Straight.{StraightTree, set, clear, fill, put, take, set_under, put_under, branch}
 use Rattle.branch_removal.specs.Straight.{repeats, StraightBlock, nothing, first}
 use Rattle.live_words.specs.private.Held.{Table, Done, Held, living_where}
@@ -47,7 +47,7 @@ abbrev mutual
 
 -- in a loop that begins, nothing was set but its counter
 abbrev pub none_done : ℕ → Done
-none_done width = replicate width false
+none_done variables = replicate variables false
 
 abbrev pub at_head : Table → Held → ℕ → StraightBlock → Held
-at_head table held x body = gathered_all table (with_done (none_done held.width) x) held body
+at_head table held x body = gathered_all table (with_done (none_done (length held.holders)) x) held body

@@ -1,7 +1,7 @@
 -- Which words are live, seen backwards from the end of the code: what they hold may be read later. A table says which
 -- variable each word lives in; no variable may hold two live words at once. Arrays are treated as words are.
 use Rattle.std.specs.Prelude.{ℕ, ◌+◌, ◌*◌, ◌==◌, ◌&&◌, Bool, true, false, List, [], ◌∷◌, Option, None, Some}
-use Rattle.std.specs.Prelude.{if◌then◌else◌, slice_get, slice_set, unwrap_or}
+use Rattle.std.specs.Prelude.{if◌then◌else◌, length, min, slice_get, slice_set, take, unwrap_or}
 use Rattle.live_words.specs.declared.live.Live.{Live}
 
 -- for each word the variable that it lives in; those behind the end keep their own
@@ -19,7 +19,7 @@ pub record Held : Type 0 where
   pub holders : Holders
   -- no variable has to hold two words at once
   pub fits : Bool
-  -- which words were set while which others were live: of x and y at x times the width and y
+  -- which of so many words were set while which others of them were live: of x and y at x times their number and y
   pub conflicts : List Bool
   pub width : ℕ
 
@@ -93,20 +93,18 @@ living_where table done held x = if is_done done x then held else living table h
 
 -- Conflicts.
 
-abbrev pub noted_pair : List Bool → ℕ → ℕ → ℕ → List Bool
-noted_pair conflicts width x y = slice_set (slice_set conflicts (x * width + y) true) (y * width + x) true
-
 -- of a word with each that is live
 abbrev pub noted_all : List Bool → ℕ → ℕ → Holders → List Bool
 noted_all conflicts width x [] = conflicts
 noted_all conflicts width x (None ∷ holders) = noted_all conflicts width x holders
-noted_all conflicts width x (Some y ∷ holders) = noted_all (noted_pair conflicts width x y) width x holders
+noted_all conflicts width x (Some y ∷ holders) =
+    noted_all (slice_set conflicts (x * width + y) true) width x holders
 
 abbrev pub noted : Held → ℕ → Held
 noted held x = record {
   holders = held.holders;
   fits = held.fits;
-  conflicts = noted_all held.conflicts held.width x held.holders;
+  conflicts = noted_all held.conflicts held.width x (take (min (length held.holders) held.width) held.holders);
   width = held.width;
 }
 

@@ -1,8 +1,7 @@
 -- Expressions: which words they read, and how they read where words share variables.
-use Rattle.std.specs.Prelude.{ℕ, ◌&&◌, ◌||◌, Bool, true, false, not, List, [], ◌∷◌}
+use Rattle.std.specs.Prelude.{ℕ, ◌&&◌, Bool, not, List, [], ◌∷◌}
 use Rattle.inline.specs.Flat.{TermTree, number, truth, variable, prefix, binary, rotate, convert, select, element}
-use Rattle.language.specs.declared.tree.BinaryOperator.{BinaryOperator}
-use Rattle.language.specs.Operators.{divides, multiplies}
+use Rattle.branch_removal.specs.Quiet.{is_quiet}
 use Rattle.live_words.specs.private.Held.{Table, Done, Held, share, is_live, living_where}
 
 -- what is live before an expression is computed: what it reads and was not set already
@@ -37,22 +36,6 @@ renamed table (convert kind operand) = convert kind (renamed table operand)
 renamed table (select condition accepted otherwise) =
     select (renamed table condition) (renamed table accepted) (renamed table otherwise)
 renamed table (element place x size index) = element place (share table x) size (renamed table index)
-
--- operands of this operator are on the path
-abbrev pub is_marked : BinaryOperator → Bool
-is_marked operator = divides operator || multiplies operator
-
--- no index, division or multiplication is in an expression: its path is empty
-abbrev pub is_quiet : TermTree → Bool
-is_quiet (number value kind) = true
-is_quiet (truth value) = true
-is_quiet (variable x) = true
-is_quiet (prefix operator width operand) = is_quiet operand
-is_quiet (binary place operator width left right) = not (is_marked operator) && is_quiet left && is_quiet right
-is_quiet (rotate width operand amount) = is_quiet operand
-is_quiet (convert kind operand) = is_quiet operand
-is_quiet (select condition accepted otherwise) = is_quiet condition && is_quiet accepted && is_quiet otherwise
-is_quiet (element place x size index) = false
 
 -- setting a word to an expression is left out: nobody reads it, and the expression shows nothing
 abbrev pub is_dead : Table → Held → ℕ → TermTree → Bool

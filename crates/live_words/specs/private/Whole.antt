@@ -12,14 +12,14 @@ use Rattle.live_words.specs.private.Terms.{reading, renamed}
 use Rattle.live_words.specs.private.Choice.{all_allowed, chosen}
 use Rattle.live_words.specs.private.Sharing.{before_all, shared_all}
 
--- more variables do not share: each pair of words is looked at
+-- so many words may share, the first ones: each pair of them is looked at
 abbrev pub most_sharing : ℕ
-most_sharing = 12288
+most_sharing = 1024
 
--- nothing is live of so many variables
-abbrev pub none_live : ℕ → Held
-none_live width = record {
-  holders = replicate width None;
+-- nothing is live of so many variables, and conflicts are noted of so many words
+abbrev pub none_live : ℕ → ℕ → Held
+none_live variables width = record {
+  holders = replicate variables None;
   fits = true;
   conflicts = replicate (width * width) false;
   width = width;
@@ -57,21 +57,21 @@ over table held p =
 abbrev pub all_fits : Table → Held → StraightProgram → Bool
 all_fits table held p = held.fits && hold_own 0 held.holders && all_allowed p.declared 0 table
 
-abbrev pub nothing_live : StraightProgram → Held
-nothing_live p = none_live (min (length p.declared) most_sharing)
+abbrev pub nothing_live : StraightProgram → ℕ → Held
+nothing_live p width = none_live (length p.declared) width
 
 -- the words that share variables, by what is live where each is in its own
 abbrev pub table_by : StraightProgram → Held → Table
 table_by p held = chosen p.declared held.holders held.width held.width 0 held.conflicts []
 
 abbrev pub table_for : StraightProgram → Table
-table_for p = table_by p (at_start [] (nothing_live p) p)
+table_for p = table_by p (at_start [] (nothing_live p (min (length p.declared) most_sharing)) p)
 
 -- where sharing does not fit, the program stays as it is
 abbrev pub shared_by : Table → StraightProgram → StraightProgram
 shared_by table p =
-    if all_fits table (at_start table (nothing_live p) p) p then over table (nothing_live p) p
-    else over [] (fitting (nothing_live p) false) p
+    if all_fits table (at_start table (nothing_live p 0) p) p then over table (nothing_live p 0) p
+    else over [] (fitting (nothing_live p 0) false) p
 
 abbrev pub shared_program : StraightProgram → StraightProgram
 shared_program p = shared_by (table_for p) p

@@ -3,8 +3,8 @@ use Rattle.branch_removal.specs.Bounds.{block_nodes, statement_nodes}
 use Rattle.branch_removal.specs.Straight.{straight_block, straight_tree}
 use Rattle.inline.specs.Flat.{term_tree}
 use Rattle.element_words.specs.private.Narrowing.{narrowed, narrowed_by, narrowed_by_all}
-use Rattle.element_words.proofs.StatementTrees.{tree_of_branch, tree_of_loop, accepted_smaller, otherwise_smaller}
-use Rattle.element_words.proofs.StatementTrees.{body_smaller, item_here, smaller_here}
+use Rattle.branch_removal.proofs.StatementTrees.{tree_of_branch, tree_of_loop, accepted_smaller, otherwise_smaller}
+use Rattle.branch_removal.proofs.StatementTrees.{body_smaller, item_here, smaller_here}
 use Rattle.element_words.proofs.narrowing.+narrowing.Goals as goal
 
 pub narrow_by-narrow_by_all-requires : goal.narrow_by-narrow_by_all-requires

@@ -4,8 +4,8 @@ use Rattle.std.proofs.lemmas.List.{at_drop_all}
 use Rattle.branch_removal.specs.Bounds.{block_nodes, statement_nodes}
 use Rattle.branch_removal.specs.Straight.{chain, straight_block, straight_tree}
 use Rattle.element_words.specs.private.Splitting.{split_all}
-use Rattle.element_words.proofs.StatementTrees.{tree_of_branch, tree_of_loop, accepted_smaller, otherwise_smaller}
-use Rattle.element_words.proofs.StatementTrees.{body_smaller, item_here, smaller_here, chain-nothing}
+use Rattle.branch_removal.proofs.StatementTrees.{tree_of_branch, tree_of_loop, accepted_smaller, otherwise_smaller}
+use Rattle.branch_removal.proofs.StatementTrees.{body_smaller, item_here, smaller_here, chain-nothing}
 use Rattle.element_words.proofs.CodeLemmas.{passed, branch_code, loop_code}
 use Rattle.element_words.proofs.statements.+splitting.Goals as goal
 

@@ -1,5 +1,5 @@
 use Rattle.std.proofs.Common.{refl}
-use Rattle.element_words.proofs.StatementTrees.{pushed}
+use Rattle.branch_removal.proofs.StatementTrees.{pushed}
 use Rattle.element_words.proofs.statements.push.Goals as goal
 
 pub returns : goal.returns

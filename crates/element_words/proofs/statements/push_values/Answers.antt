@@ -4,7 +4,7 @@ use Rattle.branch_removal.specs.Straight.{chain, set, straight_block, StraightBl
 use Rattle.inline.specs.Flat.{TermTree, term_tree}
 use Rattle.element_words.specs.private.Splitting.{single, split, given_values}
 use Rattle.element_words.proofs.CodeLemmas.{values_step, no_values, no_more_values, value_here}
-use Rattle.element_words.proofs.StatementTrees.{chain-nothing}
+use Rattle.branch_removal.proofs.StatementTrees.{chain-nothing}
 use Rattle.element_words.proofs.statements.push_values.Goals as goal
 use Rattle.element_words.proofs.statements.push_values.Goals.{then-left-gt0+in_ok-split+in_ok-push, else-left-gt0}
 

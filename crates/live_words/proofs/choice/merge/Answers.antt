@@ -12,7 +12,7 @@ loop-other-preserved c =
     let n = w - (y + 1) in
     let more : w - y ≡ suc n = omega (arith, c.loop-other-test.true) in
     ap (λ (cs : List Bool). merged cs w v x n (y + 1))
-    (c.note_pair.ensures
+    (c.note_where.ensures
     ∙ ap (λ (b : Bool). noted_where b conflicts w v y)
     (c.is_conflict-both.ensures ∙ ap (λ (cs : List Bool). is_conflict cs w x y) c.deref.ensures.value))
     ∙ (sym (ap (λ (k : ℕ). merged conflicts w v x k y) more) ∙ c.loop-other.invariant)

@@ -5,8 +5,8 @@ use Rattle.inline.specs.Flat.{term_tree}
 use Rattle.live_words.specs.private.Gathering.{gathered, gathered_all, with_done}
 use Rattle.live_words.specs.private.Held.{Done, Held, held_by}
 use Rattle.live_words.specs.private.Terms.{reading}
-use Rattle.live_words.proofs.StatementTrees.{tree_of_branch, tree_of_loop, accepted_smaller, otherwise_smaller}
-use Rattle.live_words.proofs.StatementTrees.{body_smaller, item_here, smaller_here}
+use Rattle.branch_removal.proofs.StatementTrees.{tree_of_branch, tree_of_loop, accepted_smaller, otherwise_smaller}
+use Rattle.branch_removal.proofs.StatementTrees.{body_smaller, item_here, smaller_here}
 use Rattle.live_words.proofs.gathering.+gathering.Goals as goal
 
 pub gather-gather_all-requires : goal.gather-gather_all-requires

@@ -4,8 +4,9 @@ use Rattle.branch_removal.specs.Bounds.{block_nodes, statement_nodes}
 use Rattle.branch_removal.specs.Straight.{StraightTree, straight_block, straight_tree}
 use Rattle.live_words.specs.private.Held.{Held, held_by}
 use Rattle.live_words.specs.private.Sharing.{before, before_all, shared, shared_all}
-use Rattle.live_words.proofs.StatementTrees.{tree_of_branch, tree_of_loop, arms_smaller, body_smaller, item_here}
-use Rattle.live_words.proofs.StatementTrees.{smaller_here, one_more, one_before}
+use Rattle.branch_removal.proofs.StatementTrees.{tree_of_branch, tree_of_loop, arms_smaller, body_smaller, item_here}
+use Rattle.branch_removal.proofs.StatementTrees.{smaller_here}
+use Rattle.live_words.proofs.Backwards.{one_more, one_before}
 use Rattle.live_words.proofs.statements.+sharing.Goals as goal
 
 pub statement-branch-alloc-requires : goal.statement-branch-alloc-requires

@@ -2,7 +2,8 @@ use Rattle.std.proofs.Common.{◌≡◌, List, [], ◌++◌, option_to_list, rul
 use Rattle.branch_removal.specs.Straight.{chain, nothing, straight_block}
 use Rattle.branch_removal.specs.declared.straight.StraightStatement.{StraightStatement}
 use Rattle.live_words.specs.private.Sharing.{onto}
-use Rattle.live_words.proofs.StatementTrees.{chain-nothing, pushed, onto-push}
+use Rattle.branch_removal.proofs.StatementTrees.{chain-nothing, chain-push}
+use Rattle.live_words.proofs.Backwards.{onto-push}
 use Rattle.live_words.proofs.statements.in_order.Goals as goal
 
 pub loop-statement-preserved : goal.loop-statement-preserved
@@ -13,7 +14,7 @@ loop-statement-preserved c =
     let before = c.pop.ensures.items ∙ ap (λ o. rest ++ option_to_list o) c.in-Some.is in
     ap (λ (xs : List StraightStatement). chain (straight_block xs) (onto (straight_block rest) nothing))
     c.in_ok-push.ensures.items
-    ∙ (pushed code s (onto (straight_block rest) nothing)
+    ∙ (chain-push code s (onto (straight_block rest) nothing)
     ∙ (ap (chain (straight_block code)) (sym (onto-push rest s nothing))
     ∙ (ap (λ (xs : List StraightStatement). chain (straight_block code) (onto (straight_block xs) nothing))
     (sym before)

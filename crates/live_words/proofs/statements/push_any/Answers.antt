@@ -2,7 +2,7 @@ use Rattle.std.proofs.Common.{Option, Some, option_map, sym, ap, ◌∙◌}
 use Rattle.branch_removal.specs.Straight.{nothing, straight_block, straight_tree}
 use Rattle.branch_removal.specs.declared.straight.StraightStatement.{StraightStatement}
 use Rattle.live_words.specs.private.Sharing.{in_front, onto}
-use Rattle.live_words.proofs.StatementTrees.{pushed_any}
+use Rattle.live_words.proofs.Backwards.{pushed_any}
 use Rattle.live_words.proofs.statements.push_any.Goals as goal
 
 pub returns-in_ok-push : goal.returns-in_ok-push

@@ -1,5 +1,0 @@
-use Rattle.element_words.proofs.StatementTrees.{branch_tree}
-use Rattle.element_words.proofs.statements.branch_of.Goals as goal
-
-pub returns : goal.returns
-returns c = branch_tree c.args.condition c.args.accepted c.args.otherwise
