@@ -83,7 +83,7 @@ module _ (a : Allocation) (p : StraightProgram) (room : HasRoom p) (fitting : Is
       (λ env s t fine laid done. record { ready = done.second.second.ready; left = done.second.second.left })
       (quietly (entry_runs setting fitting.within)
       (seq
-      (block_runs setting 0 p.body room.typed.body (omega arith) (omega arith)
+      (block_runs setting 0 p.body room.typed.body fitting.read (omega arith) (omega arith)
       (omega (arith, length-append {A = Instr}, short, room.nodes)))
       (beside (last_state p) (result_runs setting p.returned p.value room.typed.result (omega arith)))
       (λ env s t ready done. done.ready))

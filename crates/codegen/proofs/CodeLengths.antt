@@ -11,27 +11,53 @@ use Rattle.codegen.specs.private.Loops.{any_sets}
 use Rattle.codegen.proofs.Language.{element_bytes, array_words, IsTyped, AreTyped, types_but, types_of, AllSuit}
 use Rattle.codegen.proofs.Language.{HasType, Boolean, WordType, Profile}
 use Rattle.codegen.specs.private.Emitted.{read_code, read_register}
-use Rattle.codegen.specs.private.Emitted.{set_code, set_under_code, within_code, element_store_code, clear_code}
+use Rattle.codegen.specs.private.Emitted.{set_code, set_under_code, taken_code, kept_code, join_code, masks_code, unless_unread, element_store_code, clear_code}
 use Rattle.codegen.specs.private.Emitted.{fill_code, statement_code, block_code}
 use Rattle.branch_removal.specs.Heights.{height_of_all}
 use Rattle.codegen.specs.private.Emitted.{index_code}
 use Rattle.branch_removal.specs.Heights.{height_in, height_in_all, depth_in, depth_in_all}
 use Rattle.codegen.specs.private.Emitted.{put_code, put_element_code, put_element_under_code, put_under_code}
 use Rattle.codegen.specs.private.Emitted.{put_under_near_code}
-use Rattle.codegen.proofs.Machine.{AreNear, far, ArePlacedTerms, HasPlace, HavePlaces, variable_offset, control_offset}
+use Rattle.codegen.proofs.Machine.{AreNear, far, ArePlacedTerms, control_location, HasPlace, HavePlaces}
+use Rattle.codegen.proofs.Machine.{register_of, variable_offset}
 use Rattle.codegen.proofs.Machine.{next_offset, temporaries_offset, kind_at, near_element, height_of, Instr, slots_to}
 use Rattle.codegen.proofs.Machine.{Allocation, InRegister, InSlot, Location, variable_location}
 use Rattle.codegen.specs.private.Placed.{IsPlaced}
-use Rattle.codegen.proofs.Logic.{code_length, height, one_of, load_length, store_length, constant_length}
+use Rattle.codegen.proofs.Logic.{code_length, fetch_length, height, one_of, load_length, store_length, constant_length}
 use Rattle.codegen.proofs.Logic.{address_length, ends_before_result, typed_within}
 use Rattle.codegen.proofs.Logic.{typed_among}
 use Rattle.codegen.proofs.Logic.{none-some, slice_get_within}
 
 -- Pieces.
 
-within_length : (declared : List FlatVariable) (within : Option ℕ) → length (within_code declared within) ≤ 5
-within_length declared None = omega arith
-within_length declared (Some control) = simp length-append (omega (arith, load_length 6 (control_offset declared control)))
+masks_length : (x y : Bool) (a b r : ℕ) → length (masks_code x y a b r) ≤ 2
+masks_length true true a b r = omega arith
+masks_length true false a b r = omega arith
+masks_length false true a b r = omega arith
+masks_length false false a b r = omega arith
+
+join_length : (x y : Bool) (a b k : ℕ) → length (join_code x y a b k) ≤ 2
+join_length true true a b k = one_of (a == k) _ _ 2 (omega arith) (omega arith)
+join_length true false a b k = one_of (a == k) _ _ 2 (omega arith) (omega arith)
+join_length false true a b k = one_of (a == k) _ _ 2 (omega arith) (omega arith)
+join_length false false a b k = one_of (a == k) _ _ 2 (omega arith) (omega arith)
+
+taken_length : (declared : List FlatVariable) (allocation : Allocation) (x y : Bool) (a b r : ℕ) (within : Option ℕ)
+    → length (taken_code declared allocation x y a b r within) ≤ 7
+taken_length declared allocation x y a b r None = omega (arith, masks_length x y a b r)
+taken_length declared allocation x y a b r (Some control) =
+    omega (
+      arith,
+      length-append {A = Instr},
+      masks_length x y 7 5 r,
+      fetch_length (control_location declared allocation control) 6,
+      join_length x y a b (register_of (control_location declared allocation control) 6),
+    )
+
+kept_length : (x : Bool) (l : Location) (r : ℕ) → length (unless_unread x (kept_code l r)) ≤ 3
+kept_length true l r = omega arith
+kept_length false (InRegister home) r = omega arith
+kept_length false (InSlot o) r = store_length r o
 
 pub element_store_length : (r : ℕ) (kind : Kind) (o : ℕ) → length (element_store_code r kind o) ≤ 3
 element_store_length r kind o = one_of (nat_lt o 2048) _ _ 3 (omega arith) (omega arith)
@@ -58,7 +84,7 @@ put_length declared allocation free x index value =
     )))
     (omega (arith, length-append {A = Instr}, read_length, address_length))
 
-put_under_length : (declared : List FlatVariable) (allocation : Allocation) (free control x : ℕ)
+put_under_length : (declared : List FlatVariable) (allocation : Allocation) (free : ℕ) (control : Location) (x : ℕ)
     (index value : TermTree) → length (put_element_under_code declared allocation free control x index value)
     ≤ 32 * (1 + (1 + term_nodes index) + term_nodes value)
 put_under_length declared allocation free control x index value =
@@ -71,10 +97,10 @@ put_under_length declared allocation free control x index value =
       arith,
       length-append {A = Instr},
       read_length declared allocation free 5 0 value,
-      load_length 7 control,
+      fetch_length control 7,
       element_store_length 5 (kind_at declared x) o,
     ))
-    (omega (arith, length-append {A = Instr}, read_length, load_length, address_length))
+    (omega (arith, length-append {A = Instr}, read_length, fetch_length, address_length))
 
 set_length : (declared : List FlatVariable) (allocation : Allocation) (free : ℕ) (l : Location) (e : TermTree)
     → length (set_code declared allocation free l e) ≤ 16 * term_nodes e + 3
@@ -82,10 +108,10 @@ set_length declared allocation free (InRegister home) e =
     omega (arith, value_length declared allocation free home 0 e)
 set_length declared allocation free (InSlot o) e = assign_length declared allocation free e o
 
-set_under_length : (r : ℕ) (l : Location) (control : ℕ) → length (set_under_code r l control) ≤ 12
-set_under_length r (InRegister home) control = simp length-append (omega (arith, load_length 7 control))
+set_under_length : (r : ℕ) (l control : Location) → length (set_under_code r l control) ≤ 12
+set_under_length r (InRegister home) control = simp length-append (omega (arith, fetch_length control 7))
 set_under_length r (InSlot o) control =
-    simp length-append (omega (arith, load_length 6 o, load_length 7 control, store_length 5 o))
+    simp length-append (omega (arith, load_length 6 o, fetch_length control 7, store_length 5 o))
 
 pub fill_length : (declared : List FlatVariable) (allocation : Allocation) (free : ℕ) (kind : Kind) (o : ℕ)
     (es : List TermTree) → length (fill_code declared allocation free kind o es) ≤ 32 * terms_nodes es
@@ -125,14 +151,14 @@ module _ (declared : List FlatVariable) (allocation : Allocation) (controls dept
     statement_length depth (put place x size index value) =
         omega (arith, put_length declared allocation free x index value)
     statement_length depth (put_under control place x size index value) =
-        omega (arith, put_under_length declared allocation free (control_offset declared control) x index value)
+        omega (arith, put_under_length declared allocation free (control_location declared allocation control) x index value)
     statement_length depth (set_under control x value) =
         omega (
           arith,
           length-append {A = Instr},
           read_length,
           set_under_length (read_register allocation 5 value) (variable_location declared allocation x)
-              (control_offset declared control),
+              (control_location declared allocation control),
         )
     statement_length depth (repeats x low high body) =
         let ys = block_code declared allocation controls depths (depth + 1) body in
@@ -144,9 +170,8 @@ module _ (declared : List FlatVariable) (allocation : Allocation) (controls dept
           arith,
           length-append {A = Instr},
           read_length,
-          within_length,
-          load_length,
-          store_length,
+          taken_length,
+          kept_length,
           address_length,
         )
 

@@ -17,7 +17,7 @@ use Rattle.codegen.proofs.Logic.{unwritten, IsHome}
 use Rattle.codegen.proofs.Logic.{but_among, suits_among, one_path_all, all_values, lower_fits, Addressed}
 use Rattle.codegen.proofs.Logic.{address_runs, steps_of, kind_known, HomesKept, home_beside, homes_beside, homes_by}
 use Rattle.codegen.proofs.Logic.{homes_moved, homes_then, place_target, works_at, load_bytes, load_plain, Held}
-use Rattle.codegen.proofs.Logic.{HeldAt, free_from, mask_of, merged, merge, take, put, does, move_runs, then_moves}
+use Rattle.codegen.proofs.Logic.{HeldAt, free_from, mask_of, merged, merge, put, does, move_runs, then_moves}
 use Rattle.codegen.proofs.Logic.{loading, storing, place_of, place_even, place_before, place_ends, Setting, setting}
 use Rattle.codegen.proofs.Logic.{base_of, Known, by_index, none, Runs, seq, quiet, weaken, gives, cheaper, beside}
 use Rattle.codegen.proofs.Logic.{along, as_code, idle, height, number_or_zero, Ready, Wrote, ready_after, known}
@@ -26,9 +26,9 @@ use Rattle.branch_removal.specs.Straight as straight
 use Rattle.codegen.proofs.Machine.{store_by, code_by, near_element, put_code, slots_to, load_by, kind_at, Instr}
 use Rattle.codegen.proofs.Machine.{ByteMap, number_at, load_size}
 use Rattle.codegen.proofs.Machine.{sign_extended, sum_of, element_store_code, put_under_code, put_under_near_code}
-use Rattle.codegen.proofs.Machine.{statement_code, variable_offset, control_offset}
+use Rattle.codegen.proofs.Machine.{statement_code, variable_offset, control_location, is_unread, Location}
 use Rattle.codegen.proofs.Machine.{fill_code, home_of, lower_part, height_of, store_size, address_of, byte_count}
-use Rattle.codegen.proofs.Machine.{index_code, merge_code, read_code, read_register, with_register, height_of_all}
+use Rattle.codegen.proofs.Machine.{index_code, merge_code, read_code, read_register, height_of_all}
 use Rattle.codegen.proofs.Machine.{height_of_put, address_code, with_number}
 use Rattle.rv_code.specs.declared.instructions.Instr.TheVariants as instr
 use Rattle.rv_machine.specs.Machine as machine
@@ -37,6 +37,7 @@ use Rattle.codegen.proofs.Slots.{Shown, suits_fits, puts, ready_valued, ready_wi
 use Rattle.codegen.proofs.Slots.{read_runs, read_source, reads, source_apart, Hidden, hidden_then, hidden_by}
 use Rattle.codegen.proofs.Slots.{hidden_kept, hidden_wrote, cut_kind, cut_element, ready_same, ready_put}
 use Rattle.codegen.proofs.Slots.{ready_chosen}
+use Rattle.codegen.proofs.Masks.{fetched_homes, mask_apart, mask_register, mask_runs, mask_small, mask_some}
 
 store_bytes : (kind : Kind) → byte_count (store_size (store_by kind)) ≡ element_bytes kind
 store_bytes Boolean = refl
@@ -353,7 +354,7 @@ module _ (z : Setting) (depth : ℕ) (place : Place) (x size : ℕ) (index value
       by_test (Some o) e = put_near o (near_known z.declared z.allocation x index o e)
 
   -- The value is put where the control value is true.
-  module _ (c : ℕ) (among : c < z.controls) where
+  module _ (c : ℕ) (among : c < z.controls) (read : is_unread z.allocation c ≡ false) where
     -- what has been loaded, beside where the element lies
     record Both (i : ℕ) (env : StraightState) (s t : machine.State) : Type 0 where
       held : HeldAt z t
@@ -400,139 +401,152 @@ module _ (z : Setting) (depth : ℕ) (place : Place) (x size : ℕ) (index value
         (omega (arith, h, n)))
         (λ env s t aimed done. (done.held, done.address)))
 
+    -- where its mask is
+    abbrev control_at : Location
+    control_at = control_location z.declared z.allocation c
+
     under_piece : (i : ℕ) → i < size
-        → Runs z 12 none (put_under_code index_register value_register (control_offset z.declared c) kind offset)
-        (Aimed i)
+        → Runs z 12 none (put_under_code index_register value_register control_at kind offset) (Aimed i)
         (λ env s t. Hidden z depth s t
         × (number_of env ≡ i
         → Ready z (if env.controls c then with_element env x (number_of env) (value_of env) else env) t))
     under_piece i below =
-        let o = control_offset z.declared c in
-        let space = z.room in
         let source = value_source in
+        let k = mask_register z c 29 in
+        let some = mask_some z c 29 (omega arith) in
         let few : nat_lt value_register 32 ≡ true = lt-ltb value_register 32 (omega (arith, source.high)) in
+        let small : nat_lt k 32 ≡ true = lt-ltb k 32 (mask_small z c 29 (omega arith)) in
         let v0 : (value_register == 0) ≡ false = ne_eqb value_register 0 (λ e. omega (arith, source.low, e)) in
-        let v29 : (value_register == 29) ≡ false = ne_eqb value_register 29 (λ e. omega (arith, source.high, e)) in
-        let merges = merge_code 6 6 value_register 7 29 in
+        let k0 : (k == 0) ≡ false = ne_eqb k 0 (λ e. omega (arith, some, e)) in
+        let k6 : (k == 6) ≡ false = ne_eqb k 6 (mask_apart z c 29 6 (omega arith) (λ e. omega (arith, e))) in
+        let merges = merge_code 6 6 value_register 7 k in
         gives
         (λ env s t fine aimed done.
-        let m2 = done.middle in
-        let m1 = done.first.middle in
-        let one = done.first.first in
+        let m3 = done.middle in
+        let m2 = done.first.middle in
+        let m1 = done.first.first.middle in
+        let one = done.first.first.first in
+        let fetched = done.first.first.second in
         let two = done.first.second in
         let v = value_of env in
         let old = slice_index (env.variables x) i in
         let mask = env.controls c in
         let w = if mask then v else old in
-        let x29 : number_or_zero (number_at m1.bytes 4 (z.frame + o)) ≡ mask_of mask =
-        ap number_or_zero ((ready_with z env s m1 aimed.ready one.held one.same one.homes).controls_there
-        c among) in
         let fits = suits_fits z.code.profile z.declared typed.word value env.variables aimed.ready.fits typed.suits in
         let long = (aimed.ready.fits x array typed.known).count in
         let old_fits : old < 2 ^ bits_of kind =
         (aimed.ready.fits x array typed.known).within i 0 (omega (arith, long, below)) in
-        let mixed : registers_after merges
-        (with_register m1.regs 29 (number_or_zero (number_at m1.bytes 4 (z.frame + o)))) 6
-        ≡ merged (number_or_zero (number_at m1.bytes 4 (z.frame + o))) (m1.regs 7) (m1.regs value_register) =
-        simp (v0, v29) in
-        let made : m2.regs 6 ≡ w =
+        let seven : m2.regs 7 ≡ old = fetched.others 7 (λ e. omega (arith, e)) ∙ one.old in
+        let new : m2.regs value_register ≡ v =
+        fetched.others value_register (λ e. omega (arith, source.high, e)) ∙ one.new in
+        let mixed : registers_after merges m2.regs 6
+        ≡ merged (m2.regs k) (m2.regs 7) (m2.regs value_register) = simp (v0, k0, k6) in
+        let made : m3.regs 6 ≡ w =
         ap (λ (regs : ℕ → ℕ). regs 6) two.regs
-        ∙ (mixed ∙ (ap₂ (λ p q. merged p q (m1.regs value_register)) x29 one.old
-        ∙ (ap (λ q. merged (mask_of mask) old q) one.new
+        ∙ (mixed ∙ (ap₂ (λ p q. merged p q (m2.regs value_register)) fetched.there seven
+        ∙ (ap (λ q. merged (mask_of mask) old q) new
         ∙ merge mask old v (cut_kind kind old old_fits) (cut_kind kind v fits)))) in
-        let wrote = wrote_as z (element_bytes kind) (element_at i) (m2.regs 6) w m2 t made done.second in
-        let end = put_at i w below (chosen_fits mask v old (2 ^ bits_of kind) fits old_fits) env s m2 t aimed.ready
-        two.held (two.bytes ∙ one.same)
-        (homes_then z s m1 m2 one.homes (homes_moved z (take 29 o ∷ does merges ∷ []) env m1 m2 (simp few) two))
-        wrote in (
+        let wrote = wrote_as z (element_bytes kind) (element_at i) (m3.regs 6) w m3 t made done.second in
+        let homes = homes_then z s m1 m2 one.homes
+        (fetched_homes z k 29 (mask_of mask) m1 m2 (inr (omega arith)) fetched) in
+        let end = put_at i w below (chosen_fits mask v old (2 ^ bits_of kind) fits old_fits) env s m3 t aimed.ready
+        two.held (two.bytes ∙ (fetched.same ∙ one.same))
+        (homes_then z s m2 m3 homes (homes_moved z (does merges ∷ []) env m2 m3 (simp (few, small)) two)) wrote in (
           end.0,
           λ is. ready_chosen z mask x (number_of env) v env t
               (subst (λ j. Ready z (with_element env x j (if mask then v else slice_index (env.variables x) j)) t)
               (sym is) end.1),
         ))
         (quiet
-        (then_moves z (take 29 o ∷ does merges ∷ []) (simp few) ((omega arith, omega (arith, among, space)), (tt, tt))
+        (then_moves z (does merges ∷ []) (simp (few, small)) (tt, tt)
+        (quiet
         (both_piece i below)
-        (λ env s t aimed both. both.held))
+        (mask_runs z c 29 among read (omega arith) (omega arith))
+        (λ env s t aimed both. ready_with z env s t aimed.ready both.held both.same both.homes))
+        (λ env s t aimed done. done.second.held))
         (stores 6 (omega arith) (λ e. omega (arith, e)) i below)
         (λ env s t aimed done. (
           done.second.held,
           ap (λ (regs : ℕ → ℕ). address_of regs 5 (lower_part offset)) done.second.regs
-              ∙ done.first.address,
+              ∙ (ap (λ b. sum_of b (sign_extended 12 (lower_part offset)))
+              (done.first.second.others 5 (λ e. omega (arith, e))) ∙ done.first.first.address),
         )))
 
     -- where the load and the store hold the element's offset
     near_under : (i o : ℕ) → i < size → element_at i ≡ o → o < 2048
         → Runs z (16 * term_nodes value + 10) (steps_of value)
-        (put_under_near_code z.declared z.allocation (base_of z) (control_offset z.declared c) kind o value)
-        (Ready z)
+        (put_under_near_code z.declared z.allocation (base_of z) control_at kind o value) (Ready z)
         (λ env s t. Hidden z depth s t
         × Ready z (if env.controls c then with_element env x i (value_of env) else env) t)
     near_under i o below is near =
         let n = load_bytes kind in
         let h = place_ends z x array i typed.known below in
         let ends = z.ends in
-        let space = z.room in
-        let k = control_offset z.declared c in
         let source = near_source in
+        let k = mask_register z c 7 in
+        let some = mask_some z c 7 (omega arith) in
         let few : nat_lt near_register 32 ≡ true = lt-ltb near_register 32 (omega (arith, source.high)) in
+        let small : nat_lt k 32 ≡ true = lt-ltb k 32 (mask_small z c 7 (omega arith)) in
         let v0 : (near_register == 0) ≡ false = ne_eqb near_register 0 (λ e. omega (arith, source.low, e)) in
-        let v7 : (near_register == 7) ≡ false =
-        ne_eqb near_register 7 (source_apart z near_source 7 (omega arith) (λ e. omega (arith, e))) in
-        let merges = merge_code 5 5 near_register 6 7 in
-        let moves = take 7 k ∷ does merges ∷ [] in
+        let k0 : (k == 0) ≡ false = ne_eqb k 0 (λ e. omega (arith, some, e)) in
+        let k5 : (k == 5) ≡ false = ne_eqb k 5 (mask_apart z c 7 5 (omega arith) (λ e. omega (arith, e))) in
+        let merges = merge_code 5 5 near_register 6 k in
         let low : o < 4096 = omega (arith, near) in
+        let homes_loaded : (env : StraightState) (m m1 : machine.State)
+        → ((q : ℕ) → q ≢ 6 → m1.regs q ≡ m.regs q) → HomesKept z m m1 =
+        λ env m m1 others r home. others r (λ e. let some = z.allocated.some in omega (arith, some, home.0, e)) in
         cheaper (omega arith)
         (gives
         (λ env s t fine ready done.
-        let m2 = done.middle in
-        let m1 = done.first.middle in
-        let m = done.first.first.middle in
-        let one = done.first.first.first in
-        let load = done.first.first.second in
+        let m3 = done.middle in
+        let m2 = done.first.middle in
+        let m1 = done.first.first.middle in
+        let m = done.first.first.first.middle in
+        let one = done.first.first.first.first in
+        let load = done.first.first.first.second in
+        let fetched = done.first.first.second in
         let two = done.first.second in
         let v = value_of env in
         let old = slice_index (env.variables x) i in
         let mask = env.controls c in
         let w = if mask then v else old in
         let ready0 = ready_valued z value env s m ready one in
-        let homes1 : HomesKept z m m1 = λ r home. ap (λ (regs : ℕ → ℕ). regs r) load.1
-        ∙ unwritten m.regs 6 _ r (λ e. let some = z.allocated.some in omega (arith, some, home.0, e)) in
-        let ready1 = ready_with z env m m1 ready0 load.0 load.2 homes1 in
+        let others : (q : ℕ) → q ≢ 6 → m1.regs q ≡ m.regs q =
+        λ q e. ap (λ (regs : ℕ → ℕ). regs q) load.1 ∙ unwritten m.regs 6 _ q e in
         let there : number_at m.bytes (byte_count (load_size (load_by kind))) (z.frame + o) ≡ Some old =
         ap₂ (λ b a. number_at m.bytes b (z.frame + a)) n (sym is)
         ∙ ready0.variables_there x array i typed.known away below in
-        let six : m1.regs 6 ≡ old = ap (λ (regs : ℕ → ℕ). regs 6) load.1
-        ∙ (load_plain kind _ ∙ ap number_or_zero there) in
-        let five : m1.regs near_register ≡ v =
-        ap (λ (regs : ℕ → ℕ). regs near_register) load.1
-        ∙ (unwritten m.regs 6 _ near_register (source_apart z near_source 6 (omega arith) (λ e. omega (arith, e)))
-        ∙ one.there) in
-        let seven : number_or_zero (number_at m1.bytes 4 (z.frame + k)) ≡ mask_of mask =
-        ap number_or_zero (ready1.controls_there c among) in
+        let six : m2.regs 6 ≡ old =
+        fetched.others 6 (λ e. omega (arith, e))
+        ∙ (ap (λ (regs : ℕ → ℕ). regs 6) load.1 ∙ (load_plain kind _ ∙ ap number_or_zero there)) in
+        let five : m2.regs near_register ≡ v =
+        fetched.others near_register (source_apart z near_source 7 (omega arith) (λ e. omega (arith, e)))
+        ∙ (others near_register (source_apart z near_source 6 (omega arith) (λ e. omega (arith, e))) ∙ one.there) in
         let fits = suits_fits z.code.profile z.declared typed.word value env.variables ready.fits typed.suits in
         let long = (ready.fits x array typed.known).count in
         let old_fits : old < 2 ^ bits_of kind =
         (ready.fits x array typed.known).within i 0 (omega (arith, long, below)) in
-        let held = number_or_zero (number_at m1.bytes 4 (z.frame + k)) in
-        let mixed : registers_after merges (with_register m1.regs 7 held) 5
-        ≡ merged held (m1.regs 6) (m1.regs near_register) = simp (v0, v7) in
-        let made : m2.regs 5 ≡ w =
+        let mixed : registers_after merges m2.regs 5
+        ≡ merged (m2.regs k) (m2.regs 6) (m2.regs near_register) = simp (v0, k0, k5) in
+        let made : m3.regs 5 ≡ w =
         ap (λ (regs : ℕ → ℕ). regs 5) two.regs
-        ∙ (mixed ∙ (ap₂ (λ p q. merged p q (m1.regs near_register)) seven six
+        ∙ (mixed ∙ (ap₂ (λ p q. merged p q (m2.regs near_register)) fetched.there six
         ∙ (ap (λ q. merged (mask_of mask) old q) five
         ∙ merge mask old v (cut_kind kind old old_fits) (cut_kind kind v fits)))) in
-        let wrote : Wrote z (element_bytes kind) (element_at i) w m2 t =
-        subst (λ a. Wrote z (element_bytes kind) a w m2 t) (sym is)
-        (wrote_as z (element_bytes kind) o (m2.regs 5) w m2 t made done.second) in
-        let end = put_at i w below (chosen_fits mask v old (2 ^ bits_of kind) fits old_fits) env m m2 t ready0
-        two.held (two.bytes ∙ load.2)
-        (homes_then z m m1 m2 homes1 (homes_moved z moves env m1 m2 (simp few) two)) wrote in (
+        let wrote : Wrote z (element_bytes kind) (element_at i) w m3 t =
+        subst (λ a. Wrote z (element_bytes kind) a w m3 t) (sym is)
+        (wrote_as z (element_bytes kind) o (m3.regs 5) w m3 t made done.second) in
+        let homes = homes_then z m m1 m2 (homes_loaded env m m1 others)
+        (fetched_homes z k 7 (mask_of mask) m1 m2 (inl (omega arith)) fetched) in
+        let end = put_at i w below (chosen_fits mask v old (2 ^ bits_of kind) fits old_fits) env m m3 t ready0
+        two.held (two.bytes ∙ (fetched.same ∙ load.2))
+        (homes_then z m m2 m3 homes (homes_moved z (does merges ∷ []) env m2 m3 (simp (few, small)) two)) wrote in (
           hidden_then z depth s m t (hidden_kept z depth s m within one.kept) end.0,
           ready_chosen z mask x i v env t end.1,
         ))
         (quiet
-        (then_moves z moves (simp few) ((omega arith, omega (arith, among, space)), (tt, tt))
+        (then_moves z (does merges ∷ []) (simp (few, small)) (tt, tt)
+        (quiet
         (quiet
         (read_runs z typed.suits.has_type (omega (arith, room)))
         (loading z 2 o o (omega arith) low (load_by kind) 6 (omega arith) (omega arith)
@@ -542,7 +556,12 @@ module _ (z : Setting) (depth : ℕ) (place : Place) (x size : ℕ) (index value
           ap (λ b. sum_of b (sign_extended 12 o)) valued.held.base
               ∙ near_address z.frame o near (omega (arith, h, ends, is)),
         )))
-        (λ env s t ready done. done.second.0))
+        (mask_runs z c 7 among read (omega arith) (omega arith))
+        (λ env s t ready done. ready_with z env done.middle t
+        (ready_valued z value env s done.middle ready done.first) done.second.0 done.second.2
+        (homes_loaded env done.middle t
+        (λ q e. ap (λ (regs : ℕ → ℕ). regs q) done.second.1 ∙ unwritten done.middle.regs 6 _ q e))))
+        (λ env s t ready done. done.second.held))
         (element_runs z 5 refl kind o (ap (λ a. a % element_bytes kind) (sym is) ∙ place_even z.declared x array i)
         (omega (arith, h, is)))
         (λ env s t ready done. done.second.held)))
@@ -554,16 +573,16 @@ module _ (z : Setting) (depth : ℕ) (place : Place) (x size : ℕ) (index value
         (Shown z depth (λ env. after env (put_under c place x size index value)))
 
     under_far : Under (index_code z.declared z.allocation (base_of z) index value
-        ++ put_under_code index_register value_register (control_offset z.declared c) (kind_at z.declared x) offset)
+        ++ put_under_code index_register value_register control_at (kind_at z.declared x) offset)
     under_far =
         as_code (ap (λ k. index_code z.declared z.allocation (base_of z) index value
-        ++ put_under_code index_register value_register (control_offset z.declared c) k offset) kind_is)
+        ++ put_under_code index_register value_register control_at k offset) kind_is)
         (cheaper (omega arith) (at_element (λ env. after env (put_under c place x size index value)) under_piece))
 
     module _ (o : ℕ) (near : NearElement z.declared x index o) where
       under_number : (i : ℕ) → i < size → (b : Bool) → (i == near.i) ≡ b
           → Runs z (16 * term_nodes value + 10) (steps_of value)
-          (put_under_near_code z.declared z.allocation (base_of z) (control_offset z.declared c) kind o value)
+          (put_under_near_code z.declared z.allocation (base_of z) control_at kind o value)
           (Known (setting z) ℕ (λ j. j < size) (Ready z) number_of i)
           (Shown z depth (λ env. after env (put_under c place x size index value)))
       under_number i below true same =
@@ -580,11 +599,11 @@ module _ (z : Setting) (depth : ℕ) (place : Place) (x size : ℕ) (index value
           true≢false (sym (eq-eqb i near.i (sym given.is ∙ (known index near.i near.is env.variables).0))
           ∙ other))
 
-      under_near : Under (put_under_near_code z.declared z.allocation (base_of z) (control_offset z.declared c)
+      under_near : Under (put_under_near_code z.declared z.allocation (base_of z) control_at
           (kind_at z.declared x) o value)
       under_near =
           as_code
-          (ap (λ k. put_under_near_code z.declared z.allocation (base_of z) (control_offset z.declared c) k o
+          (ap (λ k. put_under_near_code z.declared z.allocation (base_of z) control_at k o
           value) kind_is)
           (along (λ env. ap (λ p. p ++ indexed place size (number_of env) ∷ path_in env.variables value)
           (known index near.i near.is env.variables).1)
@@ -598,9 +617,9 @@ module _ (z : Setting) (depth : ℕ) (place : Place) (x size : ℕ) (index value
         by_test : (o : Option ℕ) → near_element z.declared z.allocation x index ≡ o
             → Under
             (code_by o (λ a. put_under_near_code z.declared z.allocation (base_of z)
-            (control_offset z.declared c) (kind_at z.declared x) a value)
+            control_at (kind_at z.declared x) a value)
             (index_code z.declared z.allocation (base_of z) index value
-            ++ put_under_code index_register value_register (control_offset z.declared c)
+            ++ put_under_code index_register value_register control_at
             (kind_at z.declared x) offset))
         by_test None e = under_far
         by_test (Some o) e = under_near o (near_known z.declared z.allocation x index o e)

@@ -1,12 +1,15 @@
--- The code that begins a program: each home gets what lies in its variable's slot.
-use Rattle.std.proofs.Common.{◌≡◌, ℕ, zero, suc, ◌+◌, ◌*◌, ◌<◌, ◌≤◌, false, below_more, List, [], ◌∷◌, length, get_or}
+-- The code that begins a program: each home gets what lies in its word's slot.
+use Rattle.std.proofs.Common.{◌≡◌, ℕ, zero, suc, ◌+◌, ◌-◌, ◌*◌, ◌%◌, ◌<◌, ◌≤◌, Bool, true, false, cond, nat_lt}
+use Rattle.std.proofs.Common.{below_more, List, [], ◌∷◌, length, get_or}
 use Rattle.std.proofs.Common.{Option, None, Some, slice_get, slice_index, refl, sym, ap, ◌∙◌, subst, arith}
 use Rattle.std.proofs.lemmas.Option.{slice_get-get_or}
 use Rattle.codegen.proofs.Language.{counter_type, FlatVariable, numbers_in, StraightState, word_as}
-use Rattle.codegen.proofs.Logic.{bytes_by, bytes_of, cheaper, gives, idle, lt-ltb, move_runs, none, none-some}
+use Rattle.codegen.proofs.Logic.{at_control, bytes_by, bytes_of, cheaper, gives, Holds, idle, lt-ltb, mask_of}
+use Rattle.codegen.proofs.Logic.{move_runs, nat_tests, none, none-some, slice_get_within}
 use Rattle.codegen.proofs.Logic.{number_or_zero, same_Some, place_ends, place_of, quiet, Ready, Runs, Setting, take}
 use Rattle.codegen.proofs.Logic.{unwritten, weaken, written}
-use Rattle.codegen.proofs.Machine.{ByteMap, entry_code, home_count, home_of, load_code, number_at, variable_offset}
+use Rattle.codegen.proofs.Machine.{ByteMap, control_offset, entry_code, home_count, home_of, load_code, number_at}
+use Rattle.codegen.proofs.Machine.{variable_offset, word_offset}
 use Rattle.codegen.proofs.Slots.{Laid, laid_same}
 use Rattle.rv_machine.specs.Machine as machine
 
@@ -16,24 +19,37 @@ home_within [] x home is = absurd (none-some home is)
 home_within (h ∷ homes) zero home is = omega arith
 home_within (h ∷ homes) (suc x) home is = omega (arith, home_within homes x home is)
 
-module _ (z : Setting) (within : length z.allocation.homes ≤ length z.declared) where
+module _ (z : Setting) (within : length z.allocation.homes ≤ length z.declared + z.controls) where
   abbrev homes : List (Option ℕ)
   homes = z.allocation.homes
 
-  -- the homes of variables before this one are filled
+  abbrev variables : ℕ
+  variables = length z.declared
+
+  -- what a word that has a home is: a variable's value, or a control value's mask
+  abbrev word_value : StraightState → ℕ → ℕ
+  word_value env x =
+      cond (nat_lt x variables) (slice_index (env.variables x) 0) (mask_of (env.controls (x - variables)))
+
+  -- the homes of words before this one are filled
   record Entered (x : ℕ) (env : StraightState) (s : machine.State) : Type 0 where
     laid : Laid z env s
-    homed : (y : ℕ) → y < x → (home : ℕ) → home_of homes y ≡ Some home → s.regs home ≡ slice_index (env.variables y) 0
+    homed : (y : ℕ) → y < x → (home : ℕ) → home_of homes y ≡ Some home → s.regs home ≡ word_value env y
 
-  -- the word in the slot of a variable that has a home
-  module _ (x home : ℕ) (at : home_of homes x ≡ Some home) where
+  -- a slot of the frame has this word at first
+  abbrev HasWord : ℕ → (StraightState → ℕ) → Type 0
+  HasWord o v = (o % 4 ≡ 0) × (o + 4 ≤ z.size)
+      × ((env : StraightState) (s : machine.State) → Laid z env s
+      → number_at s.bytes 4 (z.frame + o) ≡ Some (v env))
+
+  -- that of a variable that has a home
+  module _ (x home : ℕ) (below : x < variables) (at : home_of homes x ≡ Some home) where
     declaration : FlatVariable
     declaration = get_or z.declared x (word_as counter_type false)
 
     known : slice_get z.declared x ≡ Some declaration
     unfolding declaration
-    known = slice_get-get_or z.declared x (word_as counter_type false)
-        (omega (arith, home_within homes x home at, within))
+    known = slice_get-get_or z.declared x (word_as counter_type false) below
 
     one_word : (elements : Option ℕ) → declaration.elements ≡ elements → declaration.elements ≡ None
     one_word None is = is
@@ -48,53 +64,72 @@ module _ (z : Setting) (within : length z.allocation.homes ≤ length z.declared
     has_one : 0 < numbers_in declaration.elements
     has_one = subst (λ (elements : Option ℕ). 0 < numbers_in elements) (sym is_word) (omega arith)
 
-    slot_inside : variable_offset z.declared x + 4 ≤ z.size
-    slot_inside = omega (arith, place_ends z x declaration 0 known has_one, four_bytes)
+    variable_word : HasWord (variable_offset z.declared x) (λ env. slice_index (env.variables x) 0)
+    variable_word = (
+      omega arith,
+      omega (arith, place_ends z x declaration 0 known has_one, four_bytes),
+      λ env s laid.
+          let first : place_of z.declared x declaration 0 ≡ variable_offset z.declared x = omega arith in
+          ap (λ n. number_at s.bytes n (z.frame + variable_offset z.declared x)) (sym four_bytes)
+          ∙ (ap (λ o. number_at s.bytes (bytes_of declaration) (z.frame + o)) (sym first)
+          ∙ laid.slots_there x declaration 0 known has_one),
+    )
 
-    slot_word : (env : StraightState) (s : machine.State) → Laid z env s
-        → number_at s.bytes 4 (z.frame + variable_offset z.declared x) ≡ Some (slice_index (env.variables x) 0)
-    slot_word env s laid =
-        let first : place_of z.declared x declaration 0 ≡ variable_offset z.declared x = omega arith in
-        ap (λ n. number_at s.bytes n (z.frame + variable_offset z.declared x)) (sym four_bytes)
-        ∙ (ap (λ o. number_at s.bytes (bytes_of declaration) (z.frame + o)) (sym first)
-        ∙ laid.slots_there x declaration 0 known has_one)
+  -- and that of a control value
+  control_word : (c : ℕ) → c < z.controls
+      → HasWord (control_offset z.declared c) (λ env. mask_of (env.controls c))
+  control_word c below =
+      let space = z.room in
+      (omega arith, omega (arith, below, space), λ env s laid. laid.controls_there c below)
 
-    -- one home is filled
-    one_runs : Runs z 3 none (load_code home (variable_offset z.declared x)) (Entered x)
-        (λ env s t. Entered (x + 1) env t)
-    one_runs =
-        let is = z.allocated.allowed x home at in
-        weaken
-        (λ env s fine entered. entered.laid.held)
-        (λ env s t fine entered moved. record {
-          laid = laid_same z z.size (omega (arith, z.room)) env s t entered.laid moved.held
-              (λ o below. ap (λ (b : ByteMap). b (z.frame + o)) moved.bytes);
-          homed =
-              below_more (λ y. (other : ℕ) → home_of homes y ≡ Some other
-              → t.regs other ≡ slice_index (env.variables y) 0) x
-              (λ y less other there.
-              ap (λ (regs : ℕ → ℕ). regs other) moved.regs
-              ∙ (unwritten s.regs home _ other
-              (λ same. omega (arith, less, z.allocated.apart y x home (there ∙ ap Some same) at))
-              ∙ entered.homed y less other there))
-              (λ other there.
-              let same : home ≡ other = same_Some home other (sym at ∙ there) in
-              ap t.regs (sym same)
-              ∙ (ap (λ (regs : ℕ → ℕ). regs home) moved.regs
-              ∙ (written s.regs home _ (λ e. omega (arith, is.0, e))
-              ∙ ap number_or_zero (slot_word env s entered.laid))));
-        })
-        (move_runs z (take home (variable_offset z.declared x))
-        (simp (lt-ltb 4 home (omega (arith, is.0)), lt-ltb home 32 (omega (arith, is.1))))
-        (omega arith, slot_inside))
+  word_there : (x home : ℕ) → home_of homes x ≡ Some home
+      → HasWord (word_offset z.declared x) (λ env. word_value env x)
+  word_there x home at = by_test (nat_lt x variables) refl
+    where
+      by_test : (b : Bool) → nat_lt x variables ≡ b
+          → HasWord (cond b (variable_offset z.declared x) (control_offset z.declared (x - variables)))
+          (λ env. cond b (slice_index (env.variables x) 0) (mask_of (env.controls (x - variables))))
+      by_test true test = variable_word x home (grind (arith, nat_tests, test)) at
+      by_test false test =
+          let above : variables ≤ x = grind (arith, nat_tests, test) in
+          control_word (x - variables) (omega (arith, above, home_within homes x home at, within))
 
-  -- a variable without a home is passed by
+  -- one home is filled
+  one_runs : (x home : ℕ) → home_of homes x ≡ Some home
+      → Runs z 3 none (load_code home (word_offset z.declared x)) (Entered x) (λ env s t. Entered (x + 1) env t)
+  one_runs x home at =
+      let is = z.allocated.allowed x home at in
+      let word = word_there x home at in
+      weaken
+      (λ env s fine entered. entered.laid.held)
+      (λ env s t fine entered moved. record {
+        laid = laid_same z z.size (omega (arith, z.room)) env s t entered.laid moved.held
+            (λ o below. ap (λ (b : ByteMap). b (z.frame + o)) moved.bytes);
+        homed =
+            below_more (λ y. (other : ℕ) → home_of homes y ≡ Some other → t.regs other ≡ word_value env y) x
+            (λ y less other there.
+            ap (λ (regs : ℕ → ℕ). regs other) moved.regs
+            ∙ (unwritten s.regs home _ other
+            (λ same. omega (arith, less, z.allocated.apart y x home (there ∙ ap Some same) at))
+            ∙ entered.homed y less other there))
+            (λ other there.
+            let same : home ≡ other = same_Some home other (sym at ∙ there) in
+            ap t.regs (sym same)
+            ∙ (ap (λ (regs : ℕ → ℕ). regs home) moved.regs
+            ∙ (written s.regs home _ (λ e. omega (arith, is.0, e))
+            ∙ ap number_or_zero (word.2 env s entered.laid))));
+      })
+      (move_runs z (take home (word_offset z.declared x))
+      (simp (lt-ltb 4 home (omega (arith, is.0)), lt-ltb home 32 (omega (arith, is.1))))
+      (word.0, word.1))
+
+  -- a word without a home is passed by
   passed : (x : ℕ) → home_of homes x ≡ None → (env : StraightState) (s : machine.State) → Entered x env s
       → Entered (x + 1) env s
   passed x away env s entered = record {
     laid = entered.laid;
-    homed = below_more (λ y. (home : ℕ) → home_of homes y ≡ Some home
-        → s.regs home ≡ slice_index (env.variables y) 0) x entered.homed
+    homed = below_more (λ y. (home : ℕ) → home_of homes y ≡ Some home → s.regs home ≡ word_value env y) x
+        entered.homed
         (λ home there. absurd (none-some home (sym away ∙ there)));
   }
 
@@ -123,6 +158,20 @@ module _ (z : Setting) (within : length z.allocation.homes ≤ length z.declared
       ap (λ n. home_of homes n) next ∙ are (suc y)))
       (λ env s t entered done. done)))
 
+  variable_value : (env : StraightState) (x : ℕ) → x < variables
+      → word_value env x ≡ slice_index (env.variables x) 0
+  variable_value env x below =
+      ap (λ b. cond b (slice_index (env.variables x) 0) (mask_of (env.controls (x - variables))))
+      (lt-ltb x variables below)
+
+  control_value : (env : StraightState) (c : ℕ) → word_value env (variables + c) ≡ mask_of (env.controls c)
+  control_value env c =
+      let behind : nat_lt (variables + c) variables ≡ false = grind (arith, nat_tests) in
+      let same : variables + c - variables ≡ c = omega arith in
+      ap (λ b. cond b (slice_index (env.variables (variables + c)) 0)
+      (mask_of (env.controls (variables + c - variables)))) behind
+      ∙ ap (λ i. mask_of (env.controls i)) same
+
   -- all homes are filled: so what is laid is shown
   pub entry_runs : Runs z (3 * home_count homes) none (entry_code z.declared 0 homes) (Laid z)
       (λ env s t. Ready z env t)
@@ -132,8 +181,12 @@ module _ (z : Setting) (within : length z.allocation.homes ≤ length z.declared
       (λ env s t fine laid done. record {
         held = done.laid.held;
         fits = done.laid.fits;
-        homes_there = λ x home d is at. done.homed x (omega (arith, home_within homes x home at)) home at;
+        homes_there = λ x home d is at. done.homed x (omega (arith, home_within homes x home at)) home at
+            ∙ variable_value env x (slice_get_within z.declared x d is);
         variables_there = λ x d i is away below. done.laid.slots_there x d i is below;
-        controls_there = done.laid.controls_there;
+        controls_there = λ c below read. at_control z c (λ l. Holds z l t (mask_of (env.controls c)))
+            (λ home at. done.homed (variables + c) (omega (arith, home_within homes (variables + c) home at)) home at
+            ∙ control_value env c)
+            (λ away. done.laid.controls_there c below);
       })
       (from homes 0 (λ y. let same : 0 + y ≡ y = omega arith in ap (λ n. home_of homes n) same))

@@ -13,7 +13,9 @@ use Rattle.codegen.proofs.Machine.{Slot, ResultSlot, program_base, program_code,
 use Rattle.codegen.proofs.Machine.{image_of, image_within, most_words, step_limit, Fields}
 use Rattle.codegen.proofs.Machine.{result_code, slots_from, result_offset, HasRoom}
 use Rattle.codegen.proofs.Machine.{Allocation, depth_in_all, entry_code, HavePlaces, home_count, IsAmong, IsFitting}
-use Rattle.codegen.proofs.Machine.{Instr, plain, variable_offset}
+use Rattle.codegen.proofs.Machine.{AllReadKept, Instr, plain, ReadsKept, word_offset}
+use Rattle.branch_removal.specs.Straight as straight
+use Rattle.codegen.proofs.Language.{StraightBlock, StraightTree, first, nothing}
 use Rattle.codegen.proofs.Language.{StraightProgram, most_elements, Form, SingleWord, Kind, Boolean, Param, WordType}
 use Rattle.codegen.proofs.Language.{held_words, array_words, Profile, FlatVariable, declaration_of, TermTree}
 use Rattle.codegen.proofs.Language.{HasLength}
@@ -123,7 +125,7 @@ entry_length : (declared : List FlatVariable) (x : ℕ) (homes : List (Option �
     → length (entry_code declared x homes) ≤ 3 * home_count homes
 entry_length declared x [] = omega arith
 entry_length declared x (None ∷ homes) = entry_length declared (x + 1) homes
-entry_length declared x (Some home ∷ homes) = simp length-append (omega (arith, load_length home (variable_offset declared x), entry_length declared (x + 1) homes))
+entry_length declared x (Some home ∷ homes) = simp length-append (omega (arith, load_length home (word_offset declared x), entry_length declared (x + 1) homes))
 
 -- of a program of no more nodes than its source
 pub program_length : (a : Allocation) (p : StraightProgram) → IsCounted p → IsFitting p a
@@ -266,6 +268,24 @@ body_placed a p room =
     blocks_placed p.profile p.declared a p.controls (depth_in_all p.body) d 0 p.body room.typed.body
     (omega (arith, d, n, f)) (omega arith)
 
+-- plain code keeps every control value
+mutual
+  plain_read : (s : StraightTree) → ReadsKept plain s
+  plain_read (straight.set x value) = tt
+  plain_read (straight.clear x size) = tt
+  plain_read (straight.fill x values) = tt
+  plain_read (straight.put place x size index value) = tt
+  plain_read (straight.take control None condition) = tt
+  plain_read (straight.take control (Some enclosing) condition) = refl
+  plain_read (straight.set_under control x value) = refl
+  plain_read (straight.put_under control place x size index value) = refl
+  plain_read (straight.branch condition accepted otherwise) = (plain_reads accepted, plain_reads otherwise)
+  plain_read (straight.repeats x low high body) = plain_reads body
+
+  plain_reads : (b : StraightBlock) → AllReadKept plain b
+  plain_reads nothing = tt
+  plain_reads (first s rest) = (plain_read s, plain_reads rest)
+
 -- no homes fit any program
 pub plain_fits : (p : StraightProgram) → IsFitting p plain
 plain_fits p = record {
@@ -278,4 +298,5 @@ plain_fits p = record {
   };
   within = omega arith;
   few = omega arith;
+  read = plain_reads p.body;
 }

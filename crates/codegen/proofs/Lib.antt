@@ -2,8 +2,10 @@ pub mod Machine
 pub mod Language
 pub mod Logic
 pub mod Slots
+pub mod Masks
 pub mod Numbers
 pub mod SetRuns
+pub mod TakeRuns
 pub mod ElementRuns
 pub mod Arguments
 pub mod ClearRuns
@@ -21,4 +23,6 @@ pub mod ImageLemmas
 pub mod Standing
 pub mod EntryRuns
 pub mod BodyRuns
+pub mod WeightLengths
+pub mod ReadControls
 pub mod WordHomes

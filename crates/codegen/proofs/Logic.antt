@@ -22,8 +22,9 @@ pub use Rattle.expression_code.proofs.Logic.{Steps, steps_of, Still, store_lengt
 pub use Rattle.expression_code.proofs.Logic.{then_moves, typed_among, typed_within, value_word, ValuedIn, unwritten}
 pub use Rattle.expression_code.proofs.Logic.{variables_home, variables_kept, weaken, works_at, Wrote, wrote_kept}
 pub use Rattle.expression_code.proofs.Logic.{wrote_there, written, code_length, known, near_known, NearElement}
-pub use Rattle.expression_code.proofs.Logic.{near_address}
-pub use Rattle.expression_code.proofs.Moves.{register-at}
+pub use Rattle.expression_code.proofs.Logic.{at_control, control_stays, controls_kept, Fetched, fetch_length}
+pub use Rattle.expression_code.proofs.Logic.{fetch_runs, HasRoom, Holds, near_address, took}
+pub use Rattle.expression_code.proofs.Moves.{moves_cost, register-at}
 pub use Rattle.expression_code.proofs.Values.{Leaves}
 pub use Rattle.expression_code.proofs.WorkRegisters.{IsTarget}
 pub use Rattle.inline.proofs.Fitting.{value_fits}

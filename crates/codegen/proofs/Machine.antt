@@ -7,11 +7,11 @@ pub use Rattle.codegen.specs.Loaded.{with_arguments, with_numbers, word_in}
 pub use Rattle.codegen.specs.private.Emitted.{assign_code, block_code, bounds_code, clear_code, count_code}
 pub use Rattle.codegen.specs.private.Emitted.{element_store_code, fill_code}
 pub use Rattle.branch_removal.specs.Heights.{depth_in_all, height_of_all}
-pub use Rattle.codegen.specs.private.Emitted.{home_of_term, home_or, index_code, masks_code}
+pub use Rattle.codegen.specs.private.Emitted.{home_of_term, home_or, index_code, join_code, kept_code, masks_code}
 pub use Rattle.branch_removal.specs.Heights.{height_of_put}
 pub use Rattle.codegen.specs.private.Emitted.{merge_code, put_code, put_under_code, read_code, read_register}
 pub use Rattle.codegen.specs.private.Emitted.{set_code, set_under_code, statement_code, store_by, test_code}
-pub use Rattle.codegen.specs.private.Emitted.{unless_home, within_code, put_element_code, put_element_under_code}
+pub use Rattle.codegen.specs.private.Emitted.{taken_code, unless_home, unless_unread, put_element_code, put_element_under_code}
 pub use Rattle.codegen.specs.private.Emitted.{put_under_near_code}
 pub use Rattle.branch_removal.specs.Heights.{depth_in, height_in, height_in_all}
 pub use Rattle.codegen.specs.private.Generated.{body_of, entry_code, home_count, image_of, program_base, program_code}
@@ -22,9 +22,12 @@ pub use Rattle.codegen.specs.private.Jumps.{AreNear, IsFar, branch_code, far, lo
 pub use Rattle.codegen.specs.private.Placed.{ArePlacedTerms, HasPlace, HavePlaces}
 pub use Rattle.codegen.specs.private.Room.{HasRoom, IsFitting, frame_of}
 pub use Rattle.expression_code.specs.Layout.{Frame, control_offset, next_offset, result_offset, slots_from}
-pub use Rattle.expression_code.specs.Layout.{temporaries_offset, variable_location, variable_offset}
-pub use Rattle.expression_code.specs.Allocation.{Allocation, at_home, home_of, plain, slots_to}
-pub use Rattle.expression_code.specs.TermCode.{IsAmong, address_code, code_by, constant_code, into_code}
+pub use Rattle.expression_code.specs.Layout.{control_location, temporaries_offset, variable_location}
+pub use Rattle.expression_code.specs.Layout.{variable_offset, word_offset}
+pub use Rattle.expression_code.specs.Allocation.{Allocation, at_home, home_of, plain, register_of, slots_to}
+pub use Rattle.expression_code.specs.Allocation.{is_unread}
+pub use Rattle.codegen.specs.private.Reads.{AllReadKept, IsKeptWithin, ReadsKept}
+pub use Rattle.expression_code.specs.TermCode.{IsAmong, address_code, code_by, constant_code, fetch_code, into_code}
 pub use Rattle.branch_removal.specs.Heights.{height_of}
 pub use Rattle.expression_code.specs.TermCode.{kind_at, load_by, load_code, lower_part, near_element, store_code}
 pub use Rattle.expression_code.specs.declared.locations.Location.{Location}

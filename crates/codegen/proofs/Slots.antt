@@ -1,31 +1,33 @@
--- What is shown once a number of a variable, or a control value, is written, and what is shown after a piece of a
--- statement's code.
+-- What is shown once a number of a variable is written, and what is shown after a piece of a statement's code.
 use Rattle.std.proofs.Common.{◌≡◌, ℕ, ◌+◌, ◌*◌, ◌%◌, ◌^◌, ◌<◌, ◌≤◌, ◌==◌, ◌≢◌, ◌-◌, Bool, true, false, cond}
 use Rattle.std.proofs.Common.{if◌then◌else◌, nat_lt, List, [], ◌∷◌, length, None, Some, slice_get, slice_index, refl}
 use Rattle.std.proofs.Common.{sym, ap, ◌∙◌, subst, arith, inl, inr, ◌⊎◌, ◌&&◌, not, ne_eqb, Option, ◌++◌}
 use Rattle.std.specs.Prelude.{slice_set}
 use Rattle.codegen.proofs.Machine.{variable_offset, control_offset, next_offset, result_offset, ByteMap, number_at}
-use Rattle.codegen.proofs.Machine.{assign_code, home_of_term, home_or, read_code, read_register, unless_home}
+use Rattle.codegen.proofs.Machine.{assign_code, control_location, home_of_term, home_or}
+use Rattle.codegen.proofs.Machine.{read_code, read_register, unless_home}
 use Rattle.codegen.proofs.Machine.{with_number, slots_to, height_of, home_of, into_code, store_code, Instr, Sw}
-use Rattle.codegen.proofs.Language.{StraightState, with_variable, with_element, with_controls, FlatVariable}
+use Rattle.codegen.proofs.Language.{StraightState, with_variable, with_element, FlatVariable}
 use Rattle.codegen.proofs.Language.{numbers_in}
 use Rattle.codegen.proofs.Language.{IsWithinKind, word_as, TermTree, term_nodes, Boolean, WordType, value_in}
 use Rattle.codegen.proofs.Language.{types_of}
 use Rattle.codegen.proofs.Language.{IsHeld, Fits, Kind, Uint32, bits_of, Values, HasType, Suits, Profile}
 use Rattle.codegen.proofs.Logic.{length-set, get_or-set_same, get_or-set_other, set-get_or, All-set}
 use Rattle.codegen.proofs.Logic.{none-some, same_Some, eqb-true, eqb-false, fits_assigned, one_held}
+use Rattle.codegen.proofs.Logic.{control_stays, controls_kept, Holds}
+use Rattle.codegen.proofs.Logic.{slice_get_within}
 use Rattle.inline.specs.Flat.{variable}
 use Rattle.inline.specs.FlatSize.{words_of}
 use Rattle.inline.specs.FlatTyping.{of_variable}
 use Rattle.codegen.proofs.Logic.{number_at_apart, number_at-with_number, with_number_above, HeldAt, mask_of}
-use Rattle.codegen.proofs.Logic.{mask_fits, bytes_by, bytes_of, place_of, place_within, ends_before_result, apart}
+use Rattle.codegen.proofs.Logic.{bytes_by, bytes_of, place_of, place_within, ends_before_result}
 use Rattle.codegen.proofs.Logic.{apart_from, elements_apart, Setting, base_of, Kept, Ready, Wrote, wrote_kept}
-use Rattle.codegen.proofs.Logic.{wrote_there, number_same, variables_kept, Before, After, Steps, Then, Still}
+use Rattle.codegen.proofs.Logic.{number_same, variables_kept, Before, After, Steps, Then, Still}
 use Rattle.codegen.proofs.Logic.{steps_of, into_runs, held_regs, HomesKept, IsHome, ValuedIn, home_beside}
-use Rattle.codegen.proofs.Logic.{home_target, homes_by, homes_moved, homes_then, kept_number, place_before}
+use Rattle.codegen.proofs.Logic.{home_target, homes_by, homes_moved, kept_number, place_before}
 use Rattle.codegen.proofs.Logic.{place_target, variables_home, is_free, idle, lt-ltb, works_at, IsTarget, Leaves, put}
 use Rattle.codegen.proofs.Logic.{then_moves, setting, Runs, gives, cheaper, kept_less, kept_by, ready_below}
-use Rattle.codegen.proofs.Logic.{ready_after, kept_then, value_fits}
+use Rattle.codegen.proofs.Logic.{ready_after, value_fits}
 use Rattle.rv_machine.specs.Machine as machine
 
 -- the words of the loops that are around are as they were
@@ -101,7 +103,8 @@ module _ (z : Setting) where
         ∙ ap (λ (l : List ℕ). slice_index l 0) (same_variables x);
     variables_there = λ x d i is away below. ready.variables_there x d i is away below
         ∙ ap (λ (l : List ℕ). Some (slice_index l i)) (same_variables x);
-    controls_there = λ c below. ready.controls_there c below ∙ ap (λ b. Some (mask_of b)) (same_controls c);
+    controls_there = λ c below read. subst (λ (b : Bool). Holds z (control_location z.declared z.allocation c) s (mask_of b))
+        (same_controls c) (ready.controls_there c below read);
   }
 
   -- the numbers of a variable without a home are others, and all that lies outside its words is as it was
@@ -152,8 +155,8 @@ module _ (z : Setting) where
           fits = λ y e is. fits_at y e is (y == x) refl;
           homes_there = λ y home e is at. home_at y home e is at (y == x) refl;
           variables_there = λ y e j is out more. there_at y e j is out more (y == x) refl;
-          controls_there = λ c among. apart 4 (control_offset z.declared c) (inr (omega (arith, first)))
-              ∙ ready.controls_there c among;
+          controls_there = λ c among read. controls_kept z env s t ready homes c among read
+              (apart 4 (control_offset z.declared c) (inr (omega (arith, first))));
         }
 
   module _ (x i v w : ℕ) (d : FlatVariable) (known : slice_get z.declared x ≡ Some d)
@@ -223,6 +226,13 @@ module _ (z : Setting) where
         (ready_put x 0 v v (word_as word mutable) known away (omega arith) fits env s t ready
         (subst (λ o. Wrote z 4 o v s t) first wrote) (omega (arith, small)))
 
+  -- no variable lives where a control value does
+  beside_controls : (x home : ℕ) → x < length z.declared → home_of z.allocation.homes x ≡ Some home
+      → (c other : ℕ) → home_of z.allocation.homes (length z.declared + c) ≡ Some other → other ≢ home
+  beside_controls x home below at c other here same =
+      let one = z.allocated.apart (length z.declared + c) x home (here ∙ ap Some same) at in
+      omega (arith, below, one)
+
   -- a word is set that has a home
   module _ (x home v : ℕ) (word : WordType) (mutable : Bool)
       (known : slice_get z.declared x ≡ Some (word_as word mutable)) (at : home_of z.allocation.homes x ≡ Some home)
@@ -258,8 +268,11 @@ module _ (z : Setting) where
           (one_held word mutable v fits) ready.fits;
       homes_there = λ y other e is here. own_at y other e is here (y == x) refl;
       variables_there = λ y e j is out more. away_at y e j is out more (y == x) refl;
-      controls_there = λ c among. kept_number z (base_of z) s t kept 4 (control_offset z.declared c)
-          (omega (arith, among)) ∙ ready.controls_there c among;
+      controls_there = λ c among read. control_stays z c (mask_of (env.controls c)) s t
+          (λ other here. others other (z.allocated.allowed (length z.declared + c) other here)
+          (λ same. beside_controls x home (slice_get_within z.declared x _ known) at c other here same))
+          (kept_number z (base_of z) s t kept 4 (control_offset z.declared c) (omega (arith, among)))
+          (ready.controls_there c among read);
     }
 
   -- a variable that is set to what it holds
@@ -276,47 +289,6 @@ module _ (z : Setting) where
   ready_chosen false x i v env t ready =
       ready_same (with_element env x i (slice_index (env.variables x) i)) env t
       (λ y. same_again x i env y (y == x) refl) (λ c. refl) ready
-
-  -- two control values lie apart
-  controls_apart : (y c : ℕ) → (y == c) ≡ false → (control_offset z.declared y + 4 ≤ control_offset z.declared c)
-      ⊎ (control_offset z.declared c + 4 ≤ control_offset z.declared y)
-  controls_apart y c h = apart c y _ h (λ below. inl (omega (arith, below))) (λ above. inr (omega (arith, above)))
-
-  -- both control values of a condition are set
-  module _ (c : ℕ) (f g : Bool) (among : c + 1 < z.controls) (env : StraightState) (s t u : machine.State)
-      (ready : Ready z env s)
-      (one : Wrote z 4 (control_offset z.declared c) (mask_of f) s t)
-      (two : Wrote z 4 (control_offset z.declared (c + 1)) (mask_of g) t u) where
-    control_there : (y : ℕ) → y < z.controls → (d e : Bool) → (y == c) ≡ d → (y == c + 1) ≡ e
-        → number_at u.bytes 4 (z.frame + control_offset z.declared y)
-        ≡ Some (mask_of (cond d f (cond e g (env.controls y))))
-    control_there y below true e h k =
-        other_number 4 (control_offset z.declared (c + 1)) (mask_of g) 4 (control_offset z.declared y) t u two
-        (inl (omega (arith, eqb-true y c h)))
-        ∙ (ap (λ n. number_at t.bytes 4 (z.frame + control_offset z.declared n)) (eqb-true y c h)
-        ∙ wrote_there z (control_offset z.declared c) (mask_of f) s t one (mask_fits f))
-    control_there y below false true h k =
-        ap (λ n. number_at u.bytes 4 (z.frame + control_offset z.declared n)) (eqb-true y (c + 1) k)
-        ∙ wrote_there z (control_offset z.declared (c + 1)) (mask_of g) t u two (mask_fits g)
-    control_there y below false false h k =
-        other_number 4 (control_offset z.declared (c + 1)) (mask_of g) 4 (control_offset z.declared y) t u two
-        (controls_apart y (c + 1) k)
-        ∙ (other_number 4 (control_offset z.declared c) (mask_of f) 4 (control_offset z.declared y) s t one
-        (controls_apart y c h) ∙ ready.controls_there y below)
-
-    pub ready_taken : Ready z (with_controls env c f g) u
-    ready_taken = record {
-      held = two.held;
-      fits = ready.fits;
-      homes_there = variables_home z env s u ready (homes_then z s t u one.homes two.homes);
-      variables_there =
-          variables_kept z (control_offset z.declared c) env s u (omega arith) ready
-          (kept_then z (control_offset z.declared c) s t u
-          (wrote_kept z 4 (control_offset z.declared c) (mask_of f) s t one)
-          (kept_less z (control_offset z.declared c) (control_offset z.declared (c + 1)) t u (omega arith)
-          (wrote_kept z 4 (control_offset z.declared (c + 1)) (mask_of g) t u two)));
-      controls_there = λ y below. control_there y below (y == c) (y == c + 1) refl refl;
-    }
 
 -- each variable, with a home or without, has its values in its slot, and each control value too
 pub record Laid (z : Setting) (env : StraightState) (s : machine.State) : Type 0 where
@@ -513,8 +485,9 @@ module _ (z : Setting) where
     homes_there = variables_home z env s t ready wrote.homes;
     variables_there = variables_kept z (result_offset z.declared) env s t (omega arith) ready
         (wrote_kept z 4 (result_offset z.declared) w s t wrote);
-    controls_there = λ c below. other_number z 4 (result_offset z.declared) w 4 (control_offset z.declared c) s t
-        wrote (inr (omega arith)) ∙ ready.controls_there c below;
+    controls_there = λ c below read. controls_kept z env s t ready wrote.homes c below read
+        (other_number z 4 (result_offset z.declared) w 4 (control_offset z.declared c) s t wrote
+        (inr (omega arith)));
   }
 
   -- a word that is declared lies before the result

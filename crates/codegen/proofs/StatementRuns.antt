@@ -6,7 +6,7 @@ use Rattle.codegen.proofs.Language.{fill, put, take, set_under, put_under, branc
 use Rattle.codegen.proofs.Language.{first, after, after_all, path_at, path_along, IsTyped, AreTyped, labelled}
 use Rattle.codegen.proofs.Language.{Boolean}
 use Rattle.codegen.proofs.Language.{Public}
-use Rattle.codegen.proofs.Machine.{statement_code, block_code, height_in, height_in_all, depth_in, depth_in_all}
+use Rattle.codegen.proofs.Machine.{AllReadKept, ReadsKept, statement_code, block_code, height_in, height_in_all, depth_in, depth_in_all}
 use Rattle.codegen.proofs.Machine.{far, next_offset, slots_to, Instr, variable_location}
 use Rattle.codegen.proofs.ElementRuns.{put_runs, put_under_runs, fill_runs}
 use Rattle.codegen.proofs.LoopLengths.{repeat_spans}
@@ -15,7 +15,8 @@ use Rattle.codegen.proofs.RepeatRuns.{loops_run}
 use Rattle.codegen.specs.private.Loops.{any_sets}
 use Rattle.codegen.proofs.ClearRuns.{clear_runs}
 use Rattle.codegen.proofs.CodeLengths.{arms_near}
-use Rattle.codegen.proofs.SetRuns.{set_runs, set_under_runs, take_runs}
+use Rattle.codegen.proofs.SetRuns.{set_runs, set_under_runs}
+use Rattle.codegen.proofs.TakeRuns.{take_runs}
 use Rattle.codegen.proofs.Slots.{Shown, hidden_then}
 use Rattle.codegen.proofs.Logic.{Setting, base_of, Runs, seq, gives, cheaper, beside, idle, height, Ready}
 
@@ -23,56 +24,58 @@ module _ (z : Setting) where
   mutual
     -- a well-typed statement for which there is room, in so many loops
     pub statement_runs : (depth : ℕ) (s : StraightTree) → IsTyped z.code.profile z.declared z.controls s
+        → ReadsKept z.allocation s
         → base_of z + 4 * slots_to z.allocation.count (height_in s) ≤ z.size → depth + depth_in s ≤ z.depths
         → length (statement_code z.declared z.allocation z.controls z.depths depth s) < far
         → Runs z (32 * statement_work z.counts s) (λ env. path_at env s)
         (statement_code z.declared z.allocation z.controls z.depths depth s) (Ready z)
         (Shown z depth (λ env. after env s))
-    statement_runs depth (set x value) typed room within few =
+    statement_runs depth (set x value) typed read room within few =
         set_runs z depth x value typed room (omega (arith, within))
-    statement_runs depth (clear x size) typed room within few =
+    statement_runs depth (clear x size) typed read room within few =
         clear_runs z depth x size typed (omega (arith, within))
-    statement_runs depth (fill x values) typed room within few =
+    statement_runs depth (fill x values) typed read room within few =
         fill_runs z depth x values typed room (omega (arith, within))
-    statement_runs depth (put place x size index value) typed room within few =
+    statement_runs depth (put place x size index value) typed read room within few =
         put_runs z depth place x size index value typed room (omega (arith, within))
-    statement_runs depth (take c enclosing condition) typed room within few =
-        take_runs z depth c enclosing condition typed.2.0 typed.0 typed.2.1 room (omega (arith, within)) typed.1
-    statement_runs depth (set_under c x value) typed room within few =
-        set_under_runs z depth c x value typed.0 typed.1 room (omega (arith, within))
-    statement_runs depth (put_under c place x size index value) typed room within few =
-        put_under_runs z depth place x size index value typed.1 room (omega (arith, within)) c typed.0
-    statement_runs depth (branch condition accepted otherwise) typed room within few =
+    statement_runs depth (take c enclosing condition) typed read room within few =
+        take_runs z depth c enclosing condition typed.2.0 typed.0 typed.2.1 room (omega (arith, within)) typed.1 read
+    statement_runs depth (set_under c x value) typed read room within few =
+        set_under_runs z depth c x value typed.0 read typed.1 room (omega (arith, within))
+    statement_runs depth (put_under c place x size index value) typed read room within few =
+        put_under_runs z depth place x size index value typed.1 room (omega (arith, within)) c typed.0 read
+    statement_runs depth (branch condition accepted otherwise) typed read room within few =
         cheaper (omega arith)
         (branch_runs z depth condition (labelled Boolean Public) accepted otherwise
         (32 * block_work z.counts accepted) (32 * block_work z.counts otherwise)
         typed.0 (omega (arith, room)) (omega (arith, within))
         (arms_near z.declared z.allocation z.controls z.depths depth condition accepted otherwise few)
-        (block_runs depth accepted typed.1 (omega (arith, room)) (omega (arith, within))
+        (block_runs depth accepted typed.1 read.0 (omega (arith, room)) (omega (arith, within))
         (omega (arith, length-append {A = Instr}, few)))
-        (block_runs depth otherwise typed.2 (omega (arith, room)) (omega (arith, within))
+        (block_runs depth otherwise typed.2 read.1 (omega (arith, room)) (omega (arith, within))
         (omega (arith, length-append {A = Instr}, few))))
-    statement_runs depth (repeats x low high body) typed room within few =
+    statement_runs depth (repeats x low high body) typed read room within few =
         let ys = block_code z.declared z.allocation z.controls z.depths (depth + 1) body in
         let spans = repeat_spans z.declared z.allocation (next_offset z.declared z.controls depth) (base_of z) ys
         (variable_location z.declared z.allocation x) low high (any_sets x body) in
         cheaper (omega (arith, height low))
         (loops_run z depth x (omega (arith, within)) low high body (32 * block_work z.counts body)
         typed.2 typed.0 typed.1 (omega (arith, room)) (omega (arith, room))
-        (block_runs (depth + 1) body typed.3 (omega (arith, room)) (omega (arith, within))
+        (block_runs (depth + 1) body typed.3 read (omega (arith, room)) (omega (arith, within))
         (omega (arith, spans.0, few)))
         few)
 
     -- statements, one after the other
     pub block_runs : (depth : ℕ) (b : StraightBlock) → AreTyped z.code.profile z.declared z.controls b
+        → AllReadKept z.allocation b
         → base_of z + 4 * slots_to z.allocation.count (height_in_all b) ≤ z.size → depth + depth_in_all b ≤ z.depths
         → length (block_code z.declared z.allocation z.controls z.depths depth b) < far
         → Runs z (32 * block_work z.counts b) (λ env. path_along env b)
         (block_code z.declared z.allocation z.controls z.depths depth b) (Ready z)
         (Shown z depth (λ env. after_all env b))
-    block_runs depth nothing typed room within few =
+    block_runs depth nothing typed read room within few =
         idle (λ env s ready. record { ready = ready; hidden = λ o low high. refl })
-    block_runs depth (first s rest) typed room within few =
+    block_runs depth (first s rest) typed read room within few =
         cheaper (omega arith)
         (gives
         (λ env t u fine ready done. record {
@@ -80,9 +83,9 @@ module _ (z : Setting) where
           hidden = hidden_then z depth t done.middle u done.first.hidden done.second.hidden;
         })
         (seq
-        (statement_runs depth s typed.0 (omega (arith, room)) (omega (arith, within))
+        (statement_runs depth s typed.0 read.0 (omega (arith, room)) (omega (arith, within))
         (omega (arith, length-append {A = Instr}, few)))
         (beside (λ env. after env s)
-        (block_runs depth rest typed.1 (omega (arith, room)) (omega (arith, within))
+        (block_runs depth rest typed.1 read.1 (omega (arith, room)) (omega (arith, within))
         (omega (arith, length-append {A = Instr}, few))))
         (λ env t u ready done. done.ready)))

@@ -6,6 +6,7 @@ pub mod Loops
 pub mod Emitted
 pub mod Placed
 pub mod Generated
-pub mod Room
 pub mod Uses
+pub mod Reads
+pub mod Room
 pub mod Homes

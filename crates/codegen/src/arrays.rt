@@ -15,8 +15,8 @@ ghost use Rattle.inline.specs.Flat.{term_tree};
 use crate::jumping::repeat;
 use crate::masking;
 use crate::reading::read;
-use expression_code::Layout;
 use expression_code::emit::{self, address, load_by, near};
+use expression_code::{Layout, Location, fetch};
 use inline::Term;
 use language::Kind;
 use rv_code::{
@@ -166,51 +166,53 @@ pub fn put(
     put_at(code, index, value, kind, layout.variable(array))
 }
 
-/// The same where the control value in a slot is true, and else what the element holds.
+/// The same where a control value is true, and else what the element holds.
 fn put_under_at(
     code: &mut Vec<Instr>,
     index: Reg,
     value: Reg,
-    control: u32,
+    control: &Location,
     kind: Kind,
     offset: u32,
 ) -> Result<(), AllocError>
-    ensures { OnOk result (code.new.items ≡ code.old.items ++ put_under_code index value control kind offset) }
+    ensures { OnOk result (code.new.items ≡ code.old.items ++ put_under_code index value control.now kind offset) }
 {
     address(code, Reg::X5, index, kind, offset)?;
     let low = emit::lower_part(offset);
     code.push(Instr::Load(load_by(kind), Reg::X7, Reg::X5, low))?;
-    emit::load(code, Reg::X29, control)?;
-    masking::merge(code, Reg::X6, Reg::X6, value, Reg::X7, Reg::X29)?;
+    fetch(code, control, Reg::X29)?;
+    let mask = control.register(Reg::X29);
+    masking::merge(code, Reg::X6, Reg::X6, value, Reg::X7, mask)?;
     code.push(Instr::Store(store_by(kind), Reg::X6, Reg::X5, low))?;
     Ok(())
 }
 
-/// A value into the element at an offset that is near, where the control value in a slot is true, and else what it holds.
+/// A value into the element at an offset that is near, where a control value is true, and else what it holds.
 fn put_under_near(
     code: &mut Vec<Instr>,
     layout: &Layout<'_>,
-    control: u32,
+    control: &Location,
     kind: Kind,
     offset: u32,
     value: &Term,
 ) -> Result<(), AllocError>
     requires value { IsPlaced (length layout.now.declared) layout.now.allocation.count (temporaries_offset layout.now.declared layout.now.controls layout.now.depths) 0 (term_tree value.now) }
     requires near { offset < 2048 }
-    ensures { OnOk result (code.new.items ≡ code.old.items ++ put_under_near_code layout.now.declared layout.now.allocation (temporaries_offset layout.now.declared layout.now.controls layout.now.depths) control kind offset (term_tree value.now)) }
+    ensures { OnOk result (code.new.items ≡ code.old.items ++ put_under_near_code layout.now.declared layout.now.allocation (temporaries_offset layout.now.declared layout.now.controls layout.now.depths) control.now kind offset (term_tree value.now)) }
 {
     let value = read(code, layout, Reg::X5, 0, value)?;
     near(code, Reg::X6, kind, offset)?;
-    emit::load(code, Reg::X7, control)?;
-    masking::merge(code, Reg::X5, Reg::X5, value, Reg::X6, Reg::X7)?;
+    fetch(code, control, Reg::X7)?;
+    let mask = control.register(Reg::X7);
+    masking::merge(code, Reg::X5, Reg::X5, value, Reg::X6, mask)?;
     store_element(code, Reg::X5, kind, offset)
 }
 
-/// A value into an element of an array where the control value in a slot is true: the element is written in any case.
+/// A value into an element of an array where a control value is true: the element is written in any case.
 pub fn put_under(
     code: &mut Vec<Instr>,
     layout: &Layout<'_>,
-    control: u32,
+    control: &Location,
     array: u32,
     place: &Term,
     value: &Term,
@@ -218,7 +220,7 @@ pub fn put_under(
     requires array { array < length layout.now.declared }
     requires index { IsPlaced (length layout.now.declared) layout.now.allocation.count (temporaries_offset layout.now.declared layout.now.controls layout.now.depths) 0 (term_tree place.now) }
     requires value { IsPlaced (length layout.now.declared) layout.now.allocation.count (temporaries_offset layout.now.declared layout.now.controls layout.now.depths) 1 (term_tree value.now) }
-    ensures { OnOk result (code.new.items ≡ code.old.items ++ put_element_under_code layout.now.declared layout.now.allocation (temporaries_offset layout.now.declared layout.now.controls layout.now.depths) control array (term_tree place.now) (term_tree value.now)) }
+    ensures { OnOk result (code.new.items ≡ code.old.items ++ put_element_under_code layout.now.declared layout.now.allocation (temporaries_offset layout.now.declared layout.now.controls layout.now.depths) control.now array (term_tree place.now) (term_tree value.now)) }
 {
     let kind = layout.kind(array);
     if let Some(offset) = layout.near_element(array, place) {

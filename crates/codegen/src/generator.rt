@@ -14,6 +14,7 @@ ghost use Rattle.rv_code.specs.Words.{word_of};
 ghost use Rattle.rv_code.specs.declared.instructions.Instr.TheVariants.{Ecall};
 
 use crate::Code;
+use crate::control_uses::unread_controls;
 use crate::heights::{greatest_depth, program_height, temporary_registers};
 use crate::homes::word_homes;
 use crate::reading::assign;
@@ -41,14 +42,14 @@ fn words(alloc: Global, code: &[Instr]) -> Result<Vec<u32>, AllocError>
     Ok(words)
 }
 
-/// The words of variables that have homes, from their slots into these.
+/// The words that have homes, from their slots into these.
 fn enter(code: &mut Vec<Instr>, layout: &Layout<'_>) -> Result<(), AllocError>
-    requires { length layout.now.allocation.homes ≤ length layout.now.declared }
+    requires { length layout.now.allocation.homes ≤ length layout.now.declared + layout.now.controls }
     ensures { OnOk result (code.new.items ≡ code.old.items ++ entry_code layout.now.declared 0 layout.now.allocation.homes) }
 {
     for (number, home) in layout.homes().iter().enumerate() {
         if let Some(register) = home {
-            emit::load(code, *register, layout.offset_at(number))?;
+            emit::load(code, *register, layout.word(number))?;
         }
     }
     Ok(())
@@ -213,8 +214,8 @@ pub fn generate(alloc: Global, straight: &Straight<'_>) -> Result<Code, Refusal>
     }
 }
 
-/// The same with words in registers and numbers in instructions: the variables that are used most live in a register each,
-/// for the whole run, and a number gets none where an instruction holds it. A program may have been made longer than its
+/// The same with words in registers and numbers in instructions: the variables and control values that are used most
+/// live in a register each, for the whole run, and a number gets none where an instruction holds it. A program may have been made longer than its
 /// source, as by unrolling; there is no code where it has more words than are promised for the nodes of the source.
 pub fn generate_optimised(alloc: Global, straight: &Straight<'_>) -> Result<Option<Code>, Refusal>
     ensures generated { IfOk result (λ made. IfSome made (IsGenerated straight.now)) }
@@ -224,6 +225,7 @@ pub fn generate_optimised(alloc: Global, straight: &Straight<'_>) -> Result<Opti
 {
     let count = temporary_registers(straight);
     let homes = word_homes(alloc, straight, FIRST_TEMPORARY + count)?;
-    let allocation = Allocation::new(count, homes.as_slice()).with_immediates();
+    let unread = unread_controls(alloc, straight)?;
+    let allocation = Allocation::new(count, homes.as_slice()).with_immediates(unread.as_slice());
     generate_with(alloc, straight, allocation)
 }

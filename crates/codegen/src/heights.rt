@@ -13,7 +13,7 @@ use inline::Term;
 /// How many temporaries have registers at least and at most where words live in registers.
 const FEWEST_TEMPORARIES: u32 = 3;
 
-const MOST_TEMPORARIES: u32 = 8;
+const MOST_TEMPORARIES: u32 = 16;
 
 /// How many temporaries values have at once at most, beside the first.
 fn height_of_all(values: &[Term]) -> u32
@@ -110,7 +110,7 @@ pub fn program_height(straight: &Straight<'_>) -> u32
 /// How many temporaries have registers in optimised code: the others are for words.
 pub fn temporary_registers(straight: &Straight<'_>) -> u32
     ensures count { result ≡ temporary_registers straight.now }
-    ensures few { result ≤ 8 }
+    ensures few { result ≤ 16 }
 {
     (program_height(straight) + 1)
         .max(FEWEST_TEMPORARIES)

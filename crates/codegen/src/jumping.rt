@@ -1,6 +1,7 @@
 // Instructions that are run by turns or not at all: what stands between jumps.
 
 ghost use Rattle.std.specs.Prelude.{◌≡◌, ◌++◌, ◌+◌, ◌*◌, ◌^◌, ◌<◌, ◌≤◌, length, IfErr, OnOk};
+ghost use Rattle.codegen.specs.declared.unemitted.Unemitted.TheVariants.{TooFar};
 ghost use Rattle.codegen.specs.private.Jumps.{skip, over, back, branch_code, loop_code, again_code, AreNear, IsFar};
 
 use crate::unemitted::Unemitted;
@@ -52,6 +53,7 @@ fn back(count: usize) -> Instr
 pub fn reach(one: usize, other: usize) -> Result<(), Unemitted>
     ensures near { OnOk result (AreNear one other) }
     ensures far { IfErr result (IsFar (one + other)) }
+    ensures refusal { IfErr result (λ error. error ≡ TooFar) }
 {
     if one.saturating_add(other) < FAR {
         Ok(())

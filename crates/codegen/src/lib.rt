@@ -5,6 +5,7 @@
 
 mod arrays;
 mod code;
+mod control_uses;
 mod generator;
 mod heights;
 mod homes;

@@ -162,7 +162,7 @@ fn to_number(
     let mut test = Vec::new(alloc);
     below_number(&mut test, Reg::X5, home, bound)?;
     if is_below(bound, low) {
-        into(code, layout, home, 0, low)?;
+        into(layout, code, home, 0, low)?;
         return turns(alloc, code, test.as_slice(), counting);
     }
     let start = read(code, layout, Reg::X5, 0, low)?;

@@ -44,7 +44,7 @@ pub fn read(
     match home(layout, term) {
         Some(home) => Ok(home),
         None => {
-            into(code, layout, register, place, term)?;
+            into(layout, code, register, place, term)?;
             Ok(register)
         }
     }

@@ -18,7 +18,7 @@ use crate::settings::any_sets;
 use crate::unemitted::Unemitted;
 use crate::{arrays, jumping, loops, masking};
 use branch_removal::StraightStatement;
-use expression_code::{Layout, Location, emit, into};
+use expression_code::{Layout, Location, emit, fetch, into};
 use inline::Term;
 use language::Kind;
 use rv_code::{Instr, Reg};
@@ -43,7 +43,7 @@ fn set(
     ensures { OnOk result (code.new.items ≡ code.old.items ++ statement_code layout.now.declared layout.now.allocation layout.now.controls layout.now.depths 0 (straight.set variable (term_tree value.now))) }
 {
     match layout.variable_location(variable) {
-        Location::InRegister(home) => into(code, layout, home, 0, value),
+        Location::InRegister(home) => into(layout, code, home, 0, value),
         Location::InSlot(offset) => assign(code, layout, value, offset),
     }
 }
@@ -60,12 +60,11 @@ fn take(
     ensures { OnOk result (code.new.items ≡ code.old.items ++ statement_code layout.now.declared layout.now.allocation layout.now.controls layout.now.depths 0 (straight.take control within (term_tree condition.now))) }
 {
     let condition = read(code, layout, Reg::X5, 0, condition)?;
-    masking::masks(code, condition)?;
-    if let Some(enclosing) = within {
-        masking::join(code, layout.control(enclosing))?;
-    }
-    emit::store(code, Reg::X7, layout.control(control))?;
-    emit::store(code, Reg::X5, layout.control(control + 1))
+    let accepted = masking::target_of(layout, control, Reg::X7);
+    let otherwise = masking::target_of(layout, control + 1, Reg::X5);
+    masking::taken(code, layout, &accepted, &otherwise, condition, within)?;
+    masking::keep(code, layout, control, Reg::X7)?;
+    masking::keep(code, layout, control + 1, Reg::X5)
 }
 
 /// Sets a variable under a control value: it is written in any case.
@@ -80,16 +79,17 @@ fn set_under(
     ensures { OnOk result (code.new.items ≡ code.old.items ++ statement_code layout.now.declared layout.now.allocation layout.now.controls layout.now.depths 0 (straight.set_under control variable (term_tree value.now))) }
 {
     let value = read(code, layout, Reg::X5, 0, value)?;
-    let mask = layout.control(control);
+    let control = layout.control_location(control);
+    let mask = control.register(Reg::X7);
     match layout.variable_location(variable) {
         Location::InRegister(home) => {
-            emit::load(code, Reg::X7, mask)?;
-            masking::merge(code, home, Reg::X5, value, home, Reg::X7)
+            fetch(code, &control, Reg::X7)?;
+            masking::merge(code, home, Reg::X5, value, home, mask)
         }
         Location::InSlot(offset) => {
             emit::load(code, Reg::X6, offset)?;
-            emit::load(code, Reg::X7, mask)?;
-            masking::merge(code, Reg::X5, Reg::X5, value, Reg::X6, Reg::X7)?;
+            fetch(code, &control, Reg::X7)?;
+            masking::merge(code, Reg::X5, Reg::X5, value, Reg::X6, mask)?;
             emit::store(code, Reg::X5, offset)
         }
     }
@@ -128,8 +128,8 @@ fn statement(
             Ok(set_under(code, layout, *control, *variable, value)?)
         }
         StraightStatement::PutUnder(control, _, array, _, index, value) => {
-            let control = layout.control(*control);
-            Ok(arrays::put_under(code, layout, control, *array, index, value)?)
+            let control = layout.control_location(*control);
+            Ok(arrays::put_under(code, layout, &control, *array, index, value)?)
         }
         StraightStatement::Branch(condition, accepted, otherwise) => {
             let mut one = Vec::new(alloc);

@@ -13,17 +13,17 @@ use std::alloc::{AllocError, Global};
 const LOOP_FACTOR: u64 = 8;
 
 /// What a use in a loop counts, where one outside it counts so much.
-fn weight_inside(weight: u64) -> u64
+pub fn weight_inside(weight: u64) -> u64
     ensures { result ≡ weight_inside weight }
 {
     weight.saturating_mul(LOOP_FACTOR)
 }
 
-/// Counts one use of a variable.
-fn count_use(weights: &mut [u64], weight: u64, variable: u32)
-    ensures { weights.new ≡ used weight variable weights.old }
+/// Counts one use of a variable or control value.
+pub fn count_use(weights: &mut [u64], weight: u64, number: u32)
+    ensures { weights.new ≡ used weight number weights.old }
 {
-    let place = variable as usize;
+    let place = number as usize;
     if place < weights.len() {
         weights[place] = weights[place].saturating_add(weight);
     }

@@ -3,10 +3,12 @@
 pub use Rattle.branch_removal.proofs.SeenLemmas.{seen-append}
 pub use Rattle.branch_removal.specs.StraightMeaning.{StraightState}
 pub use Rattle.expression_code.specs.Allocation.{Allocation, at_home, home_of, IsAllocation, register_of, slot_of}
+pub use Rattle.expression_code.specs.Allocation.{is_unread}
 pub use Rattle.expression_code.specs.Allocation.{slots_to, temporary, working_register}
 pub use Rattle.expression_code.specs.Computed.{IsComputed, IsSiteOf, Site, word_in}
 pub use Rattle.expression_code.specs.Inside.{IsInside}
-pub use Rattle.expression_code.specs.Layout.{control_offset, next_offset, result_offset, temporaries_offset}
+pub use Rattle.expression_code.specs.Layout.{control_location, control_offset, next_offset, result_offset}
+pub use Rattle.expression_code.specs.Layout.{temporaries_offset}
 pub use Rattle.expression_code.specs.Layout.{variable_location, variable_offset}
 pub use Rattle.expression_code.specs.Layout.{offsets_from, slots_from}
 pub use Rattle.expression_code.specs.NumberRows.{held, is_short, known_row, left_row, number_of, number_row}

@@ -17,15 +17,18 @@ pub use Rattle.expression_code.proofs.WorkRegisters.{works_at}
 pub use Rattle.expression_code.proofs.Moves.{computing_within, does, is_free, loading, move_runs, moves_run, none_low}
 pub use Rattle.expression_code.proofs.Moves.{put, storing, take, then_moves, unwritten, written}
 pub use Rattle.expression_code.proofs.NumberCode.{NearElement, known, near_known}
+pub use Rattle.expression_code.proofs.Operands.{Fetched, HasRoom, fetch_runs, took}
 pub use Rattle.expression_code.proofs.OperatorCode.{constant_after, constant_plain}
 pub use Rattle.expression_code.proofs.Places.{apart, apart_from, bytes_by, bytes_of, elements_apart}
 pub use Rattle.expression_code.proofs.Places.{ends_before_result, kind_known, parameter_words, place_even, place_of}
 pub use Rattle.expression_code.proofs.Places.{place_within}
 pub use Rattle.expression_code.proofs.Scratch.{homes_beside, homes_computed, homes_moved, is_scratch, scratch_low}
-pub use Rattle.expression_code.proofs.TermLengths.{address_length, code_length, constant_length, height, into_length}
+pub use Rattle.expression_code.proofs.TermLengths.{address_length, code_length, constant_length, fetch_length}
+pub use Rattle.expression_code.proofs.TermLengths.{height, into_length}
 pub use Rattle.expression_code.proofs.TermLengths.{load_length, move_length, one_of, store_length, typed_among}
 pub use Rattle.expression_code.proofs.TermLengths.{typed_within}
 pub use Rattle.expression_code.proofs.Values.{HomesKept, Kept, Ready, ValuedIn, Wrote, homes_by, homes_then, kept_by}
 pub use Rattle.expression_code.proofs.Values.{kept_less, kept_number, kept_then, number_same, place_before}
 pub use Rattle.expression_code.proofs.Values.{place_ends, ready_after, ready_below, value_word, variables_home}
-pub use Rattle.expression_code.proofs.Values.{variables_kept, wrote_kept, wrote_there}
+pub use Rattle.expression_code.proofs.Values.{at_control, control_stays, controls_kept, Holds, variables_kept}
+pub use Rattle.expression_code.proofs.Values.{wrote_kept, wrote_there}

@@ -51,7 +51,7 @@ HasRoom z (InRegister r) = Unit {0}
 HasRoom z (InSlot o) = (o % 4 ≡ 0) × (o + 4 ≤ z.size)
 
 -- A word is fetched from where it is.
-module _ (z : Setting) (spare : ℕ) (low : 28 < spare) (high : spare < 32) (v : StraightState → ℕ) where
+module _ (z : Setting) (spare : ℕ) (low : 4 < spare) (high : spare < 32) (v : StraightState → ℕ) where
   pub fetch_runs : (l : Location) → HasRoom z l
       → Runs z 3 none (fetch_code l spare) (λ env s. HeldAt z s × Holds z l s (v env))
       (λ env s t. Fetched z (register_of l spare) spare (v env) s t)

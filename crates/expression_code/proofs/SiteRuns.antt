@@ -1,5 +1,5 @@
 -- The law of expressions: the code of one, at a site.
-use Rattle.std.proofs.Common.{◌≡◌, ℕ, ◌+◌, ◌-◌, ◌<◌, true, List, [], Some, refl, sym, ap, arith, Bool, append-nil}
+use Rattle.std.proofs.Common.{◌≡◌, ℕ, ◌+◌, ◌<◌, true, List, [], Some, refl, sym, ap, arith, Bool, append-nil}
 use Rattle.std.proofs.Common.{false, cond, nat_lt, subst, All}
 use Rattle.expression_code.proofs.Below.{HasType, InRegister, InSlot, IsComputed, IsInside, IsSiteOf, Leads, Location}
 use Rattle.expression_code.proofs.Below.{ltb-false, ltb-true, Observation, operand, Path, path_in, Site, slot_of}
@@ -66,7 +66,7 @@ expressions_are_computed e word site has fit =
             fits = there.fits;
             homes_there = there.homes_there;
             variables_there = there.variables_there;
-            controls_there = λ c below. absurd (omega (arith, below));
+            controls_there = λ c below read. absurd (omega (arith, below));
           } in
           let run = ends_on (piece.runs (state_of m) s [] at fine ready) (sym (append-nil path)) in
           let same : run.seen ≡ (piece.leak path).0 = sym (ap (λ (r : List Observation × Path). r.0) run.shown) in

@@ -82,7 +82,7 @@ copy_length : (d : ℕ) (l : Location) → length (copy_code d l) ≤ 3
 copy_length d (InRegister r) = omega (arith, move_length d r)
 copy_length d (InSlot o) = load_length d o
 
-fetch_length : (l : Location) (spare : ℕ) → length (fetch_code l spare) ≤ 3
+pub fetch_length : (l : Location) (spare : ℕ) → length (fetch_code l spare) ≤ 3
 fetch_length (InRegister r) spare = omega arith
 fetch_length (InSlot o) spare = load_length spare o
 

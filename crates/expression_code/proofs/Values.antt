@@ -1,7 +1,7 @@
 -- What is shown of the state of straight code, and what the code of an expression leaves.
-use Rattle.std.proofs.Common.{◌≡◌, ◌≢◌, ℕ, ◌+◌, ◌-◌, ◌%◌, ◌^◌, ◌<◌, ◌≤◌, Bool, true, false, cond, nat_lt, List, None}
-use Rattle.std.proofs.Common.{Some, slice_get, slice_index, refl, ap, ◌∙◌, arith, sym}
-use Rattle.expression_code.proofs.Below.{ByteMap, control_offset, Fits, FlatVariable, HasType, home_of, InRegister}
+use Rattle.std.proofs.Common.{◌≡◌, ◌≢◌, ℕ, ◌+◌, ◌-◌, ◌%◌, ◌^◌, ◌<◌, ◌≤◌, Bool, true, false, cond, nat_lt, List, None, Option}
+use Rattle.std.proofs.Common.{Some, length, slice_get, slice_index, refl, ap, ◌∙◌, arith, sym}
+use Rattle.expression_code.proofs.Below.{at_home, ByteMap, control_location, control_offset, is_unread, Fits, FlatVariable, HasType, home_of, InRegister}
 use Rattle.expression_code.proofs.Below.{InSlot, IsWithinKind, Kind, Location, ltb-false, ltb-true, next_offset}
 use Rattle.expression_code.proofs.Below.{number_at, number_at-with_number, number_at_same, numbers_in, operand}
 use Rattle.expression_code.proofs.Below.{Profile, result_offset, slot_of, State, StraightState, TermTree, types_of}
@@ -17,8 +17,13 @@ use Rattle.expression_code.proofs.Places.{bytes_of, place_of, place_within, ends
 abbrev pub Kept : Setting → ℕ → State → State → Type 0
 Kept z free s t = (o : ℕ) → o < free → t.bytes (z.frame + o) ≡ s.bytes (z.frame + o)
 
--- each variable has its values where the layout puts them or in its home, and each control value is where the layout
--- puts it
+-- a location has this word
+abbrev pub Holds : Setting → Location → State → ℕ → Type 0
+Holds z (InRegister r) t v = t.regs r ≡ v
+Holds z (InSlot o) t v = number_at t.bytes 4 (z.frame + o) ≡ Some v
+
+-- each variable has its values where the layout puts them or in its home, and so has each control value that is read
+-- its mask
 pub record Ready (z : Setting) (env : StraightState) (s : State) : Type 0 where
   pub held : Held z env s
   -- the values are within their kinds
@@ -28,8 +33,8 @@ pub record Ready (z : Setting) (env : StraightState) (s : State) : Type 0 where
   pub variables_there : (x : ℕ) (d : FlatVariable) (i : ℕ) → slice_get z.declared x ≡ Some d
       → home_of z.allocation.homes x ≡ None → i < numbers_in d.elements
       → number_at s.bytes (bytes_of d) (z.frame + place_of z.declared x d i) ≡ Some (slice_index (env.variables x) i)
-  pub controls_there : (c : ℕ) → c < z.controls
-      → number_at s.bytes 4 (z.frame + control_offset z.declared c) ≡ Some (mask_of (env.controls c))
+  pub controls_there : (c : ℕ) → c < z.controls → is_unread z.allocation c ≡ false
+      → Holds z (control_location z.declared z.allocation c) s (mask_of (env.controls c))
 
 -- registers that do not work are as they were
 abbrev pub Leaves : (ℕ → Bool) → State → State → Type 0
@@ -38,11 +43,6 @@ Leaves works s t = (q : ℕ) → works q ≡ false → t.regs q ≡ s.regs q
 -- so are those that may be homes
 abbrev pub HomesKept : Setting → State → State → Type 0
 HomesKept z s t = (r : ℕ) → IsHome z.allocation.count r → t.regs r ≡ s.regs r
-
--- a location has this word
-abbrev pub Holds : Setting → Location → State → ℕ → Type 0
-Holds z (InRegister r) t v = t.regs r ≡ v
-Holds z (InSlot o) t v = number_at t.bytes 4 (z.frame + o) ≡ Some v
 
 -- the temporaries from a place on are written, and where the expression is, its value is found
 pub record Valued (z : Setting) (e : TermTree) (free place : ℕ) (env : StraightState) (s t : State) : Type 0 where
@@ -127,6 +127,39 @@ pub variables_home : (z : Setting) (env : StraightState) (s t : State) → Ready
 variables_home z env s t ready homes x home d is at = homes home (z.allocated.allowed x home at)
     ∙ ready.homes_there x home d is at
 
+-- where a control value is: in its home, or in its slot
+pub at_control : (z : Setting) (c : ℕ) (P : Location → Type 0)
+    → ((home : ℕ) → home_of z.allocation.homes (length z.declared + c) ≡ Some home → P (InRegister home))
+    → (home_of z.allocation.homes (length z.declared + c) ≡ None → P (InSlot (control_offset z.declared c)))
+    → P (control_location z.declared z.allocation c)
+at_control z c P in_home in_slot = by_home (home_of z.allocation.homes (length z.declared + c)) refl
+  where
+    by_home : (h : Option ℕ) → home_of z.allocation.homes (length z.declared + c) ≡ h
+        → P (at_home h (InSlot (control_offset z.declared c)))
+    by_home None at = in_slot at
+    by_home (Some home) at = in_home home at
+
+-- its mask stays there
+pub control_stays : (z : Setting) (c v : ℕ) (s t : State)
+    → ((home : ℕ) → home_of z.allocation.homes (length z.declared + c) ≡ Some home → t.regs home ≡ s.regs home)
+    → number_at t.bytes 4 (z.frame + control_offset z.declared c)
+    ≡ number_at s.bytes 4 (z.frame + control_offset z.declared c)
+    → Holds z (control_location z.declared z.allocation c) s v
+    → Holds z (control_location z.declared z.allocation c) t v
+control_stays z c v s t homes slot =
+    at_control z c (λ l. Holds z l s v → Holds z l t v) (λ home at there. homes home at ∙ there)
+    (λ away there. slot ∙ there)
+
+-- where no home is written
+pub controls_kept : (z : Setting) (env : StraightState) (s t : State) → Ready z env s → HomesKept z s t
+    → (c : ℕ) → c < z.controls → is_unread z.allocation c ≡ false
+    → number_at t.bytes 4 (z.frame + control_offset z.declared c)
+    ≡ number_at s.bytes 4 (z.frame + control_offset z.declared c)
+    → Holds z (control_location z.declared z.allocation c) t (mask_of (env.controls c))
+controls_kept z env s t ready homes c among read slot =
+    control_stays z c (mask_of (env.controls c)) s t
+    (λ home at. homes home (z.allocated.allowed (length z.declared + c) home at)) slot (ready.controls_there c among read)
+
 -- the others stay where nothing before the result is written
 pub variables_kept : (z : Setting) (free : ℕ) (env : StraightState) (s t : State) → result_offset z.declared ≤ free
     → Ready z env s → Kept z free s t
@@ -146,8 +179,8 @@ ready_below z free above env s t ready held kept homes = record {
   fits = ready.fits;
   homes_there = variables_home z env s t ready homes;
   variables_there = variables_kept z free env s t (omega (arith, above)) ready kept;
-  controls_there = λ c below. kept_number z free s t kept 4 (control_offset z.declared c)
-      (omega (arith, below, above)) ∙ ready.controls_there c below;
+  controls_there = λ c below read. controls_kept z env s t ready homes c below read
+      (kept_number z free s t kept 4 (control_offset z.declared c) (omega (arith, below, above)));
 }
 
 pub ready_after : (z : Setting) (env : StraightState) (s t : State) → Ready z env s → Held z env t

@@ -26,14 +26,14 @@ abbrev declared : List FlatVariable
 declared = word_as uint32 false ∷ word_as uint32 false ∷ array_as uint32 false 4 ∷ []
 
 abbrev both_home : Allocation
-both_home = record { count = 8; homes = Some 13 ∷ Some 14 ∷ []; immediates = false }
+both_home = record { count = 8; homes = Some 13 ∷ Some 14 ∷ []; immediates = false; unread = [] }
 
 abbrev one_home : Allocation
-one_home = record { count = 8; homes = None ∷ Some 14 ∷ []; immediates = false }
+one_home = record { count = 8; homes = None ∷ Some 14 ∷ []; immediates = false; unread = [] }
 
 -- with homes, and with numbers in instructions
 abbrev with_numbers : Allocation
-with_numbers = record { count = 8; homes = Some 13 ∷ Some 14 ∷ []; immediates = true }
+with_numbers = record { count = 8; homes = Some 13 ∷ Some 14 ∷ []; immediates = true; unread = [] }
 
 abbrev a : TermTree
 a = variable 0

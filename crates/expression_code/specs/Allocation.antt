@@ -1,7 +1,8 @@
 -- Where words are. Temporaries are the values of subexpressions that are still needed. Each has a place, the count of
 -- those that live beside it and were there before: the first so many places are registers, and those beyond are slots
 -- of the frame. A variable is in its slot, or it has a home: a register of its own, in which it lives for the whole
--- run.
+-- run. So is a control value. Their homes are listed by their numbers, those of control values behind those of all
+-- variables.
 use Rattle.std.specs.Prelude.{◌≡◌, ℕ, ◌+◌, ◌-◌, ◌*◌, ◌<◌, ◌≤◌, Bool, false, List, [], Option, None, Some, nat_lt, if◌then◌else◌, slice_get, unwrap_or}
 use Rattle.expression_code.specs.Registers.{value_register, address_register}
 use Rattle.expression_code.specs.declared.locations.Location.{Location}
@@ -13,21 +14,26 @@ abbrev pub register_of : Location → ℕ → ℕ
 register_of (InRegister register) spare = register
 register_of (InSlot offset) spare = spare
 
--- how registers are given out: how many temporaries have one, the home of each variable that has one, and whether a
--- number goes into an instruction that holds it, and needs no register then
+-- how registers are given out: how many temporaries have one, the home of each variable and of each control value
+-- that has one, whether a number goes into an instruction that holds it, and needs no register then, and which control
+-- values nothing reads, so that they are nowhere
 pub record Allocation : Type 0 where
   pub count : ℕ
   pub homes : List (Option ℕ)
   pub immediates : Bool
+  pub unread : List Bool
 
--- no variable has a home, and each number gets a register
+-- nothing has a home, and each number gets a register
 abbrev pub plain : Allocation
-plain = record { count = 16; homes = []; immediates = false }
+plain = record { count = 16; homes = []; immediates = false; unread = [] }
 
 abbrev pub home_of : List (Option ℕ) → ℕ → Option ℕ
 home_of homes x = unwrap_or (slice_get homes x) None
 
--- Homes are registers behind those of the temporaries and before the address register. No two variables have the same
+abbrev pub is_unread : Allocation → ℕ → Bool
+is_unread allocation control = unwrap_or (slice_get allocation.unread control) false
+
+-- Homes are registers behind those of the temporaries and before the address register. No two words have the same
 -- one, and no array has one. The first three temporaries have registers, which statements work on, and at most
 -- sixteen have one.
 pub record IsAllocation (declared : List FlatVariable) (allocation : Allocation) : Type 0 where

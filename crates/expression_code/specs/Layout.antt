@@ -1,7 +1,8 @@
 -- Where a program's words lie in the frame: the variables, of which the parameters are the first, then the result,
 -- the control values, two words for each loop that others are in, and the temporaries. All these offsets are
 -- multiples of 4.
-use Rattle.std.specs.Prelude.{ℕ, ◌+◌, ◌*◌, List, [], ◌∷◌, Option, None, Some, take}
+use Rattle.std.specs.Prelude.{ℕ, ◌+◌, ◌-◌, ◌*◌, List, [], ◌∷◌, Option, None, Some, length, nat_lt, take}
+use Rattle.std.specs.Prelude.{if◌then◌else◌}
 use Rattle.expression_code.specs.Allocation.{Allocation, home_of, at_home}
 use Rattle.expression_code.specs.declared.locations.Location.{Location}
 use Rattle.expression_code.specs.declared.locations.Location.TheVariants.{InSlot}
@@ -46,6 +47,16 @@ result_offset declared = 4 * declared_words declared
 
 abbrev pub control_offset : List FlatVariable → ℕ → ℕ
 control_offset declared control = result_offset declared + 4 + 4 * control
+
+-- where a control value is
+abbrev pub control_location : List FlatVariable → Allocation → ℕ → Location
+control_location declared allocation control =
+    at_home (home_of allocation.homes (length declared + control)) (InSlot (control_offset declared control))
+
+-- the slot of a word that may have a home: a variable, and behind all variables a control value
+abbrev pub word_offset : List FlatVariable → ℕ → ℕ
+word_offset declared number = if nat_lt number (length declared) then variable_offset declared number
+    else control_offset declared (number - length declared)
 
 -- behind so many control values, for the loop that so many others are around: the number that its counter is next
 abbrev pub next_offset : List FlatVariable → ℕ → ℕ → ℕ

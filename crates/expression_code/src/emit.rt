@@ -1,6 +1,6 @@
 // Instructions for slots, numbers and elements, each appended to the code so far.
 
-ghost use Rattle.std.specs.Prelude.{◌≡◌, ◌++◌, ◌<◌, OnOk};
+ghost use Rattle.std.specs.Prelude.{◌≡◌, ◌++◌, ◌∷◌, ◌<◌, [], OnOk};
 ghost use Rattle.expression_code.specs.TermCode.{upper_part, lower_part, load_code, store_code, constant_code, scale_code, raise_code, address_code, load_by, element_code, near_code};
 
 use language::Kind;
@@ -30,19 +30,34 @@ pub fn lower_part(n: u32) -> Immediate12
     Immediate12::from_bits(n)
 }
 
+/// Puts an instruction behind the code.
+pub fn append(code: &mut Vec<Instr>, instruction: Instr) -> Result<(), AllocError>
+    ensures { OnOk result (code.new.items ≡ code.old.items ++ instruction ∷ []) }
+{
+    code.push(instruction)?;
+    Ok(())
+}
+
 /// A slot's word into a register.
 pub fn load(code: &mut Vec<Instr>, register: Reg, offset: u32) -> Result<(), AllocError>
     ensures { OnOk result (code.new.items ≡ code.old.items ++ load_code register offset) }
 {
     let low = lower_part(offset);
     if offset < NEAR {
-        code.push(Instr::Load(LoadOperation::Lw, register, Reg::X2, low))?;
-        return Ok(());
+        return append(code, Instr::Load(LoadOperation::Lw, register, Reg::X2, low));
     }
-    code.push(Instr::Upper(UpperOperation::Lui, register, upper_part(offset)))?;
-    code.push(Instr::Register(RegisterOperation::Add, register, register, Reg::X2))?;
-    code.push(Instr::Load(LoadOperation::Lw, register, register, low))?;
-    Ok(())
+    append(
+        code,
+        Instr::Upper(UpperOperation::Lui, register, upper_part(offset)),
+    )?;
+    append(
+        code,
+        Instr::Register(RegisterOperation::Add, register, register, Reg::X2),
+    )?;
+    append(
+        code,
+        Instr::Load(LoadOperation::Lw, register, register, low),
+    )
 }
 
 /// A register into a slot.
@@ -51,14 +66,24 @@ pub fn store(code: &mut Vec<Instr>, register: Reg, offset: u32) -> Result<(), Al
 {
     let low = lower_part(offset);
     if offset < NEAR {
-        code.push(Instr::Store(StoreOperation::Sw, register, Reg::X2, low))?;
-        return Ok(());
+        return append(
+            code,
+            Instr::Store(StoreOperation::Sw, register, Reg::X2, low),
+        );
     }
     let address = Reg::X28;
-    code.push(Instr::Upper(UpperOperation::Lui, address, upper_part(offset)))?;
-    code.push(Instr::Register(RegisterOperation::Add, address, address, Reg::X2))?;
-    code.push(Instr::Store(StoreOperation::Sw, register, address, low))?;
-    Ok(())
+    append(
+        code,
+        Instr::Upper(UpperOperation::Lui, address, upper_part(offset)),
+    )?;
+    append(
+        code,
+        Instr::Register(RegisterOperation::Add, address, address, Reg::X2),
+    )?;
+    append(
+        code,
+        Instr::Store(StoreOperation::Sw, register, address, low),
+    )
 }
 
 /// A number into a register.
@@ -67,12 +92,19 @@ pub fn constant(code: &mut Vec<Instr>, register: Reg, n: u32) -> Result<(), Allo
 {
     let low = lower_part(n);
     if n < NEAR {
-        code.push(Instr::Immediate(ImmediateOperation::Addi, register, Reg::X0, low))?;
-        return Ok(());
+        return append(
+            code,
+            Instr::Immediate(ImmediateOperation::Addi, register, Reg::X0, low),
+        );
     }
-    code.push(Instr::Upper(UpperOperation::Lui, register, upper_part(n)))?;
-    code.push(Instr::Immediate(ImmediateOperation::Addi, register, register, low))?;
-    Ok(())
+    append(
+        code,
+        Instr::Upper(UpperOperation::Lui, register, upper_part(n)),
+    )?;
+    append(
+        code,
+        Instr::Immediate(ImmediateOperation::Addi, register, register, low),
+    )
 }
 
 /// An index in a register, times the bytes of an element, on the frame's base, into a register.
@@ -81,15 +113,13 @@ fn scale(code: &mut Vec<Instr>, d: Reg, r: Reg, kind: Kind) -> Result<(), AllocE
 {
     let times = match kind {
         Kind::Boolean | Kind::Uint8 => {
-            code.push(Instr::Register(RegisterOperation::Add, d, r, Reg::X2))?;
-            return Ok(());
+            return append(code, Instr::Register(RegisterOperation::Add, d, r, Reg::X2));
         }
         Kind::Uint16 => ShiftAmount::from_bits(1),
         Kind::Uint32 => ShiftAmount::from_bits(2),
     };
-    code.push(Instr::Shift(ShiftOperation::Slli, d, r, times))?;
-    code.push(Instr::Register(RegisterOperation::Add, d, d, Reg::X2))?;
-    Ok(())
+    append(code, Instr::Shift(ShiftOperation::Slli, d, r, times))?;
+    append(code, Instr::Register(RegisterOperation::Add, d, d, Reg::X2))
 }
 
 /// The upper part of an offset added to a register, where it has one.
@@ -100,9 +130,11 @@ fn raise(code: &mut Vec<Instr>, register: Reg, offset: u32) -> Result<(), AllocE
         return Ok(());
     }
     let upper = Instr::Upper(UpperOperation::Lui, Reg::X28, upper_part(offset));
-    code.push(upper)?;
-    code.push(Instr::Register(RegisterOperation::Add, register, register, Reg::X28))?;
-    Ok(())
+    append(code, upper)?;
+    append(
+        code,
+        Instr::Register(RegisterOperation::Add, register, register, Reg::X28),
+    )
 }
 
 /// The address of the element at the index in a register, into a register, but for the lower part of the array's
@@ -137,8 +169,7 @@ pub fn near(code: &mut Vec<Instr>, d: Reg, kind: Kind, offset: u32) -> Result<()
     ensures { OnOk result (code.new.items ≡ code.old.items ++ near_code d kind offset) }
 {
     let low = lower_part(offset);
-    code.push(Instr::Load(load_by(kind), d, Reg::X2, low))?;
-    Ok(())
+    append(code, Instr::Load(load_by(kind), d, Reg::X2, low))
 }
 
 /// The element at the index in a register, of an array at an offset, into a register.
@@ -153,6 +184,5 @@ pub fn element(
 {
     address(code, d, r, kind, offset)?;
     let low = lower_part(offset);
-    code.push(Instr::Load(load_by(kind), d, d, low))?;
-    Ok(())
+    append(code, Instr::Load(load_by(kind), d, d, low))
 }

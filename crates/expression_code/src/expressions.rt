@@ -44,8 +44,8 @@ pub fn height(term: &Term) -> u32
 
 /// The register of an operand, which is fetched into the spare one where it lies in a slot.
 fn fetched(
-    code: &mut Vec<Instr>,
     layout: &Layout<'_>,
+    code: &mut Vec<Instr>,
     place: u32,
     term: &Term,
     spare: Reg,
@@ -61,8 +61,8 @@ fn fetched(
 
 /// The registers of a choice between expressions, whose operands are fetched where they lie in slots.
 fn fetched_choice(
-    code: &mut Vec<Instr>,
     layout: &Layout<'_>,
+    code: &mut Vec<Instr>,
     place: u32,
     condition: &Term,
     accepted: &Term,
@@ -74,9 +74,9 @@ fn fetched_choice(
 {
     let second = layout.place_behind(place, 1);
     let third = layout.place_behind(place, 2);
-    let condition = fetched(code, layout, place, condition, FIRST_SPARE)?;
-    let accepted = fetched(code, layout, second, accepted, SECOND_SPARE)?;
-    let otherwise = fetched(code, layout, third, otherwise, THIRD_SPARE)?;
+    let condition = fetched(layout, code, place, condition, FIRST_SPARE)?;
+    let accepted = fetched(layout, code, second, accepted, SECOND_SPARE)?;
+    let otherwise = fetched(layout, code, third, otherwise, THIRD_SPARE)?;
     Ok(ChoiceOperands {
         mask: layout.working_register(place, FIRST_SPARE),
         scratch: layout.working_register(second, SECOND_SPARE),
@@ -86,12 +86,29 @@ fn fetched_choice(
     })
 }
 
+/// An expression into a place, and the register of what is there, which is fetched where it lies in a slot.
+#[cycle(expressions)]
+fn evaluated(
+    layout: &Layout<'_>,
+    code: &mut Vec<Instr>,
+    place: u32,
+    term: &Term,
+) -> Result<Reg, AllocError>
+    requires among { IsAmong (length layout.now.declared) (term_tree term.now) }
+    requires room { temporaries_offset layout.now.declared layout.now.controls layout.now.depths + 4 * slots_to layout.now.allocation.count (height_of (term_tree term.now) + place) ≤ 65536 }
+    ensures code { let free = temporaries_offset layout.now.declared layout.now.controls layout.now.depths in let a = layout.now.allocation in OnOk result (code.new.items ≡ code.old.items ++ expr_code layout.now.declared a free place (term_tree term.now) ++ fetch_code (operand a free place (term_tree term.now)) first_spare) }
+    ensures register { IfOk result (λ r. r ≡ register_of (operand layout.now.allocation (temporaries_offset layout.now.declared layout.now.controls layout.now.depths) place (term_tree term.now)) first_spare) }
+{
+    expression(layout, code, place, term)?;
+    fetched(layout, code, place, term, FIRST_SPARE)
+}
+
 /// An expression into a register, with its operands in the places from this one on. No operand is fetched before the
 /// code of all of them is through.
 #[cycle(expressions)]
 pub fn into(
-    code: &mut Vec<Instr>,
     layout: &Layout<'_>,
+    code: &mut Vec<Instr>,
     target: Reg,
     place: u32,
     term: &Term,
@@ -105,26 +122,23 @@ pub fn into(
         Term::Truth(value) => emit::constant(code, target, u32::from(*value)),
         Term::Variable(number) => copy(code, target, &layout.variable_location(*number)),
         Term::Prefix(operator, width, operand) => {
-            expression(code, layout, place, operand)?;
-            let register = fetched(code, layout, place, operand, FIRST_SPARE)?;
+            let register = evaluated(layout, code, place, operand)?;
             operators::prefix(code, target, register, *operator, *width)
         }
         Term::Binary(_, operator, width, left, right) => {
             if let Some(row) = right_row(layout, *operator, right) {
-                expression(code, layout, place, left)?;
-                let register = fetched(code, layout, place, left, FIRST_SPARE)?;
+                let register = evaluated(layout, code, place, left)?;
                 return operators::with_number(code, target, register, *width, row);
             }
             if let Some(row) = left_row(layout, *operator, left) {
-                expression(code, layout, place, right)?;
-                let register = fetched(code, layout, place, right, FIRST_SPARE)?;
+                let register = evaluated(layout, code, place, right)?;
                 return operators::with_number(code, target, register, *width, row);
             }
             let next = layout.place_behind(place, 1);
-            expression(code, layout, place, left)?;
-            expression(code, layout, next, right)?;
-            let left = fetched(code, layout, place, left, FIRST_SPARE)?;
-            let right = fetched(code, layout, next, right, SECOND_SPARE)?;
+            expression(layout, code, place, left)?;
+            expression(layout, code, next, right)?;
+            let left = fetched(layout, code, place, left, FIRST_SPARE)?;
+            let right = fetched(layout, code, next, right, SECOND_SPARE)?;
             let scratch = layout.working_register(next, SECOND_SPARE);
             let registers = Operands {
                 target,
@@ -135,30 +149,27 @@ pub fn into(
             operators::operator(code, &registers, *operator, *width)
         }
         Term::Rotate(width, operand, amount) => {
-            expression(code, layout, place, operand)?;
-            let register = fetched(code, layout, place, operand, FIRST_SPARE)?;
+            let register = evaluated(layout, code, place, operand)?;
             operators::rotate(code, target, register, *width, *amount)
         }
         Term::Convert(kind, operand) => {
-            expression(code, layout, place, operand)?;
-            let register = fetched(code, layout, place, operand, FIRST_SPARE)?;
+            let register = evaluated(layout, code, place, operand)?;
             operators::convert(code, target, register, *kind)
         }
         Term::Select(condition, accepted, otherwise) => {
             let second = layout.place_behind(place, 1);
             let third = layout.place_behind(place, 2);
-            expression(code, layout, place, condition)?;
-            expression(code, layout, second, accepted)?;
-            expression(code, layout, third, otherwise)?;
-            let registers = fetched_choice(code, layout, place, condition, accepted, otherwise)?;
+            expression(layout, code, place, condition)?;
+            expression(layout, code, second, accepted)?;
+            expression(layout, code, third, otherwise)?;
+            let registers = fetched_choice(layout, code, place, condition, accepted, otherwise)?;
             operators::choice(code, target, &registers)
         }
         Term::Element(_, array, _, index) => {
             if let Some(offset) = layout.near_element(*array, index) {
                 return emit::near(code, target, layout.kind(*array), offset);
             }
-            expression(code, layout, place, index)?;
-            let register = fetched(code, layout, place, index, FIRST_SPARE)?;
+            let register = evaluated(layout, code, place, index)?;
             emit::element(
                 code,
                 target,
@@ -173,8 +184,8 @@ pub fn into(
 /// An expression into a place, where temporaries live in all lower ones. A variable that has a home needs no code.
 #[cycle(expressions)]
 pub fn expression(
-    code: &mut Vec<Instr>,
     layout: &Layout<'_>,
+    code: &mut Vec<Instr>,
     place: u32,
     term: &Term,
 ) -> Result<(), AllocError>
@@ -186,8 +197,8 @@ pub fn expression(
         return Ok(());
     }
     into(
-        code,
         layout,
+        code,
         layout.working_register(place, FIRST_SPARE),
         place,
         term,

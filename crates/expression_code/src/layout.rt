@@ -1,8 +1,8 @@
 // Where a program's words lie in the frame.
 
 ghost use Rattle.std.specs.Prelude.{◌≡◌, ◌≤◌, ◌<◌, ◌+◌, ◌*◌, length, map, slice_get, unwrap_or, IfOk};
-ghost use Rattle.expression_code.specs.Layout.{variable_offset, variable_location, result_offset, control_offset, next_offset, temporaries_offset, offsets_from, slots_from};
-ghost use Rattle.expression_code.specs.Allocation.{slots_to, temporary, working_register};
+ghost use Rattle.expression_code.specs.Layout.{variable_offset, variable_location, result_offset, control_offset, control_location, word_offset, next_offset, temporaries_offset, offsets_from, slots_from};
+ghost use Rattle.expression_code.specs.Allocation.{is_unread, slots_to, temporary, working_register};
 ghost use Rattle.expression_code.specs.Registers.{value_register};
 ghost use Rattle.expression_code.specs.TermCode.{kind_at, near_offset, near_element, is_at_home, operand};
 ghost use Rattle.inline.specs.FlatSize.{words_of, declared_words};
@@ -113,6 +113,19 @@ impl<'f> Layout<'f> {
         self.result() + WORD_BYTES * (1 + number)
     }
 
+    /// The slot of a word that may have a home: a variable's, and behind all variables a control value's.
+    pub fn word(&self, number: usize) -> u32
+        requires { number < length self.now.declared + self.now.controls }
+        ensures { result ≡ word_offset self.now.declared number }
+    {
+        let variables = self.declared.len();
+        if number < variables {
+            self.offset_at(number)
+        } else {
+            self.control((number - variables) as u32)
+        }
+    }
+
     /// The two words of a loop that so many others are around, behind the control values.
     pub fn next(&self, depth: u32) -> u32
         requires { depth ≤ self.now.depths }
@@ -128,7 +141,7 @@ impl<'f> Layout<'f> {
         self.next(self.depths)
     }
 
-    /// The homes of the variables, by their numbers.
+    /// The homes of the variables, by their numbers, and behind them those of the control values.
     pub fn homes(&self) -> &[Option<Reg>]
         ensures { result.now ≡ self.now.allocation.homes }
     {
@@ -168,6 +181,22 @@ impl<'f> Layout<'f> {
         ensures { result ≡ variable_location self.now.declared self.now.allocation number }
     {
         Location::InSlot(self.variable(number)).unless_home(self.allocation.home(number))
+    }
+
+    /// Where a control value is: in its home, or in its slot.
+    pub fn control_location(&self, number: u32) -> Location
+        requires { number < self.now.controls }
+        ensures { result ≡ control_location self.now.declared self.now.allocation number }
+    {
+        let home = self.allocation.control_home(self.declared.len(), number);
+        Location::InSlot(self.control(number)).unless_home(home)
+    }
+
+    /// Whether nothing reads a control value.
+    pub fn is_unread(&self, control: u32) -> bool
+        ensures { result ≡ is_unread self.now.allocation control }
+    {
+        self.allocation.is_unread(control)
     }
 
     /// Where the temporary of a place is.

@@ -17,4 +17,4 @@ pub use allocation::{Allocation, REGISTER_COUNT};
 pub use expressions::{expression, height, into};
 pub use laws::expressions_are_computed;
 pub use layout::{Layout, WORD_BYTES, offsets, slots};
-pub use locations::{Location, move_register};
+pub use locations::{Location, fetch, move_register};

@@ -52,8 +52,7 @@ pub fn move_register(code: &mut Vec<Instr>, d: Reg, r: Reg) -> Result<(), AllocE
         return Ok(());
     }
     let none = Immediate12::from_bits(0);
-    code.push(Instr::Immediate(ImmediateOperation::Addi, d, r, none))?;
-    Ok(())
+    emit::append(code, Instr::Immediate(ImmediateOperation::Addi, d, r, none))
 }
 
 /// A word into a register.

@@ -6,7 +6,7 @@ ghost use Rattle.expression_code.specs.TermCode.{move_code, cut_code, narrow_cod
 ghost use Rattle.language.specs.Operators.{width_of};
 ghost use Rattle.word.specs.Widths.{bits};
 
-use crate::emit::MINUS_ONE;
+use crate::emit::{MINUS_ONE, append};
 use crate::locations::{SECOND_SPARE, move_register};
 use crate::numbers::{Finish, NumberRow, NumberStep};
 use language::{BinaryOperator, Kind, PrefixOperator};
@@ -60,9 +60,11 @@ impl Operands {
     fn of_truths(&self, code: &mut Vec<Instr>, operation: Operation) -> Result<(), AllocError>
         ensures { OnOk result (code.new.items ≡ code.old.items ++ step_code self.now.target self.now.scratch self.now.left self.now.right (terms.of_truths operation)) }
     {
-        code.push(Instr::Register(Operation::Sltu, self.scratch, Reg::X0, self.right))?;
-        code.push(Instr::Register(Operation::Sltu, self.target, Reg::X0, self.left))?;
-        alone(
+        let right = Instr::Register(Operation::Sltu, self.scratch, Reg::X0, self.right);
+        let left = Instr::Register(Operation::Sltu, self.target, Reg::X0, self.left);
+        append(code, right)?;
+        append(code, left)?;
+        append(
             code,
             Instr::Register(operation, self.target, self.target, self.scratch),
         )
@@ -79,14 +81,6 @@ pub struct ChoiceOperands {
     pub otherwise: Reg,
 }
 
-/// An instruction, of which nothing more has to be made.
-fn alone(code: &mut Vec<Instr>, instruction: Instr) -> Result<(), AllocError>
-    ensures { OnOk result (code.new.items ≡ code.old.items ++ instruction ∷ []) }
-{
-    code.push(instruction)?;
-    Ok(())
-}
-
 /// A register, cut to a width where that is a narrow one, into another.
 fn narrow(code: &mut Vec<Instr>, d: Reg, r: Reg, width: Width) -> Result<(), AllocError>
     ensures { OnOk result (code.new.items ≡ code.old.items ++ narrow_code d r width) }
@@ -94,13 +88,12 @@ fn narrow(code: &mut Vec<Instr>, d: Reg, r: Reg, width: Width) -> Result<(), All
     match width {
         Width::W8 => {
             let ones = Immediate12::from_bits(255);
-            alone(code, Instr::Immediate(ImmediateOperation::Andi, d, r, ones))
+            append(code, Instr::Immediate(ImmediateOperation::Andi, d, r, ones))
         }
         Width::W16 => {
             let half = ShiftAmount::from_bits(16);
-            code.push(Instr::Shift(ShiftOperation::Slli, d, r, half))?;
-            code.push(Instr::Shift(ShiftOperation::Srli, d, d, half))?;
-            Ok(())
+            append(code, Instr::Shift(ShiftOperation::Slli, d, r, half))?;
+            append(code, Instr::Shift(ShiftOperation::Srli, d, d, half))
         }
         Width::W32 => Ok(()),
     }
@@ -128,21 +121,21 @@ fn is_zero(code: &mut Vec<Instr>, d: Reg, r: Reg) -> Result<(), AllocError>
     ensures { OnOk result (code.new.items ≡ code.old.items ++ is_zero_code d r) }
 {
     let one = Immediate12::from_bits(1);
-    alone(code, Instr::Immediate(ImmediateOperation::Sltiu, d, r, one))
+    append(code, Instr::Immediate(ImmediateOperation::Sltiu, d, r, one))
 }
 
 /// 0 where a register is 0, and else 1.
 fn is_not_zero(code: &mut Vec<Instr>, r: Reg) -> Result<(), AllocError>
     ensures { OnOk result (code.new.items ≡ code.old.items ++ is_not_zero_code r) }
 {
-    alone(code, Instr::Register(Operation::Sltu, r, Reg::X0, r))
+    append(code, Instr::Register(Operation::Sltu, r, Reg::X0, r))
 }
 
 /// Into a register, 0 less another.
 fn negate(code: &mut Vec<Instr>, d: Reg, r: Reg) -> Result<(), AllocError>
     ensures { OnOk result (code.new.items ≡ code.old.items ++ negation_code d r) }
 {
-    alone(code, Instr::Register(Operation::Sub, d, Reg::X0, r))
+    append(code, Instr::Register(Operation::Sub, d, Reg::X0, r))
 }
 
 /// An instruction, whose outcome in a register is cut where it is narrow.
@@ -154,7 +147,7 @@ fn narrowed(
 ) -> Result<(), AllocError>
     ensures { OnOk result (code.new.items ≡ code.old.items ++ instruction ∷ cut_code r width) }
 {
-    code.push(instruction)?;
+    append(code, instruction)?;
     cut(code, r, width)
 }
 
@@ -162,7 +155,7 @@ fn narrowed(
 fn gives_zero(code: &mut Vec<Instr>, r: Reg, instruction: Instr) -> Result<(), AllocError>
     ensures { OnOk result (code.new.items ≡ code.old.items ++ instruction ∷ is_zero_code r r) }
 {
-    code.push(instruction)?;
+    append(code, instruction)?;
     is_zero(code, r, r)
 }
 
@@ -170,7 +163,7 @@ fn gives_zero(code: &mut Vec<Instr>, r: Reg, instruction: Instr) -> Result<(), A
 fn gives_more(code: &mut Vec<Instr>, r: Reg, instruction: Instr) -> Result<(), AllocError>
     ensures { OnOk result (code.new.items ≡ code.old.items ++ instruction ∷ is_not_zero_code r) }
 {
-    code.push(instruction)?;
+    append(code, instruction)?;
     is_not_zero(code, r)
 }
 
@@ -185,7 +178,7 @@ fn finished(
     ensures { OnOk result (code.new.items ≡ code.old.items ++ instruction ∷ finish_code r width finish) }
 {
     match finish {
-        Finish::Alone => alone(code, instruction),
+        Finish::Alone => append(code, instruction),
         Finish::GivesZero => gives_zero(code, r, instruction),
         Finish::GivesMore => gives_more(code, r, instruction),
         Finish::Narrowed => narrowed(code, r, width, instruction),
@@ -230,20 +223,20 @@ pub fn operator(
         BinaryOperator::Both => o.of_truths(code, Operation::And),
         BinaryOperator::Equal => gives_zero(code, o.target, o.between(Operation::Sub)),
         BinaryOperator::Unequal => gives_more(code, o.target, o.between(Operation::Sub)),
-        BinaryOperator::Less => alone(code, o.between(Operation::Sltu)),
+        BinaryOperator::Less => append(code, o.between(Operation::Sltu)),
         BinaryOperator::LessOrEqual => gives_zero(code, o.target, o.turned(Operation::Sltu)),
-        BinaryOperator::Greater => alone(code, o.turned(Operation::Sltu)),
+        BinaryOperator::Greater => append(code, o.turned(Operation::Sltu)),
         BinaryOperator::GreaterOrEqual => gives_zero(code, o.target, o.between(Operation::Sltu)),
-        BinaryOperator::BitOr => alone(code, o.between(Operation::Or)),
-        BinaryOperator::BitXor => alone(code, o.between(Operation::Xor)),
-        BinaryOperator::BitAnd => alone(code, o.between(Operation::And)),
+        BinaryOperator::BitOr => append(code, o.between(Operation::Or)),
+        BinaryOperator::BitXor => append(code, o.between(Operation::Xor)),
+        BinaryOperator::BitAnd => append(code, o.between(Operation::And)),
         BinaryOperator::ShiftLeft => narrowed(code, o.target, width, o.between(Operation::Sll)),
         BinaryOperator::ShiftRight => narrowed(code, o.target, width, o.between(Operation::Srl)),
         BinaryOperator::Add => narrowed(code, o.target, width, o.between(Operation::Add)),
         BinaryOperator::Subtract => narrowed(code, o.target, width, o.between(Operation::Sub)),
         BinaryOperator::Multiply => narrowed(code, o.target, width, o.product()),
-        BinaryOperator::Divide => alone(code, o.division(DivideOperation::Divu)),
-        BinaryOperator::Remainder => alone(code, o.division(DivideOperation::Remu)),
+        BinaryOperator::Divide => append(code, o.division(DivideOperation::Divu)),
+        BinaryOperator::Remainder => append(code, o.division(DivideOperation::Remu)),
     }
 }
 
@@ -289,8 +282,8 @@ fn around(
     let moved = SECOND_SPARE;
     let up = ShiftAmount::from_bits(amount);
     let down = ShiftAmount::from_bits(width.bits() - amount);
-    code.push(Instr::Shift(ShiftOperation::Slli, moved, r, up))?;
-    code.push(Instr::Shift(ShiftOperation::Srli, d, r, down))?;
+    append(code, Instr::Shift(ShiftOperation::Slli, moved, r, up))?;
+    append(code, Instr::Shift(ShiftOperation::Srli, d, r, down))?;
     let sum = Instr::Register(Operation::Add, d, moved, d);
     narrowed(code, d, width, sum)
 }
@@ -328,9 +321,12 @@ pub fn convert(code: &mut Vec<Instr>, d: Reg, r: Reg, kind: Kind) -> Result<(), 
 pub fn choice(code: &mut Vec<Instr>, target: Reg, c: &ChoiceOperands) -> Result<(), AllocError>
     ensures { OnOk result (code.new.items ≡ code.old.items ++ choice_code target c.now.mask c.now.scratch c.now.condition c.now.accepted c.now.otherwise) }
 {
-    code.push(Instr::Register(Operation::Sub, c.mask, Reg::X0, c.condition))?;
-    code.push(Instr::Register(Operation::Xor, c.scratch, c.accepted, c.otherwise))?;
-    code.push(Instr::Register(Operation::And, c.scratch, c.scratch, c.mask))?;
-    code.push(Instr::Register(Operation::Xor, target, c.otherwise, c.scratch))?;
-    Ok(())
+    let mask = Instr::Register(Operation::Sub, c.mask, Reg::X0, c.condition);
+    let differing = Instr::Register(Operation::Xor, c.scratch, c.accepted, c.otherwise);
+    let masked = Instr::Register(Operation::And, c.scratch, c.scratch, c.mask);
+    let chosen = Instr::Register(Operation::Xor, target, c.otherwise, c.scratch);
+    append(code, mask)?;
+    append(code, differing)?;
+    append(code, masked)?;
+    append(code, chosen)
 }

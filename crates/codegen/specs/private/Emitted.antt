@@ -1,19 +1,20 @@
 -- The instructions that are emitted for statements.
-use Rattle.std.specs.Prelude.{ℕ, ◌+◌, ◌*◌, List, [], ◌∷◌, ◌++◌, Option, None, Some, if◌then◌else◌}
+use Rattle.std.specs.Prelude.{ℕ, ◌+◌, ◌*◌, ◌==◌, Bool, true, false, List, [], ◌∷◌, ◌++◌, Option, None, Some}
+use Rattle.std.specs.Prelude.{if◌then◌else◌}
 use Rattle.branch_removal.specs.Straight.{StraightTree, set, clear, fill, put, take, set_under, put_under, branch}
 use Rattle.branch_removal.specs.Straight.{repeats, StraightBlock, nothing, first}
 use Rattle.codegen.specs.private.Jumps.{branch_code, loop_code}
 pub use Rattle.codegen.specs.private.Loops.{any_sets, bounds_code, count_code, repeat_code, sets, test_code}
 pub use Rattle.codegen.specs.private.Words.{assign_code, home_of_term, home_or, put_word_code, read_code}
 pub use Rattle.codegen.specs.private.Words.{read_register, unless_home}
-use Rattle.expression_code.specs.Allocation.{Allocation}
-use Rattle.expression_code.specs.Layout.{variable_offset, variable_location, control_offset, next_offset}
+use Rattle.expression_code.specs.Allocation.{Allocation, is_unread, register_of}
+use Rattle.expression_code.specs.Layout.{variable_offset, variable_location, control_location, next_offset}
 use Rattle.expression_code.specs.Layout.{temporaries_offset}
 use Rattle.expression_code.specs.Registers.{zero_register, frame_register, value_register, second_register}
 use Rattle.expression_code.specs.Registers.{third_register, address_register, first_spare}
 use Rattle.expression_code.specs.TermCode.{is_near, upper_part, lower_part, load_code, store_code, constant_code}
 use Rattle.expression_code.specs.TermCode.{address_code, load_by, kind_at, near_element, near_code, code_by}
-use Rattle.expression_code.specs.TermCode.{into_code}
+use Rattle.expression_code.specs.TermCode.{fetch_code, into_code}
 use Rattle.expression_code.specs.declared.locations.Location.{Location}
 use Rattle.expression_code.specs.declared.locations.Location.TheVariants.{InRegister, InSlot}
 use Rattle.inline.specs.declared.flat.FlatVariable.{FlatVariable}
@@ -29,25 +30,46 @@ use Rattle.language.specs.declared.signature.Kind.{Kind}
 use Rattle.language.specs.declared.signature.Kind.TheVariants.{Boolean, Uint8, Uint16, Uint32}
 use Rattle.language.specs.Size.{element_bytes, array_words}
 
--- A control value is a mask: all ones where it is true, and 0 where it is not.
+-- A control value is a mask: all ones where it is true, and 0 where it is not. It is in its home, or in its slot, or
+-- nowhere, where nothing reads it.
 
--- of a condition in a register, the mask for where it is true, and that for where it is not
-abbrev pub masks_code : ℕ → List Instr
-masks_code condition =
-    Register Sub third_register zero_register condition
-    ∷ Immediate Addi value_register condition 4095 ∷ []
+-- no code is needed for what nothing reads
+abbrev pub unless_unread : Bool → List Instr → List Instr
+unless_unread true is = []
+unless_unread false is = is
 
--- both masks joined with the one in a slot
-abbrev pub join_code : ℕ → List Instr
-join_code offset =
-    load_code second_register offset
-    ++ Register And third_register third_register second_register
-    ∷ Register And value_register value_register second_register ∷ []
+-- of a condition in a register, into two registers the mask for where it is true, and that for where it is not, but
+-- for one that nothing reads
+abbrev pub masks_code : Bool → Bool → ℕ → ℕ → ℕ → List Instr
+masks_code unread unread' accepted otherwise condition =
+    unless_unread unread (Register Sub accepted zero_register condition ∷ [])
+    ++ unless_unread unread' (Immediate Addi otherwise condition 4095 ∷ [])
 
--- both masks joined with the enclosing control value, where there is one
-abbrev pub within_code : List FlatVariable → Option ℕ → List Instr
-within_code declared None = []
-within_code declared (Some control) = join_code (control_offset declared control)
+-- both masks joined with one in a register, into two registers; where the first of them has that one itself, it is
+-- written last
+abbrev pub join_code : Bool → Bool → ℕ → ℕ → ℕ → List Instr
+join_code unread unread' accepted otherwise mask =
+    if accepted == mask
+    then unless_unread unread' (Register And otherwise value_register mask ∷ [])
+    ++ unless_unread unread (Register And accepted third_register mask ∷ [])
+    else unless_unread unread (Register And accepted third_register mask ∷ [])
+    ++ unless_unread unread' (Register And otherwise value_register mask ∷ [])
+
+-- the masks of a condition in a register, of which some are unread, into two registers, joined with the enclosing
+-- control value, where there is one
+abbrev pub taken_code : List FlatVariable → Allocation → Bool → Bool → ℕ → ℕ → ℕ → Option ℕ → List Instr
+taken_code declared allocation unread unread' accepted otherwise condition None =
+    masks_code unread unread' accepted otherwise condition
+taken_code declared allocation unread unread' accepted otherwise condition (Some control) =
+    masks_code unread unread' third_register value_register condition
+    ++ fetch_code (control_location declared allocation control) second_register
+    ++ join_code unread unread' accepted otherwise
+    (register_of (control_location declared allocation control) second_register)
+
+-- a register into the slot of a word that has no home
+abbrev pub kept_code : Location → ℕ → List Instr
+kept_code (InRegister home) register = []
+kept_code (InSlot offset) register = store_code register offset
 
 -- of three registers, the new word where the mask is all ones, and the old one where it is 0, into another; t is
 -- written too
@@ -61,13 +83,15 @@ abbrev pub set_code : List FlatVariable → Allocation → ℕ → Location → 
 set_code declared allocation free (InRegister home) e = into_code declared allocation free home 0 e
 set_code declared allocation free (InSlot offset) e = assign_code declared allocation free e offset
 
--- a register's value where the control value in a slot is true, and else the old one, into a variable
-abbrev pub set_under_code : ℕ → Location → ℕ → List Instr
+-- a register's value where a control value is true, and else the old one, into a variable
+abbrev pub set_under_code : ℕ → Location → Location → List Instr
 set_under_code value (InRegister home) control =
-    load_code third_register control ++ merge_code home value_register value home third_register
+    fetch_code control third_register
+    ++ merge_code home value_register value home (register_of control third_register)
 set_under_code value (InSlot offset) control =
-    load_code second_register offset ++ load_code third_register control
-    ++ merge_code value_register value_register value second_register third_register ++ store_code value_register offset
+    load_code second_register offset ++ fetch_code control third_register
+    ++ merge_code value_register value_register value second_register (register_of control third_register)
+    ++ store_code value_register offset
 
 -- Arrays.
 
@@ -129,25 +153,26 @@ put_element_code declared allocation free x index value =
     (kind_at declared x) (variable_offset declared x))
 
 -- the value where the control value is true, and else the old one, into the element
-abbrev pub put_under_code : ℕ → ℕ → ℕ → Kind → ℕ → List Instr
+abbrev pub put_under_code : ℕ → ℕ → Location → Kind → ℕ → List Instr
 put_under_code index value control kind offset =
     address_code value_register index kind offset
     ++ Load (load_by kind) third_register value_register (lower_part offset) ∷ []
-    ++ load_code first_spare control
-    ++ merge_code second_register second_register value third_register first_spare
+    ++ fetch_code control first_spare
+    ++ merge_code second_register second_register value third_register (register_of control first_spare)
     ++ Store (store_by kind) second_register value_register (lower_part offset) ∷ []
 
 -- the same of the value of an expression, into the element at an offset that its load and its store hold
-abbrev pub put_under_near_code : List FlatVariable → Allocation → ℕ → ℕ → Kind → ℕ → TermTree → List Instr
+abbrev pub put_under_near_code : List FlatVariable → Allocation → ℕ → Location → Kind → ℕ → TermTree → List Instr
 put_under_near_code declared allocation free control kind offset value =
     read_code declared allocation free value_register 0 value ++ near_code second_register kind offset
-    ++ load_code third_register control
+    ++ fetch_code control third_register
     ++ merge_code value_register value_register (read_register allocation value_register value) second_register
-    third_register
+    (register_of control third_register)
     ++ element_store_code value_register kind offset
 
 -- and into the element at an index
-abbrev pub put_element_under_code : List FlatVariable → Allocation → ℕ → ℕ → ℕ → TermTree → TermTree → List Instr
+abbrev pub put_element_under_code : List FlatVariable → Allocation → ℕ → Location → ℕ → TermTree → TermTree
+    → List Instr
 put_element_under_code declared allocation free control x index value =
     code_by (near_element declared allocation x index)
     (λ offset. put_under_near_code declared allocation free control (kind_at declared x) offset value)
@@ -161,6 +186,10 @@ module _ (declared : List FlatVariable) (allocation : Allocation) (controls dept
   -- where a variable is
   abbrev pub location : ℕ → Location
   location x = variable_location declared allocation x
+
+  -- where a control value is
+  abbrev pub control_at : ℕ → Location
+  control_at control = control_location declared allocation control
 
   -- where the slots of temporaries begin
   abbrev pub free_slots : ℕ
@@ -177,15 +206,16 @@ module _ (declared : List FlatVariable) (allocation : Allocation) (controls dept
         put_element_code declared allocation free_slots x index value
     statement_code depth (take control within condition) =
         read_code declared allocation free_slots value_register 0 condition
-        ++ masks_code (read_register allocation value_register condition) ++ within_code declared within
-        ++ store_code third_register (control_offset declared control)
-        ++ store_code value_register (control_offset declared (control + 1))
+        ++ taken_code declared allocation (is_unread allocation control) (is_unread allocation (control + 1))
+        (register_of (control_at control) third_register) (register_of (control_at (control + 1)) value_register)
+        (read_register allocation value_register condition) within
+        ++ unless_unread (is_unread allocation control) (kept_code (control_at control) third_register)
+        ++ unless_unread (is_unread allocation (control + 1)) (kept_code (control_at (control + 1)) value_register)
     statement_code depth (set_under control x value) =
         read_code declared allocation free_slots value_register 0 value
-        ++ set_under_code (read_register allocation value_register value) (location x)
-        (control_offset declared control)
+        ++ set_under_code (read_register allocation value_register value) (location x) (control_at control)
     statement_code depth (put_under control place x size index value) =
-        put_element_under_code declared allocation free_slots (control_offset declared control) x index value
+        put_element_under_code declared allocation free_slots (control_at control) x index value
     statement_code depth (branch condition accepted otherwise) =
         read_code declared allocation free_slots value_register 0 condition
         ++ branch_code (read_register allocation value_register condition) (block_code depth accepted)

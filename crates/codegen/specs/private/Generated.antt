@@ -13,7 +13,7 @@ use Rattle.language.specs.declared.typing.WordType.{WordType}
 use Rattle.codegen.specs.private.Emitted.{block_code, assign_code}
 use Rattle.branch_removal.specs.Heights.{depth_in_all, program_height}
 use Rattle.expression_code.specs.Allocation.{Allocation, slots_to}
-use Rattle.expression_code.specs.Layout.{slots_from, result_offset, temporaries_offset, variable_offset}
+use Rattle.expression_code.specs.Layout.{slots_from, result_offset, temporaries_offset, word_offset}
 use Rattle.expression_code.specs.TermCode.{load_code}
 
 -- the value into the result's slot, where there is one
@@ -26,12 +26,12 @@ result_code declared allocation free (Some value) =
 abbrev pub program_base : StraightProgram → ℕ
 program_base p = temporaries_offset p.declared p.controls (depth_in_all p.body)
 
--- the words of variables that have homes, from their slots into these: of the variable x and those behind it
+-- the words that have homes, from their slots into these: the word x and those behind it
 abbrev pub entry_code : List FlatVariable → ℕ → List (Option ℕ) → List Instr
 entry_code declared x [] = []
 entry_code declared x (None ∷ homes) = entry_code declared (x + 1) homes
 entry_code declared x (Some home ∷ homes) =
-    load_code home (variable_offset declared x) ++ entry_code declared (x + 1) homes
+    load_code home (word_offset declared x) ++ entry_code declared (x + 1) homes
 
 abbrev pub home_count : List (Option ℕ) → ℕ
 home_count [] = 0

@@ -6,6 +6,7 @@ use Rattle.branch_removal.specs.Straight.{StraightProgram}
 use Rattle.branch_removal.specs.StraightTyping.{IsTypedStraight}
 use Rattle.branch_removal.specs.Heights.{depth_in_all}
 use Rattle.codegen.specs.private.Generated.{home_count}
+use Rattle.codegen.specs.private.Reads.{AllReadKept}
 use Rattle.branch_removal.specs.Heights.{program_height}
 use Rattle.expression_code.specs.Allocation.{Allocation, IsAllocation}
 use Rattle.expression_code.specs.Layout.{Frame}
@@ -28,11 +29,13 @@ pub record HasRoom (p : StraightProgram) : Type 0 where
   -- the words that lie behind the variables and the result
   pub frame : p.controls + 2 * depth_in_all p.body + program_height p ≤ p.nodes
 
--- Homes that a program may have: of its variables, and so few that an image has room for the code that fills them.
+-- Homes that a program may have: of its variables and control values, and so few that an image has room for the code
+-- that fills them. And what the program reads is kept.
 pub record IsFitting (p : StraightProgram) (a : Allocation) : Type 0 where
   pub allocated : IsAllocation p.declared a
-  pub within : length a.homes ≤ length p.declared
+  pub within : length a.homes ≤ length p.declared + p.controls
   pub few : home_count a.homes ≤ 20
+  pub read : AllReadKept a p.body
 
 -- how a program is laid out
 abbrev pub frame_of : Allocation → StraightProgram → Frame

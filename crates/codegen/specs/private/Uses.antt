@@ -1,7 +1,8 @@
--- How much each word variable of a program is used: the sum, over the places in which it is read, set or a loop's
--- counter, of 8 to the number of loops around; no weight goes beyond the greatest number of 64 bits.
-use Rattle.std.specs.Prelude.{ℕ, ◌+◌, ◌-◌, ◌*◌, ◌^◌, List, [], ◌∷◌, Option, None, Some, length, min, replicate}
-use Rattle.std.specs.Prelude.{slice_index, slice_set}
+-- How much each word of a program is used: the sum of 8 to the number of loops around, for a variable over the
+-- places in which it is read, set or a loop's counter, and for a control value over those in which it is read. No
+-- weight goes beyond the greatest number of 64 bits.
+use Rattle.std.specs.Prelude.{ℕ, ◌+◌, ◌-◌, ◌*◌, ◌^◌, List, [], ◌∷◌, ◌++◌, Option, None, Some, length, min}
+use Rattle.std.specs.Prelude.{replicate, slice_index, slice_set}
 use Rattle.branch_removal.specs.Straight.{StraightTree, set, clear, fill, put, take, set_under, put_under, branch}
 use Rattle.branch_removal.specs.Straight.{repeats, StraightBlock, nothing, first, StraightProgram}
 use Rattle.inline.specs.Flat.{TermTree, number, truth, variable, prefix, binary, rotate, convert, select, element}
@@ -64,3 +65,37 @@ used_in_result (Some value) weights = used_in 1 value weights
 -- the weights of a program's variables, by their numbers
 abbrev pub weights_of : StraightProgram → List ℕ
 weights_of p = used_in_result p.value (used_by_all 1 p.body (replicate (length p.declared) 0))
+
+-- The same for control values.
+
+abbrev pub used_within : ℕ → Option ℕ → List ℕ → List ℕ
+used_within weight None weights = weights
+used_within weight (Some control) weights = used weight control weights
+
+abbrev mutual
+  -- the weights of control values with those that a statement reads
+  pub controls_read_by : ℕ → StraightTree → List ℕ → List ℕ
+  controls_read_by weight (set x value) weights = weights
+  controls_read_by weight (clear x size) weights = weights
+  controls_read_by weight (fill x values) weights = weights
+  controls_read_by weight (put place x size index value) weights = weights
+  controls_read_by weight (take control within condition) weights = used_within weight within weights
+  controls_read_by weight (set_under control x value) weights = used weight control weights
+  controls_read_by weight (put_under control place x size index value) weights = used weight control weights
+  controls_read_by weight (branch condition accepted otherwise) weights =
+      controls_read_by_all weight otherwise (controls_read_by_all weight accepted weights)
+  controls_read_by weight (repeats x low high body) weights =
+      controls_read_by_all (weight_inside weight) body weights
+
+  pub controls_read_by_all : ℕ → StraightBlock → List ℕ → List ℕ
+  controls_read_by_all weight nothing weights = weights
+  controls_read_by_all weight (first statement rest) weights =
+      controls_read_by_all weight rest (controls_read_by weight statement weights)
+
+-- the weights of a program's control values, by their numbers
+abbrev pub control_weights_of : StraightProgram → List ℕ
+control_weights_of p = controls_read_by_all 1 p.body (replicate p.controls 0)
+
+-- and those of all words: the variables, and behind them the control values
+abbrev pub word_weights_of : StraightProgram → List ℕ
+word_weights_of p = weights_of p ++ control_weights_of p

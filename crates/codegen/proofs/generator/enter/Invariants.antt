@@ -9,6 +9,6 @@ invariant-loop-number l =
     record {
       code : l.code.items ++ entry_code l.fn.layout.declared l.number rest ≡ l.fn.code.items
           ++ entry_code l.fn.layout.declared 0 l.fn.layout.allocation.homes;
-      within : l.number + length rest ≤ length l.fn.layout.declared;
+      within : l.number + length rest ≤ length l.fn.layout.declared + l.fn.layout.controls;
       layout : l.layout ≡ l.fn.layout;
     }

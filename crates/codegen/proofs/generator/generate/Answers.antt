@@ -1,4 +1,4 @@
-use Rattle.std.proofs.Common.{◌≡◌, false, ℕ, List, Option, Some, ap, sym, subst, ◌∙◌}
+use Rattle.std.proofs.Common.{◌≡◌, false, ℕ, List, [], Option, Some, ap, sym, subst, ◌∙◌}
 use Rattle.codegen.proofs.Language.{IsCounted, StraightProgram}
 use Rattle.codegen.proofs.Logic.{none-some, same_Some}
 use Rattle.codegen.proofs.Machine.{Allocation, Fields, image_of, image_within, IsFitting, plain}
@@ -8,7 +8,7 @@ use Rattle.codegen.proofs.generator.generate.Goals as goal
 
 pub generate_with-requires : goal.generate_with-requires
 generate_with-requires c =
-    let none : List (Option ℕ) → Allocation = λ homes. record { count = 16; homes = homes; immediates = false } in
+    let none : List (Option ℕ) → Allocation = λ homes. record { count = 16; homes = homes; immediates = false; unread = [] } in
     let bare : c.new-allocation.result ≡ plain = c.new-allocation.ensures
     ∙ ap none (c.as_slice.ensures.value ∙ c.new-homes.ensures.items) in
     subst (IsFitting c.args.straight.now) (sym bare) (plain_fits c.args.straight.now)
@@ -22,7 +22,7 @@ made_plain p a made bare is counted =
 
 pub unreachable-requires : goal.unreachable-requires
 unreachable-requires c =
-    let none : List (Option ℕ) → Allocation = λ homes. record { count = 16; homes = homes; immediates = false } in
+    let none : List (Option ℕ) → Allocation = λ homes. record { count = 16; homes = homes; immediates = false; unread = [] } in
     let bare : c.new-allocation.result ≡ plain = c.new-allocation.ensures
     ∙ ap none (c.as_slice.ensures.value ∙ c.new-homes.ensures.items) in
     none-some _ (sym c.in-None.is
@@ -31,7 +31,7 @@ unreachable-requires c =
 pub returns-clause-exact : goal.returns-clause-exact
 unfolding fields_of
 returns-clause-exact c =
-    let none : List (Option ℕ) → Allocation = λ homes. record { count = 16; homes = homes; immediates = false } in
+    let none : List (Option ℕ) → Allocation = λ homes. record { count = 16; homes = homes; immediates = false; unread = [] } in
     let bare : c.new-allocation.result ≡ plain = c.new-allocation.ensures
     ∙ ap none (c.as_slice.ensures.value ∙ c.new-homes.ensures.items) in
     same_Some _ _ (sym c.in-Some.is

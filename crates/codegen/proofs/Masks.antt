@@ -1,0 +1,241 @@
+-- Masks of control values: the registers that have them, how they come there and into their slots, and what is shown
+-- once both of a condition are set.
+use Rattle.std.proofs.Common.{◌≡◌, ℕ, ◌+◌, ◌^◌, ◌<◌, ◌≤◌, ◌==◌, ◌≢◌, Bool, true, false, cond}
+use Rattle.std.proofs.Common.{nat_lt, List, [], ◌∷◌, length, None, Some, refl}
+use Rattle.std.proofs.Common.{sym, ap, ◌∙◌, subst, arith, inl, inr, ◌⊎◌, ◌&&◌, not, Option}
+use Rattle.std.proofs.lemmas.Bool.{true≢false}
+use Rattle.codegen.proofs.Machine.{control_offset, number_at}
+use Rattle.codegen.proofs.Machine.{at_home, control_location, fetch_code, home_or, InSlot}
+use Rattle.codegen.proofs.Machine.{is_unread, kept_code, read_register, register_of, unless_unread}
+use Rattle.codegen.proofs.Machine.{with_number, home_of, Instr, Sw}
+use Rattle.codegen.proofs.Language.{StraightState, with_controls}
+use Rattle.codegen.proofs.Language.{TermTree, WordType}
+use Rattle.codegen.proofs.Language.{types_of}
+use Rattle.codegen.proofs.Language.{HasType}
+use Rattle.codegen.proofs.Logic.{none-some, eqb-true, eqb-false}
+use Rattle.codegen.proofs.Logic.{at_control, control_stays, Fetched, fetch_runs, HasRoom, Holds}
+use Rattle.codegen.proofs.Logic.{move_runs, none, slice_get_within, unwritten, weaken}
+use Rattle.inline.specs.FlatTyping.{of_variable}
+use Rattle.codegen.proofs.Logic.{HeldAt, mask_of}
+use Rattle.codegen.proofs.Logic.{apart}
+use Rattle.codegen.proofs.Logic.{Setting, base_of, Kept, Ready, Wrote, wrote_kept}
+use Rattle.codegen.proofs.Logic.{wrote_there, variables_kept}
+use Rattle.codegen.proofs.Logic.{HomesKept, IsHome}
+use Rattle.codegen.proofs.Logic.{homes_moved, kept_number}
+use Rattle.codegen.proofs.Logic.{is_free, idle, put}
+use Rattle.codegen.proofs.Logic.{Runs, cheaper, kept_less}
+use Rattle.codegen.proofs.Logic.{kept_then}
+use Rattle.rv_machine.specs.Machine as machine
+use Rattle.codegen.proofs.Slots.{Hidden, hidden_wrote, other_number}
+
+module _ (z : Setting) where
+  -- two control values lie apart
+  controls_apart : (y c : ℕ) → (y == c) ≡ false → (control_offset z.declared y + 4 ≤ control_offset z.declared c)
+      ⊎ (control_offset z.declared c + 4 ≤ control_offset z.declared y)
+  controls_apart y c h = apart c y _ h (λ below. inl (omega (arith, below))) (λ above. inr (omega (arith, above)))
+
+  -- the register of a control value's mask: its home, or a spare one
+  abbrev pub mask_register : ℕ → ℕ → ℕ
+  mask_register c spare = register_of (control_location z.declared z.allocation c) spare
+
+  -- it is no other one of the first three temporaries
+  pub mask_apart : (c spare q : ℕ) → q < 8 → spare ≢ q → mask_register c spare ≢ q
+  mask_apart c spare q low other =
+      at_control z c (λ l. register_of l spare ≢ q)
+      (λ home at e. let some = z.allocated.some in
+      let is = z.allocated.allowed (length z.declared + c) home at in
+      omega (arith, some, is.0, e, low))
+      (λ away e. other e)
+
+  -- nor does any other word live there
+  pub mask_beside : (c spare y home : ℕ) → spare < 8 → y ≢ length z.declared + c
+      → home_of z.allocation.homes y ≡ Some home → home ≢ mask_register c spare
+  mask_beside c spare y home low other here =
+      at_control z c (λ l. home ≢ register_of l spare)
+      (λ own at e. other (z.allocated.apart y (length z.declared + c) own (here ∙ ap Some e) at))
+      (λ away e. let some = z.allocated.some in
+      let is = z.allocated.allowed y home here in
+      omega (arith, some, is.0, e, low))
+
+  pub mask_small : (c spare : ℕ) → spare < 32 → mask_register c spare < 32
+  mask_small c spare low =
+      at_control z c (λ l. register_of l spare < 32)
+      (λ home at. let is = z.allocated.allowed (length z.declared + c) home at in omega (arith, is.1)) (λ away. low)
+
+  pub mask_some : (c spare : ℕ) → 4 < spare → 4 < mask_register c spare
+  mask_some c spare low =
+      at_control z c (λ l. 4 < register_of l spare)
+      (λ home at. let is = z.allocated.allowed (length z.declared + c) home at in omega (arith, is.0)) (λ away. low)
+
+  -- The mask of a control value in its register.
+  pub mask_runs : (c spare : ℕ) → c < z.controls → is_unread z.allocation c ≡ false → 4 < spare → spare < 32
+      → Runs z 3 none (fetch_code (control_location z.declared z.allocation c) spare) (Ready z)
+      (λ env s t. Fetched z (mask_register c spare) spare (mask_of (env.controls c)) s t)
+  mask_runs c spare among read low high =
+      let space = z.room in
+      weaken
+      (λ env s fine ready. (ready.held, ready.controls_there c among read))
+      (λ env s t fine ready done. done)
+      (fetch_runs z spare low high (λ env. mask_of (env.controls c)) (control_location z.declared z.allocation c)
+      (at_control z c (HasRoom z) (λ home at. tt) (λ away. (omega arith, omega (arith, among, space)))))
+
+  -- no home is written by that
+  pub fetched_homes : (r spare v : ℕ) (s t : machine.State) → (spare < 8) ⊎ (27 < spare) → Fetched z r spare v s t
+      → HomesKept z s t
+  fetched_homes r spare v s t (inl low) fetched q home =
+      let some = z.allocated.some in
+      fetched.others q (λ e. omega (arith, some, home.0, e, low))
+  fetched_homes r spare v s t (inr high) fetched q home = fetched.others q (λ e. omega (arith, home.1, e, high))
+
+  -- a control value's register, where it is one of the first three temporaries, is put into its slot, unless nothing
+  -- reads it
+  pub record MaskPut (c v : ℕ) (s t : machine.State) : Type 0 where
+    pub held : HeldAt z t
+    pub others : (q : ℕ) → q ≢ 28 → t.regs q ≡ s.regs q
+    pub written : is_unread z.allocation c ≡ false → home_of z.allocation.homes (length z.declared + c) ≡ None
+        → number_at t.bytes 4 (z.frame + control_offset z.declared c) ≡ Some v
+    pub apart : (n x : ℕ) → (x + n ≤ control_offset z.declared c) ⊎ (control_offset z.declared c + 4 ≤ x)
+        → number_at t.bytes n (z.frame + x) ≡ number_at s.bytes n (z.frame + x)
+    pub lower : Kept z (control_offset z.declared c) s t
+    pub hidden : (depth : ℕ) → Hidden z depth s t
+
+  -- both control values of a condition are set
+  module _ (c : ℕ) (f g : Bool) (among : c + 1 < z.controls) (env : StraightState) (s m t u : machine.State)
+      (ready : Ready z env s) (kept : Kept z (base_of z) s m)
+      (homes : (r : ℕ) → IsHome z.allocation.count r → r ≢ mask_register c 7 → r ≢ mask_register (c + 1) 5
+      → m.regs r ≡ s.regs r)
+      (seven : is_unread z.allocation c ≡ false → m.regs (mask_register c 7) ≡ mask_of f)
+      (five : is_unread z.allocation (c + 1) ≡ false → m.regs (mask_register (c + 1) 5) ≡ mask_of g)
+      (one : MaskPut c (mask_of f) m t) (two : MaskPut (c + 1) (mask_of g) t u) where
+    abbrev n : ℕ
+    n = length z.declared
+
+    stays : HomesKept z m u
+    stays r home =
+        two.others r (λ e. omega (arith, home.1, e)) ∙ one.others r (λ e. omega (arith, home.1, e))
+
+    -- a word that is neither of them
+    others : (y home : ℕ) → y ≢ n + c → y ≢ n + (c + 1) → home_of z.allocation.homes y ≡ Some home
+        → u.regs home ≡ s.regs home
+    others y home first second at =
+        let is = z.allocated.allowed y home at in
+        stays home is
+        ∙ homes home is (mask_beside c 7 y home (omega arith) first at)
+        (mask_beside (c + 1) 5 y home (omega arith) second at)
+
+    -- one of them at home
+    at_home_of : (d spare v : ℕ) → m.regs (mask_register d spare) ≡ v → (home : ℕ)
+        → home_of z.allocation.homes (n + d) ≡ Some home → u.regs home ≡ v
+    at_home_of d spare v is home at =
+        let same : mask_register d spare ≡ home =
+        ap (λ h. register_of (at_home h (InSlot (control_offset z.declared d))) spare) at in
+        stays home (z.allocated.allowed (n + d) home at) ∙ (ap m.regs (sym same) ∙ is)
+
+    control_there : (y : ℕ) → y < z.controls → is_unread z.allocation y ≡ false → (d e : Bool) → (y == c) ≡ d → (y == c + 1) ≡ e
+        → Holds z (control_location z.declared z.allocation y) u (mask_of (cond d f (cond e g (env.controls y))))
+    control_there y below read true e h k =
+        let own : is_unread z.allocation c ≡ false =
+        subst (λ x. is_unread z.allocation x ≡ false) (eqb-true y c h) read in
+        subst (λ x. Holds z (control_location z.declared z.allocation x) u (mask_of f)) (sym (eqb-true y c h))
+        (at_control z c (λ l. Holds z l u (mask_of f)) (at_home_of c 7 (mask_of f) (seven own))
+        (λ away. two.apart 4 (control_offset z.declared c) (inl (omega arith)) ∙ one.written own away))
+    control_there y below read false true h k =
+        let own : is_unread z.allocation (c + 1) ≡ false =
+        subst (λ x. is_unread z.allocation x ≡ false) (eqb-true y (c + 1) k) read in
+        subst (λ x. Holds z (control_location z.declared z.allocation x) u (mask_of g)) (sym (eqb-true y (c + 1) k))
+        (at_control z (c + 1) (λ l. Holds z l u (mask_of g)) (at_home_of (c + 1) 5 (mask_of g) (five own))
+        (two.written own))
+    control_there y below read false false h k =
+        control_stays z y (mask_of (env.controls y)) s u
+        (λ home at. others (n + y) home (λ e. eqb-false y c h (omega (arith, e)))
+        (λ e. eqb-false y (c + 1) k (omega (arith, e))) at)
+        (two.apart 4 (control_offset z.declared y) (controls_apart y (c + 1) k)
+        ∙ (one.apart 4 (control_offset z.declared y) (controls_apart y c h)
+        ∙ kept_number z (base_of z) s m kept 4 (control_offset z.declared y) (omega (arith, below))))
+        (ready.controls_there y below read)
+
+    pub ready_taken : Ready z (with_controls env c f g) u
+    ready_taken = record {
+      held = two.held;
+      fits = ready.fits;
+      homes_there = λ x home d is at.
+          let below = slice_get_within z.declared x d is in
+          others x home (λ e. omega (arith, below, e)) (λ e. omega (arith, below, e)) at
+          ∙ ready.homes_there x home d is at;
+      variables_there =
+          variables_kept z (control_offset z.declared c) env s u (omega arith) ready
+          (kept_then z (control_offset z.declared c) s t u
+          (kept_then z (control_offset z.declared c) s m t
+          (kept_less z (control_offset z.declared c) (base_of z) s m (omega (arith, among)) kept) one.lower)
+          (kept_less z (control_offset z.declared c) (control_offset z.declared (c + 1)) t u (omega arith) two.lower));
+      controls_there = λ y below read. control_there y below read (y == c) (y == c + 1) refl refl;
+    }
+
+  -- a control value's mask is put where it belongs, unless nothing reads it
+  abbrev PutsMask : ℕ → ℕ → (StraightState → ℕ) → List Instr → Type 0
+  PutsMask c r v code = Runs z 3 none code
+      (λ env s. HeldAt z s × (v env < 2 ^ 32)
+      × (is_unread z.allocation c ≡ false → home_of z.allocation.homes (length z.declared + c) ≡ None
+      → s.regs r ≡ v env))
+      (λ env s t. MaskPut c (v env) s t)
+
+  pub mask_put : (c r : ℕ) (v : StraightState → ℕ) → c < z.controls
+      → (is_free r && (nat_lt r 32 && not (r == 28))) ≡ true
+      → PutsMask c r v
+      (unless_unread (is_unread z.allocation c) (kept_code (control_location z.declared z.allocation c) r))
+  mask_put c r v among ok = by_test (is_unread z.allocation c) refl
+    where
+      by_test : (b : Bool) → is_unread z.allocation c ≡ b
+          → PutsMask c r v (unless_unread b (kept_code (control_location z.declared z.allocation c) r))
+      by_test true unread =
+          cheaper {m = 0} (omega arith)
+          (idle (λ env s given. record {
+            held = given.0;
+            others = λ q other. refl;
+            written = λ read. absurd (true≢false (sym unread ∙ read));
+            apart = λ n x beside. refl;
+            lower = λ b below. refl;
+            hidden = λ depth b from to. refl;
+          }))
+      by_test false read =
+          let o = control_offset z.declared c in
+          let space = z.room in
+          at_control z c (λ l. PutsMask c r v (kept_code l r))
+          (λ home at. cheaper {m = 0} (omega arith)
+          (idle (λ env s given. record {
+            held = given.0;
+            others = λ q other. refl;
+            written = λ is away. absurd (none-some home (sym away ∙ at));
+            apart = λ n x beside. refl;
+            lower = λ b below. refl;
+            hidden = λ depth b from to. refl;
+          })))
+          (λ away. weaken
+          (λ env s fine given. given.0)
+          (λ env s t fine given moved.
+          let wrote : Wrote z 4 o (v env) s t = record {
+            held = moved.held;
+            written = moved.bytes ∙ ap (λ w. with_number s.bytes 4 (z.frame + o) w) (given.2 read away);
+            homes = homes_moved z (put Sw r o ∷ []) env s t refl moved;
+          } in
+          record {
+            held = moved.held;
+            others = λ q other. ap (λ (regs : ℕ → ℕ). regs q) moved.regs ∙ unwritten s.regs 28 _ q other;
+            written = λ is out. wrote_there z o (v env) s t wrote given.1;
+            apart = λ n x beside. other_number z 4 o (v env) n x s t wrote beside;
+            lower = wrote_kept z 4 o (v env) s t wrote;
+            hidden = λ depth. hidden_wrote z depth 4 o (v env) s t (omega (arith, among)) wrote;
+          })
+          (move_runs z (put Sw r o) (simp ok) (omega arith, omega (arith, among, space))))
+
+-- what is read is not in the register of a control value
+pub read_beside : (z : Setting) (c : ℕ) {e : TermTree} {word : WordType}
+    → HasType (types_of z.code.profile z.declared) e word → read_register z.allocation 5 e ≢ mask_register z c 7
+read_beside z c (of_variable {x = x} known) = by_home (home_of z.allocation.homes x) refl
+  where
+    by_home : (h : Option ℕ) → home_of z.allocation.homes x ≡ h → home_or h 5 ≢ mask_register z c 7
+    by_home None at = λ e. mask_apart z c 7 5 (omega arith) (λ e. omega (arith, e)) (sym e)
+    by_home (Some home) at =
+        let below = slice_get_within z.declared x _ known in
+        mask_beside z c 7 x home (omega arith) (λ e. omega (arith, below, e)) at
+read_beside z c has = λ e. mask_apart z c 7 5 (omega arith) (λ e. omega (arith, e)) (sym e)

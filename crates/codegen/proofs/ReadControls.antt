@@ -1,0 +1,146 @@
+-- What a program reads is kept in its optimised code: each place that reads a control value gives it some weight.
+use Rattle.std.proofs.Common.{◌≡◌, ℕ, ◌+◌, ◌<◌, ◌≤◌, ◌==◌, Bool, true, false, List, length, Option, None, Some}
+use Rattle.std.proofs.Common.{slice_index, min, nat_lt, ne_eqb, refl, ap, subst, ◌∙◌, arith, unwrap_or}
+use Rattle.std.proofs.Common.{replicate}
+use Rattle.std.proofs.lemmas.List.{get_or-set_other, get_or-set_same}
+use Rattle.std.proofs.lemmas.Option.{slice_get-map, slice_get-get_or, slice_get_past}
+use Rattle.branch_removal.specs.Straight as straight
+use Rattle.codegen.proofs.Language.{StraightBlock, StraightProgram, StraightTree, first, nothing}
+use Rattle.codegen.proofs.Logic.{eqb-true, eqb-false, nat_tests, option_map}
+use Rattle.codegen.proofs.Machine.{AllReadKept, IsKeptWithin, ReadsKept, is_unread}
+use Rattle.codegen.proofs.WeightLengths.{all_read_length, read_length, used_length}
+use Rattle.codegen.specs.private.Homes.{word_homes}
+use Rattle.codegen.specs.private.Uses.{control_weights_of, controls_read_by, controls_read_by_all, greatest_weight}
+use Rattle.codegen.specs.private.Uses.{used, used_within, weight_inside}
+
+-- a control value has some weight
+abbrev Weighs : List ℕ → ℕ → Type 0
+Weighs weights c = 0 < slice_index weights c
+
+-- a use gives it some, and takes none away
+
+used_weighs : (n x : ℕ) (weights : List ℕ) → 0 < n → x < length weights → Weighs (used n x weights) x
+used_weighs n x weights some below =
+    omega (
+      arith,
+      some,
+      get_or-set_same weights x (min (slice_index weights x + n) greatest_weight) 0 below,
+    )
+
+used_stays : (n x c : ℕ) (weights : List ℕ) → c < length weights → Weighs weights c → Weighs (used n x weights) c
+used_stays n x c weights below weighs = by_test (c == x) refl
+  where
+    by_test : (b : Bool) → (c == x) ≡ b → Weighs (used n x weights) c
+    by_test true same =
+        let e = eqb-true c x same in
+        let own = get_or-set_same weights c (min (slice_index weights c + n) greatest_weight) 0 below in
+        subst (λ y. Weighs (used n y weights) c) e (omega (arith, weighs, own))
+    by_test false other =
+        omega (
+          arith,
+          weighs,
+          get_or-set_other weights x c (min (slice_index weights x + n) greatest_weight) 0 (eqb-false c x other),
+        )
+
+within_stays : (n : ℕ) (within : Option ℕ) (c : ℕ) (weights : List ℕ) → c < length weights → Weighs weights c
+    → Weighs (used_within n within weights) c
+within_stays n None c weights below weighs = weighs
+within_stays n (Some x) c weights below weighs = used_stays n x c weights below weighs
+
+mutual
+  stays : (n : ℕ) (s : StraightTree) (c : ℕ) (weights : List ℕ) → c < length weights → Weighs weights c
+      → Weighs (controls_read_by n s weights) c
+  stays n (straight.set x value) c weights below weighs = weighs
+  stays n (straight.clear x size) c weights below weighs = weighs
+  stays n (straight.fill x values) c weights below weighs = weighs
+  stays n (straight.put place x size index value) c weights below weighs = weighs
+  stays n (straight.take control within condition) c weights below weighs =
+      within_stays n within c weights below weighs
+  stays n (straight.set_under control x value) c weights below weighs = used_stays n control c weights below weighs
+  stays n (straight.put_under control place x size index value) c weights below weighs =
+      used_stays n control c weights below weighs
+  stays n (straight.branch condition accepted otherwise) c weights below weighs =
+      let more = all_read_length n accepted weights in
+      all_stay n otherwise c (controls_read_by_all n accepted weights) (omega (arith, below, more))
+      (all_stay n accepted c weights below weighs)
+  stays n (straight.repeats x low high body) c weights below weighs =
+      all_stay (weight_inside n) body c weights below weighs
+
+  all_stay : (n : ℕ) (b : StraightBlock) (c : ℕ) (weights : List ℕ) → c < length weights → Weighs weights c
+      → Weighs (controls_read_by_all n b weights) c
+  all_stay n nothing c weights below weighs = weighs
+  all_stay n (first s rest) c weights below weighs =
+      let more = read_length n s weights in
+      all_stay n rest c (controls_read_by n s weights) (omega (arith, below, more)) (stays n s c weights below weighs)
+
+-- So what is read is kept, where what has some weight in the end is, and what has no number here is.
+module _ (p : StraightProgram) where
+  abbrev IsKept : ℕ → Type 0
+  IsKept c = is_unread (word_homes p) c ≡ false
+
+  -- what has weight among these is kept
+  abbrev Keeps : List ℕ → Type 0
+  Keeps weights = (c : ℕ) → (c < length weights → Weighs weights c) → IsKept c
+
+  read_here : (n x : ℕ) (weights : List ℕ) → 0 < n → Keeps (used n x weights) → IsKept x
+  read_here n x weights some keeps =
+      keeps x (λ below. let same = used_length n x weights in
+      used_weighs n x weights some (omega (arith, below, same)))
+
+  within_here : (n : ℕ) (within : Option ℕ) (weights : List ℕ) → 0 < n → Keeps (used_within n within weights)
+      → IsKeptWithin (word_homes p) within
+  within_here n None weights some keeps = tt
+  within_here n (Some x) weights some keeps = read_here n x weights some keeps
+
+  mutual
+    kept : (n : ℕ) (s : StraightTree) (weights : List ℕ) → 0 < n → Keeps (controls_read_by n s weights)
+        → ReadsKept (word_homes p) s
+    kept n (straight.set x value) weights some keeps = tt
+    kept n (straight.clear x size) weights some keeps = tt
+    kept n (straight.fill x values) weights some keeps = tt
+    kept n (straight.put place x size index value) weights some keeps = tt
+    kept n (straight.take control within condition) weights some keeps = within_here n within weights some keeps
+    kept n (straight.set_under control x value) weights some keeps = read_here n control weights some keeps
+    kept n (straight.put_under control place x size index value) weights some keeps =
+        read_here n control weights some keeps
+    kept n (straight.branch condition accepted otherwise) weights some keeps =
+        let between = controls_read_by_all n accepted weights in
+        let more = all_read_length n otherwise between in (
+          all_kept n accepted weights some
+              (λ c weighs. keeps c (λ below. all_stay n otherwise c between (omega (arith, below, more))
+              (weighs (omega (arith, below, more))))),
+          all_kept n otherwise between some keeps,
+        )
+    kept n (straight.repeats x low high body) weights some keeps =
+        all_kept (weight_inside n) body weights (omega (arith, some)) keeps
+
+    all_kept : (n : ℕ) (b : StraightBlock) (weights : List ℕ) → 0 < n → Keeps (controls_read_by_all n b weights)
+        → AllReadKept (word_homes p) b
+    all_kept n nothing weights some keeps = tt
+    all_kept n (first s rest) weights some keeps =
+        let between = controls_read_by n s weights in
+        let more = all_read_length n rest between in (
+          kept n s weights some
+              (λ c weighs. keeps c (λ below. all_stay n rest c between (omega (arith, below, more))
+              (weighs (omega (arith, below, more))))),
+          all_kept n rest between some keeps,
+        )
+
+  -- what has weight in the end is not among the unread
+  weighed : Keeps (control_weights_of p)
+  weighed c weighs = by_test (nat_lt c (length (control_weights_of p))) refl
+    where
+      by_test : (b : Bool) → nat_lt c (length (control_weights_of p)) ≡ b → IsKept c
+      by_test true below =
+          let within : c < length (control_weights_of p) = grind (arith, nat_tests, below) in
+          let some = weighs within in
+          ap (λ (o : Option Bool). unwrap_or o false) (slice_get-map (λ w. w == 0) (control_weights_of p) c
+          ∙ ap (option_map (λ w. w == 0)) (slice_get-get_or (control_weights_of p) c 0 within))
+          ∙ ne_eqb (slice_index (control_weights_of p) c) 0 (λ e. omega (arith, some, e))
+      by_test false beyond =
+          let past : length (control_weights_of p) ≤ c = grind (arith, nat_tests, beyond) in
+          ap (λ (o : Option Bool). unwrap_or o false) (slice_get-map (λ w. w == 0) (control_weights_of p) c
+          ∙ ap (option_map (λ w. w == 0)) (slice_get_past (control_weights_of p) c past))
+
+pub all_read_kept : (p : StraightProgram) → AllReadKept (word_homes p) p.body
+all_read_kept p = all_kept p 1 p.body (replicate p.controls 0) (omega arith) (weighed p)
