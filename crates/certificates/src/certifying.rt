@@ -1,6 +1,12 @@
 // One run of an image for all arguments that have the given values.
 
+ghost use Rattle.std.specs.Prelude.{◌≡◌, IsTrue, OnOk, OnErr};
 ghost use Rattle.certificates.specs.Certified.{Certified};
+ghost use Rattle.certificates.specs.KnownImage.{known_at};
+ghost use Rattle.codegen.specs.Loaded.{code_at};
+ghost use Rattle.hepurita.specs.Bases.{code_base, frame_base};
+ghost use Rattle.progress.specs.Certified.{GoesOnKnown};
+ghost use Rattle.progress.specs.GoingOn.{HasLines, IsTold};
 
 use crate::faults::first_fault;
 use crate::loading::load_given;
@@ -8,7 +14,9 @@ use certified_runs::{CertifiedEnd as Certificate, Shifts, certify as certify_run
 use hepurita::{RunFault, code};
 use image::Image;
 use language::Arg;
+use progress::certify_in_pieces;
 use std::alloc::Global;
+use streams::Sink;
 
 /// Runs an image once for all arguments that have the given values, and answers whether an observer sees the same of all of them.
 /// An argument that is not given stands for every value of its type; it may be that of a secret parameter alone. Where
@@ -28,4 +36,26 @@ pub fn certify(
     let code = code(alloc, image)?;
     let mut loaded = load_given(alloc, image, given, shifts)?;
     Ok(certify_run(&code, &mut loaded.run, &mut loaded.known))
+}
+
+/// The same, and a line goes out behind each so many steps after which the run goes on.
+pub fn certify_telling<E: Sink>(
+    alloc: Global,
+    image: &Image,
+    given: &[Option<Arg>],
+    shifts: Shifts,
+    err: &mut E,
+) -> Result<Certificate, RunFault>
+    ensures certified { Certified image.now given.now shifts result }
+    ensures told { IsTrue E.TELLS → OnOk result (IsTold HasLines
+        (GoesOnKnown (code_at code_base image.now) image.now.max_steps (known_at code_base frame_base image.now given.now shifts))
+        (E.taken err.old) (E.taken err.new)) }
+    ensures untold { OnErr result (err.new ≡ err.old) }
+{
+    if let Some(fault) = first_fault(image.slots(), given) {
+        return Err(RunFault::from(fault));
+    }
+    let code = code(alloc, image)?;
+    let mut loaded = load_given(alloc, image, given, shifts)?;
+    Ok(certify_in_pieces(&code, &mut loaded.run, &mut loaded.known, err))
 }

@@ -13,7 +13,7 @@ mod loading;
 mod reading;
 
 pub use certified_runs::{CertifiedEnd as Certificate, Shifts};
-pub use certifying::certify;
+pub use certifying::{certify, certify_telling};
 pub use laws::{
     certificates_hold, certifications_agree, known_images_cover,
     pairs_and_listings_are_as_certified,

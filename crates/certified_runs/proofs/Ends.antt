@@ -1,5 +1,6 @@
 -- Certified runs in progress: turns that have been made, and how the run ends after them.
-use Rattle.std.proofs.Common.{◌≡◌, ℕ, suc, ◌+◌, List, [], ◌∷◌, ◌++◌, length, length-append, append_assoc, refl, sym}
+use Rattle.std.proofs.Common.{◌≡◌, ℕ, suc, ◌+◌, ◌<◌, ◌≤◌, List, [], ◌∷◌, ◌++◌, length, length-append, append_assoc}
+use Rattle.std.proofs.Common.{refl, sym}
 use Rattle.std.proofs.Common.{ap, ◌∙◌, subst, arith}
 use Rattle.rv_machine.specs.declared.observation.Observation.{Observation}
 use Rattle.rv_machine.specs.declared.stops.Stop.{Stop}
@@ -8,7 +9,9 @@ use Rattle.rv_machine.specs.Entries.{entries_of}
 use Rattle.rv_machine.specs.Machine.{Code}
 use Rattle.certified_runs.proofs.Below.{entries_of-append}
 use Rattle.certified_runs.specs.Certified.{KnownTurn, leads_on, ends, depends, RunEnding, same, may_differ}
-use Rattle.certified_runs.specs.Certified.{CertifiedRun, spent, halts, cut, turns}
+use Rattle.certified_runs.specs.Certified.{CertifiedRun, spent, halts, cut, turns, KnownEnding, KnownLeads, stays}
+use Rattle.certified_runs.specs.Certified.{leads}
+use Rattle.certified_runs.proofs.OneEnd.{KnownTurn-determined}
 use Rattle.certified_runs.specs.End.{end_of}
 use Rattle.certified_runs.specs.Known.{Known}
 use Rattle.certified_runs.specs.declared.certifying.CertifiedEnd.{CertifiedEnd}
@@ -83,3 +86,64 @@ ends_at_last {code} {m} {k} {n} {now} {entries} led none =
       led.2 [] (same Budget) (subst (λ left. CertifiedRun code left now [] (same Budget)) (sym none) spent),
       ap (Same Budget) many,
     )
+
+-- Turns that have been made, by their count.
+
+-- so many turns, of as many as this and those that are left, have shown so many entries
+abbrev pub HasMade : Code → ℕ → Known → ℕ → Known → ℕ → Type 0
+HasMade code m k left now entries =
+    (n : ℕ) × (seen : List Observation) × KnownLeads code n k seen now × (n + left ≡ m)
+    × (length (entries_of seen) ≡ entries)
+
+pub none_made : (code : Code) (m : ℕ) (k : Known) → HasMade code m k m k 0
+none_made code m k = (0, [], stays, omega arith, refl)
+
+-- one more turn
+pub KnownLeads-more : {code : Code} {n : ℕ} {k now next : Known} {seen : List Observation} {o : Observation}
+    → KnownLeads code n k seen now → KnownTurn code now (leads_on o next)
+    → KnownLeads code (suc n) k (seen ++ o ∷ []) next
+KnownLeads-more stays turn = leads turn stays
+KnownLeads-more (leads first rest) turn = leads first (KnownLeads-more rest turn)
+
+pub one_more_made : {code : Code} {m left left' entries : ℕ} {k now next : Known} {o : Observation} (more : ℕ)
+    → HasMade code m k left now entries → suc left' ≡ left → KnownTurn code now (leads_on o next)
+    → length (entries_of (o ∷ [])) ≡ more → HasMade code m k left' next (entries + more)
+one_more_made {entries = entries} {o = o} more made fewer turn many = (
+  suc made.0,
+  made.1 ++ o ∷ [],
+  KnownLeads-more made.2 turn,
+  omega (arith, made.3, fewer),
+  entries_after made.1 (o ∷ []) entries more made.4 many,
+)
+
+-- all of them
+pub all_made : {code : Code} {m left entries : ℕ} {k now : Known} → HasMade code m k left now entries → left ≡ 0
+    → (seen : List Observation) × KnownLeads code m k seen now
+    × (Same Budget entries ≡ Same Budget (length (entries_of seen)))
+all_made {code} {m} {k = k} {now = now} made none =
+    let all : made.0 ≡ m = omega (arith, made.3, none) in (
+      made.1,
+      subst (λ n. KnownLeads code n k made.1 now) all made.2,
+      ap (Same Budget) (sym made.4),
+    )
+
+-- a turn that does not lead on is the last
+abbrev IsLast : KnownEnding → Type 0
+IsLast (leads_on o next) = ⊥
+IsLast (ends seen stop) = Unit {0}
+IsLast depends = Unit {0}
+
+no_longer : {code : Code} {m n : ℕ} {k now later : Known} {seen more : List Observation} {e : KnownEnding}
+    → KnownLeads code m k seen now → KnownTurn code now e → IsLast e → KnownLeads code n k more later → n ≤ m
+no_longer first end last stays = omega arith
+no_longer stays end last (leads other rest) = absurd (subst IsLast (KnownTurn-determined end other) last)
+no_longer {code} {later = later} (leads {n = m} {next = next} first rest) end last
+    (leads {n = n} {next = next'} {seen = more} other then) =
+    let e = KnownTurn-determined first other in
+    let same : next' ≡ next = cc in
+    omega (arith, no_longer rest end last (subst (λ x. KnownLeads code n x more later) same then))
+
+pub not_all : {code : Code} {m left entries : ℕ} {k now later : Known} {seen : List Observation} {e : KnownEnding}
+    → HasMade code m k left now entries → 0 < left → KnownTurn code now e → IsLast e
+    → KnownLeads code m k seen later → ⊥
+not_all made some end last all = omega (arith, made.3, some, no_longer made.2 end last all)

@@ -106,3 +106,10 @@ pub data CertifiedRun (code : Code) : ℕ → Known → List Observation → Run
   turns : {n : ℕ} {k next : Known} {o : Observation} {seen : List Observation} {ending : RunEnding}
       → KnownTurn code k (leads_on o next) → CertifiedRun code n next seen ending
       → CertifiedRun code (suc n) k (o ∷ seen) ending
+
+-- so many turns of what is known, of which none stops or depends, lead to what is known then; what they show
+pub data KnownLeads (code : Code) : ℕ → Known → List Observation → Known → Type 0 where
+  stays : {k : Known} → KnownLeads code zero k [] k
+  leads : {n : ℕ} {k next later : Known} {o : Observation} {seen : List Observation}
+      → KnownTurn code k (leads_on o next) → KnownLeads code n next seen later
+      → KnownLeads code (suc n) k (o ∷ seen) later

@@ -1,11 +1,13 @@
 // Certified runs: turns of what is known until one stops, or may depend on what is unknown.
 
-ghost use Rattle.std.specs.Prelude.{◌≡◌, ℕ, ◌<◌, ◌^◌, List, is_some};
+ghost use Rattle.std.specs.Prelude.{◌≡◌, ℕ, ◌<◌, ◌^◌, List, length, is_some};
+ghost use Rattle.rv_machine.specs.Entries.{entries_of};
 ghost use Rattle.rv_machine.specs.Harts.{state_of};
 ghost use Rattle.rv_machine.specs.Regions.{code_of};
 ghost use Rattle.rv_machine.specs.declared.observation.Observation.{Observation};
-ghost use Rattle.certified_runs.specs.Certified.{RunEnding, CertifiedRun};
+ghost use Rattle.certified_runs.specs.Certified.{RunEnding, CertifiedRun, KnownLeads};
 ghost use Rattle.certified_runs.specs.End.{end_of};
+ghost use Rattle.certified_runs.specs.Known.{Known};
 ghost use Rattle.certified_runs.specs.Parts.{known_of};
 
 use crate::known_parts::KnownParts;
@@ -26,7 +28,7 @@ pub enum CertifiedEnd {
 
 /// Makes turns of a run of which these parts are known, until one stops, or until what it shows may
 /// depend on what is unknown. It makes no more turns than the run may still make, and takes no memory.
-/// It uses up the run and what is known of it: nothing is said of them afterwards.
+/// A run of which no turn is left can be given more of them, and goes on from there.
 // It is never compiled in line: beside a caller's own values, those of the turns do not fit the registers.
 #[inline(never)]
 pub fn certify<M: Memory>(
@@ -36,10 +38,19 @@ pub fn certify<M: Memory>(
 ) -> CertifiedEnd
     requires few { run.old.turns_left < 2 ^ 63 }
     requires extent { (a : ℕ) → is_some (M.bytes known.old.marks a) ≡ is_some (M.bytes run.old.memory a) }
-    ensures { (seen : List Observation) × (ending : RunEnding)
+    ensures certified { (seen : List Observation) × (ending : RunEnding)
         × CertifiedRun (code_of code.now) run.old.turns_left
         (known_of (state_of run.old.hart (M.bytes run.old.memory)) known.old.registers (M.bytes known.old.marks) known.old.shifts) seen ending
         × (result ≡ end_of seen ending) }
+    ensures spent { run.new.turns_left ≡ 0 → (seen : List Observation)
+        × KnownLeads (code_of code.now) run.old.turns_left
+        (known_of (state_of run.old.hart (M.bytes run.old.memory)) known.old.registers (M.bytes known.old.marks) known.old.shifts) seen
+        (known_of (state_of run.new.hart (M.bytes run.new.memory)) known.new.registers (M.bytes known.new.marks) known.new.shifts)
+        × (result ≡ CertifiedEnd.Same Stop.Budget (length (entries_of seen))) }
+    ensures ended { (seen : List Observation) (later : Known) → 0 < run.new.turns_left
+        → KnownLeads (code_of code.now) run.old.turns_left
+        (known_of (state_of run.old.hart (M.bytes run.old.memory)) known.old.registers (M.bytes known.old.marks) known.old.shifts) seen later → ⊥ }
+    ensures extent { (a : ℕ) → is_some (M.bytes known.new.marks a) ≡ is_some (M.bytes run.new.memory a) }
 {
     let mut entries = 0;
     while run.turns_left > 0 {

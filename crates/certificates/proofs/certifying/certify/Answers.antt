@@ -48,7 +48,7 @@ returns c =
     let loaded = c.in_ok-loaded.loaded in
     let none = ap (λ (slots : List Slot). fault_of_given (params_in slots) given) (sym c.slots.ensures.slots)
     ∙ (sym c.first_fault.ensures ∙ c.in_default.is) in
-    let run = c.certify.ensures in
+    let run = c.certify.ensures.certified in
     run_certified c.args.image.now given c.args.shifts (code_of c.in_ok-code.code) loaded.run.turns_left
     (known_of (state_of loaded.run.hart (paged_bytes loaded.run.memory)) loaded.known.registers
     (paged_bytes loaded.known.marks) loaded.known.shifts) run.0 run.1 c.certify.result

@@ -1,0 +1,3 @@
+pub mod KnownPieces
+pub mod Pieces
+pub mod Told

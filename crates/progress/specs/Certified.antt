@@ -1,0 +1,23 @@
+-- Certified runs that go on after so many turns, and the end of one of which entries were counted before.
+use Rattle.std.specs.Prelude.{ℕ, ◌+◌, ◌<◌, List}
+use Rattle.certified_runs.specs.Certified.{KnownLeads}
+use Rattle.certified_runs.specs.Known.{Known}
+use Rattle.certified_runs.specs.declared.certifying.CertifiedEnd.{CertifiedEnd}
+use Rattle.certified_runs.specs.declared.certifying.CertifiedEnd.TheVariants.{Same, MayDiffer}
+use Rattle.rv_machine.specs.Machine.{Code}
+use Rattle.rv_machine.specs.declared.observation.Observation.{Observation}
+
+-- so many turns of what is known are made, of which none stops or depends, and more may be made
+abbrev pub GoesOnKnown : Code → ℕ → Known → ℕ → Type 0
+GoesOnKnown code budget k turns =
+    (turns < budget) × ((seen : List Observation) × (later : Known) × KnownLeads code turns k seen later)
+
+-- how many entries are counted at an end
+abbrev pub entries_at : CertifiedEnd → ℕ
+entries_at (Same stop entries) = entries
+entries_at (MayDiffer entry pc) = entry
+
+-- the end of a run of which so many entries were shown before
+abbrev pub end_behind : ℕ → CertifiedEnd → CertifiedEnd
+end_behind before (Same stop entries) = Same stop (before + entries)
+end_behind before (MayDiffer entry pc) = MayDiffer (before + entry) pc
