@@ -9,7 +9,8 @@ use Rattle.command_line.specs.declared.words.Request.TheVariants.{Eval, Run, Lea
 
 -- whether a word is a flag that may stand between a command that takes arguments and its path
 abbrev pub is_flag : List ℕ → Bool
-is_flag word = bytes_eq word (codes "--explain") || bytes_eq word (codes "--shifts")
+is_flag word =
+    bytes_eq word (codes "--explain") || bytes_eq word (codes "--shifts") || bytes_eq word (codes "--progress")
 
 -- the words from the first on that is no flag
 abbrev pub behind_flags : List (List ℕ) → List (List ℕ)
@@ -32,9 +33,9 @@ profile_named None = P1
 -- the arguments that are asked for
 abbrev pub arguments_of : Request → Option (List (List ℕ))
 arguments_of (Eval file arguments explain) = Some (map (λ word. word.now) arguments.now)
-arguments_of (Run image arguments) = Some (map (λ word. word.now) arguments.now)
+arguments_of (Run image arguments progress) = Some (map (λ word. word.now) arguments.now)
 arguments_of (Leak image arguments) = Some (map (λ word. word.now) arguments.now)
 arguments_of (Pair image arguments explain) = Some (map (λ word. word.now) arguments.now)
-arguments_of (Certify image arguments shifts) = Some (map (λ word. word.now) arguments.now)
+arguments_of (Certify image arguments shifts progress) = Some (map (λ word. word.now) arguments.now)
 arguments_of (Picture image arguments) = Some (map (λ word. word.now) arguments.now)
 arguments_of request = None

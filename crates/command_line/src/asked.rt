@@ -45,6 +45,7 @@ fn request_with<'a>(
         "run" => Some(Request::Run {
             image: text_of(given, "IMAGE"),
             arguments,
+            progress: given.get_flag("progress"),
         }),
         "leak" => Some(Request::Leak {
             image: text_of(given, "IMAGE"),
@@ -59,6 +60,7 @@ fn request_with<'a>(
             image: text_of(given, "IMAGE"),
             arguments,
             shifts: given.get_flag("shifts"),
+            progress: given.get_flag("progress"),
         }),
         "picture" => Some(Request::Picture {
             image: text_of(given, "IMAGE"),

@@ -40,6 +40,10 @@ const EXPLAIN_FIRST: &str =
     "Where the source is refused, shows the line of the place too, and says what the rule is, what usually violates \
                              it and what to do; it stands before FILE";
 
+/// What `--progress` does.
+const PROGRESS: &str =
+    "Prints a line to standard error behind each 134217728 steps after which the run goes on; it stands before IMAGE";
+
 /// All commands, in the order of the help.
 pub(crate) static COMMANDS: [CommandRow; 15] = [
     CommandRow {
@@ -109,6 +113,7 @@ pub(crate) static COMMANDS: [CommandRow; 15] = [
         about: "Runs an image on arguments and prints its outcome",
         words: &[
             Word::Path("IMAGE", "An image that `build` wrote"),
+            Word::Flag("progress", PROGRESS),
             Word::Arguments(ARGUMENTS),
         ],
     },
@@ -145,6 +150,7 @@ pub(crate) static COMMANDS: [CommandRow; 15] = [
                 "shifts",
                 "Counts the amounts of shifts by a register as seen, for cores that shift bit by bit; it stands before IMAGE",
             ),
+            Word::Flag("progress", PROGRESS),
             Word::Arguments(
                 "One for each parameter, as for `run`; for a secret one `?` stands for every value of its type",
             ),

@@ -40,6 +40,7 @@ pub enum Request<'a> {
     Run {
         image: &'a str,
         arguments: &'a [&'a str],
+        progress: bool,
     },
     Leak {
         image: &'a str,
@@ -54,6 +55,7 @@ pub enum Request<'a> {
         image: &'a str,
         arguments: &'a [&'a str],
         shifts: bool,
+        progress: bool,
     },
     Picture {
         image: &'a str,
@@ -161,5 +163,5 @@ fn behind_flags<'a>(words: &'a [&'a str]) -> &'a [&'a str]
 fn is_flag(word: &str) -> bool
     ensures { result ≡ is_flag word.now }
 {
-    word == "--explain" || word == "--shifts"
+    word == "--explain" || word == "--shifts" || word == "--progress"
 }

@@ -7,6 +7,7 @@ pub mod ImageLemmas
 mod Writing
 mod MeasuringLemmas
 mod PictureLemmas
+mod ProgressLemmas
 mod RequestLemmas
 mod MeaningLemmas
 mod HartLemmas

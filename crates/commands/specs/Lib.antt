@@ -22,4 +22,5 @@ pub mod TwoFiles
 pub mod FunctionFiles
 pub mod FaultText
 pub mod Vectors
+pub mod Progress
 pub mod Requests

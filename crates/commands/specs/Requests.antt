@@ -14,6 +14,7 @@ use Rattle.commands.specs.Leaks.{SaysLeak, RefusesLeak, IsOutputFault}
 use Rattle.commands.specs.Meanings.{SaysMeaning, RefusesMeaning}
 use Rattle.commands.specs.Pairs.{SaysPair, RefusesPair, SaysList}
 use Rattle.commands.specs.Pictures.{SaysPicture, RefusesPicture}
+use Rattle.commands.specs.Progress.{RequestTells}
 use Rattle.commands.specs.Runs.{SaysRun, RefusesRun}
 use Rattle.commands.specs.TwoFiles.{WritesTwo, FailsToWriteTwo}
 use Rattle.commands.specs.Unread.{IsOutOfMemory}
@@ -22,6 +23,7 @@ use Rattle.commands.specs.WrappedCode.{IsImageOfCode, RefusesCode}
 use Rattle.commands.specs.Written.{WritesFile, FailsToWrite}
 use Rattle.commands.specs.declared.fault.Fault.{Fault}
 use Rattle.explanations.specs.Text.{explanation_text}
+use Rattle.progress.specs.GoingOn.{Reaches, HasLines}
 use Rattle.streams.specs.Streams.{GainsPart}
 use Rattle.wrapping.specs.declared.asked.Asked.{Asked}
 
@@ -34,13 +36,13 @@ Answers (requests.Stat file profile) files text status = SaysCosts profile files
 Answers (requests.Function file assembler header options) files text status = (text ≡ []) × (status ≡ 0)
 Answers (requests.Eval file arguments explain) files text status =
     SaysMeaning files file.now (map (λ word. word.now) arguments.now) text × (status ≡ 0)
-Answers (requests.Run image arguments) files text status =
+Answers (requests.Run image arguments progress) files text status =
     SaysRun files image.now (map (λ word. word.now) arguments.now) text × (status ≡ 0)
 Answers (requests.Leak image arguments) files text status =
     SaysLeak files image.now (map (λ word. word.now) arguments.now) status text
 Answers (requests.Pair image arguments explain) files text status =
     SaysPair explain files image.now (map (λ word. word.now) arguments.now) text × (status ≡ 0)
-Answers (requests.Certify image arguments shifts) files text status =
+Answers (requests.Certify image arguments shifts progress) files text status =
     SaysCertificate (shifts_seen shifts) files image.now (map (λ word. word.now) arguments.now) text status
 Answers (requests.Picture image arguments) files text status =
     SaysPicture files image.now (map (λ word. word.now) arguments.now) text × (status ≡ 0)
@@ -62,10 +64,10 @@ Leaves (requests.Function file assembler header options) before after =
     WritesTwo assembler.now header.now (AreFunctionTexts options.optimisation options.profile before file.now)
     before after
 Leaves (requests.Eval file arguments explain) before after = after ≡ before
-Leaves (requests.Run image arguments) before after = after ≡ before
+Leaves (requests.Run image arguments progress) before after = after ≡ before
 Leaves (requests.Leak image arguments) before after = after ≡ before
 Leaves (requests.Pair image arguments explain) before after = after ≡ before
-Leaves (requests.Certify image arguments shifts) before after = after ≡ before
+Leaves (requests.Certify image arguments shifts progress) before after = after ≡ before
 Leaves (requests.Picture image arguments) before after = after ≡ before
 Leaves (requests.List image) before after = after ≡ before
 Leaves (requests.Wrap file code image frame steps profile) before after =
@@ -89,13 +91,13 @@ Refuses (requests.Function file assembler header options) before after fault =
     (RefusesFunction options.explain options.profile before file.now) before after fault
 Refuses (requests.Eval file arguments explain) before after fault =
     RefusesMeaning explain before file.now (map (λ word. word.now) arguments.now) fault × (after ≡ before)
-Refuses (requests.Run image arguments) before after fault =
+Refuses (requests.Run image arguments progress) before after fault =
     RefusesRun before image.now (map (λ word. word.now) arguments.now) fault × (after ≡ before)
 Refuses (requests.Leak image arguments) before after fault =
     RefusesLeak before image.now (map (λ word. word.now) arguments.now) fault × (after ≡ before)
 Refuses (requests.Pair image arguments explain) before after fault =
     RefusesPair before image.now (map (λ word. word.now) arguments.now) fault × (after ≡ before)
-Refuses (requests.Certify image arguments shifts) before after fault =
+Refuses (requests.Certify image arguments shifts progress) before after fault =
     RefusesCertificate (shifts_seen shifts) before image.now (map (λ word. word.now) arguments.now) fault
     × (after ≡ before)
 Refuses (requests.Picture image arguments) before after fault =
@@ -135,9 +137,10 @@ pub data Fails (request : Request) (before after : Contents) (out out' : List �
       → Leaves request before after → GainsPart out out' text
       → IsOutputFault fault → Fails request before after out out' fault
 
--- what comes of a request, with the exit status
+-- what comes of a request, with the exit status: on standard error the lines of progress go out first
 pub data Performs (request : Request) (before after : Contents) (out out' err err' : List ℕ) : ℕ → Type 0 where
-  done : {status : ℕ} → IsDone request before after out out' status → err' ≡ err
+  done : {status : ℕ} → IsDone request before after out out' status → RequestTells HasLines request before err err'
       → Performs request before after out out' err err' status
-  failed : {fault : Fault} {status : ℕ} → Fails request before after out out' fault → Reports fault err err' status
+  failed : {fault : Fault} {told : List ℕ} {status : ℕ} → Fails request before after out out' fault
+      → (told ≡ err) ⊎ RequestTells Reaches request before err told → Reports fault told err' status
       → Performs request before after out out' err err' status

@@ -1,42 +1,59 @@
 // One run of an image for all values of the arguments that are not given.
 
-ghost use Rattle.std.specs.Prelude.{◌≡◌, ◌≢◌, ◌≤◌, ◌++◌, ℕ, List, Some, None, map, codes, IsTrue, IfOk, IfErr};
+ghost use Rattle.std.specs.Prelude.{◌≡◌, ◌≢◌, ◌≤◌, ◌++◌, ◌⊎◌, ℕ, List, Some, None, map, codes, IsTrue, IfOk, IfErr, OnOk, OnErr};
 ghost use Rattle.std.specs.Fmt.{decimal};
 ghost use Rattle.codegen.specs.Loaded.{code_at};
 ghost use Rattle.commands.specs.Certificates.{StandsInCode, PrintsCertificate, certificate_status, shifts_seen, SaysCertificate, RefusesCertificate};
+ghost use Rattle.commands.specs.Progress.{FileCertificateTells};
 ghost use Rattle.hepurita.specs.Bases.{code_base};
 ghost use Rattle.listing.specs.Code.{IsLineAt};
 ghost use Rattle.listing.specs.Lines.{stop_line};
+ghost use Rattle.progress.specs.GoingOn.{Reaches, HasLines};
 ghost use Rattle.rv_machine.specs.Machine.{word_at};
 
 use crate::fault::Fault;
 use crate::files::Files;
 use crate::images::{image_of, status_of};
 use crate::performing::MAY_DIFFER;
-use certificates::{Certificate, Shifts, certify, read_given};
+use crate::telling::certificate_of;
+use certificates::{Certificate, Shifts, read_given};
 use hepurita::params;
 use image::Image;
 use listing::{line_at, stop_line};
 use rv_machine::Stop;
 use std::alloc::{AllocError, Global};
+use streams::Sink;
 
 /// Whether an observer sees the same of an image for all values of the arguments that are not given, as lines, and the
-/// exit status. With `shifts` the observer also sees by how much registers are shifted.
-pub fn certify_image<'a, F: Files>(
+/// exit status. With `shifts` the observer also sees by how much registers are shifted. How many steps the run has made goes
+/// to `err`, where that is asked for.
+pub fn certify_image<'a, F: Files, E: Sink>(
     alloc: Global,
     path: &'a str,
     arguments: &[&str],
     shifts: bool,
+    progress: bool,
     files: &F,
+    err: &mut E,
 ) -> Result<(Vec<u8>, u8), Fault<'a>>
     ensures known { IfOk result (λ said. said.1 ≤ 5) }
+    ensures told { IsTrue F.TELLS → IsTrue E.TELLS → OnOk result (FileCertificateTells HasLines progress shifts (F.contents files.now) path.now (map (λ word. word.now) arguments.now) (E.taken err.old) (E.taken err.new)) }
+    ensures part { IsTrue F.TELLS → IsTrue E.TELLS → OnErr result ((E.taken err.new ≡ E.taken err.old)
+        ⊎ FileCertificateTells Reaches progress shifts (F.contents files.now) path.now (map (λ word. word.now) arguments.now) (E.taken err.old) (E.taken err.new)) }
     ensures said { IsTrue F.TELLS → IfOk result (λ said. SaysCertificate (shifts_seen shifts) (F.contents files.now) path.now (map (λ word. word.now) arguments.now) said.0.items said.1) }
     ensures refused { IsTrue F.TELLS → IfErr result (RefusesCertificate (shifts_seen shifts) (F.contents files.now) path.now (map (λ word. word.now) arguments.now)) }
 {
     let image = image_of(alloc, path, files)?;
     let params = params(alloc, &image)?;
     let given = read_given(alloc, params.as_slice(), arguments)?;
-    let certificate = certify(alloc, &image, given.as_slice(), shifts_seen(shifts))?;
+    let certificate = certificate_of(
+        alloc,
+        &image,
+        given.as_slice(),
+        shifts_seen(shifts),
+        progress,
+        err,
+    )?;
     let text = text_of(alloc, &image, certificate)?;
     Ok((text, status_of_certificate(certificate)))
 }

@@ -1,6 +1,6 @@
 // What is done with an image: it is run, its run is listed, two of its runs are compared, its words are listed.
 
-ghost use Rattle.std.specs.Prelude.{◌≡◌, ◌≤◌, None, List, ℕ, length, map, Ok, IsTrue, IfOk, IfErr, OnOk};
+ghost use Rattle.std.specs.Prelude.{◌≡◌, ◌≤◌, ◌⊎◌, None, List, ℕ, length, map, Ok, IsTrue, IfOk, IfErr, OnOk, OnErr};
 ghost use Rattle.std.specs.String.{string_bytes};
 ghost use Rattle.std.specs.Option.{option_map};
 ghost use Rattle.arguments.specs.Texts.{fault_of_texts};
@@ -12,7 +12,9 @@ ghost use Rattle.streams.specs.Streams.{Writes, WritesPart};
 ghost use Rattle.commands.specs.Images.{HoldsImage, NoImage};
 ghost use Rattle.commands.specs.Leaks.{SaysLeak, RefusesLeak, IsFaultOfLeak, IsOutputFault};
 ghost use Rattle.commands.specs.Pairs.{SaysPair, RefusesPair, SaysList, PrintsPairing, pairing_text};
+ghost use Rattle.commands.specs.Progress.{FileRunTells};
 ghost use Rattle.commands.specs.Runs.{SaysRun, RefusesRun};
+ghost use Rattle.progress.specs.GoingOn.{Reaches, HasLines};
 ghost use Rattle.commands.specs.Stops.{status_of};
 ghost use Rattle.commands.specs.Words.{AreSpelled, AreBothSpelled, IsFaultOfWords, fault_of_both};
 
@@ -20,14 +22,15 @@ use crate::fault::{Fault, FileFault};
 use crate::files::Files;
 use crate::outcome;
 use crate::performing::{DONE, STANDARD_OUTPUT, STOPPED};
+use crate::telling::outcome_of;
 use crate::texts::read_fault;
 use arguments::ArgumentFault;
-use hepurita::{RunFault, execute, pair, params, read_args};
+use hepurita::{RunFault, pair, params, read_args};
 use image::{Image, LONGEST_IMAGE, read};
 use language::{Args, Param};
 use listing::{LeakFault, leak, list};
 use pair_explanations::explain_difference;
-use rv_machine::{NullRecorder, Pairing, Stop};
+use rv_machine::{Pairing, Stop};
 use std::alloc::{AllocError, Global};
 use streams::Sink;
 
@@ -44,20 +47,25 @@ pub fn image_of<'a, F: Files>(alloc: Global, path: &'a str, files: &F) -> Result
     Ok(image)
 }
 
-/// What an image gives on arguments, as lines.
-pub fn run_image<'a, F: Files>(
+/// What an image gives on arguments, as lines. How many steps its run has made goes to `err`, where that is asked for.
+pub fn run_image<'a, F: Files, E: Sink>(
     alloc: Global,
     path: &'a str,
     arguments: &[&str],
+    progress: bool,
     files: &F,
+    err: &mut E,
 ) -> Result<String, Fault<'a>>
+    ensures told { IsTrue F.TELLS → IsTrue E.TELLS → OnOk result (FileRunTells HasLines progress (F.contents files.now) path.now (map (λ word. word.now) arguments.now) (E.taken err.old) (E.taken err.new)) }
+    ensures part { IsTrue F.TELLS → IsTrue E.TELLS → OnErr result ((E.taken err.new ≡ E.taken err.old)
+        ⊎ FileRunTells Reaches progress (F.contents files.now) path.now (map (λ word. word.now) arguments.now) (E.taken err.old) (E.taken err.new)) }
     ensures said { IsTrue F.TELLS → IfOk result (λ text. SaysRun (F.contents files.now) path.now (map (λ word. word.now) arguments.now) (string_bytes text)) }
     ensures refused { IsTrue F.TELLS → IfErr result (RefusesRun (F.contents files.now) path.now (map (λ word. word.now) arguments.now)) }
 {
     let image = image_of(alloc, path, files)?;
     let params = params(alloc, &image)?;
     let args = read_args(alloc, params.as_slice(), arguments)?;
-    let outcome = execute(alloc, &image, &args, &mut NullRecorder)?;
+    let outcome = outcome_of(alloc, &image, &args, progress, err)?;
     let text = outcome::text_of(alloc, params.as_slice(), &outcome)?;
     Ok(text)
 }

@@ -17,6 +17,7 @@ mod outcome;
 mod performing;
 mod picturing;
 mod side_by_side;
+mod telling;
 mod texts;
 mod trying;
 

@@ -1,8 +1,10 @@
 // A request, done.
 
-ghost use Rattle.std.specs.Prelude.{◌≡◌, ◌≤◌, ◌++◌, IsTrue, IfOk, IfErr, OnOk, OnErr};
+ghost use Rattle.std.specs.Prelude.{◌≡◌, ◌≤◌, ◌++◌, ◌⊎◌, IsTrue, IfOk, IfErr, OnOk, OnErr};
 ghost use Rattle.commands.specs.Leaks.{IsOutputFault};
+ghost use Rattle.commands.specs.Progress.{RequestTells};
 ghost use Rattle.commands.specs.Requests.{IsPut, IsDone, Fails, Reports, Performs};
+ghost use Rattle.progress.specs.GoingOn.{Reaches, HasLines};
 ghost use Rattle.streams.specs.Streams.{GainsPart};
 
 use crate::certifying::certify_image;
@@ -55,7 +57,8 @@ pub fn command<'a, F: Files, O: Sink, E: Sink>(
     }
 }
 
-/// Does what is asked for, prints what answers it, or why it is not done, and answers the exit status.
+/// Does what is asked for, prints what answers it, or why it is not done, and answers the exit status. Lines of progress go to
+/// `err` before that.
 pub fn perform<F: Files, O: Sink, E: Sink>(
     alloc: Global,
     request: Request<'_>,
@@ -70,7 +73,7 @@ pub fn perform<F: Files, O: Sink, E: Sink>(
     ensures calm { result ≡ 0 → O.failures out.new ≡ O.failures out.old }
 {
     let mut text = String::new(alloc);
-    match answer(alloc, request, files, &mut text, out) {
+    match answer(alloc, request, files, &mut text, out, err) {
         Ok(status) => status,
         Err(fault) => report(alloc, &fault, err),
     }
@@ -115,17 +118,21 @@ fn explain<O: Sink, E: Sink>(alloc: Global, said: NoRequest, out: &mut O, err: &
 
 /// Does what is asked for, prints what answers it, and answers the exit status. A file of harts is read into `text`,
 /// since a fault names paths that stand in it.
-fn answer<'a, F: Files, O: Sink>(
+fn answer<'a, F: Files, O: Sink, E: Sink>(
     alloc: Global,
     request: Request<'a>,
     files: &mut F,
     text: &'a mut String,
     out: &mut O,
+    err: &mut E,
 ) -> Result<u8, Fault<'a>>
     ensures done { IsTrue F.TELLS → IsTrue O.TELLS
         → IfOk result (IsDone request.entry (F.contents files.old) (F.contents files.new) (O.taken out.old) (O.taken out.new)) }
     ensures failed { IsTrue F.TELLS → IsTrue O.TELLS
         → IfErr result (Fails request.entry (F.contents files.old) (F.contents files.new) (O.taken out.old) (O.taken out.new)) }
+    ensures told { IsTrue F.TELLS → IsTrue E.TELLS → OnOk result (RequestTells HasLines request.entry (F.contents files.old) (E.taken err.old) (E.taken err.new)) }
+    ensures part { IsTrue F.TELLS → IsTrue E.TELLS → OnErr result ((E.taken err.new ≡ E.taken err.old)
+        ⊎ RequestTells Reaches request.entry (F.contents files.old) (E.taken err.old) (E.taken err.new)) }
     ensures known { IfOk result (λ status. status ≤ 5) }
     ensures calm { OnOk result (O.failures out.new ≡ O.failures out.old) }
 {
@@ -167,8 +174,12 @@ fn answer<'a, F: Files, O: Sink>(
             let text = evaluate_text(alloc, file, arguments, explain, files)?;
             print(out, text.as_bytes(), DONE)
         }
-        Request::Run { image, arguments } => {
-            let text = run_image(alloc, image, arguments, files)?;
+        Request::Run {
+            image,
+            arguments,
+            progress,
+        } => {
+            let text = run_image(alloc, image, arguments, progress, files, err)?;
             print(out, text.as_bytes(), DONE)
         }
         Request::Leak { image, arguments } => leak_image(alloc, image, arguments, files, out),
@@ -184,8 +195,11 @@ fn answer<'a, F: Files, O: Sink>(
             image,
             arguments,
             shifts,
+            progress,
         } => {
-            let (text, status) = certify_image(alloc, image, arguments, shifts, files)?;
+            let (text, status) = certify_image(
+                alloc, image, arguments, shifts, progress, files, err,
+            )?;
             print(out, text.as_slice(), status)
         }
         Request::Picture { image, arguments } => {

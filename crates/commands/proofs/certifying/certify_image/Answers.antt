@@ -1,4 +1,4 @@
-use Rattle.std.proofs.Common.{List, Option, Ok, Err, map, refl, ◌∙◌, subst}
+use Rattle.std.proofs.Common.{◌≡◌, ℕ, Bool, List, Option, Ok, Err, map, inr, refl, ◌∙◌, subst}
 use Rattle.std.proofs.lemmas.Result.{err_from_is_err_and}
 use Rattle.certificates.specs.Certified.{Certified}
 use Rattle.certified_runs.specs.declared.shifts.Shifts.{Shifts}
@@ -6,11 +6,18 @@ use Rattle.certificates.specs.Texts.{fault_of_given_texts}
 use Rattle.language.specs.declared.signature.Param.{Param}
 use Rattle.language.specs.declared.values.Arg.{Arg}
 use Rattle.commands.specs.Certificates.{RefusesCertificate, shifts_seen}
+use Rattle.codegen.specs.Loaded.{params_of}
+use Rattle.commands.specs.Contents.{Contents}
+use Rattle.commands.specs.Images.{HoldsImage}
+use Rattle.commands.specs.Progress.{CertificateGoesOn, Tells, FileCertificateTells}
+use Rattle.image_fields.specs.Fields.{Fields}
+use Rattle.progress.specs.GoingOn.{Counting, HasLines}
 use Rattle.commands.specs.ImageRefusals.{no_image, no_arguments, no_answer, out_of_memory}
-use Rattle.commands.specs.Words.{IsFaultOfWords}
+use Rattle.commands.specs.Words.{IsFaultOfWords, AreGiven}
 use Rattle.commands.specs.declared.fault.Fault.TheVariants.{Run}
 use Rattle.commands.proofs.CertificateLemmas.{stands_in_code}
 use Rattle.commands.proofs.ImageLemmas.{handed_on, memory_on}
+use Rattle.commands.proofs.ProgressLemmas.{on_err, file_certificate_tells, certificate_reaches}
 use Rattle.commands.proofs.WordLemmas.{fault_of_words, given_from}
 use Rattle.commands.proofs.certifying.certify_image.Goals as goal
 
@@ -57,13 +64,13 @@ returns-in_err-certificate-clause-refused g c = λ tells.
       given,
       subst (λ (s : Shifts). Certified image c.in_ok-given.given.items s (Err why)) c.shifts_seen.ensures
           (subst (λ (xs : List (Option Arg)). Certified image xs c.shifts_seen.result (Err why))
-          c.as_slice-2.ensures.value c.in_err-certificate.ensures),
+          c.as_slice-2.ensures.value c.in_err-certificate.ensures.certified),
       p.2,
     ))
 
 pub text_of-requires : goal.text_of-requires
 text_of-requires g c = stands_in_code c.in_ok-image.image c.as_slice-2.result.now c.shifts_seen.result
-    c.in_ok-certificate.certificate c.in_ok-certificate.ensures
+    c.in_ok-certificate.certificate c.in_ok-certificate.ensures.certified
 
 pub returns-in_err-text-clause-refused : goal.returns-in_err-text-clause-refused
 returns-in_err-text-clause-refused g c = λ tells.
@@ -86,7 +93,34 @@ returns-clause-said g c = λ tells.
       certified = subst (λ (s : Shifts). Certified image c.in_ok-given.given.items s (Ok certificate))
           c.shifts_seen.ensures
           (subst (λ (xs : List (Option Arg)). Certified image xs c.shifts_seen.result (Ok certificate))
-          c.as_slice-2.ensures.value c.in_ok-certificate.ensures);
+          c.as_slice-2.ensures.value c.in_ok-certificate.ensures.certified);
       printed = c.in_ok-text.ensures;
       ended = c.status_of_certificate.ensures.exact;
     }
+
+-- what went out of the certified run, as of what the words give
+went_out : (Has : Counting) (before after : List ℕ) {files : Contents} {path : List ℕ} {words : List (List ℕ)} {image : Fields}
+    {given given' : List (Option Arg)} {shifts' : Shifts} (progress shifts : Bool)
+    → HoldsImage files path image → AreGiven (params_of image) words given → given' ≡ given
+    → shifts' ≡ shifts_seen shifts → Tells Has progress (CertificateGoesOn image given' shifts') before after
+    → FileCertificateTells Has progress shifts files path words before after
+went_out Has before after {image = image} {given = given} {given' = given'} {shifts' = shifts'} progress shifts held as_said items_are shifts_are told =
+    file_certificate_tells Has before after held progress shifts as_said
+    (subst (λ (s : Shifts). Tells Has progress (CertificateGoesOn image given s) before after) shifts_are
+    (subst (λ (xs : List (Option Arg)). Tells Has progress (CertificateGoesOn image xs shifts') before after) items_are told))
+
+pub returns-in_err-text-clause-part : goal.returns-in_err-text-clause-part
+returns-in_err-text-clause-part g c = λ tells both.
+    let given = given_from c.args.arguments.now (λ word. word.now) (c.as_slice.ensures.value
+    ∙ c.in_ok-params.ensures.params) c.in_ok-given.ensures.faultless c.in_ok-given.ensures.found in
+    on_err c.from_residual-in_err-text.result
+    (inr (certificate_reaches _ _ _ _ _ c.args.progress c.args.shifts
+    (went_out HasLines _ _ c.args.progress c.args.shifts (c.in_ok-image.ensures.said tells) given c.as_slice-2.ensures.value
+    c.shifts_seen.ensures (c.in_ok-certificate.ensures.told both))))
+
+pub returns-clause-told : goal.returns-clause-told
+returns-clause-told g c = λ tells both.
+    let given = given_from c.args.arguments.now (λ word. word.now) (c.as_slice.ensures.value
+    ∙ c.in_ok-params.ensures.params) c.in_ok-given.ensures.faultless c.in_ok-given.ensures.found in
+    went_out HasLines _ _ c.args.progress c.args.shifts (c.in_ok-image.ensures.said tells) given c.as_slice-2.ensures.value
+    c.shifts_seen.ensures (c.in_ok-certificate.ensures.told both)

@@ -1,4 +1,4 @@
-use Rattle.std.proofs.Common.{List, Err, map, refl, ap, ◌∙◌, subst}
+use Rattle.std.proofs.Common.{List, Err, map, inr, refl, ap, ◌∙◌, subst}
 use Rattle.std.proofs.lemmas.Result.{err_from_is_err_and}
 use Rattle.arguments.specs.Texts.{fault_of_texts}
 use Rattle.language.specs.declared.signature.Param.{Param}
@@ -8,6 +8,8 @@ use Rattle.commands.specs.Runs.{RefusesRun}
 use Rattle.commands.specs.Words.{IsFaultOfWords}
 use Rattle.commands.specs.declared.fault.Fault.TheVariants.{Run}
 use Rattle.commands.proofs.ImageLemmas.{handed_on, memory_on}
+use Rattle.commands.proofs.ProgressLemmas.{on_err, file_run_tells, run_reaches}
+use Rattle.progress.specs.GoingOn.{Reaches, HasLines}
 use Rattle.commands.proofs.WordLemmas.{fault_of_words, spelled_from}
 use Rattle.commands.proofs.images.run_image.Goals as goal
 
@@ -73,3 +75,24 @@ returns-clause-said g c = λ tells. record {
       ∙ ap (λ (params : List Param). outcome_text params c.in_ok-outcome.outcome) (c.as_slice-2.ensures.value
       ∙ c.in_ok-params.ensures.params);
 }
+
+pub returns-in_err-outcome-clause-part : goal.returns-in_err-outcome-clause-part
+returns-in_err-outcome-clause-part g c = λ tells both.
+    let spelled = spelled_from c.args.arguments.now (λ word. word.now) (c.as_slice.ensures.value
+    ∙ c.in_ok-params.ensures.params) c.in_ok-args.ensures.within c.in_ok-args.ensures.found in
+    on_err c.from_residual-in_err-outcome.result
+    (inr (file_run_tells Reaches _ _ (c.in_ok-image.ensures.said tells) c.args.progress spelled (c.in_err-outcome.ensures.part both)))
+
+pub returns-in_err-text-clause-part : goal.returns-in_err-text-clause-part
+returns-in_err-text-clause-part g c = λ tells both.
+    let spelled = spelled_from c.args.arguments.now (λ word. word.now) (c.as_slice.ensures.value
+    ∙ c.in_ok-params.ensures.params) c.in_ok-args.ensures.within c.in_ok-args.ensures.found in
+    on_err c.from_residual-in_err-text.result
+    (inr (run_reaches _ _ _ _ _ c.args.progress
+    (file_run_tells HasLines _ _ (c.in_ok-image.ensures.said tells) c.args.progress spelled (c.in_ok-outcome.ensures.told both))))
+
+pub returns-clause-told : goal.returns-clause-told
+returns-clause-told g c = λ tells both.
+    let spelled = spelled_from c.args.arguments.now (λ word. word.now) (c.as_slice.ensures.value
+    ∙ c.in_ok-params.ensures.params) c.in_ok-args.ensures.within c.in_ok-args.ensures.found in
+    file_run_tells HasLines _ _ (c.in_ok-image.ensures.said tells) c.args.progress spelled (c.in_ok-outcome.ensures.told both)

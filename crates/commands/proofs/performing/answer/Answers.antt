@@ -1,4 +1,4 @@
-use Rattle.std.proofs.Common.{ℕ, List, map, refl, sym, ◌∙◌, subst}
+use Rattle.std.proofs.Common.{ℕ, List, map, inr, refl, sym, ◌∙◌, subst}
 use Rattle.std.proofs.lemmas.Result.{err_from_is_err_and}
 use Rattle.commands.specs.Certificates.{SaysCertificate, shifts_seen}
 use Rattle.commands.specs.Costs.{SaysCosts}
@@ -7,6 +7,8 @@ use Rattle.commands.specs.Pairs.{SaysPair, SaysList}
 use Rattle.commands.specs.Pictures.{SaysPicture}
 use Rattle.commands.specs.Runs.{SaysRun}
 use Rattle.commands.specs.Vectors.{SaysVectors}
+use Rattle.commands.proofs.ProgressLemmas.{on_ok, on_err, run_reaches, certificate_reaches, tells_known, part_known}
+use Rattle.progress.specs.GoingOn.{Reaches, HasLines}
 use Rattle.commands.proofs.RequestLemmas.{refuses, prints, fails_to_print, fails_to_list}
 use Rattle.commands.proofs.performing.answer.Goals as goal
 
@@ -209,3 +211,35 @@ returns-in-Leak-clause-failed g c = λ files out.
     fails_to_list g.O.Sink.taken _ c.in-Leak.image c.in-Leak.arguments c.in-Leak.is
     (g.F.Files.contents c.args.files.now) c.args.out.now c.leak_image.new.out c.leak_image.result
     (c.leak_image.ensures.refused files) (c.leak_image.ensures.beginning files out) c.leak_image.ensures.untouched
+
+pub returns-in_err-text-in-Run-clause-part : goal.returns-in_err-text-in-Run-clause-part
+returns-in_err-text-in-Run-clause-part g c = λ files err.
+    on_err c.from_residual-in_err-text-in-Run.result
+    (part_known _ _ c.in-Run.is _ _ _ (c.in_err-text-in-Run.ensures.part files err))
+
+pub returns-in_ok-text-in-Run-clause-told : goal.returns-in_ok-text-in-Run-clause-told
+returns-in_ok-text-in-Run-clause-told g c = λ files err.
+    on_ok c.print-in-Run.result
+    (tells_known HasLines _ _ c.in-Run.is _ _ _ (c.in_ok-text-in-Run.ensures.told files err))
+
+pub returns-in_ok-text-in-Run-clause-part : goal.returns-in_ok-text-in-Run-clause-part
+returns-in_ok-text-in-Run-clause-part g c = λ files err.
+    on_err c.print-in-Run.result
+    (inr (tells_known Reaches _ _ c.in-Run.is _ _ _
+    (run_reaches _ _ _ _ _ c.in-Run.progress (c.in_ok-text-in-Run.ensures.told files err))))
+
+pub returns-in_err-text-in-Certify-clause-part : goal.returns-in_err-text-in-Certify-clause-part
+returns-in_err-text-in-Certify-clause-part g c = λ files err.
+    on_err c.from_residual-in_err-text-in-Certify.result
+    (part_known _ _ c.in-Certify.is _ _ _ (c.in_err-text-in-Certify.ensures.part files err))
+
+pub returns-in_ok-text-in-Certify-clause-told : goal.returns-in_ok-text-in-Certify-clause-told
+returns-in_ok-text-in-Certify-clause-told g c = λ files err.
+    on_ok c.print-in-Certify.result
+    (tells_known HasLines _ _ c.in-Certify.is _ _ _ (c.in_ok-text-in-Certify.ensures.told files err))
+
+pub returns-in_ok-text-in-Certify-clause-part : goal.returns-in_ok-text-in-Certify-clause-part
+returns-in_ok-text-in-Certify-clause-part g c = λ files err.
+    on_err c.print-in-Certify.result
+    (inr (tells_known Reaches _ _ c.in-Certify.is _ _ _
+    (certificate_reaches _ _ _ _ _ c.in-Certify.progress c.in-Certify.shifts (c.in_ok-text-in-Certify.ensures.told files err))))

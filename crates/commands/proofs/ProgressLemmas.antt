@@ -1,0 +1,87 @@
+-- What goes out while an image runs, case by case.
+use Rattle.std.proofs.Common.{◌≡◌, ◌⊎◌, inl, inr, ℕ, Bool, true, false, List, Option, Result, Ok, Err, OnOk, OnErr, sym, subst}
+use Rattle.certified_runs.specs.declared.shifts.Shifts.{Shifts}
+use Rattle.codegen.specs.Loaded.{params_of, code_at, loaded_at}
+use Rattle.command_line.specs.declared.words.Request.{Request}
+use Rattle.commands.specs.Certificates.{shifts_seen}
+use Rattle.commands.specs.Contents.{Contents}
+use Rattle.commands.specs.Images.{HoldsImage}
+use Rattle.commands.specs.Progress.{RunGoesOn, CertificateGoesOn, Tells, FileRunTells, FileCertificateTells}
+use Rattle.commands.specs.Progress.{RequestTells}
+use Rattle.commands.specs.Words.{AreSpelled, AreGiven}
+use Rattle.hepurita.specs.Bases.{code_base, frame_base}
+use Rattle.image_fields.specs.Fields.{Fields}
+use Rattle.language.specs.declared.values.Arg.{Arg}
+use Rattle.progress.proofs.Told.{reaches}
+use Rattle.progress.specs.GoingOn.{Counting, GoesOn, Reaches, HasLines, IsTold}
+use Rattle.rv_machine.specs.Machine.{State, Code}
+
+-- where it holds whatever the answer is
+pub on_ok : {T E P : Type 0} (answer : Result T E) → P → OnOk answer P
+on_ok (Ok done) p = p
+on_ok (Err fault) p = tt
+
+pub on_err : {T E P : Type 0} (answer : Result T E) → P → OnErr answer P
+on_err (Ok done) p = tt
+on_err (Err fault) p = p
+
+pub weaker_on_ok : {T E P Q : Type 0} (answer : Result T E) → (P → Q) → OnOk answer P → OnOk answer Q
+weaker_on_ok (Ok done) so p = so p
+weaker_on_ok (Err fault) so p = tt
+
+pub weaker_on_err : {T E P Q : Type 0} (answer : Result T E) → (P → Q) → OnErr answer P → OnErr answer Q
+weaker_on_err (Ok done) so p = tt
+weaker_on_err (Err fault) so p = so p
+
+-- the lines of a run from the loaded state are those of the image's run
+pub told_of_image : (Has : Counting) {code : Code} {steps : ℕ} {s : State} {before after : List ℕ} (image : Fields)
+    (args : List Arg) → code ≡ code_at code_base image → steps ≡ image.max_steps
+    → s ≡ loaded_at code_base frame_base image args → IsTold Has (GoesOn code steps s) before after
+    → IsTold Has (RunGoesOn image args) before after
+told_of_image Has {code} {steps} {s} {before} {after} image args code_is steps_is state_is told =
+    subst (λ (x : State). IsTold Has (GoesOn (code_at code_base image) image.max_steps x) before after) state_is
+    (subst (λ (x : ℕ). IsTold Has (GoesOn (code_at code_base image) x s) before after) steps_is
+    (subst (λ (x : Code). IsTold Has (GoesOn x steps s) before after) code_is told))
+
+-- those of the image are those of its file
+module _ (Has : Counting) (before after : List ℕ) {files : Contents} {path : List ℕ} {words : List (List ℕ)}
+    {image : Fields} (held : HoldsImage files path image) where
+  pub file_run_tells : {args : List Arg} (progress : Bool) → AreSpelled (params_of image) words args
+      → Tells Has progress (RunGoesOn image args) before after
+      → FileRunTells Has progress files path words before after
+  file_run_tells false spelled told = told
+  file_run_tells {args} true spelled told = (image, args, held, spelled, told)
+
+  pub file_certificate_tells : {given : List (Option Arg)} (progress shifts : Bool)
+      → AreGiven (params_of image) words given
+      → Tells Has progress (CertificateGoesOn image given (shifts_seen shifts)) before after
+      → FileCertificateTells Has progress shifts files path words before after
+  file_certificate_tells false shifts as_said told = told
+  file_certificate_tells {given} true shifts as_said told = (image, given, held, as_said, told)
+
+-- all lines are some
+pub run_reaches : (files : Contents) (path : List ℕ) (words : List (List ℕ)) (before after : List ℕ)
+    (progress : Bool) → FileRunTells HasLines progress files path words before after
+    → FileRunTells Reaches progress files path words before after
+run_reaches files path words before after false told = told
+run_reaches files path words before after true told = (told.0, told.1, told.2, told.3, reaches told.4)
+
+pub certificate_reaches : (files : Contents) (path : List ℕ) (words : List (List ℕ)) (before after : List ℕ)
+    (progress shifts : Bool) → FileCertificateTells HasLines progress shifts files path words before after
+    → FileCertificateTells Reaches progress shifts files path words before after
+certificate_reaches files path words before after false shifts told = told
+certificate_reaches files path words before after true shifts told = (told.0, told.1, told.2, told.3, reaches told.4)
+
+-- a request that is known
+pub tells_known : (Has : Counting) (request known : Request) → request ≡ known
+    → (files : Contents) (before after : List ℕ) → RequestTells Has known files before after
+    → RequestTells Has request files before after
+tells_known Has request known same files before after told =
+    subst (λ (r : Request). RequestTells Has r files before after) (sym same) told
+
+pub part_known : (request known : Request) → request ≡ known → (files : Contents) (before after : List ℕ)
+    → (after ≡ before) ⊎ RequestTells Reaches known files before after
+    → (after ≡ before) ⊎ RequestTells Reaches request files before after
+part_known request known same files before after (inl quiet) = inl quiet
+part_known request known same files before after (inr told) =
+    inr (tells_known Reaches request known same files before after told)

@@ -1,0 +1,83 @@
+-- The run in pieces is the run of the image.
+use Rattle.std.proofs.Common.{false, [], Err, refl, ap, sym, ◌∙◌, arith}
+use Rattle.std.proofs.lemmas.Result.{err_from_is_err_and}
+use Rattle.commands.proofs.ProgressLemmas.{on_ok, on_err, told_of_image}
+use Rattle.commands.specs.Progress.{RunGoesOn}
+use Rattle.hepurita.proofs.ExecutedLemmas.{memory_executed, refused_executed, ran_executed}
+use Rattle.progress.proofs.Told.{none_told, reaches}
+use Rattle.progress.specs.GoingOn.{HasLines}
+use Rattle.rv_machine.specs.Harts.{state_of}
+use Rattle.rv_machine.specs.Paged.{paged_bytes}
+use Rattle.rv_machine.specs.Regions.{code_of}
+use Rattle.commands.proofs.telling.execute_telling.Goals as goal
+
+pub returns-in-Some-clause-executed : goal.returns-in-Some-clause-executed
+returns-in-Some-clause-executed g c =
+    refused_executed c.args.image.now c.args.args.now false [] c.in-Some.fault c.from.result c.from.ensures
+    (sym c.first_fault.ensures.first ∙ c.in-Some.is)
+
+pub returns-in-Some-clause-part : goal.returns-in-Some-clause-part
+returns-in-Some-clause-part g c = λ tells.
+    none_told (RunGoesOn c.args.image.now c.args.args.now) (g.E.Sink.taken c.args.err.now)
+
+pub returns-in_err-code-clause-executed : goal.returns-in_err-code-clause-executed
+returns-in_err-code-clause-executed g c =
+    let p = err_from_is_err_and c.from_residual.result c.from_residual.ensures.1 in
+    memory_executed c.args.image.now c.args.args.now false [] c.from_residual.result
+    (sym c.first_fault.ensures.first ∙ c.in_default.is) (p.1 ∙ ap Err p.2)
+
+pub returns-in_err-code-clause-part : goal.returns-in_err-code-clause-part
+returns-in_err-code-clause-part g c = λ tells.
+    on_err c.from_residual.result
+    (none_told (RunGoesOn c.args.image.now c.args.args.now) (g.E.Sink.taken c.args.err.now))
+
+pub returns-in_err-space-clause-executed : goal.returns-in_err-space-clause-executed
+returns-in_err-space-clause-executed g c =
+    let p = err_from_is_err_and c.from_residual-in_err-space.result c.from_residual-in_err-space.ensures.1 in
+    memory_executed c.args.image.now c.args.args.now false [] c.from_residual-in_err-space.result
+    (sym c.first_fault.ensures.first ∙ c.in_default.is) (p.1 ∙ ap Err p.2)
+
+pub returns-in_err-space-clause-part : goal.returns-in_err-space-clause-part
+returns-in_err-space-clause-part g c = λ tells.
+    on_err c.from_residual-in_err-space.result
+    (none_told (RunGoesOn c.args.image.now c.args.args.now) (g.E.Sink.taken c.args.err.now))
+
+pub returns-in_err-loaded-clause-executed : goal.returns-in_err-loaded-clause-executed
+returns-in_err-loaded-clause-executed g c =
+    let p = err_from_is_err_and c.from_residual-in_err-loaded.result c.from_residual-in_err-loaded.ensures.1 in
+    memory_executed c.args.image.now c.args.args.now false [] c.from_residual-in_err-loaded.result
+    (sym c.first_fault.ensures.first ∙ c.in_default.is) (p.1 ∙ ap Err p.2)
+
+pub returns-in_err-loaded-clause-part : goal.returns-in_err-loaded-clause-part
+returns-in_err-loaded-clause-part g c = λ tells.
+    on_err c.from_residual-in_err-loaded.result
+    (none_told (RunGoesOn c.args.image.now c.args.args.now) (g.E.Sink.taken c.args.err.now))
+
+pub run_in_pieces-stop-requires : goal.run_in_pieces-stop-requires
+run_in_pieces-stop-requires g c = omega (arith, c.in_ok-loaded.ensures.steps, c.first_fault.ensures.allowed.steps)
+
+pub answer-requires-clause-frame : goal.answer-requires-clause-frame
+answer-requires-clause-frame g c = omega (arith, c.first_fault.ensures.allowed.frame_size)
+
+pub returns-clause-executed : goal.returns-clause-executed
+returns-clause-executed g c =
+    let loaded = c.in_ok-loaded.loaded in
+    let end = c.run_in_pieces-stop.new.running in
+    let ran = c.run_in_pieces-stop.ensures.ran in
+    ran_executed c.args.image.now c.args.args.now false [] [] c.answer.result (code_of c.in_ok-code.code)
+    loaded.turns_left (state_of loaded.hart (paged_bytes loaded.memory))
+    (state_of end.hart (paged_bytes end.memory)) c.run_in_pieces-stop.result
+    (sym c.first_fault.ensures.first ∙ c.in_default.is) c.in_ok-code.ensures c.in_ok-loaded.ensures.steps
+    c.in_ok-loaded.ensures.state (ran.0, ran.1, refl) c.answer.ensures
+
+pub returns-clause-told : goal.returns-clause-told
+returns-clause-told g c = λ tells.
+    on_ok c.answer.result
+    (told_of_image HasLines c.args.image.now c.args.args.now c.in_ok-code.ensures c.in_ok-loaded.ensures.steps
+    c.in_ok-loaded.ensures.state (c.run_in_pieces-stop.ensures.told tells))
+
+pub returns-clause-part : goal.returns-clause-part
+returns-clause-part g c = λ tells.
+    on_err c.answer.result
+    (reaches (told_of_image HasLines c.args.image.now c.args.args.now c.in_ok-code.ensures c.in_ok-loaded.ensures.steps
+    c.in_ok-loaded.ensures.state (c.run_in_pieces-stop.ensures.told tells)))

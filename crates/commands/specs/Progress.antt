@@ -1,0 +1,54 @@
+-- What goes out on standard error while an image runs, where that is asked for: a line behind each so many turns
+-- after which the run goes on.
+use Rattle.std.specs.Prelude.{◌≡◌, ℕ, Bool, true, false, List, map, Option}
+use Rattle.certificates.specs.KnownImage.{known_at}
+use Rattle.certified_runs.specs.declared.shifts.Shifts.{Shifts}
+use Rattle.codegen.specs.Loaded.{params_of, code_at, loaded_at}
+use Rattle.command_line.specs.declared.words.Request.{Request}
+use Rattle.command_line.specs.declared.words.Request.TheVariants as requests
+use Rattle.commands.specs.Certificates.{shifts_seen}
+use Rattle.commands.specs.Contents.{Contents}
+use Rattle.commands.specs.Images.{HoldsImage}
+use Rattle.commands.specs.Words.{AreSpelled, AreGiven}
+use Rattle.hepurita.specs.Bases.{code_base, frame_base}
+use Rattle.image_fields.specs.Fields.{Fields}
+use Rattle.language.specs.declared.values.Arg.{Arg}
+use Rattle.progress.specs.Certified.{GoesOnKnown}
+use Rattle.progress.specs.GoingOn.{Counting, GoesOn, IsTold}
+
+-- an image's run on arguments goes on after so many turns
+abbrev pub RunGoesOn : Fields → List Arg → ℕ → Type 0
+RunGoesOn image args = GoesOn (code_at code_base image) image.max_steps (loaded_at code_base frame_base image args)
+
+-- and its certified run on what is given
+abbrev pub CertificateGoesOn : Fields → List (Option Arg) → Shifts → ℕ → Type 0
+CertificateGoesOn image given shifts =
+    GoesOnKnown (code_at code_base image) image.max_steps (known_at code_base frame_base image given shifts)
+
+-- what goes out of a run, where it is asked for
+abbrev pub Tells : Counting → Bool → (ℕ → Type 0) → List ℕ → List ℕ → Type 0
+Tells Has false GoesOnAfter before after = after ≡ before
+Tells Has true GoesOnAfter before after = IsTold Has GoesOnAfter before after
+
+-- the same of the run of the file's image on the arguments that the words spell
+abbrev pub FileRunTells : Counting → Bool → Contents → List ℕ → List (List ℕ) → List ℕ → List ℕ → Type 0
+FileRunTells Has false files path words before after = after ≡ before
+FileRunTells Has true files path words before after =
+    (image : Fields) × (args : List Arg) × HoldsImage files path image × AreSpelled (params_of image) words args
+    × IsTold Has (RunGoesOn image args) before after
+
+-- and of its certified run on what they give
+abbrev pub FileCertificateTells : Counting → Bool → Bool → Contents → List ℕ → List (List ℕ) → List ℕ → List ℕ
+    → Type 0
+FileCertificateTells Has false shifts files path words before after = after ≡ before
+FileCertificateTells Has true shifts files path words before after =
+    (image : Fields) × (given : List (Option Arg)) × HoldsImage files path image
+    × AreGiven (params_of image) words given × IsTold Has (CertificateGoesOn image given (shifts_seen shifts)) before after
+
+-- what goes out for a request, by what files hold
+abbrev pub RequestTells : Counting → Request → Contents → List ℕ → List ℕ → Type 0
+RequestTells Has (requests.Run image arguments progress) files before after =
+    FileRunTells Has progress files image.now (map (λ word. word.now) arguments.now) before after
+RequestTells Has (requests.Certify image arguments shifts progress) files before after =
+    FileCertificateTells Has progress shifts files image.now (map (λ word. word.now) arguments.now) before after
+RequestTells Has request files before after = after ≡ before
