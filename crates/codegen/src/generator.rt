@@ -215,8 +215,9 @@ pub fn generate(alloc: Global, straight: &Straight<'_>) -> Result<Code, Refusal>
 }
 
 /// The same with words in registers and numbers in instructions: the variables and control values that are used most
-/// live in a register each, for the whole run, and a number gets none where an instruction holds it. A program may have been made longer than its
-/// source, as by unrolling; there is no code where it has more words than are promised for the nodes of the source.
+/// live in a register each, for the whole run, and a number gets none where an instruction holds it. A program may have
+/// been made longer than its source, as by unrolling; there is no code where it has more words than are promised for the
+/// nodes of the source.
 pub fn generate_optimised(alloc: Global, straight: &Straight<'_>) -> Result<Option<Code>, Refusal>
     ensures generated { IfOk result (λ made. IfSome made (IsGenerated straight.now)) }
     ensures exact { IfOk result (λ made. made ≡ optimised_fields_of straight.now) }
