@@ -6,7 +6,7 @@ use Rattle.std.proofs.lemmas.Option.{same_Some}
 use Rattle.rv_code.specs.declared.instructions.Instr.{Instr}
 use Rattle.rv_code.specs.declared.instructions.Instr.TheVariants.{Store}
 use Rattle.rv_code.specs.declared.operations.StoreOperation.{StoreOperation}
-use Rattle.rv_code.specs.WordLaws.{words_differ}
+use Rattle.rv_code.proofs.WordLaws.{words_differ}
 use Rattle.rv_code.specs.Words.{word_of}
 use Rattle.rv_machine.specs.declared.effects.Effect.TheVariants.{Stores}
 use Rattle.rv_machine.specs.declared.observation.Observation.{Observation}

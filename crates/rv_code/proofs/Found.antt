@@ -4,18 +4,25 @@ use Rattle.std.proofs.Common.{Some, IfSome, find, refl, sym, arith, eqb-true}
 use Rattle.std.specs.Option.{option_map}
 use Rattle.std.proofs.lemmas.Bool.{and_parts}
 use Rattle.rv_code.specs.declared.instructions.Instr.{Instr}
-use Rattle.rv_code.specs.Words.{word_of, IsInstr, upper_opcode, branch_funct3, load_funct3, store_funct3}
-use Rattle.rv_code.specs.Words.{immediate_funct3, shift_funct3, shift_funct7, register_funct3, register_funct7}
-use Rattle.rv_code.specs.Words.{multiply_funct3, divide_funct3, muldiv_funct7, op_imm_opcode, op_opcode, load_opcode}
+use Rattle.rv_code.specs.declared.operations.TheConstants.UpperOperation.{ALL as upper_operations}
+use Rattle.rv_code.specs.declared.operations.TheConstants.BranchTest.{ALL as branch_tests}
+use Rattle.rv_code.specs.declared.operations.TheConstants.LoadOperation.{ALL as load_operations}
+use Rattle.rv_code.specs.declared.operations.TheConstants.StoreOperation.{ALL as store_operations}
+use Rattle.rv_code.specs.declared.operations.TheConstants.ImmediateOperation.{ALL as immediate_operations}
+use Rattle.rv_code.specs.declared.operations.TheConstants.ShiftOperation.{ALL as shift_operations}
+use Rattle.rv_code.specs.declared.operations.TheConstants.RegisterOperation.{ALL as register_operations}
+use Rattle.rv_code.specs.declared.operations.TheConstants.MultiplyOperation.{ALL as multiply_operations}
+use Rattle.rv_code.specs.declared.operations.TheConstants.DivideOperation.{ALL as divide_operations}
+use Rattle.rv_code.specs.Operations.{upper_row, branch_row, load_row, store_row, immediate_row, shift_row, register_row}
+use Rattle.rv_code.specs.Operations.{multiply_row, divide_row}
+use Rattle.rv_code.specs.Words.{word_of, IsInstr, muldiv_funct7, op_imm_opcode, op_opcode, load_opcode}
 use Rattle.rv_code.specs.Words.{store_opcode, branch_opcode, jal_opcode, jalr_opcode, misc_mem_opcode, system_opcode}
 use Rattle.rv_code.specs.Words.{ecall_word, ebreak_word}
-use Rattle.rv_code.specs.Reading.{opcode_at, funct3_at, funct7_at, upper_operations, branch_tests, load_operations}
-use Rattle.rv_code.specs.Reading.{store_operations, immediate_operations, shift_operations, register_operations}
-use Rattle.rv_code.specs.Reading.{multiply_operations, divide_operations, upper_made, branch_made, load_made}
-use Rattle.rv_code.specs.Reading.{store_made, immediate_made, shift_made, register_made, multiply_made, divide_made}
-use Rattle.rv_code.specs.Reading.{upper_at, branch_at, load_at, store_at, immediate_at, shift_at, register_at}
-use Rattle.rv_code.specs.Reading.{multiply_at, divide_at, jump_at, jump_register_at, op_imm_at, muldiv_at, op_at}
-use Rattle.rv_code.specs.Reading.{fence_at, system_at, group_at}
+use Rattle.rv_code.specs.private.Reading.{opcode_at, funct3_at, funct7_at, upper_made, branch_made, load_made}
+use Rattle.rv_code.specs.private.Reading.{store_made, immediate_made, shift_made, register_made, multiply_made}
+use Rattle.rv_code.specs.private.Reading.{divide_made, upper_at, branch_at, load_at, store_at, immediate_at, shift_at}
+use Rattle.rv_code.specs.private.Reading.{register_at, multiply_at, divide_at, jump_at, jump_register_at, op_imm_at}
+use Rattle.rv_code.specs.private.Reading.{muldiv_at, op_at, fence_at, system_at, group_at}
 
 -- an instruction that has this word
 abbrev pub HasWord : ℕ → Instr → Type 0
@@ -39,53 +46,55 @@ IfSome-cond m n a b P then_a else_b =
 upper_at-has : (word : ℕ) → word < 2 ^ 32 → IfSome (upper_at word) (HasWord word)
 unfolding upper_at word_of
 upper_at-has word fits =
-    IfSome-found (upper_made word) (λ o. upper_opcode o == opcode_at word) upper_operations (HasWord word)
+    IfSome-found (upper_made word) (λ o. (upper_row o).opcode == opcode_at word) upper_operations (HasWord word)
     (λ o passes.
-    let e : upper_opcode o ≡ opcode_at word = eqb-true _ _ passes in
+    let e : (upper_row o).opcode ≡ opcode_at word = eqb-true _ _ passes in
     ((omega arith, omega arith), omega arith))
 
 load_at-has : (word : ℕ) → word < 2 ^ 32 → opcode_at word ≡ load_opcode → IfSome (load_at word) (HasWord word)
 unfolding load_at word_of
 load_at-has word fits opcode =
-    IfSome-found (load_made word) (λ o. load_funct3 o == funct3_at word) load_operations (HasWord word)
+    IfSome-found (load_made word) (λ o. (load_row o).funct3 == funct3_at word) load_operations (HasWord word)
     (λ o passes.
-    let e : load_funct3 o ≡ funct3_at word = eqb-true _ _ passes in
+    let e : (load_row o).funct3 ≡ funct3_at word = eqb-true _ _ passes in
     ((omega arith, omega arith, omega arith), omega arith))
 
 store_at-has : (word : ℕ) → word < 2 ^ 32 → opcode_at word ≡ store_opcode → IfSome (store_at word) (HasWord word)
 unfolding store_at word_of
 store_at-has word fits opcode =
-    IfSome-found (store_made word) (λ o. store_funct3 o == funct3_at word) store_operations (HasWord word)
+    IfSome-found (store_made word) (λ o. (store_row o).funct3 == funct3_at word) store_operations (HasWord word)
     (λ o passes.
-    let e : store_funct3 o ≡ funct3_at word = eqb-true _ _ passes in
+    let e : (store_row o).funct3 ≡ funct3_at word = eqb-true _ _ passes in
     ((omega arith, omega arith, omega arith), omega arith))
 
 branch_at-has : (word : ℕ) → word < 2 ^ 32 → opcode_at word ≡ branch_opcode → IfSome (branch_at word) (HasWord word)
 unfolding branch_at word_of
 branch_at-has word fits opcode =
-    IfSome-found (branch_made word) (λ o. branch_funct3 o == funct3_at word) branch_tests (HasWord word)
+    IfSome-found (branch_made word) (λ o. (branch_row o).funct3 == funct3_at word) branch_tests (HasWord word)
     (λ o passes.
-    let e : branch_funct3 o ≡ funct3_at word = eqb-true _ _ passes in
+    let e : (branch_row o).funct3 ≡ funct3_at word = eqb-true _ _ passes in
     ((omega arith, omega arith, omega arith), omega arith))
 
 immediate_at-has : (word : ℕ) → word < 2 ^ 32 → opcode_at word ≡ op_imm_opcode
     → IfSome (immediate_at word) (HasWord word)
 unfolding immediate_at word_of
 immediate_at-has word fits opcode =
-    IfSome-found (immediate_made word) (λ o. immediate_funct3 o == funct3_at word) immediate_operations (HasWord word)
+    IfSome-found (immediate_made word) (λ o. (immediate_row o).funct3 == funct3_at word) immediate_operations
+    (HasWord word)
     (λ o passes.
-    let e : immediate_funct3 o ≡ funct3_at word = eqb-true _ _ passes in
+    let e : (immediate_row o).funct3 ≡ funct3_at word = eqb-true _ _ passes in
     ((omega arith, omega arith, omega arith), omega arith))
 
 shift_at-has : (word : ℕ) → word < 2 ^ 32 → opcode_at word ≡ op_imm_opcode → IfSome (shift_at word) (HasWord word)
 unfolding shift_at word_of
 shift_at-has word fits opcode =
-    IfSome-found (shift_made word) (λ o. shift_funct3 o == funct3_at word && shift_funct7 o == funct7_at word)
+    IfSome-found (shift_made word) (λ o. (shift_row o).funct3 == funct3_at word
+    && (shift_row o).funct7 == funct7_at word)
     shift_operations (HasWord word)
     (λ o passes.
-    let both = and_parts (shift_funct3 o == funct3_at word) (shift_funct7 o == funct7_at word) passes in
-    let e : shift_funct3 o ≡ funct3_at word = eqb-true _ _ both.0 in
-    let f : shift_funct7 o ≡ funct7_at word = eqb-true _ _ both.1 in
+    let both = and_parts ((shift_row o).funct3 == funct3_at word) ((shift_row o).funct7 == funct7_at word) passes in
+    let e : (shift_row o).funct3 ≡ funct3_at word = eqb-true _ _ both.0 in
+    let f : (shift_row o).funct7 ≡ funct7_at word = eqb-true _ _ both.1 in
     ((omega arith, omega arith, omega arith), omega arith))
 
 op_imm_at-has : (word : ℕ) → word < 2 ^ 32 → opcode_at word ≡ op_imm_opcode → IfSome (op_imm_at word) (HasWord word)
@@ -97,30 +106,32 @@ op_imm_at-has word fits opcode =
 register_at-has : (word : ℕ) → word < 2 ^ 32 → opcode_at word ≡ op_opcode → IfSome (register_at word) (HasWord word)
 unfolding register_at word_of
 register_at-has word fits opcode =
-    IfSome-found (register_made word) (λ o. register_funct3 o == funct3_at word
-    && register_funct7 o == funct7_at word) register_operations (HasWord word)
+    IfSome-found (register_made word) (λ o. (register_row o).funct3 == funct3_at word
+    && (register_row o).funct7 == funct7_at word) register_operations (HasWord word)
     (λ o passes.
-    let both = and_parts (register_funct3 o == funct3_at word) (register_funct7 o == funct7_at word) passes in
-    let e : register_funct3 o ≡ funct3_at word = eqb-true _ _ both.0 in
-    let f : register_funct7 o ≡ funct7_at word = eqb-true _ _ both.1 in
+    let both = and_parts ((register_row o).funct3 == funct3_at word)
+    ((register_row o).funct7 == funct7_at word) passes in
+    let e : (register_row o).funct3 ≡ funct3_at word = eqb-true _ _ both.0 in
+    let f : (register_row o).funct7 ≡ funct7_at word = eqb-true _ _ both.1 in
     ((omega arith, omega arith, omega arith), omega arith))
 
 multiply_at-has : (word : ℕ) → word < 2 ^ 32 → opcode_at word ≡ op_opcode → funct7_at word ≡ muldiv_funct7
     → IfSome (multiply_at word) (HasWord word)
 unfolding multiply_at word_of
 multiply_at-has word fits opcode funct7 =
-    IfSome-found (multiply_made word) (λ o. multiply_funct3 o == funct3_at word) multiply_operations (HasWord word)
+    IfSome-found (multiply_made word) (λ o. (multiply_row o).funct3 == funct3_at word) multiply_operations
+    (HasWord word)
     (λ o passes.
-    let e : multiply_funct3 o ≡ funct3_at word = eqb-true _ _ passes in
+    let e : (multiply_row o).funct3 ≡ funct3_at word = eqb-true _ _ passes in
     ((omega arith, omega arith, omega arith), omega arith))
 
 divide_at-has : (word : ℕ) → word < 2 ^ 32 → opcode_at word ≡ op_opcode → funct7_at word ≡ muldiv_funct7
     → IfSome (divide_at word) (HasWord word)
 unfolding divide_at word_of
 divide_at-has word fits opcode funct7 =
-    IfSome-found (divide_made word) (λ o. divide_funct3 o == funct3_at word) divide_operations (HasWord word)
+    IfSome-found (divide_made word) (λ o. (divide_row o).funct3 == funct3_at word) divide_operations (HasWord word)
     (λ o passes.
-    let e : divide_funct3 o ≡ funct3_at word = eqb-true _ _ passes in
+    let e : (divide_row o).funct3 ≡ funct3_at word = eqb-true _ _ passes in
     ((omega arith, omega arith, omega arith), omega arith))
 
 muldiv_at-has : (word : ℕ) → word < 2 ^ 32 → opcode_at word ≡ op_opcode → funct7_at word ≡ muldiv_funct7

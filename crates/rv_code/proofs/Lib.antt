@@ -1,1 +1,4 @@
+pub mod FieldLaws
+pub mod RowLaws
+pub mod WordLaws
 pub mod Found

@@ -2,7 +2,7 @@
 
 ghost use Rattle.std.specs.Prelude.{◌≡◌, ◌<◌, ◌^◌, Some, IfSome};
 ghost use Rattle.rv_code.specs.Words.{word_of, IsInstr};
-ghost use Rattle.rv_code.specs.Reading.{upper_at, branch_at, load_at, store_at, immediate_at, shift_at, register_at, multiply_at, divide_at, jump_at, jump_register_at, op_imm_at, muldiv_at, op_at, fence_at, system_at, group_at};
+ghost use Rattle.rv_code.specs.private.Reading.{upper_at, branch_at, load_at, store_at, immediate_at, shift_at, register_at, multiply_at, divide_at, jump_at, jump_register_at, op_imm_at, muldiv_at, op_at, fence_at, system_at, group_at};
 ghost use Rattle.rv_code.specs.declared.instructions.Instr.{Instr};
 
 use crate::fields::{
@@ -43,7 +43,7 @@ fn in_group(opcode: u32, word: u32) -> Option<Instr>
     }
 }
 
-#[tactic(auto, unfolding(crate::specs::Reading::upper_at))]
+#[tactic(auto, unfolding(crate::specs::private::Reading::upper_at))]
 fn upper(word: u32) -> Option<Instr>
     ensures { result ≡ upper_at word }
 {
@@ -51,7 +51,7 @@ fn upper(word: u32) -> Option<Instr>
     Some(Instr::Upper(operation, rd(word), u_immediate(word)))
 }
 
-#[tactic(auto, unfolding(crate::specs::Reading::jump_register_at))]
+#[tactic(auto, unfolding(crate::specs::private::Reading::jump_register_at))]
 fn jump_register(word: u32) -> Option<Instr>
     ensures { result ≡ jump_register_at word }
 {
@@ -62,7 +62,7 @@ fn jump_register(word: u32) -> Option<Instr>
     }
 }
 
-#[tactic(auto, unfolding(crate::specs::Reading::branch_at))]
+#[tactic(auto, unfolding(crate::specs::private::Reading::branch_at))]
 fn branch(word: u32) -> Option<Instr>
     ensures { result ≡ branch_at word }
 {
@@ -70,7 +70,7 @@ fn branch(word: u32) -> Option<Instr>
     Some(Instr::Branch(test, rs1(word), rs2(word), b_offset(word)))
 }
 
-#[tactic(auto, unfolding(crate::specs::Reading::load_at))]
+#[tactic(auto, unfolding(crate::specs::private::Reading::load_at))]
 fn load(word: u32) -> Option<Instr>
     ensures { result ≡ load_at word }
 {
@@ -78,7 +78,7 @@ fn load(word: u32) -> Option<Instr>
     Some(Instr::Load(operation, rd(word), rs1(word), i_immediate(word)))
 }
 
-#[tactic(auto, unfolding(crate::specs::Reading::store_at))]
+#[tactic(auto, unfolding(crate::specs::private::Reading::store_at))]
 fn store(word: u32) -> Option<Instr>
     ensures { result ≡ store_at word }
 {
@@ -86,7 +86,7 @@ fn store(word: u32) -> Option<Instr>
     Some(Instr::Store(operation, rs2(word), rs1(word), s_immediate(word)))
 }
 
-#[tactic(auto, unfolding(crate::specs::Reading::op_imm_at))]
+#[tactic(auto, unfolding(crate::specs::private::Reading::op_imm_at))]
 fn op_imm(word: u32) -> Option<Instr>
     ensures { result ≡ op_imm_at word }
 {
@@ -97,7 +97,7 @@ fn op_imm(word: u32) -> Option<Instr>
     }
 }
 
-#[tactic(auto, unfolding(crate::specs::Reading::immediate_at))]
+#[tactic(auto, unfolding(crate::specs::private::Reading::immediate_at))]
 fn immediate(word: u32) -> Option<Instr>
     ensures { result ≡ immediate_at word }
 {
@@ -105,7 +105,7 @@ fn immediate(word: u32) -> Option<Instr>
     Some(Instr::Immediate(operation, rd(word), rs1(word), i_immediate(word)))
 }
 
-#[tactic(auto, unfolding(crate::specs::Reading::shift_at))]
+#[tactic(auto, unfolding(crate::specs::private::Reading::shift_at))]
 fn shift(word: u32) -> Option<Instr>
     ensures { result ≡ shift_at word }
 {
@@ -113,7 +113,7 @@ fn shift(word: u32) -> Option<Instr>
     Some(Instr::Shift(operation, rd(word), rs1(word), shift_amount(word)))
 }
 
-#[tactic(auto, unfolding(crate::specs::Reading::op_at))]
+#[tactic(auto, unfolding(crate::specs::private::Reading::op_at))]
 fn op(word: u32) -> Option<Instr>
     ensures { result ≡ op_at word }
 {
@@ -124,7 +124,7 @@ fn op(word: u32) -> Option<Instr>
     }
 }
 
-#[tactic(auto, unfolding(crate::specs::Reading::register_at))]
+#[tactic(auto, unfolding(crate::specs::private::Reading::register_at))]
 fn register(word: u32) -> Option<Instr>
     ensures { result ≡ register_at word }
 {
@@ -132,7 +132,7 @@ fn register(word: u32) -> Option<Instr>
     Some(Instr::Register(operation, rd(word), rs1(word), rs2(word)))
 }
 
-#[tactic(auto, unfolding(crate::specs::Reading::muldiv_at))]
+#[tactic(auto, unfolding(crate::specs::private::Reading::muldiv_at))]
 fn muldiv(word: u32) -> Option<Instr>
     ensures { result ≡ muldiv_at word }
 {
@@ -143,7 +143,7 @@ fn muldiv(word: u32) -> Option<Instr>
     }
 }
 
-#[tactic(auto, unfolding(crate::specs::Reading::multiply_at))]
+#[tactic(auto, unfolding(crate::specs::private::Reading::multiply_at))]
 fn multiply(word: u32) -> Option<Instr>
     ensures { result ≡ multiply_at word }
 {
@@ -151,7 +151,7 @@ fn multiply(word: u32) -> Option<Instr>
     Some(Instr::Multiply(operation, rd(word), rs1(word), rs2(word)))
 }
 
-#[tactic(auto, unfolding(crate::specs::Reading::divide_at))]
+#[tactic(auto, unfolding(crate::specs::private::Reading::divide_at))]
 fn divide(word: u32) -> Option<Instr>
     ensures { result ≡ divide_at word }
 {
@@ -159,7 +159,7 @@ fn divide(word: u32) -> Option<Instr>
     Some(Instr::Divide(operation, rd(word), rs1(word), rs2(word)))
 }
 
-#[tactic(auto, unfolding(crate::specs::Reading::fence_at))]
+#[tactic(auto, unfolding(crate::specs::private::Reading::fence_at))]
 fn fence(word: u32) -> Option<Instr>
     ensures { result ≡ fence_at word }
 {
@@ -176,7 +176,7 @@ fn fence(word: u32) -> Option<Instr>
     }
 }
 
-#[tactic(auto, unfolding(crate::specs::Reading::system_at))]
+#[tactic(auto, unfolding(crate::specs::private::Reading::system_at))]
 fn system(word: u32) -> Option<Instr>
     ensures { result ≡ system_at word }
 {

@@ -1,7 +1,7 @@
 // The operations as text: each is its mnemonic.
 
 ghost use Rattle.std.specs.Prelude.{Some};
-ghost use Rattle.rv_code.specs.Text.{upper_mnemonic, branch_mnemonic, load_mnemonic, store_mnemonic, immediate_mnemonic, shift_mnemonic, register_mnemonic, multiply_mnemonic, divide_mnemonic};
+ghost use Rattle.rv_code.specs.Operations.{upper_row, branch_row, load_row, store_row, immediate_row, shift_row, register_row, multiply_row, divide_row};
 
 use crate::operations::{
     BranchTest, DivideOperation, ImmediateOperation, LoadOperation, MultiplyOperation,
@@ -10,7 +10,7 @@ use crate::operations::{
 use std::fmt;
 
 impl fmt::Display for UpperOperation {
-    ghost output = { λ operation. Some (upper_mnemonic operation) };
+    ghost output = { λ operation. Some (upper_row operation).mnemonic };
 
     fn fmt<W: fmt::Write>(&self, f: &mut fmt::Formatter<W>) -> fmt::Result {
         f.write_str(self.row().mnemonic)
@@ -18,7 +18,7 @@ impl fmt::Display for UpperOperation {
 }
 
 impl fmt::Display for BranchTest {
-    ghost output = { λ operation. Some (branch_mnemonic operation) };
+    ghost output = { λ operation. Some (branch_row operation).mnemonic };
 
     fn fmt<W: fmt::Write>(&self, f: &mut fmt::Formatter<W>) -> fmt::Result {
         f.write_str(self.row().mnemonic)
@@ -26,7 +26,7 @@ impl fmt::Display for BranchTest {
 }
 
 impl fmt::Display for LoadOperation {
-    ghost output = { λ operation. Some (load_mnemonic operation) };
+    ghost output = { λ operation. Some (load_row operation).mnemonic };
 
     fn fmt<W: fmt::Write>(&self, f: &mut fmt::Formatter<W>) -> fmt::Result {
         f.write_str(self.row().mnemonic)
@@ -34,7 +34,7 @@ impl fmt::Display for LoadOperation {
 }
 
 impl fmt::Display for StoreOperation {
-    ghost output = { λ operation. Some (store_mnemonic operation) };
+    ghost output = { λ operation. Some (store_row operation).mnemonic };
 
     fn fmt<W: fmt::Write>(&self, f: &mut fmt::Formatter<W>) -> fmt::Result {
         f.write_str(self.row().mnemonic)
@@ -42,7 +42,7 @@ impl fmt::Display for StoreOperation {
 }
 
 impl fmt::Display for ImmediateOperation {
-    ghost output = { λ operation. Some (immediate_mnemonic operation) };
+    ghost output = { λ operation. Some (immediate_row operation).mnemonic };
 
     fn fmt<W: fmt::Write>(&self, f: &mut fmt::Formatter<W>) -> fmt::Result {
         f.write_str(self.row().mnemonic)
@@ -50,7 +50,7 @@ impl fmt::Display for ImmediateOperation {
 }
 
 impl fmt::Display for ShiftOperation {
-    ghost output = { λ operation. Some (shift_mnemonic operation) };
+    ghost output = { λ operation. Some (shift_row operation).mnemonic };
 
     fn fmt<W: fmt::Write>(&self, f: &mut fmt::Formatter<W>) -> fmt::Result {
         f.write_str(self.row().mnemonic)
@@ -58,7 +58,7 @@ impl fmt::Display for ShiftOperation {
 }
 
 impl fmt::Display for RegisterOperation {
-    ghost output = { λ operation. Some (register_mnemonic operation) };
+    ghost output = { λ operation. Some (register_row operation).mnemonic };
 
     fn fmt<W: fmt::Write>(&self, f: &mut fmt::Formatter<W>) -> fmt::Result {
         f.write_str(self.row().mnemonic)
@@ -66,7 +66,7 @@ impl fmt::Display for RegisterOperation {
 }
 
 impl fmt::Display for MultiplyOperation {
-    ghost output = { λ operation. Some (multiply_mnemonic operation) };
+    ghost output = { λ operation. Some (multiply_row operation).mnemonic };
 
     fn fmt<W: fmt::Write>(&self, f: &mut fmt::Formatter<W>) -> fmt::Result {
         f.write_str(self.row().mnemonic)
@@ -74,7 +74,7 @@ impl fmt::Display for MultiplyOperation {
 }
 
 impl fmt::Display for DivideOperation {
-    ghost output = { λ operation. Some (divide_mnemonic operation) };
+    ghost output = { λ operation. Some (divide_row operation).mnemonic };
 
     fn fmt<W: fmt::Write>(&self, f: &mut fmt::Formatter<W>) -> fmt::Result {
         f.write_str(self.row().mnemonic)

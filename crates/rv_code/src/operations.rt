@@ -1,12 +1,10 @@
 // The instruction table: for each operation its name in text and the fixed fields of its words.
 //
 // A new instruction of a format that is here is a variant, its place in `ALL` and its row. What it
-// has to be is its row in `specs/Words.antt` and `specs/Text.antt`; `specs/Reading.antt` lists it
-// and `specs/WordLaws.antt` has a line for each of its fixed fields.
+// has to be is its row in `specs/Operations.antt`.
 
 ghost use Rattle.std.specs.Prelude.{◌≡◌};
-ghost use Rattle.rv_code.specs.Text.{upper_mnemonic, branch_mnemonic, load_mnemonic, store_mnemonic, immediate_mnemonic, shift_mnemonic, register_mnemonic, multiply_mnemonic, divide_mnemonic};
-ghost use Rattle.rv_code.specs.Words.{upper_opcode, branch_funct3, load_funct3, store_funct3, immediate_funct3, shift_funct3, shift_funct7, register_funct3, register_funct7, multiply_funct3, divide_funct3};
+ghost use Rattle.rv_code.specs.Operations.{upper_row, branch_row, load_row, store_row, immediate_row, shift_row, register_row, multiply_row, divide_row};
 
 pub(crate) const OP_IMM: u32 = 0b0010011;
 
@@ -147,8 +145,8 @@ impl UpperOperation {
     pub(crate) const ALL: [Self; 2] = [Self::Lui, Self::Auipc];
 
     pub(crate) fn row(self) -> OpcodeRow
-        ensures mnemonic { result.mnemonic.now ≡ upper_mnemonic self }
-        ensures opcode { result.opcode ≡ upper_opcode self }
+        ensures mnemonic { result.mnemonic.now ≡ (upper_row self).mnemonic }
+        ensures opcode { result.opcode ≡ (upper_row self).opcode }
     {
         let (mnemonic, opcode) = match self {
             Self::Lui => ("lui", 0b0110111),
@@ -169,8 +167,8 @@ impl BranchTest {
     ];
 
     pub(crate) fn row(self) -> Funct3Row
-        ensures mnemonic { result.mnemonic.now ≡ branch_mnemonic self }
-        ensures funct3 { result.funct3 ≡ branch_funct3 self }
+        ensures mnemonic { result.mnemonic.now ≡ (branch_row self).mnemonic }
+        ensures funct3 { result.funct3 ≡ (branch_row self).funct3 }
     {
         let (mnemonic, funct3) = match self {
             Self::Beq => ("beq", 0b000),
@@ -188,8 +186,8 @@ impl LoadOperation {
     pub(crate) const ALL: [Self; 5] = [Self::Lb, Self::Lh, Self::Lw, Self::Lbu, Self::Lhu];
 
     pub(crate) fn row(self) -> Funct3Row
-        ensures mnemonic { result.mnemonic.now ≡ load_mnemonic self }
-        ensures funct3 { result.funct3 ≡ load_funct3 self }
+        ensures mnemonic { result.mnemonic.now ≡ (load_row self).mnemonic }
+        ensures funct3 { result.funct3 ≡ (load_row self).funct3 }
     {
         let (mnemonic, funct3) = match self {
             Self::Lb => ("lb", 0b000),
@@ -206,8 +204,8 @@ impl StoreOperation {
     pub(crate) const ALL: [Self; 3] = [Self::Sb, Self::Sh, Self::Sw];
 
     pub(crate) fn row(self) -> Funct3Row
-        ensures mnemonic { result.mnemonic.now ≡ store_mnemonic self }
-        ensures funct3 { result.funct3 ≡ store_funct3 self }
+        ensures mnemonic { result.mnemonic.now ≡ (store_row self).mnemonic }
+        ensures funct3 { result.funct3 ≡ (store_row self).funct3 }
     {
         let (mnemonic, funct3) = match self {
             Self::Sb => ("sb", 0b000),
@@ -229,8 +227,8 @@ impl ImmediateOperation {
     ];
 
     pub(crate) fn row(self) -> Funct3Row
-        ensures mnemonic { result.mnemonic.now ≡ immediate_mnemonic self }
-        ensures funct3 { result.funct3 ≡ immediate_funct3 self }
+        ensures mnemonic { result.mnemonic.now ≡ (immediate_row self).mnemonic }
+        ensures funct3 { result.funct3 ≡ (immediate_row self).funct3 }
     {
         let (mnemonic, funct3) = match self {
             Self::Addi => ("addi", 0b000),
@@ -248,9 +246,9 @@ impl ShiftOperation {
     pub(crate) const ALL: [Self; 3] = [Self::Slli, Self::Srli, Self::Srai];
 
     pub(crate) fn row(self) -> Funct7Row
-        ensures mnemonic { result.mnemonic.now ≡ shift_mnemonic self }
-        ensures funct3 { result.funct3 ≡ shift_funct3 self }
-        ensures funct7 { result.funct7 ≡ shift_funct7 self }
+        ensures mnemonic { result.mnemonic.now ≡ (shift_row self).mnemonic }
+        ensures funct3 { result.funct3 ≡ (shift_row self).funct3 }
+        ensures funct7 { result.funct7 ≡ (shift_row self).funct7 }
     {
         let (mnemonic, funct3, funct7) = match self {
             Self::Slli => ("slli", 0b001, 0b0000000),
@@ -280,9 +278,9 @@ impl RegisterOperation {
     ];
 
     pub(crate) fn row(self) -> Funct7Row
-        ensures mnemonic { result.mnemonic.now ≡ register_mnemonic self }
-        ensures funct3 { result.funct3 ≡ register_funct3 self }
-        ensures funct7 { result.funct7 ≡ register_funct7 self }
+        ensures mnemonic { result.mnemonic.now ≡ (register_row self).mnemonic }
+        ensures funct3 { result.funct3 ≡ (register_row self).funct3 }
+        ensures funct7 { result.funct7 ≡ (register_row self).funct7 }
     {
         let (mnemonic, funct3, funct7) = match self {
             Self::Add => ("add", 0b000, 0b0000000),
@@ -308,8 +306,8 @@ impl MultiplyOperation {
     pub(crate) const ALL: [Self; 4] = [Self::Mul, Self::Mulh, Self::Mulhsu, Self::Mulhu];
 
     pub(crate) fn row(self) -> Funct3Row
-        ensures mnemonic { result.mnemonic.now ≡ multiply_mnemonic self }
-        ensures funct3 { result.funct3 ≡ multiply_funct3 self }
+        ensures mnemonic { result.mnemonic.now ≡ (multiply_row self).mnemonic }
+        ensures funct3 { result.funct3 ≡ (multiply_row self).funct3 }
     {
         let (mnemonic, funct3) = match self {
             Self::Mul => ("mul", 0b000),
@@ -325,8 +323,8 @@ impl DivideOperation {
     pub(crate) const ALL: [Self; 4] = [Self::Div, Self::Divu, Self::Rem, Self::Remu];
 
     pub(crate) fn row(self) -> Funct3Row
-        ensures mnemonic { result.mnemonic.now ≡ divide_mnemonic self }
-        ensures funct3 { result.funct3 ≡ divide_funct3 self }
+        ensures mnemonic { result.mnemonic.now ≡ (divide_row self).mnemonic }
+        ensures funct3 { result.funct3 ≡ (divide_row self).funct3 }
     {
         let (mnemonic, funct3) = match self {
             Self::Div => ("div", 0b100),

@@ -1,7 +1,7 @@
 // The operation of a group that the fixed fields of a word tell.
 
 ghost use Rattle.std.specs.Prelude.{◌≡◌};
-ghost use Rattle.rv_code.specs.Reading.{upper_with, branch_with, load_with, store_with, immediate_with, shift_with, register_with, multiply_with, divide_with};
+ghost use Rattle.rv_code.specs.private.Reading.{upper_with, branch_with, load_with, store_with, immediate_with, shift_with, register_with, multiply_with, divide_with};
 
 use crate::operations::{
     BranchTest, DivideOperation, ImmediateOperation, LoadOperation, MultiplyOperation,

@@ -1,6 +1,6 @@
 use Rattle.std.proofs.Common.{◌∙◌, ap, sym}
-use Rattle.rv_code.specs.Reading.{reading}
-use Rattle.rv_code.specs.WordLaws.{reading-word_of}
+use Rattle.rv_code.specs.private.Reading.{reading}
+use Rattle.rv_code.proofs.WordLaws.{reading-word_of}
 use Rattle.rv_code.proofs.Found.{group_at-has}
 use Rattle.rv_code.proofs.decoding.decode.Goals as goal
 

@@ -1,4 +1,4 @@
-use Rattle.rv_code.specs.WordLaws as laws
+use Rattle.rv_code.proofs.WordLaws as laws
 use Rattle.rv_code.proofs.laws.words_differ.Goals as goal
 
 pub returns : goal.returns

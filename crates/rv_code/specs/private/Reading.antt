@@ -1,6 +1,5 @@
--- The instruction that the fields of a word spell, if they do: the tool by which the laws of the
--- words are proved. No public contract cites it.
-use Rattle.std.specs.Prelude.{ℕ, ◌+◌, ◌*◌, ◌/◌, ◌%◌, ◌^◌, List, [], ◌∷◌, Option, Some, None, ◌==◌, ◌&&◌}
+-- The instruction that the fields of a word spell, if they do: how `decode` reads a word.
+use Rattle.std.specs.Prelude.{ℕ, ◌+◌, ◌*◌, ◌/◌, ◌%◌, ◌^◌, Option, Some, None, ◌==◌, ◌&&◌}
 use Rattle.std.specs.Prelude.{if◌then◌else◌, find}
 use Rattle.std.specs.Option.{option_map}
 use Rattle.rv_code.specs.declared.instructions.Instr.{Instr}
@@ -8,28 +7,27 @@ use Rattle.rv_code.specs.declared.instructions.Instr.TheVariants.{Upper, Jump, J
 use Rattle.rv_code.specs.declared.instructions.Instr.TheVariants.{Immediate, Shift, Register, Multiply, Divide, Fence}
 use Rattle.rv_code.specs.declared.instructions.Instr.TheVariants.{Ecall, Ebreak}
 use Rattle.rv_code.specs.declared.operations.UpperOperation.{UpperOperation}
-use Rattle.rv_code.specs.declared.operations.UpperOperation.TheVariants.{Lui, Auipc}
+use Rattle.rv_code.specs.declared.operations.TheConstants.UpperOperation.{ALL as upper_operations}
 use Rattle.rv_code.specs.declared.operations.BranchTest.{BranchTest}
-use Rattle.rv_code.specs.declared.operations.BranchTest.TheVariants.{Beq, Bne, Blt, Bge, Bltu, Bgeu}
+use Rattle.rv_code.specs.declared.operations.TheConstants.BranchTest.{ALL as branch_tests}
 use Rattle.rv_code.specs.declared.operations.LoadOperation.{LoadOperation}
-use Rattle.rv_code.specs.declared.operations.LoadOperation.TheVariants.{Lb, Lh, Lw, Lbu, Lhu}
+use Rattle.rv_code.specs.declared.operations.TheConstants.LoadOperation.{ALL as load_operations}
 use Rattle.rv_code.specs.declared.operations.StoreOperation.{StoreOperation}
-use Rattle.rv_code.specs.declared.operations.StoreOperation.TheVariants.{Sb, Sh, Sw}
+use Rattle.rv_code.specs.declared.operations.TheConstants.StoreOperation.{ALL as store_operations}
 use Rattle.rv_code.specs.declared.operations.ImmediateOperation.{ImmediateOperation}
-use Rattle.rv_code.specs.declared.operations.ImmediateOperation.TheVariants.{Addi, Slti, Sltiu, Xori, Ori, Andi}
+use Rattle.rv_code.specs.declared.operations.TheConstants.ImmediateOperation.{ALL as immediate_operations}
 use Rattle.rv_code.specs.declared.operations.ShiftOperation.{ShiftOperation}
-use Rattle.rv_code.specs.declared.operations.ShiftOperation.TheVariants.{Slli, Srli, Srai}
+use Rattle.rv_code.specs.declared.operations.TheConstants.ShiftOperation.{ALL as shift_operations}
 use Rattle.rv_code.specs.declared.operations.RegisterOperation.{RegisterOperation}
-use Rattle.rv_code.specs.declared.operations.RegisterOperation.TheVariants.{Add, Sub, Sll, Slt, Sltu, Xor, Srl, Sra}
-use Rattle.rv_code.specs.declared.operations.RegisterOperation.TheVariants.{Or, And}
+use Rattle.rv_code.specs.declared.operations.TheConstants.RegisterOperation.{ALL as register_operations}
 use Rattle.rv_code.specs.declared.operations.MultiplyOperation.{MultiplyOperation}
-use Rattle.rv_code.specs.declared.operations.MultiplyOperation.TheVariants.{Mul, Mulh, Mulhsu, Mulhu}
+use Rattle.rv_code.specs.declared.operations.TheConstants.MultiplyOperation.{ALL as multiply_operations}
 use Rattle.rv_code.specs.declared.operations.DivideOperation.{DivideOperation}
-use Rattle.rv_code.specs.declared.operations.DivideOperation.TheVariants.{Div, Divu, Rem, Remu}
+use Rattle.rv_code.specs.declared.operations.TheConstants.DivideOperation.{ALL as divide_operations}
+use Rattle.rv_code.specs.Operations.{upper_row, branch_row, load_row, store_row, immediate_row, shift_row, register_row}
+use Rattle.rv_code.specs.Operations.{multiply_row, divide_row}
 use Rattle.rv_code.specs.Words.{bits_of, op_imm_opcode, op_opcode, load_opcode, store_opcode, branch_opcode}
-use Rattle.rv_code.specs.Words.{jal_opcode, jalr_opcode, misc_mem_opcode, system_opcode, upper_opcode, branch_funct3}
-use Rattle.rv_code.specs.Words.{load_funct3, store_funct3, immediate_funct3, shift_funct3, shift_funct7}
-use Rattle.rv_code.specs.Words.{register_funct3, register_funct7, multiply_funct3, divide_funct3, muldiv_funct7}
+use Rattle.rv_code.specs.Words.{jal_opcode, jalr_opcode, misc_mem_opcode, system_opcode, muldiv_funct7}
 use Rattle.rv_code.specs.Words.{ecall_word, ebreak_word}
 
 -- The fields of a word, as the R format has them.
@@ -82,62 +80,35 @@ before_at word = word / 2 ^ 24 % 2 ^ 4
 abbrev pub after_at : ℕ → ℕ
 after_at word = word / 2 ^ 20 % 2 ^ 4
 
--- The operations of each group, and the one whose row has these fixed fields.
-
-abbrev pub upper_operations : List UpperOperation
-upper_operations = Lui ∷ Auipc ∷ []
-
-abbrev pub branch_tests : List BranchTest
-branch_tests = Beq ∷ Bne ∷ Blt ∷ Bge ∷ Bltu ∷ Bgeu ∷ []
-
-abbrev pub load_operations : List LoadOperation
-load_operations = Lb ∷ Lh ∷ Lw ∷ Lbu ∷ Lhu ∷ []
-
-abbrev pub store_operations : List StoreOperation
-store_operations = Sb ∷ Sh ∷ Sw ∷ []
-
-abbrev pub immediate_operations : List ImmediateOperation
-immediate_operations = Addi ∷ Slti ∷ Sltiu ∷ Xori ∷ Ori ∷ Andi ∷ []
-
-abbrev pub shift_operations : List ShiftOperation
-shift_operations = Slli ∷ Srli ∷ Srai ∷ []
-
-abbrev pub register_operations : List RegisterOperation
-register_operations = Add ∷ Sub ∷ Sll ∷ Slt ∷ Sltu ∷ Xor ∷ Srl ∷ Sra ∷ Or ∷ And ∷ []
-
-abbrev pub multiply_operations : List MultiplyOperation
-multiply_operations = Mul ∷ Mulh ∷ Mulhsu ∷ Mulhu ∷ []
-
-abbrev pub divide_operations : List DivideOperation
-divide_operations = Div ∷ Divu ∷ Rem ∷ Remu ∷ []
+-- The operation of each group whose row has these fixed fields.
 
 abbrev pub upper_with : ℕ → Option UpperOperation
-upper_with opcode = find (λ o. upper_opcode o == opcode) upper_operations
+upper_with opcode = find (λ o. (upper_row o).opcode == opcode) upper_operations
 
 abbrev pub branch_with : ℕ → Option BranchTest
-branch_with funct3 = find (λ o. branch_funct3 o == funct3) branch_tests
+branch_with funct3 = find (λ o. (branch_row o).funct3 == funct3) branch_tests
 
 abbrev pub load_with : ℕ → Option LoadOperation
-load_with funct3 = find (λ o. load_funct3 o == funct3) load_operations
+load_with funct3 = find (λ o. (load_row o).funct3 == funct3) load_operations
 
 abbrev pub store_with : ℕ → Option StoreOperation
-store_with funct3 = find (λ o. store_funct3 o == funct3) store_operations
+store_with funct3 = find (λ o. (store_row o).funct3 == funct3) store_operations
 
 abbrev pub immediate_with : ℕ → Option ImmediateOperation
-immediate_with funct3 = find (λ o. immediate_funct3 o == funct3) immediate_operations
+immediate_with funct3 = find (λ o. (immediate_row o).funct3 == funct3) immediate_operations
 
 abbrev pub shift_with : ℕ → ℕ → Option ShiftOperation
-shift_with funct3 funct7 = find (λ o. shift_funct3 o == funct3 && shift_funct7 o == funct7) shift_operations
+shift_with funct3 funct7 = find (λ o. (shift_row o).funct3 == funct3 && (shift_row o).funct7 == funct7) shift_operations
 
 abbrev pub register_with : ℕ → ℕ → Option RegisterOperation
 register_with funct3 funct7 =
-    find (λ o. register_funct3 o == funct3 && register_funct7 o == funct7) register_operations
+    find (λ o. (register_row o).funct3 == funct3 && (register_row o).funct7 == funct7) register_operations
 
 abbrev pub multiply_with : ℕ → Option MultiplyOperation
-multiply_with funct3 = find (λ o. multiply_funct3 o == funct3) multiply_operations
+multiply_with funct3 = find (λ o. (multiply_row o).funct3 == funct3) multiply_operations
 
 abbrev pub divide_with : ℕ → Option DivideOperation
-divide_with funct3 = find (λ o. divide_funct3 o == funct3) divide_operations
+divide_with funct3 = find (λ o. (divide_row o).funct3 == funct3) divide_operations
 
 -- The instruction of each group.
 

@@ -2,9 +2,9 @@
 use Rattle.std.specs.Prelude.{◌≡◌, ℕ, ◌^◌, ◌<◌}
 use Rattle.std.proofs.Common.{arith}
 use Rattle.rv_code.specs.Words.{r_type, i_type, s_type, b_type, u_type, j_type, fence_word, misc_mem_opcode}
-use Rattle.rv_code.specs.Reading.{opcode_at, rd_at, funct3_at, rs1_at, rs2_at, funct7_at, i_immediate_at}
-use Rattle.rv_code.specs.Reading.{s_immediate_at, b_offset_at, u_immediate_at, j_offset_at, mode_at, before_at}
-use Rattle.rv_code.specs.Reading.{after_at}
+use Rattle.rv_code.specs.private.Reading.{opcode_at, rd_at, funct3_at, rs1_at, rs2_at, funct7_at, i_immediate_at}
+use Rattle.rv_code.specs.private.Reading.{s_immediate_at, b_offset_at, u_immediate_at, j_offset_at, mode_at, before_at}
+use Rattle.rv_code.specs.private.Reading.{after_at}
 
 pub record RFields (word opcode funct3 funct7 rd rs1 rs2 : ℕ) : Type 0 where
   pub opcode_is : opcode_at word ≡ opcode
