@@ -22,9 +22,7 @@ fn is_shift(operation: RegisterOperation) -> bool
 {
     match operation {
         RegisterOperation::Sll | RegisterOperation::Srl | RegisterOperation::Sra => true,
-        RegisterOperation::Add | RegisterOperation::Sub => false,
-        RegisterOperation::Slt | RegisterOperation::Sltu => false,
-        RegisterOperation::Xor | RegisterOperation::Or | RegisterOperation::And => false,
+        _ => false,
     }
 }
 

@@ -18,7 +18,8 @@ use Rattle.rv_code.specs.Words.{word_of, IsInstr, op_imm_opcode, op_opcode, load
 use Rattle.rv_code.specs.Words.{jal_opcode, jalr_opcode, muldiv_funct7}
 use Rattle.rv_code.specs.private.Reading.{upper_at, branch_at, load_at, store_at, immediate_at, shift_at, register_at}
 use Rattle.rv_code.specs.private.Reading.{multiply_at, divide_at, jump_register_at, op_imm_at, op_at, muldiv_at}
-use Rattle.rv_code.specs.private.Reading.{fence_at, system_at, group_at, reading}
+use Rattle.rv_code.specs.private.Reading.{fence_at, system_at, group_at}
+pub use Rattle.rv_code.specs.private.Reading.{reading}
 
 -- an instruction is read from its word
 pub reading-word_of : (i : Instr) → IsInstr i → reading (word_of i) ≡ Some i
