@@ -4,8 +4,7 @@ use Rattle.std.proofs.Common.{◌==◌, List, [], ◌∷◌, ◌++◌, length, g
 use Rattle.std.proofs.Common.{Result, Ok, Err, ◌↔◌, refl, sym, ap, subst, ◌∙◌, arith}
 use Rattle.std.specs.List.{list_all, filter_map, cons_option}
 use Rattle.std.specs.Option.{option_map, option_and_then}
-use Rattle.std.proofs.lemmas.List.{length-map, take_more, map-append, append-nil}
-use Rattle.std.proofs.lemmas.List.Elements.{filter_map-append}
+use Rattle.std.proofs.lemmas.List.{length-map, take_more, map-append}
 use Rattle.std.proofs.lemmas.Bool.{and_parts}
 use Rattle.std.proofs.lemmas.Bool.Decides.{Decides-eqb, Decides-ltb, Decides-like, same_from_decides, nat_tests}
 use Rattle.language.specs.declared.signature.Form.{Form}
@@ -154,21 +153,6 @@ pub word_below : (part : List ℕ) (n : ℕ) → Some n ≡ capped (number_of pa
 word_below part n e small =
     let below : nat_lt n (2 ^ 32) ≡ true = grind (arith, nat_tests) in
     ap (λ b. if b then Some n else None) (sym below) ∙ ap fitting e ∙ fitting-capped (number_of part)
-
--- one more part gives its word, or none
-module _ {X Y Z : Type 0} (f : Y → Option Z) (view : X → Y) (xs : List X) (x : X) (words : List Z) where
-  more_parts : filter_map f (map view (xs ++ x ∷ [])) ≡ filter_map f (map view xs) ++ filter_map f (view x ∷ [])
-  more_parts = ap (filter_map f) (map-append view xs (x ∷ [])) ∙ filter_map-append f (map view xs) (view x ∷ [])
-
-  pub filter_map-gives : (z : Z) → words ≡ filter_map f (map view xs) → f (view x) ≡ Some z
-      → words ++ z ∷ [] ≡ filter_map f (map view (xs ++ x ∷ []))
-  filter_map-gives z e is = ap (λ l. l ++ z ∷ []) e
-      ∙ ap (λ o. filter_map f (map view xs) ++ cons_option o []) (sym is) ∙ sym more_parts
-
-  pub filter_map-skips : words ≡ filter_map f (map view xs) → f (view x) ≡ None
-      → words ≡ filter_map f (map view (xs ++ x ∷ []))
-  filter_map-skips e is = e ∙ sym (append-nil (filter_map f (map view xs)))
-      ∙ ap (λ o. filter_map f (map view xs) ++ cons_option o []) (sym is) ∙ sym more_parts
 
 array_within : (param : Param) (form : Form) (words numbers : List ℕ) → param.form ≡ form
     → (length words ≡ count_of form param.length → HasShape form param.length (Array words)) → words ≡ numbers

@@ -1,5 +1,6 @@
-ghost use Rattle.std.specs.Prelude.{◌≡◌, ◌↔◌, map, IfOk, OnOk};
-ghost use Rattle.std.specs.List.{filter_map};
+ghost use Rattle.std.specs.Prelude.{◌≡◌, ◌↔◌, map, nat_le, IfOk, OnOk};
+ghost use Rattle.std.specs.List.{filter_map, list_all};
+ghost use Rattle.std.specs.Option.{option_map};
 ghost use Rattle.arguments.specs.Texts.{count_of, fault_of_texts, numbers_of, parts_of, rule_of_text, word_of};
 ghost use Rattle.arguments.specs.Faults.{fault_by};
 ghost use Rattle.arguments.specs.Within.{AreWithin, IsWithin, words_of};
@@ -62,6 +63,17 @@ fn number_count(param: &Param) -> usize
     }
 }
 
+/// Whether the numbers that a text spells are all at most this. None where a part spells no number.
+fn all_at_most(text: &str, most: u32) -> Option<bool>
+    ensures { result ≡ option_map (list_all (λ number. nat_le number most)) (numbers_of text.now) }
+{
+    text.split(',').fold(Some(true), |all, part| {
+        let all = all?;
+        let number = number(part)?;
+        Some(all && number <= u64::from(most))
+    })
+}
+
 /// The rule that a text breaks at its parameter.
 pub fn broken_rule(param: &Param, text: &str) -> Option<ArgumentRule>
     ensures { result ≡ rule_of_text param.now text.now }
@@ -69,14 +81,11 @@ pub fn broken_rule(param: &Param, text: &str) -> Option<ArgumentRule>
     if text.split(',').count() != number_count(param) {
         return Some(ArgumentRule::Shape);
     }
-    if !text.split(',').all(|part| number(part).is_some()) {
-        return Some(ArgumentRule::Shape);
+    match all_at_most(text, greatest(param.kind)) {
+        Some(true) => None,
+        Some(false) => Some(ArgumentRule::Value),
+        None => Some(ArgumentRule::Shape),
     }
-    let greatest = u64::from(greatest(param.kind));
-    let within = text
-        .split(',')
-        .all(|part| number(part).is_some_and(|value| value <= greatest));
-    (!within).then_some(ArgumentRule::Value)
 }
 
 /// The first fault of texts.
@@ -102,13 +111,7 @@ fn word(text: &str) -> Option<u32>
 fn words(alloc: Global, text: &str) -> Result<Vec<u32>, AllocError>
     ensures { IfOk result (λ words. words.items ≡ filter_map word_of (parts_of text.now)) }
 {
-    let mut words = Vec::new(alloc);
-    for part in text.split(',') {
-        if let Some(word) = word(part) {
-            words.push(word)?;
-        }
-    }
-    Ok(words)
+    text.split(',').filter_map(word).collect(alloc)
 }
 
 /// The argument that a text without fault spells.
