@@ -35,7 +35,7 @@ abbrev pub arguments_of : Request → Option (List (List ℕ))
 arguments_of (Eval file arguments explain) = Some (map (λ word. word.now) arguments.now)
 arguments_of (Run image arguments progress) = Some (map (λ word. word.now) arguments.now)
 arguments_of (Leak image arguments) = Some (map (λ word. word.now) arguments.now)
-arguments_of (Pair image arguments explain) = Some (map (λ word. word.now) arguments.now)
+arguments_of (Pair image arguments options) = Some (map (λ word. word.now) arguments.now)
 arguments_of (Certify image arguments shifts progress) = Some (map (λ word. word.now) arguments.now)
 arguments_of (Picture image arguments) = Some (map (λ word. word.now) arguments.now)
 arguments_of request = None

@@ -4,7 +4,7 @@ ghost use Rattle.std.specs.Prelude.{◌≡◌, None, Some, codes, map, IfOk, IfS
 ghost use Rattle.clap.specs.Matches.{first_value, found_of, one_text};
 ghost use Rattle.command_line.specs.Words.{arguments_of, profile_named};
 
-use crate::options::CompileOptions;
+use crate::options::{CompileOptions, PairOptions};
 use crate::words::Request;
 use clap::ArgMatches;
 use clap::error::ErrorKind;
@@ -54,7 +54,10 @@ fn request_with<'a>(
         "pair" => Some(Request::Pair {
             image: text_of(given, "IMAGE"),
             arguments,
-            explain: given.get_flag("explain"),
+            options: PairOptions {
+                explain: given.get_flag("explain"),
+                progress: given.get_flag("progress"),
+            },
         }),
         "certify" => Some(Request::Certify {
             image: text_of(given, "IMAGE"),

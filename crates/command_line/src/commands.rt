@@ -135,6 +135,11 @@ pub(crate) static COMMANDS: [CommandRow; 15] = [
                 "Where the runs differ, shows the last instruction that both come to before that, the registers that it reads in \
                  each run, and what each run shows then; it stands before IMAGE",
             ),
+            Word::Flag(
+                "progress",
+                "Prints a line to standard error behind each 134217728 steps of both runs after which both go on; it stands \
+                 before IMAGE",
+            ),
             Word::Arguments(
                 "Those of the first run, one for each parameter and as for `run`, then those of the second",
             ),

@@ -7,5 +7,5 @@ mod grammar;
 mod options;
 mod words;
 
-pub use options::CompileOptions;
+pub use options::{CompileOptions, PairOptions};
 pub use words::{NoRequest, Request, parse};

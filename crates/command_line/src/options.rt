@@ -1,4 +1,4 @@
-// How a source is to be compiled.
+// How a source is to be compiled, and what is asked of a comparison.
 
 use hepurita::Optimisation;
 use word::Profile;
@@ -9,4 +9,11 @@ pub struct CompileOptions {
     pub profile: Profile,
     pub optimisation: Optimisation,
     pub explain: bool,
+}
+
+/// Whether it is explained why two runs differ, and whether their comparison says how far it is.
+#[derive(Clone, Copy, Debug)]
+pub struct PairOptions {
+    pub explain: bool,
+    pub progress: bool,
 }

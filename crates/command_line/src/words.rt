@@ -3,7 +3,7 @@ ghost use Rattle.command_line.specs.Words.{is_flag, behind_flags, after_path, ar
 
 use crate::asked::request_of;
 use crate::grammar::factc;
-use crate::options::CompileOptions;
+use crate::options::{CompileOptions, PairOptions};
 use clap::Error;
 use clap::error::ErrorKind;
 use explanations::Explanation;
@@ -49,7 +49,7 @@ pub enum Request<'a> {
     Pair {
         image: &'a str,
         arguments: &'a [&'a str],
-        explain: bool,
+        options: PairOptions,
     },
     Certify {
         image: &'a str,

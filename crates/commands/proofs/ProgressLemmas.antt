@@ -6,14 +6,14 @@ use Rattle.command_line.specs.declared.words.Request.{Request}
 use Rattle.commands.specs.Certificates.{shifts_seen}
 use Rattle.commands.specs.Contents.{Contents}
 use Rattle.commands.specs.Images.{HoldsImage}
-use Rattle.commands.specs.Progress.{RunGoesOn, CertificateGoesOn, Tells, FileRunTells, FileCertificateTells}
-use Rattle.commands.specs.Progress.{RequestTells}
-use Rattle.commands.specs.Words.{AreSpelled, AreGiven}
+use Rattle.commands.specs.Progress.{RunGoesOn, PairGoesOn, CertificateGoesOn, Tells}
+use Rattle.commands.specs.Progress.{FileRunTells, FilePairTells, FileCertificateTells, RequestTells}
+use Rattle.commands.specs.Words.{AreSpelled, AreBothSpelled, AreGiven}
 use Rattle.hepurita.specs.Bases.{code_base, frame_base}
 use Rattle.image_fields.specs.Fields.{Fields}
 use Rattle.language.specs.declared.values.Arg.{Arg}
 use Rattle.progress.proofs.Told.{reaches}
-use Rattle.progress.specs.GoingOn.{Counting, GoesOn, Reaches, HasLines, IsTold}
+use Rattle.progress.specs.GoingOn.{Counting, GoesOn, BothGoOn, Reaches, HasLines, IsTold}
 use Rattle.rv_machine.specs.Machine.{State, Code}
 
 -- where it holds whatever the answer is
@@ -43,6 +43,19 @@ told_of_image Has {code} {steps} {s} {before} {after} image args code_is steps_i
     (subst (λ (x : ℕ). IsTold Has (GoesOn (code_at code_base image) x s) before after) steps_is
     (subst (λ (x : Code). IsTold Has (GoesOn x steps s) before after) code_is told))
 
+-- those of two runs from loaded states are those of the image's two runs
+pub told_of_pair : (Has : Counting) {code : Code} {steps : ℕ} {s s' : State} {before after : List ℕ} (image : Fields)
+    (one other : List Arg) → code ≡ code_at code_base image → steps ≡ image.max_steps
+    → s ≡ loaded_at code_base frame_base image one → s' ≡ loaded_at code_base frame_base image other
+    → IsTold Has (BothGoOn code steps s s') before after → IsTold Has (PairGoesOn image one other) before after
+told_of_pair Has {code} {steps} {s} {s'} {before} {after} image one other code_is steps_is state_is state_is' told =
+    let begun = loaded_at code_base frame_base image one in
+    let at_code = code_at code_base image in
+    subst (λ (x : State). IsTold Has (BothGoOn at_code image.max_steps begun x) before after) state_is'
+    (subst (λ (x : State). IsTold Has (BothGoOn at_code image.max_steps x s') before after) state_is
+    (subst (λ (x : ℕ). IsTold Has (BothGoOn at_code x s s') before after) steps_is
+    (subst (λ (x : Code). IsTold Has (BothGoOn x steps s s') before after) code_is told)))
+
 -- those of the image are those of its file
 module _ (Has : Counting) (before after : List ℕ) {files : Contents} {path : List ℕ} {words : List (List ℕ)}
     {image : Fields} (held : HoldsImage files path image) where
@@ -51,6 +64,12 @@ module _ (Has : Counting) (before after : List ℕ) {files : Contents} {path : L
       → FileRunTells Has progress files path words before after
   file_run_tells false spelled told = told
   file_run_tells {args} true spelled told = (image, args, held, spelled, told)
+
+  pub file_pair_tells : {one other : List Arg} (progress : Bool) → AreBothSpelled (params_of image) words one other
+      → Tells Has progress (PairGoesOn image one other) before after
+      → FilePairTells Has progress files path words before after
+  file_pair_tells false spelled told = told
+  file_pair_tells {one} {other} true spelled told = (image, one, other, held, spelled, told)
 
   pub file_certificate_tells : {given : List (Option Arg)} (progress shifts : Bool)
       → AreGiven (params_of image) words given
@@ -65,6 +84,12 @@ pub run_reaches : (files : Contents) (path : List ℕ) (words : List (List ℕ))
     → FileRunTells Reaches progress files path words before after
 run_reaches files path words before after false told = told
 run_reaches files path words before after true told = (told.0, told.1, told.2, told.3, reaches told.4)
+
+pub pair_reaches : (files : Contents) (path : List ℕ) (words : List (List ℕ)) (before after : List ℕ)
+    (progress : Bool) → FilePairTells HasLines progress files path words before after
+    → FilePairTells Reaches progress files path words before after
+pair_reaches files path words before after false told = told
+pair_reaches files path words before after true told = (told.0, told.1, told.2, told.3, told.4, reaches told.5)
 
 pub certificate_reaches : (files : Contents) (path : List ℕ) (words : List (List ℕ)) (before after : List ℕ)
     (progress shifts : Bool) → FileCertificateTells HasLines progress shifts files path words before after

@@ -9,16 +9,22 @@ use Rattle.command_line.specs.declared.words.Request.TheVariants as requests
 use Rattle.commands.specs.Certificates.{shifts_seen}
 use Rattle.commands.specs.Contents.{Contents}
 use Rattle.commands.specs.Images.{HoldsImage}
-use Rattle.commands.specs.Words.{AreSpelled, AreGiven}
+use Rattle.commands.specs.Words.{AreSpelled, AreBothSpelled, AreGiven}
 use Rattle.hepurita.specs.Bases.{code_base, frame_base}
 use Rattle.image_fields.specs.Fields.{Fields}
 use Rattle.language.specs.declared.values.Arg.{Arg}
 use Rattle.progress.specs.Certified.{GoesOnKnown}
-use Rattle.progress.specs.GoingOn.{Counting, GoesOn, IsTold}
+use Rattle.progress.specs.GoingOn.{Counting, GoesOn, BothGoOn, IsTold}
 
 -- an image's run on arguments goes on after so many turns
 abbrev pub RunGoesOn : Fields → List Arg → ℕ → Type 0
 RunGoesOn image args = GoesOn (code_at code_base image) image.max_steps (loaded_at code_base frame_base image args)
+
+-- so do its runs on two lists of arguments, which have shown the same
+abbrev pub PairGoesOn : Fields → List Arg → List Arg → ℕ → Type 0
+PairGoesOn image one other =
+    BothGoOn (code_at code_base image) image.max_steps (loaded_at code_base frame_base image one)
+    (loaded_at code_base frame_base image other)
 
 -- and its certified run on what is given
 abbrev pub CertificateGoesOn : Fields → List (Option Arg) → Shifts → ℕ → Type 0
@@ -37,6 +43,13 @@ FileRunTells Has true files path words before after =
     (image : Fields) × (args : List Arg) × HoldsImage files path image × AreSpelled (params_of image) words args
     × IsTold Has (RunGoesOn image args) before after
 
+-- of its runs on the two lists that they spell
+abbrev pub FilePairTells : Counting → Bool → Contents → List ℕ → List (List ℕ) → List ℕ → List ℕ → Type 0
+FilePairTells Has false files path words before after = after ≡ before
+FilePairTells Has true files path words before after =
+    (image : Fields) × (one other : List Arg) × HoldsImage files path image
+    × AreBothSpelled (params_of image) words one other × IsTold Has (PairGoesOn image one other) before after
+
 -- and of its certified run on what they give
 abbrev pub FileCertificateTells : Counting → Bool → Bool → Contents → List ℕ → List (List ℕ) → List ℕ → List ℕ
     → Type 0
@@ -49,6 +62,8 @@ FileCertificateTells Has true shifts files path words before after =
 abbrev pub RequestTells : Counting → Request → Contents → List ℕ → List ℕ → Type 0
 RequestTells Has (requests.Run image arguments progress) files before after =
     FileRunTells Has progress files image.now (map (λ word. word.now) arguments.now) before after
+RequestTells Has (requests.Pair image arguments options) files before after =
+    FilePairTells Has options.progress files image.now (map (λ word. word.now) arguments.now) before after
 RequestTells Has (requests.Certify image arguments shifts progress) files before after =
     FileCertificateTells Has progress shifts files image.now (map (λ word. word.now) arguments.now) before after
 RequestTells Has request files before after = after ≡ before

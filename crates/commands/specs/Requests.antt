@@ -40,8 +40,8 @@ Answers (requests.Run image arguments progress) files text status =
     SaysRun files image.now (map (λ word. word.now) arguments.now) text × (status ≡ 0)
 Answers (requests.Leak image arguments) files text status =
     SaysLeak files image.now (map (λ word. word.now) arguments.now) status text
-Answers (requests.Pair image arguments explain) files text status =
-    SaysPair explain files image.now (map (λ word. word.now) arguments.now) text × (status ≡ 0)
+Answers (requests.Pair image arguments options) files text status =
+    SaysPair options.explain files image.now (map (λ word. word.now) arguments.now) text × (status ≡ 0)
 Answers (requests.Certify image arguments shifts progress) files text status =
     SaysCertificate (shifts_seen shifts) files image.now (map (λ word. word.now) arguments.now) text status
 Answers (requests.Picture image arguments) files text status =
@@ -66,7 +66,7 @@ Leaves (requests.Function file assembler header options) before after =
 Leaves (requests.Eval file arguments explain) before after = after ≡ before
 Leaves (requests.Run image arguments progress) before after = after ≡ before
 Leaves (requests.Leak image arguments) before after = after ≡ before
-Leaves (requests.Pair image arguments explain) before after = after ≡ before
+Leaves (requests.Pair image arguments options) before after = after ≡ before
 Leaves (requests.Certify image arguments shifts progress) before after = after ≡ before
 Leaves (requests.Picture image arguments) before after = after ≡ before
 Leaves (requests.List image) before after = after ≡ before
@@ -95,7 +95,7 @@ Refuses (requests.Run image arguments progress) before after fault =
     RefusesRun before image.now (map (λ word. word.now) arguments.now) fault × (after ≡ before)
 Refuses (requests.Leak image arguments) before after fault =
     RefusesLeak before image.now (map (λ word. word.now) arguments.now) fault × (after ≡ before)
-Refuses (requests.Pair image arguments explain) before after fault =
+Refuses (requests.Pair image arguments options) before after fault =
     RefusesPair before image.now (map (λ word. word.now) arguments.now) fault × (after ≡ before)
 Refuses (requests.Certify image arguments shifts progress) before after fault =
     RefusesCertificate (shifts_seen shifts) before image.now (map (λ word. word.now) arguments.now) fault

@@ -12,7 +12,7 @@ ghost use Rattle.streams.specs.Streams.{Writes, WritesPart};
 ghost use Rattle.commands.specs.Images.{HoldsImage, NoImage};
 ghost use Rattle.commands.specs.Leaks.{SaysLeak, RefusesLeak, IsFaultOfLeak, IsOutputFault};
 ghost use Rattle.commands.specs.Pairs.{SaysPair, RefusesPair, SaysList, PrintsPairing, pairing_text};
-ghost use Rattle.commands.specs.Progress.{FileRunTells};
+ghost use Rattle.commands.specs.Progress.{FileRunTells, FilePairTells};
 ghost use Rattle.commands.specs.Runs.{SaysRun, RefusesRun};
 ghost use Rattle.progress.specs.GoingOn.{Reaches, HasLines};
 ghost use Rattle.commands.specs.Stops.{status_of};
@@ -22,10 +22,11 @@ use crate::fault::{Fault, FileFault};
 use crate::files::Files;
 use crate::outcome;
 use crate::performing::{DONE, STANDARD_OUTPUT, STOPPED};
-use crate::telling::outcome_of;
+use crate::telling::{outcome_of, pairing_of};
 use crate::texts::read_fault;
 use arguments::ArgumentFault;
-use hepurita::{RunFault, pair, params, read_args};
+use command_line::PairOptions;
+use hepurita::{RunFault, params, read_args};
 use image::{Image, LONGEST_IMAGE, read};
 use language::{Args, Param};
 use listing::{LeakFault, leak, list};
@@ -140,22 +141,26 @@ pub fn list_image<'a, F: Files>(
 }
 
 /// Whether an observer sees the same of an image on two lists of arguments, as a line; where that is to be explained, the lines
-/// behind it say why not.
-pub fn pair_image<'a, F: Files>(
+/// behind it say why not. How many steps both runs have made goes to `err`, where that is asked for.
+pub fn pair_image<'a, F: Files, E: Sink>(
     alloc: Global,
     path: &'a str,
     arguments: &[&str],
-    explain: bool,
+    options: PairOptions,
     files: &F,
+    err: &mut E,
 ) -> Result<Vec<u8>, Fault<'a>>
-    ensures said { IsTrue F.TELLS → IfOk result (λ text. SaysPair explain (F.contents files.now) path.now (map (λ word. word.now) arguments.now) text.items) }
+    ensures told { IsTrue F.TELLS → IsTrue E.TELLS → OnOk result (FilePairTells HasLines options.progress (F.contents files.now) path.now (map (λ word. word.now) arguments.now) (E.taken err.old) (E.taken err.new)) }
+    ensures part { IsTrue F.TELLS → IsTrue E.TELLS → OnErr result ((E.taken err.new ≡ E.taken err.old)
+        ⊎ FilePairTells Reaches options.progress (F.contents files.now) path.now (map (λ word. word.now) arguments.now) (E.taken err.old) (E.taken err.new)) }
+    ensures said { IsTrue F.TELLS → IfOk result (λ text. SaysPair options.explain (F.contents files.now) path.now (map (λ word. word.now) arguments.now) text.items) }
     ensures refused { IsTrue F.TELLS → IfErr result (RefusesPair (F.contents files.now) path.now (map (λ word. word.now) arguments.now)) }
 {
     let image = image_of(alloc, path, files)?;
     let params = params(alloc, &image)?;
     let (first, second) = both_args(alloc, params.as_slice(), arguments)?;
-    let pairing = pair(alloc, &image, &first, &second)?;
-    let text = pairing_lines(alloc, &image, &first, &second, pairing, explain)?;
+    let pairing = pairing_of(alloc, &image, &first, &second, options.progress, err)?;
+    let text = pairing_lines(alloc, &image, &first, &second, pairing, options.explain)?;
     Ok(text)
 }
 

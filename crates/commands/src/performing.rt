@@ -186,9 +186,9 @@ fn answer<'a, F: Files, O: Sink, E: Sink>(
         Request::Pair {
             image,
             arguments,
-            explain,
+            options,
         } => {
-            let text = pair_image(alloc, image, arguments, explain, files)?;
+            let text = pair_image(alloc, image, arguments, options, files, err)?;
             print(out, text.as_slice(), DONE)
         }
         Request::Certify {

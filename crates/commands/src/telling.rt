@@ -1,46 +1,22 @@
 // Runs of an image that say on standard error how many turns they have made, where that is asked for.
 
-ghost use Rattle.std.specs.Prelude.{◌≡◌, ◌+◌, ◌^◌, ◌<◌, true, false, [], IsTrue, OnOk, OnErr};
+ghost use Rattle.std.specs.Prelude.{◌≡◌, false, [], IsTrue, OnOk, OnErr};
 ghost use Rattle.certificates.specs.Certified.{Certified};
-ghost use Rattle.commands.specs.Progress.{RunGoesOn, CertificateGoesOn, Tells};
-ghost use Rattle.hepurita.specs.Bases.{frame_base};
-ghost use Rattle.hepurita.specs.Executed.{Executed, answer_at};
-ghost use Rattle.hepurita.specs.Frames.{IsSpaceFor};
+ghost use Rattle.commands.specs.Progress.{RunGoesOn, PairGoesOn, CertificateGoesOn, Tells};
+ghost use Rattle.hepurita.specs.Executed.{Executed};
+ghost use Rattle.hepurita.specs.Paired.{Paired};
 ghost use Rattle.progress.specs.GoingOn.{Reaches, HasLines, IsTold};
-ghost use Rattle.rv_machine.specs.Paged.{paged_bytes};
 
 use certificates::{Certificate, Shifts, certify, certify_telling};
 use hepurita::{
-    FRAME_BASE, ResultSpace, RunFault, code, execute, first_fault, load, outcome, result_space,
+    RunFault, answer, code, execute, fault_of_both, first_fault, load, pair, result_space,
 };
 use image::Image;
 use language::{Arg, Args, Outcome};
-use progress::run_in_pieces;
-use rv_machine::{NullRecorder, PagedMemory, Stop};
+use progress::{compare_telling, run_in_pieces};
+use rv_machine::{NullRecorder, Pairing};
 use std::alloc::Global;
 use streams::Sink;
-
-/// What is answered where the machine stops so.
-fn answer(
-    image: &Image,
-    space: ResultSpace,
-    stop: Stop,
-    memory: &PagedMemory,
-) -> Result<Outcome, RunFault>
-    requires space { IsSpaceFor image.now space }
-    requires frame { frame_base + image.now.frame_bytes < 2 ^ 32 }
-    ensures { result ≡ answer_at frame_base image.now stop (paged_bytes memory.now) }
-{
-    match stop {
-        Stop::Ecall => Ok(outcome(image, memory, FRAME_BASE, space)),
-        Stop::Break => Err(RunFault::Stopped(Stop::Break)),
-        Stop::Illegal => Err(RunFault::Stopped(Stop::Illegal)),
-        Stop::AccessFault => Err(RunFault::Stopped(Stop::AccessFault)),
-        Stop::Misaligned => Err(RunFault::Stopped(Stop::Misaligned)),
-        Stop::Budget => Err(RunFault::Stopped(Stop::Budget)),
-        Stop::RecorderRefused => Err(RunFault::Stopped(Stop::RecorderRefused)),
-    }
-}
 
 /// Runs an image on arguments as `execute` does, and a line goes out behind each so many steps after which the run goes on.
 fn execute_telling<E: Sink>(
@@ -79,6 +55,47 @@ pub fn outcome_of<E: Sink>(
         execute_telling(alloc, image, args, err)
     } else {
         execute(alloc, image, args, &mut NullRecorder)
+    }
+}
+
+/// Compares two runs of an image as `pair` does, and a line goes out behind each so many steps of both after which both go on.
+fn pair_telling<E: Sink>(
+    alloc: Global,
+    image: &Image,
+    one: &Args,
+    other: &Args,
+    err: &mut E,
+) -> Result<Pairing, RunFault>
+    ensures paired { Paired image.now one.now other.now result }
+    ensures told { IsTrue E.TELLS → OnOk result (IsTold HasLines (PairGoesOn image.now one.now other.now) (E.taken err.old) (E.taken err.new)) }
+    ensures untold { OnErr result (err.new ≡ err.old) }
+{
+    if let Some(fault) = fault_of_both(image, one, other) {
+        return Err(RunFault::from(fault));
+    }
+    let code = code(alloc, image)?;
+    let mut one = load(alloc, image, one)?;
+    let mut other = load(alloc, image, other)?;
+    Ok(compare_telling(alloc, &code, &mut one, &mut other, err))
+}
+
+/// Compares two runs of an image, and says how many steps both have made where that is asked for.
+pub fn pairing_of<E: Sink>(
+    alloc: Global,
+    image: &Image,
+    one: &Args,
+    other: &Args,
+    progress: bool,
+    err: &mut E,
+) -> Result<Pairing, RunFault>
+    ensures paired { Paired image.now one.now other.now result }
+    ensures told { IsTrue E.TELLS → OnOk result (Tells HasLines progress (PairGoesOn image.now one.now other.now) (E.taken err.old) (E.taken err.new)) }
+    ensures untold { OnErr result (err.new ≡ err.old) }
+{
+    if progress {
+        pair_telling(alloc, image, one, other, err)
+    } else {
+        pair(alloc, image, one, other)
     }
 }
 

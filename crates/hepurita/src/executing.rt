@@ -18,7 +18,7 @@ use rv_machine::{PagedMemory, Stop, run};
 use std::alloc::Global;
 
 /// What is answered where the machine stops so.
-fn answer(
+pub fn answer(
     image: &Image,
     space: ResultSpace,
     stop: Stop,

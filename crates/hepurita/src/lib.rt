@@ -21,8 +21,8 @@ pub use building::{
     accepted_or_refused, build, build_as, build_with, each_text_is_judged, one_refusal,
 };
 pub use checking::first_fault;
-pub use comparing::pair;
-pub use executing::execute;
+pub use comparing::{fault_of_both, pair};
+pub use executing::{answer, execute};
 pub use fault::RunFault;
 pub use judging::{Accepted, judge, judge_as};
 pub use laws::{

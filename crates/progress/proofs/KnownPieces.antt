@@ -1,9 +1,9 @@
 -- A certified run in pieces: turns that lead on, and then a run.
 use Rattle.std.proofs.Common.{◌≡◌, ℕ, zero, suc, ◌+◌, ◌*◌, ◌≤◌, ◌<◌, ◌⊎◌, List, [], ◌∷◌, ◌++◌, length, length-append}
-use Rattle.std.proofs.Common.{⊎_elim, inl, inr, refl, sym, ap, ◌∙◌, subst, append_assoc, arith}
+use Rattle.std.proofs.Common.{⊎_elim, inl, inr, refl, sym, ap, ◌∙◌, subst, arith}
 use Rattle.certified_runs.proofs.KnownTurns.{few_entries}
 use Rattle.certified_runs.proofs.OneEnd.{KnownTurn-determined}
-use Rattle.certified_runs.specs.Certified.{KnownTurn, leads_on, RunEnding, same, may_differ}
+use Rattle.certified_runs.specs.Certified.{RunEnding, same, may_differ}
 use Rattle.certified_runs.specs.Certified.{CertifiedRun, spent, halts, cut, turns, KnownLeads, stays, leads}
 use Rattle.certified_runs.specs.End.{end_of}
 use Rattle.certified_runs.specs.Known.{Known}

@@ -1,3 +1,4 @@
 pub mod KnownPieces
 pub mod Pieces
+pub mod Together
 pub mod Told

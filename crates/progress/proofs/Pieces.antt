@@ -1,12 +1,12 @@
 -- A run in pieces: turns that go on, and then a run.
-use Rattle.std.proofs.Common.{◌≡◌, ◌≢◌, ℕ, zero, suc, ◌+◌, ◌≤◌, ◌<◌, ◌%◌, Bool, true, false, cond, List, ◌++◌, Option}
+use Rattle.std.proofs.Common.{◌≡◌, ◌≢◌, ℕ, ◌+◌, ◌≤◌, ◌%◌, Bool, true, false, cond, List, ◌++◌, Option}
 use Rattle.std.proofs.Common.{Some, None}
-use Rattle.std.proofs.Common.{refl, sym, ap, subst, arith}
+use Rattle.std.proofs.Common.{refl, sym, subst, arith}
 use Rattle.std.specs.Prelude.{nat_eq}
 use Rattle.rv_machine.proofs.Face.{Turn-determined, goes_on≢stops, Leads-append, Halts-after}
 use Rattle.rv_machine.specs.Bytes.{number_at}
 use Rattle.rv_machine.specs.Effects.{effect_of, load_size, store_size}
-use Rattle.rv_machine.specs.Leakage.{Leads, stays, turns, Halts, halts, Runs, halted, cut_short, spent}
+use Rattle.rv_machine.specs.Leakage.{Leads, stays, turns, halts, Runs, halted, cut_short, spent}
 use Rattle.rv_machine.specs.Machine.{State, Code, Ending, goes_on, stops, loaded, stored, ending_of}
 use Rattle.rv_machine.specs.Machine.{Turn, pc_misaligned, not_code, no_instruction, executes}
 use Rattle.rv_machine.specs.Sizes.{byte_count}

@@ -10,6 +10,12 @@ use Rattle.rv_machine.specs.declared.observation.Observation.{Observation}
 abbrev pub GoesOn : Code → ℕ → State → ℕ → Type 0
 GoesOn code budget s turns = (turns < budget) × ((seen : List Observation) × (t : State) × Leads code turns s seen t)
 
+-- so many turns are made from each of two states, which show the same and of which none stops, and more may be made
+abbrev pub BothGoOn : Code → ℕ → State → State → ℕ → Type 0
+BothGoOn code budget s s' turns =
+    (turns < budget)
+    × ((seen : List Observation) × (t t' : State) × Leads code turns s seen t × Leads code turns s' seen t')
+
 -- a run reaches so many lines: it goes on after as many times so many turns, or there is no line
 abbrev pub Reaches : (ℕ → Type 0) → ℕ → Type 0
 Reaches GoesOnAfter count = (count ≡ 0) ⊎ GoesOnAfter (count * turns_a_line)

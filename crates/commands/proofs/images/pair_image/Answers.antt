@@ -1,5 +1,5 @@
 -- Why the two runs are not compared, step by step.
-use Rattle.std.proofs.Common.{List, map, ◌∙◌, subst}
+use Rattle.std.proofs.Common.{List, map, inr, ◌∙◌, subst}
 use Rattle.std.proofs.lemmas.Result.{err_from_is_err_and}
 use Rattle.arguments.specs.Within.{AreWithin}
 use Rattle.language.specs.declared.signature.Param.{Param}
@@ -8,6 +8,8 @@ use Rattle.commands.specs.Pairs.{RefusesPair}
 use Rattle.commands.specs.Words.{AreBothSpelled, IsFaultOfWords, fault_of_both}
 use Rattle.commands.specs.declared.fault.Fault.TheVariants.{Run}
 use Rattle.commands.proofs.ImageLemmas.{handed_on, memory_on}
+use Rattle.commands.proofs.ProgressLemmas.{on_err, file_pair_tells, pair_reaches}
+use Rattle.progress.specs.GoingOn.{HasLines}
 use Rattle.commands.proofs.images.pair_image.Goals as goal
 
 pub returns-in_err-image-clause-refused : goal.returns-in_err-image-clause-refused
@@ -49,7 +51,7 @@ returns-in_err-pairing-clause-refused g c = λ tells.
       c.in_ok-first.second,
       c.in_err-pairing.field-0.0,
       spelled,
-      c.in_err-pairing.ensures,
+      c.in_err-pairing.ensures.paired,
       p.2,
     ))
 
@@ -83,6 +85,24 @@ returns-clause-said g c = λ tells.
       held = c.in_ok-image.ensures.said tells;
       spelled = subst (λ (params : List Param). AreBothSpelled params words one other) (c.as_slice.ensures.value
           ∙ c.in_ok-params.ensures.params) c.in_ok-first.ensures.found;
-      paired = c.in_ok-pairing.ensures;
+      paired = c.in_ok-pairing.ensures.paired;
       printed = c.in_ok-text.ensures;
     }
+
+pub returns-in_err-text-clause-part : goal.returns-in_err-text-clause-part
+returns-in_err-text-clause-part g c = λ tells both.
+    let words = map (λ word. word.now) c.args.arguments.now in
+    let spelled =
+    subst (λ (params : List Param). AreBothSpelled params words c.in_ok-first.first c.in_ok-first.second)
+    (c.as_slice.ensures.value ∙ c.in_ok-params.ensures.params) c.in_ok-first.ensures.found in
+    on_err c.from_residual-in_err-text.result
+    (inr (pair_reaches _ _ _ _ _ c.args.options.progress
+    (file_pair_tells HasLines _ _ (c.in_ok-image.ensures.said tells) c.args.options.progress spelled (c.in_ok-pairing.ensures.told both))))
+
+pub returns-clause-told : goal.returns-clause-told
+returns-clause-told g c = λ tells both.
+    let words = map (λ word. word.now) c.args.arguments.now in
+    let spelled =
+    subst (λ (params : List Param). AreBothSpelled params words c.in_ok-first.first c.in_ok-first.second)
+    (c.as_slice.ensures.value ∙ c.in_ok-params.ensures.params) c.in_ok-first.ensures.found in
+    file_pair_tells HasLines _ _ (c.in_ok-image.ensures.said tells) c.args.options.progress spelled (c.in_ok-pairing.ensures.told both)

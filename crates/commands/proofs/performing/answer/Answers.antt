@@ -7,7 +7,7 @@ use Rattle.commands.specs.Pairs.{SaysPair, SaysList}
 use Rattle.commands.specs.Pictures.{SaysPicture}
 use Rattle.commands.specs.Runs.{SaysRun}
 use Rattle.commands.specs.Vectors.{SaysVectors}
-use Rattle.commands.proofs.ProgressLemmas.{on_ok, on_err, run_reaches, certificate_reaches, tells_known, part_known}
+use Rattle.commands.proofs.ProgressLemmas.{on_ok, on_err, run_reaches, pair_reaches, certificate_reaches, tells_known, part_known}
 use Rattle.progress.specs.GoingOn.{Reaches, HasLines}
 use Rattle.commands.proofs.RequestLemmas.{refuses, prints, fails_to_print, fails_to_list}
 use Rattle.commands.proofs.performing.answer.Goals as goal
@@ -148,7 +148,7 @@ returns-in_ok-text-in-Run-clause-failed g c = λ files out.
 pub returns-in_ok-text-in-Pair-clause-failed : goal.returns-in_ok-text-in-Pair-clause-failed
 returns-in_ok-text-in-Pair-clause-failed g c = λ files out.
     let said =
-    subst (λ (bytes : List ℕ). SaysPair c.in-Pair.explain (g.F.Files.contents c.args.files.now)
+    subst (λ (bytes : List ℕ). SaysPair c.in-Pair.options.explain (g.F.Files.contents c.args.files.now)
     c.in-Pair.image.now (map (λ word. word.now) c.in-Pair.arguments.now) bytes) (sym c.as_slice.ensures.value)
     (c.in_ok-text-in-Pair.ensures.said files) in
     fails_to_print _ _ c.in-Pair.is _ _ _ _ c.as_slice.result.now 0 c.print-in-Pair.result (said, refl) refl
@@ -227,6 +227,22 @@ returns-in_ok-text-in-Run-clause-part g c = λ files err.
     on_err c.print-in-Run.result
     (inr (tells_known Reaches _ _ c.in-Run.is _ _ _
     (run_reaches _ _ _ _ _ c.in-Run.progress (c.in_ok-text-in-Run.ensures.told files err))))
+
+pub returns-in_err-text-in-Pair-clause-part : goal.returns-in_err-text-in-Pair-clause-part
+returns-in_err-text-in-Pair-clause-part g c = λ files err.
+    on_err c.from_residual-in_err-text-in-Pair.result
+    (part_known _ _ c.in-Pair.is _ _ _ (c.in_err-text-in-Pair.ensures.part files err))
+
+pub returns-in_ok-text-in-Pair-clause-told : goal.returns-in_ok-text-in-Pair-clause-told
+returns-in_ok-text-in-Pair-clause-told g c = λ files err.
+    on_ok c.print-in-Pair.result
+    (tells_known HasLines _ _ c.in-Pair.is _ _ _ (c.in_ok-text-in-Pair.ensures.told files err))
+
+pub returns-in_ok-text-in-Pair-clause-part : goal.returns-in_ok-text-in-Pair-clause-part
+returns-in_ok-text-in-Pair-clause-part g c = λ files err.
+    on_err c.print-in-Pair.result
+    (inr (tells_known Reaches _ _ c.in-Pair.is _ _ _
+    (pair_reaches _ _ _ _ _ c.in-Pair.options.progress (c.in_ok-text-in-Pair.ensures.told files err))))
 
 pub returns-in_err-text-in-Certify-clause-part : goal.returns-in_err-text-in-Certify-clause-part
 returns-in_err-text-in-Certify-clause-part g c = λ files err.

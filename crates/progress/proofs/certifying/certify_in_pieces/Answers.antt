@@ -1,11 +1,9 @@
 -- Another piece, or the last one.
-use Rattle.std.proofs.Common.{◌≡◌, ℕ, suc, ◌+◌, ◌*◌, ◌≤◌, ◌<◌, List, [], ◌++◌, length, length-append, inl, inr, refl}
-use Rattle.std.proofs.Common.{sym, ap}
+use Rattle.std.proofs.Common.{◌≡◌, ℕ, ◌+◌, ◌*◌, ◌≤◌, [], ◌++◌, length, length-append, inl, inr, refl}
+use Rattle.std.proofs.Common.{ap}
 use Rattle.std.proofs.Common.{◌∙◌, subst, arith}
 use Rattle.certified_runs.specs.Certified.{KnownLeads, stays}
-use Rattle.certified_runs.specs.Known.{Known}
 use Rattle.certified_runs.specs.Parts.{known_of}
-use Rattle.certified_runs.specs.declared.certifying.CertifiedEnd.{CertifiedEnd}
 use Rattle.progress.proofs.KnownPieces.{leads_append, run_after, stretched, few_of_leads, few_at_end, end_of_both}
 use Rattle.progress.proofs.KnownPieces.{lines_of_known}
 use Rattle.progress.proofs.Told.{none_yet, all_told}

@@ -1,12 +1,11 @@
 -- Another piece, or the last one.
-use Rattle.std.proofs.Common.{◌≡◌, ◌≢◌, ℕ, suc, ◌+◌, ◌*◌, ◌≤◌, ◌<◌, Bool, List, [], ◌++◌, append-nil, inl, inr, refl}
-use Rattle.std.proofs.Common.{sym, ap, ◌∙◌, subst}
+use Rattle.std.proofs.Common.{◌≡◌, ℕ, ◌+◌, ◌*◌, ◌≤◌, [], ◌++◌, inl, inr}
+use Rattle.std.proofs.Common.{subst}
 use Rattle.std.proofs.Common.{arith}
 use Rattle.progress.proofs.Pieces.{all_made, run_after, stop_after, not_on}
 use Rattle.progress.proofs.Told.{none_yet, all_told, lines_of_run}
 use Rattle.rv_machine.proofs.Face.{Leads-append}
-use Rattle.progress.specs.GoingOn.{GoesOn, HasLines}
-use Rattle.progress.specs.Lines.{turns_a_line, WentOut, AreTold}
+use Rattle.progress.specs.Lines.{turns_a_line}
 use Rattle.rv_machine.specs.Harts.{state_of}
 use Rattle.rv_machine.specs.Leakage.{Leads, stays}
 use Rattle.rv_machine.specs.Regions.{code_of}

@@ -1,5 +1,5 @@
 -- So many pieces were made, none of which stopped, and a line went out behind each.
-use Rattle.std.proofs.Common.{◌≡◌, ℕ, ◌+◌, ◌*◌, ◌<◌, ◌⊎◌, List, IsTrue}
+use Rattle.std.proofs.Common.{◌≡◌, ◌+◌, ◌*◌, ◌<◌, ◌⊎◌, List, IsTrue}
 use Rattle.progress.specs.Lines.{turns_a_line, WentOut}
 use Rattle.rv_machine.specs.Harts.{state_of}
 use Rattle.rv_machine.specs.Leakage.{Leads}

@@ -1,5 +1,5 @@
 -- The next line: it goes out or a call fails, or one failed before.
-use Rattle.std.proofs.Common.{◌≡◌, ℕ, ◌+◌, ◌*◌, suc, Bool, true, false, List, ◌++◌, Result, Ok, Err, OnOk, OnErr, sym}
+use Rattle.std.proofs.Common.{◌≡◌, ℕ, ◌+◌, ◌*◌, suc, Bool, true, List, ◌++◌, Result, Ok, Err, OnOk, OnErr, sym}
 use Rattle.std.proofs.Common.{subst}
 use Rattle.std.proofs.Common.{arith}
 use Rattle.std.specs.Result.{is_ok}
