@@ -29,7 +29,7 @@ use Rattle.expression_code.proofs.Arithmetic.{lower_fits, near_address, chosen, 
 use Rattle.expression_code.proofs.Moves.{take, move_runs, written, unwritten, loading}
 use Rattle.expression_code.proofs.NumberCode.{known, known_word, left_known, NearElement, near_known, number_means}
 use Rattle.expression_code.proofs.NumberCode.{Numbered, right_known, row_quiet, Turned, turned_quiet, turned_same}
-use Rattle.expression_code.proofs.Operands.{Outcome, took, fetch_runs, operand_room, keep_runs, worked, operator_runs}
+use Rattle.expression_code.proofs.Operands.{Outcome, took, fetch_runs, operand_room, keep_runs, worked, emitted_runs}
 use Rattle.expression_code.proofs.OperatorCode.{constant_plain, constant_after, move_plain, move_made, convert_plain}
 use Rattle.expression_code.proofs.OperatorCode.{convert_made, prefix_plain, prefix_made, rotate_plain, rotate_made}
 use Rattle.expression_code.proofs.OperatorCode.{choice_plain, choice_made, truth_fits}
@@ -643,20 +643,24 @@ module _ (z : Setting) (free : ℕ) (aligned : free % 4 ≡ 0) (above : base_of 
       (placed more place alone (into_runs more place _ (own_target count place few) alone))
       (cheaper (omega (arith, height left, height right))
       (made place e d fetched
-      (operator_runs z (works_at count place d) (none_low place d target) pair
+      (emitted_runs z (works_at count place d) (none_low place d target) pair
       (found_free place left 29 (omega arith) (omega arith))
       (found_free (place + 1) right 30 (omega arith) (omega arith))
       (operand_apart count place (place + 1) 29 30 l few (λ f. omega (arith, f)) (omega arith) (omega arith)
       (λ f. omega (arith, f)) (found_is place left 29))
       (own place d target) (next_works count place d 30 (omega arith)) source width
-      (λ env. value_in env.variables left) (λ env. value_in env.variables right) operator)
-      (λ env s u ready done. record {
-        held = done.held;
-        left = done.fetched 0 (omega arith);
-        right = done.fetched 1 (omega arith);
-        left_fits = value_word z.code.profile z.declared left one env.variables ready.fits has;
-        right_fits = value_word z.code.profile z.declared right other env.variables ready.fits more;
-      })))
+      (λ env. value_in env.variables left) (λ env. value_in env.variables right) z.allocation operator makes)
+      (λ env s u ready done. (
+        record {
+          held = done.held;
+          left = done.fetched 0 (omega arith);
+          right = done.fetched 1 (omega arith);
+          left_fits = value_word z.code.profile z.declared left one env.variables ready.fits has;
+          right_fits = value_word z.code.profile z.declared right other env.variables ready.fits more;
+        },
+        value_fits (types_of z.code.profile z.declared) env.variables ready.fits has,
+        value_fits (types_of z.code.profile z.declared) env.variables ready.fits more,
+      ))))
   into_runs (of_rotation {width = width} {operand = operand} {amount = amount} has numeric low high same) place d
       target room =
       let r = found place operand 29 in

@@ -1,7 +1,8 @@
 -- Temporaries: how an operator's are fetched, worked on and kept.
 use Rattle.std.proofs.Common.{◌≡◌, ◌≢◌, ℕ, ◌+◌, ◌-◌, ◌*◌, ◌/◌, ◌%◌, ◌^◌, ◌<◌, ◌≤◌, ◌==◌, Bool, true, false, cond}
 use Rattle.std.proofs.Common.{nat_lt, List, [], ◌∷◌, length, Some, refl, sym, ap, ap₂, ◌∙◌, subst, arith, ne_eqb}
-use Rattle.expression_code.proofs.Below.{BinaryOperator, cheaper, cut_code, divide_value, divided, DivideOperation}
+use Rattle.expression_code.proofs.Below.{Allocation, along, BinaryOperator, cheaper, cut_code, divide_value, divided}
+use Rattle.expression_code.proofs.Below.{DivideOperation, emitted_operator, IsWithinKind, Profile, WordType}
 use Rattle.expression_code.proofs.Below.{fetch_code, gives, idle, InRegister, InSlot, Instr, keep_code, Location}
 use Rattle.expression_code.proofs.Below.{lt-ltb, ltb-false, marks_of, multiply_value, none, number_at, number_or_zero}
 use Rattle.expression_code.proofs.Below.{only_computes, operand, operated, operator_code, Place, quiet, register_left}
@@ -19,7 +20,10 @@ use Rattle.expression_code.proofs.WorkRegisters.{IsFree, ArePair, at_operand, no
 use Rattle.expression_code.proofs.Moves.{take, put, Moved, move_runs, written, unwritten, computing_within}
 use Rattle.expression_code.proofs.OperatorCode.{is_plain, cut_plain, operator_plain, operator_made, product_made}
 use Rattle.expression_code.proofs.TermLengths.{cut_length, operator_length}
+use Rattle.expression_code.proofs.Truths.{emitted_marks, emitted_same}
 use Rattle.expression_code.proofs.Values.{Kept, Leaves, Holds, kept_by, Wrote, wrote_kept, wrote_there}
+use Rattle.language.specs.ExprTyping.{operation_of}
+use Rattle.language.specs.WellTyped.{Makes}
 
 -- a temporary is in a register, and only a spare register has changed
 pub record Fetched (z : Setting) (r spare v : ℕ) (s t : State) : Type 0 where
@@ -212,3 +216,18 @@ module _ (z : Setting) (works : ℕ → Bool) (none_low : (q : ℕ) → q < 5 �
           (multiplying z pair.one first second a b Mul)
           (λ env regs left right is. product_made pair width regs (a env) (b env) is))
       operator_runs operator = plainly operator refl
+
+      -- and that of the operator whose code is emitted in its place
+      pub emitted_runs : (allocation : Allocation) {profile : Profile} {one other whole : WordType}
+          (operator : BinaryOperator) → Makes profile (operation_of operator) one other whole
+          → Runs z 4 (λ env. marks_of source operator (a env) (b env))
+          (operator_code d t l r (emitted_operator allocation operator) width)
+          (λ env s. Operands a b env s × IsWithinKind one.kind (a env) × IsWithinKind other.kind (b env))
+          (Operated operator)
+      emitted_runs allocation operator makes =
+          along (λ env. emitted_marks source (a env) (b env) allocation operator)
+          (weaken
+          (λ env s fine given. given.0)
+          (λ env s u fine given done. subst (λ v. Outcome z works d v s u)
+          (emitted_same width (a env) (b env) given.1 given.2 allocation operator makes) done)
+          (operator_runs (emitted_operator allocation operator)))

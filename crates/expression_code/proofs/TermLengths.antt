@@ -4,7 +4,7 @@ use Rattle.std.proofs.Common.{◌≡◌, ℕ, ◌+◌, ◌*◌, ◌%◌, ◌<◌
 use Rattle.std.proofs.lemmas.Option.{slice_get_within}
 use Rattle.expression_code.proofs.Below.{address_code, Allocation, around_code, binary, BinaryOperator, bits, code_by}
 use Rattle.expression_code.proofs.Below.{constant_code, convert, convert_code, copy_code, cut_code, element}
-use Rattle.expression_code.proofs.Below.{element_code, expr_code, fetch_code, Finish, finish_code, FlatVariable}
+use Rattle.expression_code.proofs.Below.{element_code, emitted_operator, expr_code, fetch_code, Finish, finish_code, FlatVariable}
 use Rattle.expression_code.proofs.Below.{HasType, height_of, InRegister, InSlot, Instr, into_code, IsAmong}
 use Rattle.expression_code.proofs.Below.{is_at_home, keep_code, Kind, kind_at, left_row, load_code, Location}
 use Rattle.expression_code.proofs.Below.{move_code, narrow_code, narrowed_in, near_code, near_element, number_code}
@@ -167,7 +167,7 @@ module _ (declared : List FlatVariable) (a : Allocation) (free : ℕ) where
       ++ placed_code declared a free (place + 1) other (into_code declared a free (own (place + 1)) (place + 1) other)
       ++ fetch_code (operand a free place one) 29 ++ fetch_code (operand a free (place + 1) other) 30
       ++ operator_code d (working_register a.count (place + 1) 30) (register_of (operand a free place one) 29)
-      (register_of (operand a free (place + 1) other) 30) operator width
+      (register_of (operand a free (place + 1) other) 30) (emitted_operator a operator) width
 
   abbrev pub picked_code : ℕ → ℕ → ℕ → TermTree → List Instr
   picked_code d place x index =

@@ -125,6 +125,10 @@ module _ (place : Place) where
       ∷ instr.Immediate Sltiu 5 5 1 ∷ []
   at_least = refl
 
+  -- bools are 0 or 1, so both are true where their AND is 1
+  bits_taken : code with_numbers (binary place Both W32 a b) ≡ instr.Register register.And 5 13 14 ∷ []
+  bits_taken = refl
+
   -- a product shows its factors, which stay in registers
   product : code with_numbers (binary place Multiply W32 a (n 5)) ≡ instr.Immediate Addi 6 0 5
       ∷ instr.Multiply Mul 5 13 6 ∷ []

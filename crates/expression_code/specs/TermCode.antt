@@ -192,6 +192,16 @@ abbrev pub operator_code : ℕ → ℕ → ℕ → ℕ → BinaryOperator → Wi
 operator_code d t l r operator w = step_code d t l r (row_of operator).step
     ++ finish_code d w (row_of operator).finish
 
+-- of words that are 0 or 1 the operator of their bits that makes the same
+abbrev pub of_bits : BinaryOperator → BinaryOperator
+of_bits operators.Either = operators.BitOr
+of_bits operators.Both = operators.BitAnd
+of_bits operator = operator
+
+-- the operator whose code is emitted: bools are 0 or 1, so better code takes their bits as they are
+abbrev pub emitted_operator : Allocation → BinaryOperator → BinaryOperator
+emitted_operator allocation operator = if allocation.immediates then of_bits operator else operator
+
 -- Each operator between an operand and a number in the instruction is a row as well.
 
 abbrev pub number_step_code : ℕ → ℕ → NumberStep → Instr
@@ -337,7 +347,8 @@ module _ (declared : List FlatVariable) (allocation : Allocation) (free : ℕ) w
       ++ placed_code (place + 1) right (into_code (own_register (place + 1)) (place + 1) right)
       ++ fetch_operand place left first_spare ++ fetch_operand (place + 1) right second_spare
       ++ operator_code d (next_register place)
-      (operand_register place left first_spare) (operand_register (place + 1) right second_spare) operator width))
+      (operand_register place left first_spare) (operand_register (place + 1) right second_spare)
+      (emitted_operator allocation operator) width))
   into_code d place (rotate width e amount) =
       placed_code place e (into_code (own_register place) place e) ++ fetch_operand place e first_spare
       ++ rotate_code d (operand_register place e first_spare) width amount

@@ -12,6 +12,7 @@ use crate::layout::Layout;
 use crate::locations::{FIRST_SPARE, SECOND_SPARE, THIRD_SPARE, copy, fetch, keep};
 use crate::numbers::{left_row, right_row};
 use crate::operators::{ChoiceOperands, Operands};
+use crate::truths::emitted;
 use crate::{emit, operators};
 use inline::Term;
 use rv_code::{Instr, Reg};
@@ -146,7 +147,7 @@ pub fn into(
                 left,
                 right,
             };
-            operators::operator(code, &registers, *operator, *width)
+            operators::operator(code, &registers, emitted(layout, *operator), *width)
         }
         Term::Rotate(width, operand, amount) => {
             let register = evaluated(layout, code, place, operand)?;

@@ -12,6 +12,7 @@ mod layout;
 mod locations;
 mod numbers;
 mod operators;
+mod truths;
 
 pub use allocation::{Allocation, REGISTER_COUNT};
 pub use expressions::{expression, height, into};
