@@ -25,7 +25,7 @@ pub use Rattle.expression_code.specs.TermCode.{narrow_code, narrowed_in, near_co
 pub use Rattle.expression_code.specs.TermCode.{number_code, of_truths, operand, operator_code, placed_code}
 pub use Rattle.expression_code.specs.TermCode.{prefix_code, raise_code, rotate_code, row_of, scale_code, Step}
 pub use Rattle.expression_code.specs.TermCode.{step_code, store_code, turned, upper_part}
-pub use Rattle.expression_code.specs.TermCode.{emitted_operator, kind_at, of_bits}
+pub use Rattle.expression_code.specs.TermCode.{emitted_operator, kind_at, number_step_code, of_bits}
 pub use Rattle.expression_code.specs.declared.locations.Location.{Location}
 pub use Rattle.expression_code.specs.declared.locations.Location.TheVariants.{InRegister, InSlot}
 pub use Rattle.inline.proofs.Fitting.{value_fits}

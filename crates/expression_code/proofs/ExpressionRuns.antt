@@ -378,7 +378,7 @@ module _ (z : Setting) (free : ℕ) (aligned : free % 4 ≡ 0) (above : base_of 
         → Typed e one → HasSlot place
         → Runs z (16 * term_nodes e) (steps_of e) (expr_code z.declared z.allocation free place e) (Ready z)
         (Valued z e free place)
-        → Runs z (16 * term_nodes e + 6) (steps_of whole) (one_code z.declared z.allocation free d place e w row)
+        → Runs z (16 * term_nodes e + 7) (steps_of whole) (one_code z.declared z.allocation free d place e w row)
         (Ready z) (ValuedIn z whole free d place)
     with_number {e = e} operator w n fits row is same has room runs =
         let r = found place e 29 in
@@ -399,7 +399,7 @@ module _ (z : Setting) (free : ℕ) (aligned : free % 4 ≡ 0) (above : base_of 
       on_right : (row : NumberRow) → Numbered operator right row
           → Runs z (16 * term_nodes left) (steps_of left) (expr_code z.declared z.allocation free place left)
           (Ready z) (Valued z left free place)
-          → Runs z (16 * term_nodes left + 6) (steps_of whole)
+          → Runs z (16 * term_nodes left + 7) (steps_of whole)
           (one_code z.declared z.allocation free d place left width row) (Ready z)
           (ValuedIn z whole free d place)
       on_right row numbered runs =
@@ -417,7 +417,7 @@ module _ (z : Setting) (free : ℕ) (aligned : free % 4 ≡ 0) (above : base_of 
       on_left : (row : NumberRow) → Turned operator left row
           → Runs z (16 * term_nodes right) (steps_of right) (expr_code z.declared z.allocation free place right)
           (Ready z) (Valued z right free place)
-          → Runs z (16 * term_nodes right + 6) (steps_of whole)
+          → Runs z (16 * term_nodes right + 7) (steps_of whole)
           (one_code z.declared z.allocation free d place right width row) (Ready z)
           (ValuedIn z whole free d place)
       on_left row turned runs =

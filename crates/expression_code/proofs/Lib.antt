@@ -11,7 +11,7 @@ pub mod Scratch
 pub mod Operands
 pub mod TermLengths
 pub mod NumberCode
-pub mod Truths
+pub mod BoolCode
 pub mod Elements
 pub mod WorkedCode
 pub mod ExpressionRuns

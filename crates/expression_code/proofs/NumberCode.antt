@@ -2,15 +2,18 @@
 -- target, which is what the operator means.
 use Rattle.std.proofs.Common.{◌≡◌, ℕ, ◌+◌, ◌-◌, ◌*◌, ◌/◌, ◌%◌, ◌^◌, ◌<◌, ◌==◌, Bool, true, false, cond, not, nat_lt}
 use Rattle.std.proofs.Common.{nat_le, List, [], Option, None, Some, bit_and, bit_or, bit_xor, refl, sym, ap, ◌∙◌}
-use Rattle.std.proofs.Common.{arith, subst}
-use Rattle.std.proofs.lemmas.Nat.{and_comm, or_comm, xor_comm, mod_below}
+use Rattle.std.proofs.Common.{ap₂, arith, subst}
+use Rattle.std.proofs.Math.Nat.{mod-le, mul-div_cancel, mul-mod_left}
+use Rattle.std.proofs.lemmas.Nat.{and_comm, or_comm, xor_comm, mod_below, mod-pow-add, leading_top, pow_pos}
+use Rattle.std.specs.Int.Count.{count_leading_zeros}
 use Rattle.std.proofs.lemmas.Option.{cond_some, none-some, same_Some}
 use Rattle.expression_code.proofs.Arithmetic.{lower_fits}
 use Rattle.expression_code.proofs.Below.{Allocation, BinaryOperator, bits, element_bytes, eqb-true, Finish}
 use Rattle.expression_code.proofs.Below.{finish_code, FlatVariable, held, HasType, is_short, kind_at, known_row}
 use Rattle.expression_code.proofs.Below.{left_row, lt-ltb, ltb-true, marks_of, nat_tests, near_element, near_offset}
 use Rattle.expression_code.proofs.Below.{number_code, number_of, number_row, NumberRow, of_number, of_truth}
-use Rattle.expression_code.proofs.Below.{only_computes, operated, path_in, Place, registers_after, right_row}
+use Rattle.expression_code.proofs.Below.{and_mask, only_computes, operated, path_in, Place, registers_after}
+use Rattle.expression_code.proofs.Below.{right_row, shift_value}
 use Rattle.expression_code.proofs.Below.{sign_extended, sum_of, TermTree, turned_operator, Types, value_in, Values}
 use Rattle.expression_code.proofs.Below.{variable_offset, Width, word_of}
 use Rattle.expression_code.proofs.OperatorCode.{cut_composed, cut_plain, cut_value, cut_whole, d0, d32, dd, q0, q32}
@@ -19,7 +22,7 @@ use Rattle.expression_code.proofs.Values.{kind_fits}
 use Rattle.expression_code.proofs.WorkRegisters.{ArePair, IsFree}
 use Rattle.expression_code.specs.declared.numbers.Finish.TheVariants.{Alone, GivesZero, GivesMore, Narrowed}
 use Rattle.expression_code.specs.declared.numbers.NumberStep.TheVariants.{WithImmediate}
-use Rattle.expression_code.specs.NumberRows.{above_zero, shifted}
+use Rattle.expression_code.specs.NumberRows.{above_zero, low_bits, masked, shifted}
 use Rattle.inline.specs.Flat.{number, truth}
 use Rattle.language.specs.declared.tree.BinaryOperator.TheVariants.{Equal, Unequal, Less, LessOrEqual, Greater}
 use Rattle.language.specs.declared.tree.BinaryOperator.TheVariants.{GreaterOrEqual, BitOr, BitXor, BitAnd, ShiftLeft}
@@ -81,6 +84,28 @@ less_by : (w : Width) (a n : ℕ) → n < 2 ^ 32
     → (a + negated W32 n) % 2 ^ bits w ≡ (a + (2 ^ bits w - n % 2 ^ bits w)) % 2 ^ bits w
 less_by W8 a n fits = omega (arith, fits)
 less_by width a n fits = omega (arith, fits)
+
+-- a word that is moved up and back keeps its low bits
+moved_back : (v k others : ℕ) → k + others ≡ 32 → v * 2 ^ others % 2 ^ 32 / 2 ^ others ≡ v % 2 ^ k
+moved_back v k others is =
+    let up = v * 2 ^ others in
+    let alone : v % 2 ^ k * 2 ^ others + 0 ≡ v % 2 ^ k * 2 ^ others = omega arith in
+    let low : up % 2 ^ 32 ≡ v % 2 ^ k * 2 ^ others =
+    ap (λ n. up % 2 ^ n) (sym is)
+    ∙ (mod-pow-add up k others
+    ∙ (ap₂ (λ x y. x % 2 ^ k * 2 ^ others + y) (mul-div_cancel v (pow_pos others)) (mul-mod_left v (2 ^ others))
+    ∙ alone)) in
+    ap (λ n. n / 2 ^ others) low ∙ mul-div_cancel (v % 2 ^ k) (pow_pos others)
+
+-- which are those of a number that is all ones
+low_kept : (v n k others : ℕ) → v < 2 ^ 32 → k + others ≡ 32 → others < 32 → n + 1 ≡ 2 ^ k
+    → shift_value Srli (shift_value Slli v (others % 32)) (others % 32) ≡ bit_and v n
+low_kept v n k others fits is less ones =
+    let amount : others % 32 % 32 ≡ others = omega (arith, less) in
+    let number : n ≡ 2 ^ k - 1 = omega (arith, ones) in
+    let small : v % 2 ^ k % 2 ^ 32 ≡ v % 2 ^ k = omega (arith, fits, mod-le v (2 ^ k)) in
+    ap (λ x. v * 2 ^ x % 2 ^ 32 / 2 ^ x % 2 ^ 32) amount
+    ∙ (ap (λ x. x % 2 ^ 32) (moved_back v k others is) ∙ (small ∙ sym (ap (bit_and v) number ∙ and_mask v k)))
 
 -- Expressions that are known.
 
@@ -243,6 +268,34 @@ module _ {d t : ℕ} (pair : ArePair d t) (works : ℕ → Bool) (wd : works d �
         value = λ w regs below. simp (dd pair, d0 pair, q0 pair source) (same (regs r) w);
       })
 
+  low_means : (n : ℕ) → n < 2 ^ 32 → 0 < n → (row : NumberRow) → low_bits n ≡ Some row → Means BitAnd n row
+  low_means n fits some row is =
+      let others = count_leading_zeros 32 n in
+      let top = leading_top 32 n some fits in
+      let both = cond_some (n + 1 == 2 ^ (32 - others)) _ row is in
+      subst (Means BitAnd n) both.1
+      (record {
+        plain = λ w. simp (
+          wd,
+          d32 pair,
+          q32 pair source,
+          lt-ltb (others % 32) 32 (mod_below others 32 (omega arith)),
+        );
+        value = λ w regs below.
+            simp (dd pair, d0 pair, q0 pair source)
+            (low_kept (regs r) n (32 - others) others below (omega (arith, top.1)) (omega (arith, top.1))
+            (eqb-true (n + 1) (2 ^ (32 - others)) both.0));
+      })
+
+  bits_mean : (n : ℕ) → n < 2 ^ 32 → (row : NumberRow) → masked n ≡ Some row → Means BitAnd n row
+  bits_mean n fits row is = by_test (is_short n) refl is
+    where
+      by_test : (b : Bool) → is_short n ≡ b → cond b (held Andi Alone n) (low_bits n) ≡ Some row → Means BitAnd n row
+      by_test true short same =
+          immediate BitAnd n Andi Alone n row same (λ w regs short below.
+          simp (dd pair, d0 pair, q0 pair source) (ap (bit_and (regs r)) short))
+      by_test false long same = low_means n fits (grind (arith, nat_tests, long)) row same
+
   pub number_means : (operator : BinaryOperator) (n : ℕ) → n < 2 ^ 32 → (row : NumberRow)
       → number_row operator n ≡ Some row → Means operator n row
   number_means Equal n fits row is =
@@ -281,9 +334,7 @@ module _ {d t : ℕ} (pair : ArePair d t) (works : ℕ → Bool) (wd : works d �
   number_means BitXor n fits row is =
       immediate BitXor n Xori Alone n row is
       (λ w regs short below. simp (dd pair, d0 pair, q0 pair source) (ap (bit_xor (regs r)) short))
-  number_means BitAnd n fits row is =
-      immediate BitAnd n Andi Alone n row is
-      (λ w regs short below. simp (dd pair, d0 pair, q0 pair source) (ap (bit_and (regs r)) short))
+  number_means BitAnd n fits row is = bits_mean n fits row is
   number_means Add n fits row is =
       immediate Add n Addi Narrowed n row is (λ w regs short below.
       cut_composed pair w _ ∙ simp (dd pair, d0 pair, q0 pair source) (ap (λ x. cut_value w (sum_of (regs r) x)) short

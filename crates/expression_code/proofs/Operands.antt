@@ -20,7 +20,7 @@ use Rattle.expression_code.proofs.WorkRegisters.{IsFree, ArePair, at_operand, no
 use Rattle.expression_code.proofs.Moves.{take, put, Moved, move_runs, written, unwritten, computing_within}
 use Rattle.expression_code.proofs.OperatorCode.{is_plain, cut_plain, operator_plain, operator_made, product_made}
 use Rattle.expression_code.proofs.TermLengths.{cut_length, operator_length}
-use Rattle.expression_code.proofs.Truths.{emitted_marks, emitted_same}
+use Rattle.expression_code.proofs.BoolCode.{emitted_marks, emitted_same}
 use Rattle.expression_code.proofs.Values.{Kept, Leaves, Holds, kept_by, Wrote, wrote_kept, wrote_there}
 use Rattle.language.specs.ExprTyping.{operation_of}
 use Rattle.language.specs.WellTyped.{Makes}

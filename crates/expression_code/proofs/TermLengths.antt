@@ -8,7 +8,7 @@ use Rattle.expression_code.proofs.Below.{element_code, emitted_operator, expr_co
 use Rattle.expression_code.proofs.Below.{HasType, height_of, InRegister, InSlot, Instr, into_code, IsAmong}
 use Rattle.expression_code.proofs.Below.{is_at_home, keep_code, Kind, kind_at, left_row, load_code, Location}
 use Rattle.expression_code.proofs.Below.{move_code, narrow_code, narrowed_in, near_code, near_element, number_code}
-use Rattle.expression_code.proofs.Below.{NumberRow, of_binary, of_conversion, of_element, of_number, of_prefix}
+use Rattle.expression_code.proofs.Below.{NumberRow, NumberStep, number_step_code, of_binary, of_conversion, of_element, of_number, of_prefix}
 use Rattle.expression_code.proofs.Below.{of_rotation, of_selection, of_truth, of_truths, of_variable, operand}
 use Rattle.expression_code.proofs.Below.{operator_code, placed_code, prefix, prefix_code, PrefixOperator, Profile}
 use Rattle.expression_code.proofs.Below.{raise_code, register_of, right_row, rotate, rotate_code, row_of, scale_code}
@@ -17,6 +17,7 @@ use Rattle.expression_code.proofs.Below.{types_of, variable, variable_location, 
 use Rattle.expression_code.proofs.Below.{working_register}
 use Rattle.language.specs.declared.signature.Kind.TheVariants.{Boolean}
 use Rattle.expression_code.specs.declared.numbers.Finish.TheVariants.{Narrowed}
+use Rattle.expression_code.specs.declared.numbers.NumberStep.TheVariants.{KeepsLow}
 use Rattle.language.specs.declared.tree.BinaryOperator.TheVariants.{Either, Both, Multiply}
 use Rattle.language.specs.declared.tree.PrefixOperator.TheVariants as prefixes
 use Rattle.word.specs.declared.width.Width.TheVariants.{W8}
@@ -119,8 +120,13 @@ row_length d t l r w o = omega (arith, finish_length d w (row_of o).finish)
 pub operator_length : (d t l r : ℕ) (o : BinaryOperator) (w : Width) → length (operator_code d t l r o w) ≤ 4
 operator_length d t l r o w = simp length-append (row_length d t l r w o)
 
-pub number_length : (d r : ℕ) (w : Width) (row : NumberRow) → length (number_code d r w row) ≤ 3
-number_length d r w row = omega (arith, finish_length d w row.finish)
+number_step_length : (d r : ℕ) (step : NumberStep) → length (number_step_code d r step) ≤ 2
+number_step_length d r (KeepsLow others) = omega arith
+number_step_length d r step = omega arith
+
+pub number_length : (d r : ℕ) (w : Width) (row : NumberRow) → length (number_code d r w row) ≤ 4
+number_length d r w row = simp length-append (omega (arith, number_step_length d r row.step,
+    finish_length d w row.finish))
 
 pub prefix_length : (d r : ℕ) (o : PrefixOperator) (w : Width) → length (prefix_code d r o w) ≤ 4
 prefix_length d r prefixes.Not w = omega arith

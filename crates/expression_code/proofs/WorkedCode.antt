@@ -7,7 +7,7 @@ use Rattle.expression_code.specs.Allocation.{plain}
 use Rattle.inline.specs.Flat.{array_as, number}
 use Rattle.language.specs.declared.signature.Kind.TheVariants.{Uint8, Uint32}
 use Rattle.language.specs.declared.signature.Label.TheVariants.{Public}
-use Rattle.language.specs.declared.tree.BinaryOperator.TheVariants.{Add, Both, LessOrEqual, Multiply, ShiftLeft}
+use Rattle.language.specs.declared.tree.BinaryOperator.TheVariants.{Add, BitAnd, Both, LessOrEqual, Multiply, ShiftLeft}
 use Rattle.language.specs.declared.tree.BinaryOperator.TheVariants.{Subtract, Unequal}
 use Rattle.rv_code.specs.declared.instructions.Instr.TheVariants as instr
 use Rattle.rv_code.specs.declared.operations.ImmediateOperation.TheVariants.{Addi, Andi, Sltiu}
@@ -124,6 +124,20 @@ module _ (place : Place) where
   at_least : code with_numbers (binary place LessOrEqual W32 (n 7) a) ≡ instr.Immediate Sltiu 5 13 7
       ∷ instr.Immediate Sltiu 5 5 1 ∷ []
   at_least = refl
+
+  -- the low 13 bits, and the low 31
+  low_bits : code with_numbers (binary place BitAnd W32 a (n 8191)) ≡ instr.Shift Slli 5 13 19
+      ∷ instr.Shift Srli 5 5 19 ∷ []
+  low_bits = refl
+
+  low_bits_turned : code with_numbers (binary place BitAnd W32 (n 2147483647) a) ≡ instr.Shift Slli 5 13 1
+      ∷ instr.Shift Srli 5 5 1 ∷ []
+  low_bits_turned = refl
+
+  -- other bits than the low ones are in a register
+  high_bits : code with_numbers (binary place BitAnd W32 a (n 8190)) ≡ instr.Upper Lui 6 2
+      ∷ instr.Immediate Addi 6 6 4094 ∷ instr.Register register.And 5 13 6 ∷ []
+  high_bits = refl
 
   -- bools are 0 or 1, so both are true where their AND is 1
   bits_taken : code with_numbers (binary place Both W32 a b) ≡ instr.Register register.And 5 13 14 ∷ []

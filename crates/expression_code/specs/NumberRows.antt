@@ -1,12 +1,13 @@
--- Operators with a number in the instruction: where the other operand is a number that its instruction holds, an
--- operator is a row too, of what is made of a register.
+-- Operators with a number in the instruction: where the other operand is a number that its instruction holds, or one
+-- that shifts make up for, an operator is a row too, of what is made of a register.
 use Rattle.std.specs.Prelude.{ℕ, ◌+◌, ◌-◌, ◌%◌, ◌^◌, ◌==◌, Bool, ◌&&◌, ◌||◌, Option, None, Some, nat_lt}
 use Rattle.std.specs.Prelude.{if◌then◌else◌}
+use Rattle.std.specs.Int.Count.{count_leading_zeros}
 use Rattle.expression_code.specs.Allocation.{Allocation}
 use Rattle.expression_code.specs.declared.numbers.Finish.TheVariants as finish
 use Rattle.expression_code.specs.declared.numbers.Finish.{Finish}
 use Rattle.expression_code.specs.declared.numbers.NumberRow.{NumberRow}
-use Rattle.expression_code.specs.declared.numbers.NumberStep.TheVariants.{WithImmediate, ByAmount, AboveZero}
+use Rattle.expression_code.specs.declared.numbers.NumberStep.TheVariants.{WithImmediate, ByAmount, AboveZero, KeepsLow}
 use Rattle.inline.specs.Flat.{TermTree, number, truth}
 use Rattle.language.specs.declared.tree.BinaryOperator.{BinaryOperator}
 use Rattle.language.specs.declared.tree.BinaryOperator.TheVariants as operators
@@ -40,6 +41,15 @@ shifted operation n = record { finish = finish.Narrowed; step = ByAmount operati
 abbrev pub above_zero : NumberRow
 above_zero = record { finish = finish.Alone; step = AboveZero }
 
+-- the low bits, where the number is all ones below its leading zeros: so many others are moved out
+abbrev pub low_bits : ℕ → Option NumberRow
+low_bits n = let others = count_leading_zeros 32 n in if n + 1 == 2 ^ (32 - others)
+    then Some (record { finish = finish.Alone; step = KeepsLow (others % 32) }) else None
+
+-- the bits that a number has
+abbrev pub masked : ℕ → Option NumberRow
+masked n = if is_short n then held Andi finish.Alone n else low_bits n
+
 -- A number is taken away by adding its negative. Whether numbers are equal is read off their difference, and at most
 -- a number is less than the next one.
 abbrev pub number_row : BinaryOperator → ℕ → Option NumberRow
@@ -52,7 +62,7 @@ number_row operators.Greater n = if n == 0 then Some above_zero else held Sltiu 
 number_row operators.GreaterOrEqual n = held Sltiu finish.GivesZero n
 number_row operators.BitOr n = held Ori finish.Alone n
 number_row operators.BitXor n = held Xori finish.Alone n
-number_row operators.BitAnd n = held Andi finish.Alone n
+number_row operators.BitAnd n = masked n
 number_row operators.ShiftLeft n = Some (shifted Slli n)
 number_row operators.ShiftRight n = Some (shifted Srli n)
 number_row operators.Add n = held Addi finish.Narrowed n

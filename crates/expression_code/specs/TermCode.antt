@@ -8,7 +8,7 @@ use Rattle.expression_code.specs.declared.numbers.Finish.{Finish}
 use Rattle.expression_code.specs.declared.numbers.Finish.TheVariants.{Alone, GivesZero, GivesMore, Narrowed}
 use Rattle.expression_code.specs.declared.numbers.NumberRow.{NumberRow}
 use Rattle.expression_code.specs.declared.numbers.NumberStep.{NumberStep}
-use Rattle.expression_code.specs.declared.numbers.NumberStep.TheVariants.{WithImmediate, ByAmount, AboveZero}
+use Rattle.expression_code.specs.declared.numbers.NumberStep.TheVariants.{WithImmediate, ByAmount, AboveZero, KeepsLow}
 use Rattle.expression_code.specs.declared.locations.Location.{Location}
 use Rattle.expression_code.specs.declared.locations.Location.TheVariants.{InRegister, InSlot}
 use Rattle.expression_code.specs.Registers.{zero_register, frame_register, address_register, first_spare}
@@ -204,13 +204,14 @@ emitted_operator allocation operator = if allocation.immediates then of_bits ope
 
 -- Each operator between an operand and a number in the instruction is a row as well.
 
-abbrev pub number_step_code : ℕ → ℕ → NumberStep → Instr
-number_step_code d r (WithImmediate operation field) = Immediate operation d r field
-number_step_code d r (ByAmount operation amount) = Shift operation d r amount
-number_step_code d r AboveZero = Register Sltu d zero_register r
+abbrev pub number_step_code : ℕ → ℕ → NumberStep → List Instr
+number_step_code d r (WithImmediate operation field) = Immediate operation d r field ∷ []
+number_step_code d r (ByAmount operation amount) = Shift operation d r amount ∷ []
+number_step_code d r AboveZero = Register Sltu d zero_register r ∷ []
+number_step_code d r (KeepsLow others) = Shift Slli d r others ∷ Shift Srli d d others ∷ []
 
 abbrev pub number_code : ℕ → ℕ → Width → NumberRow → List Instr
-number_code d r w row = number_step_code d r row.step ∷ finish_code d w row.finish
+number_code d r w row = number_step_code d r row.step ++ finish_code d w row.finish
 
 -- The complement is one less than the number's negative.
 abbrev pub prefix_code : ℕ → ℕ → PrefixOperator → Width → List Instr

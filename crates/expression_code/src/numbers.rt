@@ -1,7 +1,7 @@
 // Numbers in instructions: of an operator and a number that an instruction holds, what is made of the other operand.
 
 ghost use Rattle.std.specs.Prelude.{◌≡◌};
-ghost use Rattle.expression_code.specs.NumberRows.{number_of, is_short, held, shifted, above_zero, number_row, turned_operator, right_row, left_row};
+ghost use Rattle.expression_code.specs.NumberRows.{number_of, is_short, held, shifted, above_zero, low_bits, masked, number_row, turned_operator, right_row, left_row};
 ghost use Rattle.inline.specs.Flat.{term_tree};
 
 use crate::emit::NEAR;
@@ -21,16 +21,18 @@ pub enum Finish {
     Narrowed,
 }
 
-/// An instruction of one operand, which holds the number that is the other: an immediate in two's complement, the amount
-/// of a shift, or 0, that the operand is above.
+/// What is made of one operand with the number that is the other: by an instruction that holds it as an immediate in two's
+/// complement or as the amount of a shift, or of which it is 0, that the operand is above; or by two shifts that leave its
+/// low bits, of which they move so many others out.
 #[derive(Clone, Copy, Debug, PartialEq, Eq)]
 pub enum NumberStep {
     WithImmediate(ImmediateOperation, Immediate12),
     ByAmount(ShiftOperation, ShiftAmount),
     AboveZero,
+    KeepsLow(ShiftAmount),
 }
 
-/// What an operator makes of an operand and a number: an instruction, and what is made of its outcome.
+/// What an operator makes of an operand and a number: a step, and what is made of its outcome.
 #[derive(Clone, Copy, Debug, PartialEq, Eq)]
 pub struct NumberRow {
     pub finish: Finish,
@@ -91,11 +93,38 @@ fn above_zero() -> NumberRow
     }
 }
 
+/// The low bits, where the number is all ones below its leading zeros.
+fn low_bits(n: u32) -> Option<NumberRow>
+    ensures { result ≡ low_bits n }
+{
+    let others = n.leading_zeros();
+    if u64::from(n) + 1 == 1_u64 << (32 - others) {
+        Some(NumberRow {
+            finish: Finish::Alone,
+            step: NumberStep::KeepsLow(ShiftAmount::from_bits(others)),
+        })
+    } else {
+        None
+    }
+}
+
+/// The bits that a number has.
+fn masked(n: u32) -> Option<NumberRow>
+    ensures { result ≡ masked n }
+{
+    let word = u64::from(n);
+    if is_short(word) {
+        held(ImmediateOperation::Andi, Finish::Alone, word)
+    } else {
+        low_bits(n)
+    }
+}
+
 /// The row of an operator and the number that is its right operand, where an instruction holds it.
 fn number_row(operator: BinaryOperator, n: u32) -> Option<NumberRow>
     ensures { result ≡ number_row operator n }
 {
-    use ImmediateOperation::{Addi, Andi, Ori, Sltiu, Xori};
+    use ImmediateOperation::{Addi, Ori, Sltiu, Xori};
     let word = u64::from(n);
     let less = u64::from(negate(Width::W32, n));
     match operator {
@@ -110,7 +139,7 @@ fn number_row(operator: BinaryOperator, n: u32) -> Option<NumberRow>
         BinaryOperator::GreaterOrEqual => held(Sltiu, Finish::GivesZero, word),
         BinaryOperator::BitOr => held(Ori, Finish::Alone, word),
         BinaryOperator::BitXor => held(Xori, Finish::Alone, word),
-        BinaryOperator::BitAnd => held(Andi, Finish::Alone, word),
+        BinaryOperator::BitAnd => masked(n),
         BinaryOperator::ShiftLeft => Some(shifted(ShiftOperation::Slli, n)),
         BinaryOperator::ShiftRight => Some(shifted(ShiftOperation::Srli, n)),
         BinaryOperator::Add => held(Addi, Finish::Narrowed, word),

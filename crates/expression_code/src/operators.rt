@@ -167,32 +167,44 @@ fn gives_more(code: &mut Vec<Instr>, r: Reg, instruction: Instr) -> Result<(), A
     is_not_zero(code, r)
 }
 
-/// An instruction, and what is made of its outcome in a register.
+/// What is made of an outcome in a register.
 fn finished(
     code: &mut Vec<Instr>,
     r: Reg,
     width: Width,
     finish: Finish,
-    instruction: Instr,
 ) -> Result<(), AllocError>
-    ensures { OnOk result (code.new.items ≡ code.old.items ++ instruction ∷ finish_code r width finish) }
+    ensures { OnOk result (code.new.items ≡ code.old.items ++ finish_code r width finish) }
 {
     match finish {
-        Finish::Alone => append(code, instruction),
-        Finish::GivesZero => gives_zero(code, r, instruction),
-        Finish::GivesMore => gives_more(code, r, instruction),
-        Finish::Narrowed => narrowed(code, r, width, instruction),
+        Finish::Alone => Ok(()),
+        Finish::GivesZero => is_zero(code, r, r),
+        Finish::GivesMore => is_not_zero(code, r),
+        Finish::Narrowed => cut(code, r, width),
     }
 }
 
-/// An instruction of a register, with a number in it, into another.
-fn number_step(d: Reg, r: Reg, step: NumberStep) -> Instr
-    ensures { result ≡ number_step_code d r step }
+/// A step of a register and a number, into another register.
+fn number_step(
+    code: &mut Vec<Instr>,
+    d: Reg,
+    r: Reg,
+    step: NumberStep,
+) -> Result<(), AllocError>
+    ensures { OnOk result (code.new.items ≡ code.old.items ++ number_step_code d r step) }
 {
     match step {
-        NumberStep::WithImmediate(operation, field) => Instr::Immediate(operation, d, r, field),
-        NumberStep::ByAmount(operation, amount) => Instr::Shift(operation, d, r, amount),
-        NumberStep::AboveZero => Instr::Register(Operation::Sltu, d, Reg::X0, r),
+        NumberStep::WithImmediate(operation, field) => {
+            append(code, Instr::Immediate(operation, d, r, field))
+        }
+        NumberStep::ByAmount(operation, amount) => {
+            append(code, Instr::Shift(operation, d, r, amount))
+        }
+        NumberStep::AboveZero => append(code, Instr::Register(Operation::Sltu, d, Reg::X0, r)),
+        NumberStep::KeepsLow(others) => {
+            append(code, Instr::Shift(ShiftOperation::Slli, d, r, others))?;
+            append(code, Instr::Shift(ShiftOperation::Srli, d, d, others))
+        }
     }
 }
 
@@ -206,7 +218,8 @@ pub fn with_number(
 ) -> Result<(), AllocError>
     ensures { OnOk result (code.new.items ≡ code.old.items ++ number_code d r width row) }
 {
-    finished(code, d, width, row.finish, number_step(d, r, row.step))
+    number_step(code, d, r, row.step)?;
+    finished(code, d, width, row.finish)
 }
 
 /// An operator between two operands, into its target.
