@@ -6,11 +6,11 @@ use Rattle.codegen.proofs.Language.{first, FlatVariable, TermTree, array_as, ter
 use Rattle.codegen.proofs.Language.{Kind}
 use Rattle.codegen.proofs.LoopLengths.{repeat_spans}
 pub use Rattle.codegen.proofs.WordLengths.{assign_length}
-use Rattle.codegen.proofs.WordLengths.{read_length, value_length}
+use Rattle.codegen.proofs.WordLengths.{read_length, stored_length, value_length}
 use Rattle.codegen.specs.private.Loops.{any_sets}
 use Rattle.codegen.proofs.Language.{element_bytes, array_words, IsTyped, AreTyped, types_but, types_of, AllSuit}
 use Rattle.codegen.proofs.Language.{HasType, Boolean, WordType, Profile}
-use Rattle.codegen.specs.private.Emitted.{read_code, read_register}
+use Rattle.codegen.specs.private.Emitted.{read_register, stored_code, stored_register}
 use Rattle.codegen.specs.private.Emitted.{set_code, set_under_code, taken_code, kept_code, join_code, masks_code, unless_unread, element_store_code, clear_code}
 use Rattle.codegen.specs.private.Emitted.{fill_code, statement_code, block_code}
 use Rattle.branch_removal.specs.Heights.{height_of_all}
@@ -71,16 +71,16 @@ put_length : (declared : List FlatVariable) (allocation : Allocation) (free x : 
     ≤ 32 * (1 + (1 + term_nodes index) + term_nodes value)
 put_length declared allocation free x index value =
     code_length (near_element declared allocation x index)
-    (λ o. read_code declared allocation free 5 0 value
-    ++ element_store_code (read_register allocation 5 value) (kind_at declared x) o)
+    (λ o. stored_code declared allocation free value
+    ++ element_store_code (stored_register allocation value) (kind_at declared x) o)
     (index_code declared allocation free index value
     ++ put_code (read_register allocation 5 index) (read_register allocation 6 value) (kind_at declared x)
     (variable_offset declared x)) _
     (λ o. simp length-append
     (omega (
       arith,
-      read_length declared allocation free 5 0 value,
-      element_store_length (read_register allocation 5 value) (kind_at declared x) o,
+      stored_length declared allocation free value,
+      element_store_length (stored_register allocation value) (kind_at declared x) o,
     )))
     (omega (arith, length-append {A = Instr}, read_length, address_length))
 
@@ -121,8 +121,8 @@ fill_length declared allocation free kind o (e ∷ es) =
     simp length-append (omega (
       arith,
       h,
-      read_length declared allocation free 5 0 e,
-      element_store_length (read_register allocation 5 e) kind o,
+      stored_length declared allocation free e,
+      element_store_length (stored_register allocation e) kind o,
       fill_length declared allocation free kind (o + element_bytes kind) es,
     ))
 

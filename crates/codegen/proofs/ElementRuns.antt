@@ -29,6 +29,7 @@ use Rattle.codegen.proofs.Machine.{sign_extended, sum_of, element_store_code, pu
 use Rattle.codegen.proofs.Machine.{statement_code, variable_offset, control_location, is_unread, Location}
 use Rattle.codegen.proofs.Machine.{fill_code, home_of, lower_part, height_of, store_size, address_of, byte_count}
 use Rattle.codegen.proofs.Machine.{index_code, merge_code, read_code, read_register, height_of_all}
+use Rattle.codegen.proofs.Machine.{stored_code, stored_register}
 use Rattle.codegen.proofs.Machine.{height_of_put, address_code, with_number}
 use Rattle.rv_code.specs.declared.instructions.Instr.TheVariants as instr
 use Rattle.rv_machine.specs.Machine as machine
@@ -36,7 +37,8 @@ use Rattle.codegen.proofs.SetRuns.{chosen_fits}
 use Rattle.codegen.proofs.Slots.{Shown, suits_fits, puts, ready_valued, ready_with, wrote_as, hidden_valued, IsSource}
 use Rattle.codegen.proofs.Slots.{read_runs, read_source, reads, source_apart, Hidden, hidden_then, hidden_by}
 use Rattle.codegen.proofs.Slots.{hidden_kept, hidden_wrote, cut_kind, cut_element, ready_same, ready_put}
-use Rattle.codegen.proofs.Slots.{ready_chosen}
+use Rattle.codegen.proofs.Slots.{ready_chosen, IsOffered, offered_put, offered_register, offered_runs, ready_offered}
+use Rattle.rv_machine.specs.Registers.{register}
 use Rattle.codegen.proofs.Masks.{fetched_homes, mask_apart, mask_register, mask_runs, mask_small, mask_some}
 
 store_bytes : (kind : Kind) → byte_count (store_size (store_by kind)) ≡ element_bytes kind
@@ -63,14 +65,25 @@ element_runs z r ok kind o even room =
     })
     (move_runs z (put (store_by kind) r o) ok (ap (λ n. o % n) bytes ∙ even, omega (arith, room, bytes)))
 
+-- what a register reads as into an element of a fixed place
+offered_element : (z : Setting) (r : ℕ) → IsOffered z r → (kind : Kind) (o : ℕ)
+    → o % element_bytes kind ≡ 0 → o + element_bytes kind ≤ z.size
+    → Runs z 3 none (element_store_code r kind o) (Held z)
+    (λ env s t. Wrote z (element_bytes kind) o (register s.regs r) s t)
+offered_element z r offered kind o even room =
+    let bytes = store_bytes kind in
+    gives
+    (λ env s t fine held wrote. subst (λ n. Wrote z n o (register s.regs r) s t) bytes wrote)
+    (offered_put z (store_by kind) r o offered (ap (λ n. o % n) bytes ∙ even) (omega (arith, room, bytes)))
+
 -- a value into an element of a fixed place
 one_at : (z : Setting) (depth : ℕ) → depth ≤ z.depths → (x size : ℕ) (word : WordType) (mutable : Bool)
     → slice_get z.declared x ≡ Some (array_as word mutable size)
     → (k : ℕ) (e : TermTree) → k < size → Suits (types_of z.code.profile z.declared) word e
     → base_of z + 4 * slots_to z.allocation.count (height_of e) ≤ z.size
     → Runs z (16 * term_nodes e + 3) (steps_of e)
-    (read_code z.declared z.allocation (base_of z) 5 0 e
-    ++ element_store_code (read_register z.allocation 5 e) word.kind
+    (stored_code z.declared z.allocation (base_of z) e
+    ++ element_store_code (stored_register z.allocation e) word.kind
     (place_of z.declared x (array_as word mutable size) k))
     (Ready z) (Shown z depth (λ env. with_element env x k (value_in env.variables e)))
 one_at z depth within x size word mutable known k e below suits room =
@@ -78,22 +91,22 @@ one_at z depth within x size word mutable known k e below suits room =
     let at = place_of z.declared x d k in
     let before = place_before z x d k known below in
     let n = element_bytes word.kind in
-    let r = read_register z.allocation 5 e in
+    let r = stored_register z.allocation e in
     gives
     (λ env s t fine ready done.
     let m = done.middle in
     let v = value_in env.variables e in
     let fits = suits_fits z.code.profile z.declared word e env.variables ready.fits suits in
-    let wrote = wrote_as z n at (m.regs r) v m t done.first.there done.second in
+    let wrote = wrote_as z n at (register m.regs r) v m t done.first.there done.second in
     record {
       ready = ready_put z x k v v d known (z.allocated.words x d size known refl) below fits env m t
-          (ready_valued z e env s m ready done.first) wrote (cut_element word.kind size v fits);
+          (ready_offered z e env s m ready done.first) wrote (cut_element word.kind size v fits);
       hidden = hidden_valued z depth within e env n at v s m t (omega (arith, before)) done.first wrote;
     })
-    (quiet (read_runs z suits.has_type room)
-    (element_runs z r (puts z (read_source z e 5 (omega arith) (omega arith))) word.kind at
-    (place_even z.declared x d k) (place_ends z x d k known below))
-    (λ env s t ready valued. valued.held))
+    (quiet (offered_runs z suits.has_type room)
+    (offered_element z r (offered_register z e) word.kind at (place_even z.declared x d k)
+    (place_ends z x d k known below))
+    (λ env s t ready offered. offered.held))
 
 -- One element, at an index.
 
@@ -305,8 +318,9 @@ module _ (z : Setting) (depth : ℕ) (place : Place) (x size : ℕ) (index value
   near_source : IsSource z 5 near_register
   near_source = read_source z value 5 (omega arith) (omega arith)
 
-  abbrev stored_code : ℕ → Kind → List Instr
-  stored_code o k = read_code z.declared z.allocation (base_of z) 5 0 value ++ element_store_code near_register k o
+  abbrev near_stored : ℕ → Kind → List Instr
+  near_stored o k = stored_code z.declared z.allocation (base_of z) value
+      ++ element_store_code (stored_register z.allocation value) k o
 
   module _ (o : ℕ) (near : NearElement z.declared x index o) where
     near_at : element_at near.i ≡ o
@@ -314,7 +328,7 @@ module _ (z : Setting) (depth : ℕ) (place : Place) (x size : ℕ) (index value
 
     -- of the indices that there might be, the number is one
     at_number : (i : ℕ) → i < size → (b : Bool) → (i == near.i) ≡ b
-        → Runs z (16 * term_nodes value + 3) (steps_of value) (stored_code o kind)
+        → Runs z (16 * term_nodes value + 3) (steps_of value) (near_stored o kind)
         (Known (setting z) ℕ (λ j. j < size) (Ready z) number_of i)
         (Shown z depth (λ env. after env (straight.put place x size index value)))
     at_number i below true same =
@@ -326,7 +340,7 @@ module _ (z : Setting) (depth : ℕ) (place : Place) (x size : ℕ) (index value
               subst (λ j. Ready z (with_element env x j (value_of env)) t) (sym given.is) done.ready;
           hidden = done.hidden;
         })
-        (as_code (ap (λ a. stored_code a kind) (sym is))
+        (as_code (ap (λ a. near_stored a kind) (sym is))
         (one_at z depth within x size typed.word typed.mutable typed.known i value below typed.suits
         (omega (arith, room))))
     at_number i below false other =
@@ -334,9 +348,9 @@ module _ (z : Setting) (depth : ℕ) (place : Place) (x size : ℕ) (index value
         true≢false (sym (eq-eqb i near.i (sym given.is ∙ (known index near.i near.is env.variables).0))
         ∙ other))
 
-    put_near : Puts (stored_code o (kind_at z.declared x))
+    put_near : Puts (near_stored o (kind_at z.declared x))
     put_near =
-        as_code (ap (stored_code o) kind_is)
+        as_code (ap (near_stored o) kind_is)
         (along (λ env. ap (λ p. p ++ indexed place size (number_of env) ∷ path_in env.variables value)
         (known index near.i near.is env.variables).1)
         (cheaper (omega arith)
@@ -347,7 +361,7 @@ module _ (z : Setting) (depth : ℕ) (place : Place) (x size : ℕ) (index value
   put_runs = by_test (near_element z.declared z.allocation x index) refl
     where
       by_test : (o : Option ℕ) → near_element z.declared z.allocation x index ≡ o
-          → Puts (code_by o (λ a. stored_code a (kind_at z.declared x))
+          → Puts (code_by o (λ a. near_stored a (kind_at z.declared x))
           (index_code z.declared z.allocation (base_of z) index value
           ++ put_code index_register value_register (kind_at z.declared x) offset))
       by_test None e = put_far
@@ -653,8 +667,8 @@ module _ (z : Setting) (depth : ℕ) (within : depth ≤ z.depths) (x size : ℕ
 
   one_runs : (k : ℕ) (e : TermTree) → k < size → Suits (types_but z.code.profile z.declared x) word e
       → base_of z + 4 * slots_to z.allocation.count (height_of e) ≤ z.size
-      → Runs z (16 * term_nodes e + 3) (steps_of e) (read_code z.declared z.allocation (base_of z) 5 0 e
-      ++ element_store_code (read_register z.allocation 5 e) word.kind (at k)) (Ready z)
+      → Runs z (16 * term_nodes e + 3) (steps_of e) (stored_code z.declared z.allocation (base_of z) e
+      ++ element_store_code (stored_register z.allocation e) word.kind (at k)) (Ready z)
       (Shown z depth (step k e))
   one_runs k e below suits room =
       let every = suits_among (types_but z.code.profile z.declared x) (types_of z.code.profile z.declared)
@@ -675,8 +689,8 @@ module _ (z : Setting) (depth : ℕ) (within : depth ≤ z.depths) (x size : ℕ
         hidden = hidden_then z depth s done.middle t done.first.hidden done.second.hidden;
       })
       (seq
-      (as_code (ap (λ p. read_code z.declared z.allocation (base_of z) 5 0 e
-      ++ element_store_code (read_register z.allocation 5 e) word.kind p) is)
+      (as_code (ap (λ p. stored_code z.declared z.allocation (base_of z) e
+      ++ element_store_code (stored_register z.allocation e) word.kind p) is)
       (one_runs k e (omega (arith, few)) suits.0 (omega (arith, room))))
       (along (λ env. one_path_all (types_but z.code.profile z.declared x) env.variables (step k e env).variables
       (λ y f there seen. unread z.code.profile z.declared x env.variables _ y f there) word es suits.1)

@@ -24,7 +24,8 @@ use Rattle.codegen.proofs.Arguments.{Left}
 use Rattle.codegen.proofs.Slots.{Shown, alone, homed_runs}
 use Rattle.codegen.proofs.Slots.{ready_homed}
 use Rattle.codegen.proofs.Slots.{ready_same, suits_fits, read_runs}
-use Rattle.codegen.proofs.Slots.{read_source, source_apart, ready_valued, ready_with, ready_result, word_before}
+use Rattle.codegen.proofs.Slots.{read_source, source_apart, ready_offered, ready_valued, ready_with, ready_result}
+use Rattle.codegen.proofs.Slots.{word_before}
 use Rattle.codegen.proofs.Slots.{assigned, hidden_valued, hidden_then, hidden_by, hidden_kept}
 use Rattle.codegen.proofs.Slots.{hidden_wrote, cut_kind, ready_set, ready_put, ready_alone, ready_chosen}
 use Rattle.codegen.proofs.Masks.{fetched_homes, mask_apart, mask_register, mask_runs, mask_small, mask_some}
@@ -71,7 +72,7 @@ module _ (z : Setting) where
       let fits = suits_fits z.code.profile z.declared typed.word value env.variables ready.fits typed.suits in
       record {
         ready = ready_set z x v typed.word typed.mutable typed.known away fits env m t
-            (ready_valued z value env s m ready done.first) done.second;
+            (ready_offered z value env s m ready done.first) done.second;
         hidden = hidden_valued z depth within value env 4 o v s m t (omega (arith, before)) done.first done.second;
       })
       (assigned z o typed.suits.has_type room (omega arith) (omega (arith, before, z.room))))
@@ -313,7 +314,7 @@ result_runs z (Some word) (Some value) typed room =
     let m = done.middle in
     let v = value_in env.variables value in
     record {
-      ready = ready_result z env m t v (ready_valued z value env s m ready done.first) done.second;
+      ready = ready_result z env m t v (ready_offered z value env s m ready done.first) done.second;
       left = wrote_there z o v m t done.second
           (value_word z.code.profile z.declared value typed.word env.variables ready.fits typed.has_type);
     })

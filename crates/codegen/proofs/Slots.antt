@@ -4,8 +4,9 @@ use Rattle.std.proofs.Common.{if◌then◌else◌, nat_lt, List, [], ◌∷◌, 
 use Rattle.std.proofs.Common.{sym, ap, ◌∙◌, subst, arith, inl, inr, ◌⊎◌, ◌&&◌, not, ne_eqb, Option, ◌++◌}
 use Rattle.std.specs.Prelude.{slice_set}
 use Rattle.codegen.proofs.Machine.{variable_offset, control_offset, next_offset, result_offset, ByteMap, number_at}
-use Rattle.codegen.proofs.Machine.{assign_code, control_location, home_of_term, home_or}
-use Rattle.codegen.proofs.Machine.{read_code, read_register, unless_home}
+use Rattle.codegen.proofs.Machine.{Allocation, assign_code, byte_count, control_location, home_of_term, home_or}
+use Rattle.codegen.proofs.Machine.{is_zero, read_code, read_register, store_size, stored_code, stored_register}
+use Rattle.codegen.proofs.Machine.{stores_zero, unless_home}
 use Rattle.codegen.proofs.Machine.{with_number, slots_to, height_of, home_of, into_code, store_code, Instr, Sw}
 use Rattle.codegen.proofs.Language.{StraightState, with_variable, with_element, FlatVariable}
 use Rattle.codegen.proofs.Language.{numbers_in}
@@ -27,7 +28,12 @@ use Rattle.codegen.proofs.Logic.{steps_of, into_runs, held_regs, HomesKept, IsHo
 use Rattle.codegen.proofs.Logic.{home_target, homes_by, homes_moved, kept_number, place_before}
 use Rattle.codegen.proofs.Logic.{place_target, variables_home, is_free, idle, lt-ltb, works_at, IsTarget, Leaves, put}
 use Rattle.codegen.proofs.Logic.{then_moves, setting, Runs, gives, cheaper, kept_less, kept_by, ready_below}
-use Rattle.codegen.proofs.Logic.{ready_after, value_fits}
+use Rattle.codegen.proofs.Logic.{along, known, move_runs, none, quiet, ready_after, register-at, value_fits}
+use Rattle.expression_code.proofs.Logic.{emptied, put_code}
+use Rattle.expression_code.specs.NumberRows.{number_of}
+use Rattle.rv_code.specs.declared.operations.StoreOperation.{StoreOperation}
+use Rattle.rv_machine.specs.Registers.{register}
+use Rattle.std.proofs.lemmas.Bool.{false≢true}
 use Rattle.rv_machine.specs.Machine as machine
 
 -- the words of the loops that are around are as they were
@@ -521,22 +527,119 @@ module _ (z : Setting) where
       (then_moves z (put Sw r o ∷ []) (simp ok) ((even, inside), tt) runs
       (λ env s t given done. (has env s t given done).0)))
 
+  -- A value that is stored: its register reads as what the expression means, and only temporaries are written.
+  pub record Offered (e : TermTree) (r : ℕ) (env : StraightState) (s t : machine.State) : Type 0 where
+    pub held : HeldAt z t
+    pub there : register t.regs r ≡ value_in env.variables e
+    pub kept : Kept z (base_of z) s t
+    pub homes : HomesKept z s t
+
+  -- it is x0, or a register that is put
+  abbrev pub IsOffered : ℕ → Type 0
+  IsOffered r = (r ≡ 0) ⊎ IsSource z 5 r
+
+  pub offered_register : (e : TermTree) → IsOffered (stored_register z.allocation e)
+  offered_register e = by_test (stores_zero z.allocation e)
+    where
+      by_test : (b : Bool) → IsOffered (cond b 0 (read_register z.allocation 5 e))
+      by_test true = inl refl
+      by_test false = inr (read_source z e 5 (omega arith) (omega arith))
+
+  -- an expression that is stored as 0 is that
+  pub stored_zero : (a : Allocation) (e : TermTree) → stores_zero a e ≡ true → number_of e ≡ Some 0
+  stored_zero a e is = by_test a.immediates (number_of e) refl is
+    where
+      by_test : (b : Bool) (m : Option ℕ) → number_of e ≡ m → cond b (is_zero m) false ≡ true → number_of e ≡ Some 0
+      by_test true (Some n) f same = f ∙ ap Some (eqb-true n 0 same)
+      by_test true None f same = absurd (false≢true same)
+      by_test false m f same = absurd (false≢true same)
+
+  pub offered_runs : {e : TermTree} {word : WordType} → HasType (types_of z.code.profile z.declared) e word
+      → base_of z + 4 * slots_to z.allocation.count (height_of e) ≤ z.size
+      → Runs z (16 * term_nodes e) (steps_of e) (stored_code z.declared z.allocation (base_of z) e) (Ready z)
+      (Offered e (stored_register z.allocation e))
+  offered_runs {e = e} has room = by_test (stores_zero z.allocation e) refl
+    where
+      by_test : (b : Bool) → stores_zero z.allocation e ≡ b
+          → Runs z (16 * term_nodes e) (steps_of e)
+          (cond b [] (read_code z.declared z.allocation (base_of z) 5 0 e)) (Ready z)
+          (Offered e (cond b 0 (read_register z.allocation 5 e)))
+      by_test true is =
+          let zero = stored_zero z.allocation e is in
+          along (λ env. (known e 0 zero env.variables).1)
+          (cheaper {m = 0} (omega arith)
+          (idle (λ env s ready. record {
+            held = ready.held;
+            there = sym (known e 0 zero env.variables).0;
+            kept = λ o below. refl;
+            homes = λ r home. refl;
+          })))
+      by_test false is =
+          let source = read_source z e 5 (omega arith) (omega arith) in
+          gives
+          (λ env s t fine ready done. record {
+            held = done.held;
+            there = register-at t.regs (read_register z.allocation 5 e) (λ f. omega (arith, source.low, f)) ∙ done.there;
+            kept = done.kept;
+            homes = done.homes;
+          })
+          (read_runs has room)
+
+  -- What a register reads as, put into the frame.
+  pub offered_put : (operation : StoreOperation) (r o : ℕ) → IsOffered r → o % byte_count (store_size operation) ≡ 0
+      → o + byte_count (store_size operation) ≤ z.size
+      → Runs z 3 none (put_code operation r o) (Held z)
+      (λ env s t. Wrote z (byte_count (store_size operation)) o (register s.regs r) s t)
+  offered_put operation r o (inl zero) even inside =
+      subst
+      (λ r'. Runs z 3 none (put_code operation r' o) (Held z)
+      (λ env s t. Wrote z (byte_count (store_size operation)) o (register s.regs r') s t))
+      (sym zero)
+      (gives
+      (λ env s t fine held done. record {
+        held = done.0;
+        written = done.1;
+        homes = λ q home. done.2 q (λ e. omega (arith, home.1, e));
+      })
+      (emptied z operation o even inside))
+  offered_put operation r o (inr source) even inside =
+      gives
+      (λ env s t fine held moved. record {
+        held = moved.held;
+        written = moved.bytes
+            ∙ ap (λ w. with_number s.bytes (byte_count (store_size operation)) (z.frame + o) w)
+            (sym (register-at s.regs r (λ f. omega (arith, source.low, f))));
+        homes = homes_moved z (put operation r o ∷ []) env s t refl moved;
+      })
+      (move_runs z (put operation r o) (puts z source) (even, inside))
+
   -- an expression's value
   pub assigned : {e : TermTree} {word : WordType} (o : ℕ) → HasType (types_of z.code.profile z.declared) e word
       → base_of z + 4 * slots_to z.allocation.count (height_of e) ≤ z.size → o % 4 ≡ 0 → o + 4 ≤ z.size
       → Runs z (16 * term_nodes e + 3) (steps_of e) (assign_code z.declared z.allocation (base_of z) e o) (Ready z)
-      (Then (setting z) (Evaluated z e (read_register z.allocation 5 e))
+      (Then (setting z) (Offered e (stored_register z.allocation e))
       (λ env s t. Wrote z 4 o (value_in env.variables e) s t))
   assigned {e = e} o has room even inside =
-      stored (read_register z.allocation 5 e) o (λ env. value_in env.variables e)
-      (puts z (read_source z e 5 (omega arith) (omega arith))) even inside (read_runs has room)
-      (λ env s t ready valued. (valued.held, valued.there))
+      gives
+      (λ env s t fine ready done. record {
+        middle = done.middle;
+        first = done.first;
+        second = wrote_as 4 o _ _ done.middle t done.first.there done.second;
+      })
+      (quiet (offered_runs has room)
+      (offered_put Sw (stored_register z.allocation e) o (offered_register e) even inside)
+      (λ env s t ready offered. offered.held))
+
+  -- the state is shown after an expression as before it
+  pub ready_offered : (e : TermTree) {r : ℕ} (env : StraightState) (s t : machine.State) → Ready z env s
+      → Offered e r env s t → Ready z env t
+  ready_offered e env s t ready offered = ready_after z env s t ready offered.held offered.kept offered.homes
 
   -- the loops' words are as they were once a value is written before them
   pub hidden_valued : (depth : ℕ) → depth ≤ z.depths
       → (e : TermTree) {r : ℕ} (env : StraightState) (n o w : ℕ) (s m t : machine.State)
       → o + n ≤ next_offset z.declared z.controls 0
-      → Evaluated z e r env s m → Wrote z n o w m t → Hidden z depth s t
-  hidden_valued depth within e env n o w s m t before valued wrote =
-      hidden_then z depth s m t (hidden_kept z depth s m within valued.kept)
+      → Offered e r env s m → Wrote z n o w m t → Hidden z depth s t
+  hidden_valued depth within e env n o w s m t before offered wrote =
+      hidden_then z depth s m t (hidden_kept z depth s m within offered.kept)
       (hidden_wrote z depth n o w m t before wrote)

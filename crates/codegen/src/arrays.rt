@@ -14,7 +14,7 @@ ghost use Rattle.inline.specs.Flat.{term_tree};
 
 use crate::jumping::repeat;
 use crate::masking;
-use crate::reading::read;
+use crate::reading::{read, stored};
 use expression_code::emit::{self, address, load_by, near};
 use expression_code::{Layout, Location, fetch};
 use inline::Term;
@@ -102,7 +102,7 @@ pub fn fill(
 {
     let mut place = offset;
     for value in values {
-        let value = read(code, layout, Reg::X5, 0, value)?;
+        let value = stored(code, layout, value)?;
         store_element(code, value, kind, place)?;
         place += u32::from(kind.element_bytes());
     }
@@ -159,7 +159,7 @@ pub fn put(
 {
     let kind = layout.kind(array);
     if let Some(offset) = layout.near_element(array, place) {
-        let value = read(code, layout, Reg::X5, 0, value)?;
+        let value = stored(code, layout, value)?;
         return store_element(code, value, kind, offset);
     }
     let (index, value) = index(code, layout, place, value)?;

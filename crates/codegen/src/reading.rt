@@ -1,14 +1,14 @@
 // Values of expressions, read where they are: a variable that has a home costs no instruction.
 
 ghost use Rattle.std.specs.Prelude.{◌≡◌, ◌++◌, ◌+◌, ◌*◌, ◌≤◌, length, IfOk, OnOk};
-ghost use Rattle.codegen.specs.private.Emitted.{assign_code, home_of_term, read_code, read_register};
+ghost use Rattle.codegen.specs.private.Emitted.{assign_code, home_of_term, is_zero, read_code, read_register, stored_code, stored_register, stores_zero};
 ghost use Rattle.expression_code.specs.Allocation.{slots_to};
 ghost use Rattle.expression_code.specs.Layout.{temporaries_offset};
 ghost use Rattle.expression_code.specs.TermCode.{IsAmong};
 ghost use Rattle.branch_removal.specs.Heights.{height_of};
 ghost use Rattle.inline.specs.Flat.{term_tree};
 
-use expression_code::{Layout, emit, into};
+use expression_code::{Layout, emit, into, number};
 use inline::Term;
 use rv_code::{Instr, Reg};
 use std::alloc::AllocError;
@@ -50,6 +50,40 @@ pub fn read(
     }
 }
 
+/// Whether what is known is 0.
+fn is_zero(known: Option<u32>) -> bool
+    ensures { result ≡ is_zero known }
+{
+    match known {
+        Some(n) => n == 0,
+        None => false,
+    }
+}
+
+/// Whether an expression is 0, where numbers go into instructions.
+fn stores_zero(layout: &Layout<'_>, term: &Term) -> bool
+    ensures { result ≡ stores_zero layout.now.allocation (term_tree term.now) }
+{
+    layout.immediates() && is_zero(number(term))
+}
+
+/// An expression that is stored: its register, once its code is there. x0 has 0 without any.
+pub fn stored(
+    code: &mut Vec<Instr>,
+    layout: &Layout<'_>,
+    term: &Term,
+) -> Result<Reg, AllocError>
+    requires among { IsAmong (length layout.now.declared) (term_tree term.now) }
+    requires room { temporaries_offset layout.now.declared layout.now.controls layout.now.depths + 4 * slots_to layout.now.allocation.count (height_of (term_tree term.now)) ≤ 65536 }
+    ensures code { OnOk result (code.new.items ≡ code.old.items ++ stored_code layout.now.declared layout.now.allocation (temporaries_offset layout.now.declared layout.now.controls layout.now.depths) (term_tree term.now)) }
+    ensures register { IfOk result (λ r. r ≡ stored_register layout.now.allocation (term_tree term.now)) }
+{
+    if stores_zero(layout, term) {
+        return Ok(Reg::X0);
+    }
+    read(code, layout, Reg::X5, 0, term)
+}
+
 /// The value of an expression into a slot.
 pub fn assign(
     code: &mut Vec<Instr>,
@@ -61,6 +95,6 @@ pub fn assign(
     requires room { temporaries_offset layout.now.declared layout.now.controls layout.now.depths + 4 * slots_to layout.now.allocation.count (height_of (term_tree term.now)) ≤ 65536 }
     ensures { OnOk result (code.new.items ≡ code.old.items ++ assign_code layout.now.declared layout.now.allocation (temporaries_offset layout.now.declared layout.now.controls layout.now.depths) (term_tree term.now) offset) }
 {
-    let register = read(code, layout, Reg::X5, 0, term)?;
+    let register = stored(code, layout, term)?;
     emit::store(code, register, offset)
 }

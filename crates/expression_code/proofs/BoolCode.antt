@@ -28,21 +28,22 @@ and_of a b low high =
     (of_two (λ y. bit_and 1 y ≡ word_of (truth_of 1 && truth_of y)) refl refl b high)
     a low
 
-module _ {profile : Profile} {one other whole : WordType} (w : Width) (a b : ℕ) (low : IsWithinKind one.kind a)
-    (high : IsWithinKind other.kind b) where
-  bits_same : (operator : BinaryOperator) → Makes profile (operation_of operator) one other whole
+module _ (w : Width) (a b : ℕ) where
+  bits_same : {profile : Profile} {one other whole : WordType} → IsWithinKind one.kind a → IsWithinKind other.kind b
+      → (operator : BinaryOperator) → Makes profile (operation_of operator) one other whole
       → operated (of_bits operator) w a b ≡ operated operator w a b
-  bits_same Either logic = or_of a b (omega (arith, low)) (omega (arith, high))
-  bits_same Both logic = and_of a b (omega (arith, low)) (omega (arith, high))
-  bits_same operator makes = refl
+  bits_same low high Either logic = or_of a b (omega (arith, low)) (omega (arith, high))
+  bits_same low high Both logic = and_of a b (omega (arith, low)) (omega (arith, high))
+  bits_same low high operator makes = refl
 
-  pub emitted_same : (allocation : Allocation) (operator : BinaryOperator)
+  pub emitted_same : {profile : Profile} {one other whole : WordType} → IsWithinKind one.kind a
+      → IsWithinKind other.kind b → (allocation : Allocation) (operator : BinaryOperator)
       → Makes profile (operation_of operator) one other whole
       → operated (emitted_operator allocation operator) w a b ≡ operated operator w a b
-  emitted_same allocation operator makes = by_test allocation.immediates
+  emitted_same low high allocation operator makes = by_test allocation.immediates
     where
       by_test : (b' : Bool) → operated (cond b' (of_bits operator) operator) w a b ≡ operated operator w a b
-      by_test true = bits_same operator makes
+      by_test true = bits_same low high operator makes
       by_test false = refl
 
 module _ (place : Place) (a b : ℕ) where

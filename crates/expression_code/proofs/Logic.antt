@@ -15,7 +15,8 @@ pub use Rattle.expression_code.proofs.Frame.{frame_there, held_regs, seen_by, se
 pub use Rattle.expression_code.proofs.WorkRegisters.{IsHome, free_from, home_beside, home_target, place_target}
 pub use Rattle.expression_code.proofs.WorkRegisters.{works_at}
 pub use Rattle.expression_code.proofs.Moves.{computing_within, does, is_free, loading, move_runs, moves_run, none_low}
-pub use Rattle.expression_code.proofs.Moves.{put, storing, take, then_moves, unwritten, written}
+pub use Rattle.expression_code.proofs.Moves.{emptied, put, put_code, register-at, storing, take, then_moves}
+pub use Rattle.expression_code.proofs.Moves.{unwritten, written}
 pub use Rattle.expression_code.proofs.NumberCode.{NearElement, known, near_known}
 pub use Rattle.expression_code.proofs.Operands.{Fetched, HasRoom, fetch_runs, took}
 pub use Rattle.expression_code.proofs.OperatorCode.{constant_after, constant_plain}

@@ -319,6 +319,32 @@ module _ (z : Setting) where
       gives (λ env s t fine held done. record { held = done.held; regs = done.registers; bytes = done.same })
       (computing_within z is_free is ok none_low)
 
+  -- zeros in place of so many bytes
+  pub emptied : (operation : StoreOperation) (o : ℕ) → o % byte_count (store_size operation) ≡ 0
+      → o + byte_count (store_size operation) ≤ z.size
+      → Runs z 3 none (put_code operation 0 o) (Held z)
+      (λ env s t. HeldAt z t
+      × (t.bytes ≡ with_number s.bytes (byte_count (store_size operation)) (z.frame + o) 0)
+      × ((q : ℕ) → q ≢ 28 → t.regs q ≡ s.regs q))
+  emptied operation o even inside =
+      let near = nat_lt o 2048 in
+      let v = sum_of (upper_part o * 2 ^ 12) z.frame in
+      as_code (slot_code (λ rs offset. instr.Store operation 0 rs offset) 28 o near)
+      (gives
+      (λ env s t fine held done. (
+        done.second.0,
+        done.second.2
+            ∙ ap (λ (b : ByteMap). with_number b (byte_count (store_size operation)) (z.frame + o) 0) done.first.2,
+        λ q other.
+            ap (λ (regs : ℕ → ℕ). regs q) (done.second.1 ∙ (done.first.1 ∙ near_or_far s.regs 28 v near))
+            ∙ unwritten s.regs 28 _ q other,
+      ))
+      (quiet
+      (reached 28 o (omega arith) (omega arith) (omega (arith, inside)) near refl)
+      (storing z (cond near 2 28) (cond near o (lower_part o)) o (grind (arith, nat_tests)) (grind (arith, nat_tests))
+      operation 0 (omega arith) even inside)
+      (λ env s t held done. done.0)))
+
   one_more : (m : Move) (ms : List Move) (env : StraightState) (s u t : State) → Moved z (m ∷ []) env s u
       → Moved z ms env u t → Moved z (m ∷ ms) env s t
   one_more m ms env s u t one more =

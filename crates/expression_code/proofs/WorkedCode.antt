@@ -1,6 +1,7 @@
 -- Code that is worked out by hand: of expressions over two words, a and b, with homes x13 and x14, with one, and with
 -- none.
 use Rattle.std.proofs.Common.{◌≡◌, ℕ, List, [], ◌∷◌, true, false, None, Some, refl}
+use Rattle.std.specs.Int.Count.{count_leading_zeros}
 use Rattle.expression_code.proofs.Below.{Allocation, binary, convert, element, expr_code, FlatVariable, Instr}
 use Rattle.expression_code.proofs.Below.{into_code, Place, rotate, select, TermTree, variable, word_as, WordType}
 use Rattle.expression_code.specs.Allocation.{plain}
@@ -128,15 +129,18 @@ module _ (place : Place) where
   -- the low 13 bits, and the low 31
   low_bits : code with_numbers (binary place BitAnd W32 a (n 8191)) ≡ instr.Shift Slli 5 13 19
       ∷ instr.Shift Srli 5 5 19 ∷ []
+  unfolding count_leading_zeros
   low_bits = refl
 
   low_bits_turned : code with_numbers (binary place BitAnd W32 (n 2147483647) a) ≡ instr.Shift Slli 5 13 1
       ∷ instr.Shift Srli 5 5 1 ∷ []
+  unfolding count_leading_zeros
   low_bits_turned = refl
 
   -- other bits than the low ones are in a register
   high_bits : code with_numbers (binary place BitAnd W32 a (n 8190)) ≡ instr.Upper Lui 6 2
       ∷ instr.Immediate Addi 6 6 4094 ∷ instr.Register register.And 5 13 6 ∷ []
+  unfolding count_leading_zeros
   high_bits = refl
 
   -- bools are 0 or 1, so both are true where their AND is 1

@@ -6,7 +6,8 @@ use Rattle.branch_removal.specs.Straight.{repeats, StraightBlock, nothing, first
 use Rattle.codegen.specs.private.Jumps.{branch_code, loop_code}
 pub use Rattle.codegen.specs.private.Loops.{any_sets, bounds_code, count_code, repeat_code, sets, test_code}
 pub use Rattle.codegen.specs.private.Words.{assign_code, home_of_term, home_or, put_word_code, read_code}
-pub use Rattle.codegen.specs.private.Words.{read_register, unless_home}
+pub use Rattle.codegen.specs.private.Words.{is_zero, read_register, stored_code, stored_register, stores_zero}
+pub use Rattle.codegen.specs.private.Words.{unless_home}
 use Rattle.expression_code.specs.Allocation.{Allocation, is_unread, register_of}
 use Rattle.expression_code.specs.Layout.{variable_offset, variable_location, control_location, next_offset}
 use Rattle.expression_code.specs.Layout.{temporaries_offset}
@@ -126,8 +127,7 @@ clear_code offset words =
 abbrev pub fill_code : List FlatVariable → Allocation → ℕ → Kind → ℕ → List TermTree → List Instr
 fill_code declared allocation free kind offset [] = []
 fill_code declared allocation free kind offset (e ∷ es) =
-    read_code declared allocation free value_register 0 e
-    ++ element_store_code (read_register allocation value_register e) kind offset
+    stored_code declared allocation free e ++ element_store_code (stored_register allocation e) kind offset
     ++ fill_code declared allocation free kind (offset + element_bytes kind) es
 
 -- an index and a value, the first two temporaries where they are not at home
@@ -146,8 +146,8 @@ put_code index value kind offset =
 abbrev pub put_element_code : List FlatVariable → Allocation → ℕ → ℕ → TermTree → TermTree → List Instr
 put_element_code declared allocation free x index value =
     code_by (near_element declared allocation x index)
-    (λ offset. read_code declared allocation free value_register 0 value
-    ++ element_store_code (read_register allocation value_register value) (kind_at declared x) offset)
+    (λ offset. stored_code declared allocation free value
+    ++ element_store_code (stored_register allocation value) (kind_at declared x) offset)
     (index_code declared allocation free index value
     ++ put_code (read_register allocation value_register index) (read_register allocation second_register value)
     (kind_at declared x) (variable_offset declared x))

@@ -1,7 +1,8 @@
 -- The instructions that are emitted for words: an expression's value is read where it is, and put where it belongs.
-use Rattle.std.specs.Prelude.{ℕ, List, [], ◌++◌, Option, None, Some}
+use Rattle.std.specs.Prelude.{ℕ, ◌==◌, Bool, false, List, [], ◌++◌, Option, None, Some, if◌then◌else◌}
 use Rattle.expression_code.specs.Allocation.{Allocation, home_of}
-use Rattle.expression_code.specs.Registers.{value_register}
+use Rattle.expression_code.specs.NumberRows.{number_of}
+use Rattle.expression_code.specs.Registers.{zero_register, value_register}
 use Rattle.expression_code.specs.TermCode.{into_code, move_code, store_code}
 use Rattle.expression_code.specs.declared.locations.Location.{Location}
 use Rattle.expression_code.specs.declared.locations.Location.TheVariants.{InRegister, InSlot}
@@ -35,11 +36,29 @@ read_code declared allocation free register place e =
 abbrev pub read_register : Allocation → ℕ → TermTree → ℕ
 read_register allocation register e = home_or (home_of_term allocation e) register
 
+-- A value that is stored is read so, but for 0, which needs no code either: x0 has it.
+
+abbrev pub is_zero : Option ℕ → Bool
+is_zero None = false
+is_zero (Some n) = n == 0
+
+-- whether an expression is 0, where numbers go into instructions
+abbrev pub stores_zero : Allocation → TermTree → Bool
+stores_zero allocation e = if allocation.immediates then is_zero (number_of e) else false
+
+abbrev pub stored_code : List FlatVariable → Allocation → ℕ → TermTree → List Instr
+stored_code declared allocation free e =
+    if stores_zero allocation e then [] else read_code declared allocation free value_register 0 e
+
+-- and the register where it is then
+abbrev pub stored_register : Allocation → TermTree → ℕ
+stored_register allocation e =
+    if stores_zero allocation e then zero_register else read_register allocation value_register e
+
 -- the value of an expression into a slot
 abbrev pub assign_code : List FlatVariable → Allocation → ℕ → TermTree → ℕ → List Instr
 assign_code declared allocation free e offset =
-    read_code declared allocation free value_register 0 e
-    ++ store_code (read_register allocation value_register e) offset
+    stored_code declared allocation free e ++ store_code (stored_register allocation e) offset
 
 -- a register into a variable: its home, or its slot
 abbrev pub put_word_code : ℕ → Location → List Instr
