@@ -10,7 +10,8 @@ use Rattle.codegen.proofs.WordLengths.{read_length, stored_length, value_length}
 use Rattle.codegen.specs.private.Loops.{any_sets}
 use Rattle.codegen.proofs.Language.{element_bytes, array_words, IsTyped, AreTyped, types_but, types_of, AllSuit}
 use Rattle.codegen.proofs.Language.{HasType, Boolean, WordType, Profile}
-use Rattle.codegen.specs.private.Emitted.{read_register, stored_code, stored_register}
+use Rattle.codegen.specs.private.Emitted.{read_code, read_register, stored_code, stored_register}
+use Rattle.codegen.specs.private.Erased.{erase_under_code, gives_zero}
 use Rattle.codegen.specs.private.Emitted.{set_code, set_under_code, taken_code, kept_code, join_code, masks_code, unless_unread, element_store_code, clear_code}
 use Rattle.codegen.specs.private.Emitted.{fill_code, statement_code, block_code}
 use Rattle.branch_removal.specs.Heights.{height_of_all}
@@ -113,6 +114,11 @@ set_under_length r (InRegister home) control = simp length-append (omega (arith,
 set_under_length r (InSlot o) control =
     simp length-append (omega (arith, load_length 6 o, fetch_length control 7, store_length 5 o))
 
+erase_under_length : (l control : Location) → length (erase_under_code l control) ≤ 11
+erase_under_length (InRegister home) control = simp length-append (omega (arith, fetch_length control 7))
+erase_under_length (InSlot o) control =
+    simp length-append (omega (arith, load_length 6 o, fetch_length control 7, store_length 5 o))
+
 pub fill_length : (declared : List FlatVariable) (allocation : Allocation) (free : ℕ) (kind : Kind) (o : ℕ)
     (es : List TermTree) → length (fill_code declared allocation free kind o es) ≤ 32 * terms_nodes es
 fill_length declared allocation free kind o [] = omega arith
@@ -153,13 +159,18 @@ module _ (declared : List FlatVariable) (allocation : Allocation) (controls dept
     statement_length depth (put_under control place x size index value) =
         omega (arith, put_under_length declared allocation free (control_location declared allocation control) x index value)
     statement_length depth (set_under control x value) =
-        omega (
+        one_of (gives_zero allocation value) _ _ _
+        (omega (
+          arith,
+          erase_under_length (variable_location declared allocation x) (control_location declared allocation control),
+        ))
+        (omega (
           arith,
           length-append {A = Instr},
           read_length,
           set_under_length (read_register allocation 5 value) (variable_location declared allocation x)
               (control_location declared allocation control),
-        )
+        ))
     statement_length depth (repeats x low high body) =
         let ys = block_code declared allocation controls depths (depth + 1) body in
         let spans = repeat_spans declared allocation (next_offset declared controls depth) free ys

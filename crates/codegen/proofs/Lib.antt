@@ -5,6 +5,7 @@ pub mod Slots
 pub mod Masks
 pub mod Numbers
 pub mod SetRuns
+pub mod ErasedRuns
 pub mod TakeRuns
 pub mod ElementRuns
 pub mod Arguments

@@ -101,14 +101,14 @@ module _ (z : Setting) where
       set_by depth x value typed room within (home_of z.allocation.homes x) refl
 
   -- where a word is set or kept
-  under_alone : (b : Bool) (x v : ℕ) (env : StraightState) (t : machine.State) → length (env.variables x) ≡ 1
+  pub under_alone : (b : Bool) (x v : ℕ) (env : StraightState) (t : machine.State) → length (env.variables x) ≡ 1
       → Ready z (if b then with_element env x 0 v else env) t
       → Ready z (if b then with_variable env x (v ∷ []) else env) t
   under_alone true x v env t one ready = ready_alone z env x v t one ready
   under_alone false x v env t one ready = ready
 
   -- the same where it is set to one of two numbers
-  under_word : (b : Bool) (x v : ℕ) (env : StraightState) (t : machine.State) → length (env.variables x) ≡ 1
+  pub under_word : (b : Bool) (x v : ℕ) (env : StraightState) (t : machine.State) → length (env.variables x) ≡ 1
       → Ready z (with_variable env x ((if b then v else slice_index (env.variables x) 0) ∷ [])) t
       → Ready z (if b then with_variable env x (v ∷ []) else env) t
   under_word b x v env t one ready =
@@ -121,7 +121,7 @@ module _ (z : Setting) where
       (λ c. refl) ready))
 
   -- a variable is set under a control value, in its slot or in its home
-  under_by : (depth c x : ℕ) (value : TermTree) → c < z.controls → is_unread z.allocation c ≡ false
+  pub under_by : (depth c x : ℕ) (value : TermTree) → c < z.controls → is_unread z.allocation c ≡ false
       → IsSet z.code.profile z.declared x value
       → base_of z + 4 * slots_to z.allocation.count (height_of value) ≤ z.size → depth ≤ z.depths
       → (h : Option ℕ) → home_of z.allocation.homes x ≡ h
@@ -277,15 +277,6 @@ module _ (z : Setting) where
       (quiet (read_runs z typed.suits.has_type room) (mask_runs z c 7 among read (omega arith) (omega arith))
       (λ env s t ready valued. ready_valued z value env s t ready valued))
       (λ env s t ready done. done.second.held))))
-
-  pub set_under_runs : (depth c x : ℕ) (value : TermTree) → c < z.controls → is_unread z.allocation c ≡ false
-      → IsSet z.code.profile z.declared x value
-      → base_of z + 4 * slots_to z.allocation.count (height_of value) ≤ z.size → depth ≤ z.depths
-      → Runs z (32 * (1 + term_nodes value)) (steps_of value)
-      (statement_code z.declared z.allocation z.controls z.depths depth (set_under c x value)) (Ready z)
-      (Shown z depth (λ env. after env (set_under c x value)))
-  set_under_runs depth c x value among read typed room within =
-      under_by depth c x value among read typed room within (home_of z.allocation.homes x) refl
 
 -- Without a result there is no code.
 

@@ -15,7 +15,8 @@ use Rattle.codegen.proofs.RepeatRuns.{loops_run}
 use Rattle.codegen.specs.private.Loops.{any_sets}
 use Rattle.codegen.proofs.ClearRuns.{clear_runs}
 use Rattle.codegen.proofs.CodeLengths.{arms_near}
-use Rattle.codegen.proofs.SetRuns.{set_runs, set_under_runs}
+use Rattle.codegen.proofs.ErasedRuns.{set_under_runs}
+use Rattle.codegen.proofs.SetRuns.{set_runs}
 use Rattle.codegen.proofs.TakeRuns.{take_runs}
 use Rattle.codegen.proofs.Slots.{Shown, hidden_then}
 use Rattle.codegen.proofs.Logic.{Setting, base_of, Runs, seq, gives, cheaper, beside, idle, height, Ready}
@@ -41,7 +42,7 @@ module _ (z : Setting) where
     statement_runs depth (take c enclosing condition) typed read room within few =
         take_runs z depth c enclosing condition typed.2.0 typed.0 typed.2.1 room (omega (arith, within)) typed.1 read
     statement_runs depth (set_under c x value) typed read room within few =
-        set_under_runs z depth c x value typed.0 read typed.1 room (omega (arith, within))
+        set_under_runs z depth c x value typed.0 read typed.1 (omega (arith, within)) room
     statement_runs depth (put_under c place x size index value) typed read room within few =
         put_under_runs z depth place x size index value typed.1 room (omega (arith, within)) c typed.0 read
     statement_runs depth (branch condition accepted otherwise) typed read room within few =

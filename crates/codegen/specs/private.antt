@@ -3,6 +3,7 @@
 pub mod Jumps
 pub mod Words
 pub mod Loops
+pub mod Erased
 pub mod Emitted
 pub mod Placed
 pub mod Generated

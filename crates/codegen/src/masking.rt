@@ -2,11 +2,12 @@
 
 ghost use Rattle.std.specs.Prelude.{◌≡◌, ◌<◌, ◌++◌, ◌∷◌, [], OnOk};
 ghost use Rattle.branch_removal.specs.StraightTyping.{IsAmong};
+ghost use Rattle.codegen.specs.private.Erased.{erase_code, erase_under_code};
 ghost use Rattle.codegen.specs.private.Emitted.{masks_code, join_code, kept_code, merge_code, taken_code, unless_unread};
 ghost use Rattle.expression_code.specs.Allocation.{is_unread, register_of};
 ghost use Rattle.expression_code.specs.Layout.{control_location};
 
-use expression_code::emit::{MINUS_ONE, store};
+use expression_code::emit::{MINUS_ONE, load, store};
 use expression_code::{Layout, Location, fetch};
 use rv_code::{Immediate12, ImmediateOperation, Instr, Reg, RegisterOperation};
 use std::alloc::AllocError;
@@ -155,4 +156,43 @@ pub fn merge(
     code.push(Instr::Register(RegisterOperation::And, scratch, scratch, mask))?;
     code.push(Instr::Register(RegisterOperation::Xor, target, old, scratch))?;
     Ok(())
+}
+
+/// 0 where the mask is all ones, and the old word where it is 0, into a register; the scratch one is written too.
+fn erase(
+    code: &mut Vec<Instr>,
+    target: Reg,
+    scratch: Reg,
+    old: Reg,
+    mask: Reg,
+) -> Result<(), AllocError>
+    ensures { OnOk result (code.new.items ≡ code.old.items ++ erase_code target scratch old mask) }
+{
+    let ones = Immediate12::from_bits(MINUS_ONE);
+    code.push(Instr::Immediate(ImmediateOperation::Xori, scratch, mask, ones))?;
+    code.push(Instr::Register(RegisterOperation::And, target, old, scratch))?;
+    Ok(())
+}
+
+/// 0 where a control value is true, and else the old word, into a variable: it is written in any case.
+pub fn erase_under(
+    code: &mut Vec<Instr>,
+    variable: &Location,
+    control: &Location,
+) -> Result<(), AllocError>
+    ensures { OnOk result (code.new.items ≡ code.old.items ++ erase_under_code variable.now control.now) }
+{
+    let mask = control.register(Reg::X7);
+    match variable {
+        Location::InRegister(home) => {
+            fetch(code, control, Reg::X7)?;
+            erase(code, *home, Reg::X5, *home, mask)
+        }
+        Location::InSlot(offset) => {
+            load(code, Reg::X6, *offset)?;
+            fetch(code, control, Reg::X7)?;
+            erase(code, Reg::X5, Reg::X5, Reg::X6, mask)?;
+            store(code, Reg::X5, *offset)
+        }
+    }
 }

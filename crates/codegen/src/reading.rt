@@ -2,6 +2,7 @@
 
 ghost use Rattle.std.specs.Prelude.{◌≡◌, ◌++◌, ◌+◌, ◌*◌, ◌≤◌, length, IfOk, OnOk};
 ghost use Rattle.codegen.specs.private.Emitted.{assign_code, home_of_term, is_zero, read_code, read_register, stored_code, stored_register, stores_zero};
+ghost use Rattle.codegen.specs.private.Erased.{gives_zero};
 ghost use Rattle.expression_code.specs.Allocation.{slots_to};
 ghost use Rattle.expression_code.specs.Layout.{temporaries_offset};
 ghost use Rattle.expression_code.specs.TermCode.{IsAmong};
@@ -97,4 +98,11 @@ pub fn assign(
 {
     let register = stored(code, layout, term)?;
     emit::store(code, register, offset)
+}
+
+/// Whether an expression is the number 0, where numbers go into instructions.
+pub fn gives_zero(layout: &Layout<'_>, term: &Term) -> bool
+    ensures { result ≡ gives_zero layout.now.allocation (term_tree term.now) }
+{
+    layout.immediates() && matches!(number(term), Some(0))
 }

@@ -13,7 +13,7 @@ ghost use Rattle.inline.specs.Flat.{term_tree};
 ghost use Rattle.language.specs.Size.{array_words};
 
 use crate::loops::Loop;
-use crate::reading::{assign, read};
+use crate::reading::{assign, gives_zero, read};
 use crate::settings::any_sets;
 use crate::unemitted::Unemitted;
 use crate::{arrays, jumping, loops, masking};
@@ -78,10 +78,14 @@ fn set_under(
     requires { HasPlace layout.now.declared layout.now.allocation layout.now.controls layout.now.depths 0 (straight.set_under control variable (term_tree value.now)) }
     ensures { OnOk result (code.new.items ≡ code.old.items ++ statement_code layout.now.declared layout.now.allocation layout.now.controls layout.now.depths 0 (straight.set_under control variable (term_tree value.now))) }
 {
-    let value = read(code, layout, Reg::X5, 0, value)?;
     let control = layout.control_location(control);
+    let variable = layout.variable_location(variable);
+    if gives_zero(layout, value) {
+        return masking::erase_under(code, &variable, &control);
+    }
+    let value = read(code, layout, Reg::X5, 0, value)?;
     let mask = control.register(Reg::X7);
-    match layout.variable_location(variable) {
+    match variable {
         Location::InRegister(home) => {
             fetch(code, &control, Reg::X7)?;
             masking::merge(code, home, Reg::X5, value, home, mask)

@@ -4,6 +4,7 @@ use Rattle.std.specs.Prelude.{if◌then◌else◌}
 use Rattle.branch_removal.specs.Straight.{StraightTree, set, clear, fill, put, take, set_under, put_under, branch}
 use Rattle.branch_removal.specs.Straight.{repeats, StraightBlock, nothing, first}
 use Rattle.codegen.specs.private.Jumps.{branch_code, loop_code}
+pub use Rattle.codegen.specs.private.Erased.{erase_code, erase_under_code, gives_zero}
 pub use Rattle.codegen.specs.private.Loops.{any_sets, bounds_code, count_code, repeat_code, sets, test_code}
 pub use Rattle.codegen.specs.private.Words.{assign_code, home_of_term, home_or, put_word_code, read_code}
 pub use Rattle.codegen.specs.private.Words.{is_zero, read_register, stored_code, stored_register, stores_zero}
@@ -212,7 +213,8 @@ module _ (declared : List FlatVariable) (allocation : Allocation) (controls dept
         ++ unless_unread (is_unread allocation control) (kept_code (control_at control) third_register)
         ++ unless_unread (is_unread allocation (control + 1)) (kept_code (control_at (control + 1)) value_register)
     statement_code depth (set_under control x value) =
-        read_code declared allocation free_slots value_register 0 value
+        if gives_zero allocation value then erase_under_code (location x) (control_at control)
+        else read_code declared allocation free_slots value_register 0 value
         ++ set_under_code (read_register allocation value_register value) (location x) (control_at control)
     statement_code depth (put_under control place x size index value) =
         put_element_under_code declared allocation free_slots (control_at control) x index value
