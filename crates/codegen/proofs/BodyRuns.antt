@@ -16,8 +16,9 @@ use Rattle.codegen.proofs.Machine.{Allocation, body_of, IsFitting, IsFollowed, I
 use Rattle.codegen.proofs.Arguments.{loaded, parameters_first, LiesAt, arrays_are, returned_is}
 use Rattle.codegen.proofs.SetRuns.{steps_of_result, Given, result_runs}
 use Rattle.codegen.proofs.Standing.{words_alone, body_words_before, placed_alone, leads_among, stand_placed, placed}
-use Rattle.codegen.proofs.StatementRuns.{block_runs}
-use Rattle.codegen.proofs.EntryRuns.{entry_runs}
+use Rattle.codegen.proofs.FreshRuns.{Ended, program_runs}
+use Rattle.codegen.specs.private.Fresh.{starts_fresh}
+use Rattle.std.proofs.lemmas.Bool.{and_parts, ltb-true}
 use Rattle.codegen.proofs.Slots.{Laid, laid_same}
 use Rattle.codegen.proofs.Logic.{bytes_of, place_of, Setting, seen_by, Straight, Steps, Runs, seq, quietly, gives}
 use Rattle.codegen.proofs.Logic.{cheaper, beside, All-one, Placed, Placed-left, Placed-right, Halts-after}
@@ -73,21 +74,15 @@ module _ (a : Allocation) (p : StraightProgram) (room : HasRoom p) (fitting : Is
   steps env = path_along env p.body ++ steps_of_result p.value (last_state p env)
 
   Finished : StraightState → machine.State → machine.State → Type 0
-  Finished env s t = Given setting p.value (last_state p env) s t
+  Finished env s t = Ended setting p.value (last_state p env) t
 
   body_runs : Runs setting (60 + 32 * p.work) steps (body_code a p) (Laid setting) Finished
   unfolding body_code steps Finished
   body_runs =
       cheaper (omega (arith, room.worked, fitting.few))
-      (gives
-      (λ env s t fine laid done. record { ready = done.second.second.ready; left = done.second.second.left })
-      (quietly (entry_runs setting fitting.within)
-      (seq
-      (block_runs setting 0 p.body room.typed.body fitting.read (omega arith) (omega arith)
-      (omega (arith, length-append {A = Instr}, short, room.nodes)))
-      (beside (last_state p) (result_runs setting p.returned p.value room.typed.result (omega arith)))
-      (λ env s t ready done. done.ready))
-      (λ env s t laid ready. ready)))
+      (program_runs setting p.returned p.value room.typed.result (omega arith) p.body (starts_fresh p)
+      (λ y on. ltb-true y (length p.declared) (and_parts _ _ on).0) (λ y on. (and_parts _ _ on).1) fitting.within room.typed.body
+      fitting.read (omega arith) (omega arith) (omega (arith, length-append {A = Instr}, short, room.nodes)))
 
   standing : Stand code start (map word_of (body_code a p))
   standing = subst (λ (ws : List ℕ). Stand code start ws) (body_words-image a p) there.words
@@ -122,12 +117,12 @@ module _ (a : Allocation) (p : StraightProgram) (room : HasRoom p) (fitting : Is
       (sym (parameters_first p.parameters p.declared room.typed.parameters))
       (λ y d size is array.
       let e : 0 + y ≡ y = omega arith in (
-        ap (λ k. length (m k)) e ∙ (done.ready.fits y d is).count,
+        ap (λ k. length (m k)) e ∙ (done.fits y d is).count,
         λ i below.
             let f : frame + (0 + variable_offset p.declared y) + bytes_of d * i ≡ frame + place_of p.declared y d i =
             omega arith in
             ap (λ a. number_at t.bytes (bytes_of d) a) f
-            ∙ (done.ready.variables_there y d i is (fitting.allocated.words y d size is array) below
+            ∙ (done.arrays_there y d size i is array below
             ∙ ap (λ k. Some (slice_index (m k) i)) (sym e)),
       ))))
 
@@ -158,10 +153,10 @@ module _ (a : Allocation) (p : StraightProgram) (room : HasRoom p) (fitting : Is
           within_steps = omega (arith, done.within);
           within_frame = done.inside;
           behind = done.at ∙ ap (λ n. start + 4 * n) (sym (body_length a p));
-          base = done.done.ready.held.base;
+          base = done.done.held.base;
           untouched = λ r is. done.keeps.regs r (omega (arith, is));
           beside = done.keeps.beside;
-          frame_there = done.done.ready.held.data_there;
+          frame_there = done.done.held.data_there;
         };
         outcome = outcome args s done.end done.done;
       })

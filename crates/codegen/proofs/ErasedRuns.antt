@@ -3,13 +3,14 @@ use Rattle.std.proofs.Common.{◌≡◌, ℕ, ◌+◌, ◌*◌, ◌^◌, ◌<◌
 use Rattle.std.proofs.Common.{false, if◌then◌else◌, List, [], ◌∷◌, ◌++◌, Option, None, Some, length, bit_and, bit_xor}
 use Rattle.std.proofs.Common.{slice_index, refl, sym, ap, ap₂, ◌∙◌, subst, arith, inl}
 use Rattle.std.proofs.lemmas.Bool.{true≢false}
-use Rattle.std.proofs.lemmas.Nat.{and_mask, and_zero_r}
+use Rattle.std.proofs.lemmas.Nat.{and_mask}
+use Rattle.std.specs.Int.Bits.{and_zero_r}
 use Rattle.codegen.proofs.Logic.{along, base_of, cheaper, does, eqb-true, gives, homes_moved, homes_then, is_free}
 use Rattle.codegen.proofs.Logic.{IsHome, kept_by, known, lt-ltb, mask_of, move_runs, place_of, put, quiet, Ready}
 use Rattle.codegen.proofs.Logic.{registers_after, Runs, Setting, steps_of, take, then_moves, took, weaken, Wrote}
 use Rattle.codegen.proofs.Language.{after, bits_of, IsSet, path_in, set_under, StraightState, term_nodes, TermTree}
 use Rattle.codegen.proofs.Language.{value_in, Values, word_as}
-use Rattle.codegen.proofs.Machine.{Allocation, at_home, control_location, height_of, home_of, InSlot, is_unread}
+use Rattle.codegen.proofs.Machine.{Allocation, at_home, control_location, height_of, home_of, InSlot, Instr, is_unread}
 use Rattle.codegen.proofs.Machine.{number_at, read_code, read_register, set_under_code, slots_to, statement_code}
 use Rattle.codegen.proofs.Machine.{Sw, variable_location, variable_offset, with_number}
 use Rattle.codegen.specs.private.Erased.{erase_code, erase_under_code, gives_zero, is_zero}
@@ -40,7 +41,7 @@ zero_known a e is m = by_number a.immediates (number_of e) refl is
 module _ (z : Setting) (depth c x : ℕ) (value : TermTree) (among : c < z.controls)
     (read : is_unread z.allocation c ≡ false) (typed : IsSet z.code.profile z.declared x value)
     (within : depth ≤ z.depths) where
-  abbrev Erases : List _ → Type 0
+  abbrev Erases : List Instr → Type 0
   Erases code = Runs z 32 (λ env. []) code (Ready z) (Shown z depth (λ env. after env (set_under c x value)))
 
   -- a variable becomes 0 under a control value, in its slot or in its home
@@ -166,7 +167,7 @@ module _ (z : Setting) (depth c x : ℕ) (value : TermTree) (among : c < z.contr
       (mask_runs z c 7 among read (omega arith) (omega arith))
       (λ env s t ready done. done.held)))
 
-  abbrev Sets : List _ → Type 0
+  abbrev Sets : List Instr → Type 0
   Sets code = Runs z (32 * (1 + term_nodes value)) (steps_of value) code (Ready z)
       (Shown z depth (λ env. after env (set_under c x value)))
 

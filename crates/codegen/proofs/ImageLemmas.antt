@@ -12,6 +12,8 @@ use Rattle.codegen.proofs.Machine.{slots_end}
 use Rattle.codegen.proofs.Machine.{Slot, ResultSlot, program_base, program_code, program_slots, result_slot}
 use Rattle.codegen.proofs.Machine.{image_of, image_within, most_words, step_limit, Fields}
 use Rattle.codegen.proofs.Machine.{result_code, slots_from, result_offset, HasRoom}
+use Rattle.codegen.proofs.FewerHomes.{homes_fewer}
+use Rattle.codegen.specs.private.Fresh.{homes_but, starts_fresh}
 use Rattle.codegen.proofs.Machine.{Allocation, depth_in_all, entry_code, HavePlaces, home_count, IsAmong, IsFitting}
 use Rattle.codegen.proofs.Machine.{AllReadKept, Instr, plain, ReadsKept, word_offset}
 use Rattle.branch_removal.specs.Straight as straight
@@ -135,7 +137,8 @@ program_length a p counted fitting =
     omega (
       arith,
       length-append {A = Instr},
-      entry_length p.declared 0 a.homes,
+      entry_length p.declared 0 (homes_but (starts_fresh p) 0 a.homes),
+      (homes_fewer (starts_fresh p) 0 a.homes).0,
       body,
       result_length p.declared a (program_base p) p.value,
       counted,

@@ -23,6 +23,8 @@ pub mod StatementCode
 pub mod ImageLemmas
 pub mod Standing
 pub mod EntryRuns
+pub mod FewerHomes
+pub mod FreshRuns
 pub mod BodyRuns
 pub mod WeightLengths
 pub mod ReadControls

@@ -5,6 +5,7 @@ pub mod Words
 pub mod Loops
 pub mod Erased
 pub mod Emitted
+pub mod Fresh
 pub mod Placed
 pub mod Generated
 pub mod Uses

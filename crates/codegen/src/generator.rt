@@ -3,6 +3,7 @@ ghost use Rattle.std.specs.Option.{option_map};
 ghost use Rattle.codegen.specs.Exact.{fields_of, optimised_fields_of};
 ghost use Rattle.codegen.specs.Followed.{IsGenerated};
 ghost use Rattle.branch_removal.specs.Bounds.{IsCounted};
+ghost use Rattle.codegen.specs.private.Fresh.{homes_but, starts_fresh};
 ghost use Rattle.codegen.specs.private.Generated.{entry_code, program_code, program_slots, result_slot, most_words, step_limit, image_of, image_within};
 ghost use Rattle.codegen.specs.private.Jumps.{IsFar};
 ghost use Rattle.codegen.specs.private.Room.{HasRoom, IsFitting, frame_of};
@@ -15,6 +16,7 @@ ghost use Rattle.rv_code.specs.declared.instructions.Instr.TheVariants.{Ecall};
 
 use crate::Code;
 use crate::control_uses::unread_controls;
+use crate::fresh::starts_fresh;
 use crate::heights::{greatest_depth, program_height, temporary_registers};
 use crate::homes::word_homes;
 use crate::reading::assign;
@@ -42,14 +44,20 @@ fn words(alloc: Global, code: &[Instr]) -> Result<Vec<u32>, AllocError>
     Ok(words)
 }
 
-/// The words that have homes, from their slots into these.
-fn enter(code: &mut Vec<Instr>, layout: &Layout<'_>) -> Result<(), AllocError>
+/// The words that have homes, from their slots into these, but those that start fresh.
+fn enter(
+    code: &mut Vec<Instr>,
+    straight: &Straight<'_>,
+    layout: &Layout<'_>,
+) -> Result<(), AllocError>
     requires { length layout.now.allocation.homes ≤ length layout.now.declared + layout.now.controls }
-    ensures { OnOk result (code.new.items ≡ code.old.items ++ entry_code layout.now.declared 0 layout.now.allocation.homes) }
+    ensures { OnOk result (code.new.items ≡ code.old.items ++ entry_code layout.now.declared 0 (homes_but (starts_fresh straight.now) 0 layout.now.allocation.homes)) }
 {
     for (number, home) in layout.homes().iter().enumerate() {
         if let Some(register) = home {
-            emit::load(code, *register, layout.word(number))?;
+            if !starts_fresh(straight, number) {
+                emit::load(code, *register, layout.word(number))?;
+            }
         }
     }
     Ok(())
@@ -76,7 +84,7 @@ fn program_code(
     ensures far { IfErr result (IsFar (length (program_code layout.now.allocation straight.now))) }
 {
     let mut code = Vec::new(alloc);
-    enter(&mut code, layout)?;
+    enter(&mut code, straight, layout)?;
     statements(alloc, &mut code, layout, 0, straight.body())?;
     if let Some(value) = straight.value() {
         assign(&mut code, layout, value, layout.result())?;

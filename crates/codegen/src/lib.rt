@@ -6,6 +6,7 @@
 mod arrays;
 mod code;
 mod control_uses;
+mod fresh;
 mod generator;
 mod heights;
 mod homes;

@@ -9,7 +9,7 @@ ghost use Rattle.expression_code.specs.TermCode.{IsAmong};
 ghost use Rattle.branch_removal.specs.Heights.{height_of};
 ghost use Rattle.inline.specs.Flat.{term_tree};
 
-use expression_code::{Layout, emit, into, number};
+use expression_code::{Layout, emit, into};
 use inline::Term;
 use rv_code::{Instr, Reg};
 use std::alloc::AllocError;
@@ -104,5 +104,5 @@ pub fn assign(
 pub fn gives_zero(layout: &Layout<'_>, term: &Term) -> bool
     ensures { result ≡ gives_zero layout.now.allocation (term_tree term.now) }
 {
-    layout.immediates() && matches!(number(term), Some(0))
+    layout.immediates() && matches!(term, Term::Number(0, _) | Term::Truth(false))
 }

@@ -11,6 +11,7 @@ use Rattle.inline.specs.declared.flat.FlatVariable.{FlatVariable}
 use Rattle.inline.specs.Flat.{TermTree}
 use Rattle.language.specs.declared.typing.WordType.{WordType}
 use Rattle.codegen.specs.private.Emitted.{block_code, assign_code}
+use Rattle.codegen.specs.private.Fresh.{homes_but, starts_fresh}
 use Rattle.branch_removal.specs.Heights.{depth_in_all, program_height}
 use Rattle.expression_code.specs.Allocation.{Allocation, slots_to}
 use Rattle.expression_code.specs.Layout.{slots_from, result_offset, temporaries_offset, word_offset}
@@ -26,7 +27,7 @@ result_code declared allocation free (Some value) =
 abbrev pub program_base : StraightProgram → ℕ
 program_base p = temporaries_offset p.declared p.controls (depth_in_all p.body)
 
--- the words that have homes, from their slots into these: the word x and those behind it
+-- words that have homes, from their slots into these: the word x and those behind it
 abbrev pub entry_code : List FlatVariable → ℕ → List (Option ℕ) → List Instr
 entry_code declared x [] = []
 entry_code declared x (None ∷ homes) = entry_code declared (x + 1) homes
@@ -38,10 +39,10 @@ home_count [] = 0
 home_count (None ∷ homes) = home_count homes
 home_count (Some home ∷ homes) = 1 + home_count homes
 
--- the homes, the statements and the result
+-- the homes but those of words that start fresh, the statements and the result
 abbrev pub body_of : Allocation → StraightProgram → List Instr
 body_of a p =
-    entry_code p.declared 0 a.homes
+    entry_code p.declared 0 (homes_but (starts_fresh p) 0 a.homes)
     ++ (block_code p.declared a p.controls (depth_in_all p.body) 0 p.body
     ++ result_code p.declared a (program_base p) p.value)
 

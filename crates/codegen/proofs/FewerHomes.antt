@@ -1,0 +1,365 @@
+-- The code of what does not name some variables is the same where these have no homes.
+use Rattle.std.proofs.Common.{◌≡◌, ℕ, zero, suc, ◌+◌, ◌<◌, ◌≤◌, ◌==◌, ◌||◌, Bool, true, false, cond, List, [], ◌∷◌, ◌++◌}
+use Rattle.std.proofs.Common.{length, Option, None, Some, refl, sym, ap, ap₂, ◌∙◌, arith, eq-eqb, if◌then◌else◌}
+use Rattle.std.proofs.lemmas.Bool.{or_parts, true≢false}
+use Rattle.codegen.proofs.Language.{branch, clear, fill, first, FlatVariable, nothing, put, put_under, repeats, set}
+use Rattle.codegen.proofs.Language.{element_bytes, set_under, StraightBlock, StraightTree, take, TermTree}
+use Rattle.codegen.proofs.Logic.{none-some}
+use Rattle.codegen.proofs.Machine.{home_count}
+use Rattle.codegen.proofs.Machine.{Allocation, AllReadKept, block_code, control_location, home_of, InRegister, InSlot}
+use Rattle.codegen.proofs.Machine.{into_code, Location, next_offset, put_element_code, put_element_under_code}
+use Rattle.codegen.proofs.Machine.{read_code, read_register, ReadsKept, set_code, statement_code, temporaries_offset, result_offset}
+use Rattle.codegen.proofs.Machine.{assign_code, fill_code, home_of_term, IsKeptWithin, result_code, taken_code}
+use Rattle.codegen.proofs.Machine.{near_element, unless_home, variable_location, variable_offset, kind_at, Instr}
+use Rattle.codegen.specs.private.Fresh.{any_names, homes_but, names, names_in, names_in_any, names_in_result}
+use Rattle.codegen.specs.private.Loops.{any_sets, counting_home, loop_from, repeat_code, short_number, to_number_code}
+use Rattle.expression_code.specs.Allocation.{working_register}
+use Rattle.expression_code.specs.TermCode.{is_at_home, operand, right_row, left_row}
+use Rattle.inline.specs.Flat as flat
+use Rattle.language.specs.declared.signature.Kind.{Kind}
+
+neither_of_three : (a b c : Bool) → (a || (b || c)) ≡ false → (a ≡ false) × (b ≡ false) × (c ≡ false)
+neither_of_three a b c h =
+    let first = or_parts a (b || c) h in
+    let rest = or_parts b c first.1 in
+    (first.0, rest.0, rest.1)
+
+neither_of_four : (a b c d : Bool) → (a || (b || (c || d))) ≡ false
+    → (a ≡ false) × (b ≡ false) × (c ≡ false) × (d ≡ false)
+neither_of_four a b c d h =
+    let first = or_parts a (b || (c || d)) h in
+    let rest = neither_of_three b c d first.1 in
+    (first.0, rest.0, rest.1, rest.2)
+
+-- registers given out so, but for the homes of some words
+abbrev pub but : Allocation → (ℕ → Bool) → Allocation
+but a left_out = record {
+  count = a.count;
+  homes = homes_but left_out 0 a.homes;
+  immediates = a.immediates;
+  unread = a.unread;
+}
+
+same_none : (b : Bool) (h : Option ℕ) → h ≡ None → None ≡ (if b then None else h)
+same_none true h away = refl
+same_none false h away = sym away
+
+homes_behind : (left_out : ℕ → Bool) (k : ℕ) (homes : List (Option ℕ)) (x : ℕ)
+    → home_of (homes_but left_out k homes) x ≡ (if left_out (k + x) then None else home_of homes x)
+homes_behind left_out k [] x = same_none (left_out (k + x)) None refl
+homes_behind left_out k (None ∷ homes) zero = same_none (left_out (k + 0)) None refl
+homes_behind left_out k (Some home ∷ homes) zero =
+    let here : k ≡ k + 0 = omega arith in
+    ap (λ n. if left_out n then None else Some home) here
+homes_behind left_out k (None ∷ homes) (suc x) =
+    let next : k + 1 + x ≡ k + suc x = omega arith in
+    homes_behind left_out (k + 1) homes x
+    ∙ ap (λ n. if left_out n then None else home_of homes x) next
+homes_behind left_out k (Some home ∷ homes) (suc x) =
+    let next : k + 1 + x ≡ k + suc x = omega arith in
+    homes_behind left_out (k + 1) homes x
+    ∙ ap (λ n. if left_out n then None else home_of homes x) next
+
+-- the home of a word
+pub home_but : (a : Allocation) (left_out : ℕ → Bool) (x : ℕ)
+    → home_of (but a left_out).homes x ≡ (if left_out x then None else home_of a.homes x)
+home_but a left_out x =
+    let here : 0 + x ≡ x = omega arith in
+    homes_behind left_out 0 a.homes x ∙ ap (λ n. if left_out n then None else home_of a.homes x) here
+
+pub home_kept : (a : Allocation) (left_out : ℕ → Bool) (x : ℕ) → left_out x ≡ false
+    → home_of (but a left_out).homes x ≡ home_of a.homes x
+home_kept a left_out x stays = home_but a left_out x ∙ ap (λ b. if b then None else home_of a.homes x) stays
+
+pub home_left_out : (a : Allocation) (left_out : ℕ → Bool) (x : ℕ) → left_out x ≡ true
+    → home_of (but a left_out).homes x ≡ None
+home_left_out a left_out x out = home_but a left_out x ∙ ap (λ b. if b then None else home_of a.homes x) out
+
+-- one that there is left is the one that there was
+pub home_was : (a : Allocation) (left_out : ℕ → Bool) (x home : ℕ) → home_of (but a left_out).homes x ≡ Some home
+    → home_of a.homes x ≡ Some home
+home_was a left_out x home is = by_test (left_out x) (sym (home_but a left_out x) ∙ is)
+  where
+    by_test : (b : Bool) → (if b then None else home_of a.homes x) ≡ Some home → home_of a.homes x ≡ Some home
+    by_test true at = absurd (none-some home at)
+    by_test false at = at
+
+-- there are no more homes, in a list as long
+pub homes_fewer : (out : ℕ → Bool) (k : ℕ) (homes : List (Option ℕ))
+    → (home_count (homes_but out k homes) ≤ home_count homes) × (length (homes_but out k homes) ≡ length homes)
+homes_fewer out k [] = (omega arith, refl)
+homes_fewer out k (None ∷ homes) =
+    let rest = homes_fewer out (k + 1) homes in
+    (rest.0, ap suc rest.1)
+homes_fewer out k (Some home ∷ homes) =
+    let rest = homes_fewer out (k + 1) homes in
+    (by_test (out k), ap suc rest.1)
+  where
+    by_test : (b : Bool) → home_count ((if b then None else Some home) ∷ homes_but out (k + 1) homes)
+        ≤ 1 + home_count homes
+    by_test true = omega (arith, (homes_fewer out (k + 1) homes).0)
+    by_test false = omega (arith, (homes_fewer out (k + 1) homes).0)
+
+module _ (declared : List FlatVariable) (a : Allocation) (left_out : ℕ → Bool)
+    (variables : (y : ℕ) → left_out y ≡ true → y < length declared) where
+  abbrev b : Allocation
+  b = but a left_out
+
+  -- none of those is named
+  abbrev Spares : (ℕ → Bool) → Type 0
+  Spares named = (y : ℕ) → left_out y ≡ true → named y ≡ false
+
+  stays : (x : ℕ) → Spares (λ y. x == y) → left_out x ≡ false
+  stays x spares = by_test (left_out x) refl
+    where
+      by_test : (out : Bool) → left_out x ≡ out → left_out x ≡ false
+      by_test true is = absurd (true≢false (sym (eq-eqb x x refl) ∙ spares x is))
+      by_test false is = is
+
+  same_home : (x : ℕ) → Spares (λ y. x == y) → home_of b.homes x ≡ home_of a.homes x
+  same_home x spares = home_kept a left_out x (stays x spares)
+
+  pub control_same : (c : ℕ) → control_location declared b c ≡ control_location declared a c
+  control_same c = by_test (left_out (length declared + c)) refl
+    where
+      by_test : (out : Bool) → left_out (length declared + c) ≡ out
+          → control_location declared b c ≡ control_location declared a c
+      by_test true is = absurd (omega (arith, variables (length declared + c) is))
+      by_test false is = rw (home_kept a left_out (length declared + c) is) refl
+
+  location_same : (x : ℕ) → Spares (λ y. x == y) → variable_location declared b x ≡ variable_location declared a x
+  location_same x spares = rw (same_home x spares) refl
+
+  -- Expressions.
+
+  -- the register that the value of a place is computed in
+  abbrev own : ℕ → ℕ
+  own place = working_register a.count place 29
+
+  at_home_same : (e : TermTree) → Spares (λ y. names_in y e) → is_at_home b e ≡ is_at_home a e
+  at_home_same (flat.variable x) spares = rw (same_home x spares) refl
+  at_home_same e spares = refl
+
+  operand_same : (free place : ℕ) (e : TermTree) → Spares (λ y. names_in y e)
+      → operand b free place e ≡ operand a free place e
+  operand_same free place (flat.variable x) spares = rw (same_home x spares) refl
+  operand_same free place e spares = refl
+
+  term_home_same : (e : TermTree) → Spares (λ y. names_in y e) → home_of_term b e ≡ home_of_term a e
+  term_home_same (flat.variable x) spares = same_home x spares
+  term_home_same e spares = refl
+
+  pub into_same : (free d place : ℕ) (e : TermTree) → Spares (λ y. names_in y e)
+      → into_code declared b free d place e ≡ into_code declared a free d place e
+  into_same free d place (flat.number value kind) spares = refl
+  into_same free d place (flat.truth value) spares = refl
+  into_same free d place (flat.variable x) spares = rw (location_same x spares) refl
+  into_same free d place (flat.prefix operator width e) spares =
+      rw (at_home_same e spares, operand_same free place e spares, into_same free (own place) place e spares) refl
+  into_same free d place (flat.rotate width e amount) spares =
+      rw (at_home_same e spares, operand_same free place e spares, into_same free (own place) place e spares) refl
+  into_same free d place (flat.convert kind e) spares =
+      rw (at_home_same e spares, operand_same free place e spares, into_same free (own place) place e spares) refl
+  into_same free d place (flat.element source x size index) spares =
+      let one = λ (y : ℕ) (out : left_out y ≡ true). (or_parts (x == y) (names_in y index) (spares y out)).1 in
+      rw (at_home_same index one, operand_same free place index one, into_same free (own place) place index one) refl
+  into_same free d place (flat.binary source operator width left right) spares =
+      let one = λ (y : ℕ) (out : left_out y ≡ true). (or_parts (names_in y left) (names_in y right) (spares y out)).0 in
+      let two = λ (y : ℕ) (out : left_out y ≡ true). (or_parts (names_in y left) (names_in y right) (spares y out)).1 in
+      rw (
+        at_home_same left one,
+        at_home_same right two,
+        operand_same free place left one,
+        operand_same free place right two,
+        operand_same free (place + 1) right two,
+        into_same free (own place) place left one,
+        into_same free (own place) place right two,
+        into_same free (own (place + 1)) (place + 1) right two,
+      ) refl
+  into_same free d place (flat.select condition accepted otherwise) spares =
+      let parts = λ (y : ℕ) (out : left_out y ≡ true). neither_of_three (names_in y condition) (names_in y accepted)
+      (names_in y otherwise) (spares y out) in
+      let one = λ (y : ℕ) (out : left_out y ≡ true). (parts y out).0 in
+      let two = λ (y : ℕ) (out : left_out y ≡ true). (parts y out).1 in
+      let three = λ (y : ℕ) (out : left_out y ≡ true). (parts y out).2 in
+      rw (
+        at_home_same condition one,
+        at_home_same accepted two,
+        at_home_same otherwise three,
+        operand_same free place condition one,
+        operand_same free (place + 1) accepted two,
+        operand_same free (place + 2) otherwise three,
+        into_same free (own place) place condition one,
+        into_same free (own (place + 1)) (place + 1) accepted two,
+        into_same free (own (place + 2)) (place + 2) otherwise three,
+      ) refl
+
+  read_same : (free r place : ℕ) (e : TermTree) → Spares (λ y. names_in y e)
+      → read_code declared b free r place e ≡ read_code declared a free r place e
+  read_same free r place e spares =
+      ap₂ unless_home (term_home_same e spares) (into_same free r place e spares)
+
+  register_same : (r : ℕ) (e : TermTree) → Spares (λ y. names_in y e) → read_register b r e ≡ read_register a r e
+  register_same r e spares = rw (term_home_same e spares) refl
+
+  assign_same : (free : ℕ) (e : TermTree) (o : ℕ) → Spares (λ y. names_in y e)
+      → assign_code declared b free e o ≡ assign_code declared a free e o
+  assign_same free e o spares = rw (read_same free 5 0 e spares, register_same 5 e spares) refl
+
+  set_same : (free : ℕ) (l : Location) (e : TermTree) → Spares (λ y. names_in y e)
+      → set_code declared b free l e ≡ set_code declared a free l e
+  set_same free (InRegister home) e spares = into_same free home 0 e spares
+  set_same free (InSlot o) e spares = assign_same free e o spares
+
+  pub result_same : (free : ℕ) (value : Option TermTree) → Spares (λ y. names_in_result y value)
+      → result_code declared b free value ≡ result_code declared a free value
+  result_same free None spares = refl
+  result_same free (Some value) spares = assign_same free value (result_offset declared) spares
+
+  fill_same : (free : ℕ) (kind : Kind) (o : ℕ) (es : List TermTree) → Spares (λ y. names_in_any y es)
+      → fill_code declared b free kind o es ≡ fill_code declared a free kind o es
+  fill_same free kind o [] spares = refl
+  fill_same free kind o (e ∷ es) spares =
+      let one = λ (y : ℕ) (out : left_out y ≡ true). (or_parts (names_in y e) (names_in_any y es) (spares y out)).0 in
+      let two = λ (y : ℕ) (out : left_out y ≡ true). (or_parts (names_in y e) (names_in_any y es) (spares y out)).1 in
+      rw (read_same free 5 0 e one, register_same 5 e one, fill_same free kind (o + element_bytes kind) es two) refl
+
+  put_same : (free x : ℕ) (index value : TermTree) → Spares (λ y. names_in y index) → Spares (λ y. names_in y value)
+      → put_element_code declared b free x index value ≡ put_element_code declared a free x index value
+  put_same free x index value one two =
+      rw (
+        read_same free 5 0 index one,
+        read_same free 6 1 value two,
+        read_same free 5 0 value two,
+        register_same 5 index one,
+        register_same 6 value two,
+        register_same 5 value two,
+      ) refl
+
+  put_under_same : (free : ℕ) (control : Location) (x : ℕ) (index value : TermTree) → Spares (λ y. names_in y index)
+      → Spares (λ y. names_in y value)
+      → put_element_under_code declared b free control x index value
+      ≡ put_element_under_code declared a free control x index value
+  put_under_same free control x index value one two =
+      rw (
+        read_same free 5 0 index one,
+        read_same free 6 1 value two,
+        read_same free 5 0 value two,
+        register_same 5 index one,
+        register_same 6 value two,
+        register_same 5 value two,
+      ) refl
+
+  taken_same : (x y : Bool) (p q r : ℕ) (within : Option ℕ)
+      → taken_code declared b x y p q r within ≡ taken_code declared a x y p q r within
+  taken_same x y p q r None = refl
+  taken_same x y p q r (Some c) = rw (control_same c) refl
+
+  -- Loops.
+
+  loop_same : (next free : ℕ) (counter : Location) (low high : TermTree) (body : List Instr) (home bound : Option ℕ)
+      → Spares (λ y. names_in y low) → Spares (λ y. names_in y high)
+      → loop_from declared b next free counter low high body home bound
+      ≡ loop_from declared a next free counter low high body home bound
+  loop_same next free counter low high body (Some home) (Some bound) one two =
+      rw (into_same free home 0 low one, read_same free 5 0 low one, register_same 5 low one) refl
+  loop_same next free counter low high body None bound one two =
+      rw (assign_same free low next one, assign_same free high (next + 4) two) refl
+  loop_same next free counter low high body (Some home) None one two =
+      rw (assign_same free low next one, assign_same free high (next + 4) two) refl
+
+  -- Statements.
+
+  module _ (controls depths : ℕ) where
+    mutual
+      pub statement_same : (depth : ℕ) (s : StraightTree) → Spares (λ y. names y s)
+          → statement_code declared b controls depths depth s ≡ statement_code declared a controls depths depth s
+      statement_same depth (set x value) spares =
+          let one = λ (y : ℕ) (out : left_out y ≡ true). (or_parts (x == y) (names_in y value) (spares y out)).0 in
+          let two = λ (y : ℕ) (out : left_out y ≡ true). (or_parts (x == y) (names_in y value) (spares y out)).1 in
+          ap (λ l. set_code declared b (temporaries_offset declared controls depths) l value) (location_same x one)
+          ∙ set_same (temporaries_offset declared controls depths) (variable_location declared a x) value two
+      statement_same depth (clear x size) spares = refl
+      statement_same depth (fill x values) spares =
+          fill_same (temporaries_offset declared controls depths) (kind_at declared x) (variable_offset declared x)
+          values (λ y out. (or_parts (x == y) (names_in_any y values) (spares y out)).1)
+      statement_same depth (put place x size index value) spares =
+          let parts = λ (y : ℕ) (out : left_out y ≡ true). neither_of_three (x == y) (names_in y index)
+          (names_in y value) (spares y out) in
+          put_same (temporaries_offset declared controls depths) x index value (λ y out. (parts y out).1)
+          (λ y out. (parts y out).2)
+      statement_same depth (take c within condition) spares =
+          rw (
+            read_same (temporaries_offset declared controls depths) 5 0 condition spares,
+            register_same 5 condition spares,
+            control_same c,
+            control_same (c + 1),
+            taken_same _ _ _ _ _ within,
+          ) refl
+      statement_same depth (set_under c x value) spares =
+          let one = λ (y : ℕ) (out : left_out y ≡ true). (or_parts (x == y) (names_in y value) (spares y out)).0 in
+          let two = λ (y : ℕ) (out : left_out y ≡ true). (or_parts (x == y) (names_in y value) (spares y out)).1 in
+          rw (
+            location_same x one,
+            control_same c,
+            read_same (temporaries_offset declared controls depths) 5 0 value two,
+            register_same 5 value two,
+          ) refl
+      statement_same depth (put_under c place x size index value) spares =
+          let parts = λ (y : ℕ) (out : left_out y ≡ true). neither_of_three (x == y) (names_in y index)
+          (names_in y value) (spares y out) in
+          let free = temporaries_offset declared controls depths in
+          ap (λ l. put_element_under_code declared b free l x index value) (control_same c)
+          ∙ put_under_same free (control_location declared a c) x index value (λ y out. (parts y out).1)
+          (λ y out. (parts y out).2)
+      statement_same depth (branch condition accepted otherwise) spares =
+          let parts = λ (y : ℕ) (out : left_out y ≡ true). neither_of_three (names_in y condition)
+          (any_names y accepted) (any_names y otherwise) (spares y out) in
+          let one = λ (y : ℕ) (out : left_out y ≡ true). (parts y out).0 in
+          rw (
+            read_same (temporaries_offset declared controls depths) 5 0 condition one,
+            register_same 5 condition one,
+            block_same depth accepted (λ y out. (parts y out).1),
+            block_same depth otherwise (λ y out. (parts y out).2),
+          ) refl
+      statement_same depth (repeats x low high body) spares =
+          let parts = λ (y : ℕ) (out : left_out y ≡ true). neither_of_four (x == y) (names_in y low)
+          (names_in y high) (any_names y body) (spares y out) in
+          let free = temporaries_offset declared controls depths in
+          let next = next_offset declared controls depth in
+          let own = block_code declared a controls depths (depth + 1) body in
+          ap₂ (λ l (is : List Instr). repeat_code declared b next free l low high (any_sets x body) is)
+          (location_same x (λ y out. (parts y out).0)) (block_same (depth + 1) body (λ y out. (parts y out).3))
+          ∙ loop_same next free (variable_location declared a x) low high own
+          (counting_home (variable_location declared a x) (any_sets x body) own) (short_number high)
+          (λ y out. (parts y out).1) (λ y out. (parts y out).2)
+
+      pub block_same : (depth : ℕ) (s : StraightBlock) → Spares (λ y. any_names y s)
+          → block_code declared b controls depths depth s ≡ block_code declared a controls depths depth s
+      block_same depth nothing spares = refl
+      block_same depth (first s rest) spares =
+          ap₂ (λ (front back : List Instr). front ++ back)
+          (statement_same depth s (λ y out. (or_parts (names y s) (any_names y rest) (spares y out)).0))
+          (block_same depth rest (λ y out. (or_parts (names y s) (any_names y rest) (spares y out)).1))
+
+  -- What is read is kept.
+
+  kept_within : (within : Option ℕ) → IsKeptWithin a within → IsKeptWithin b within
+  kept_within None kept = kept
+  kept_within (Some c) kept = kept
+
+  mutual
+    pub reads_same : (s : StraightTree) → ReadsKept a s → ReadsKept b s
+    reads_same (set x value) read = read
+    reads_same (clear x size) read = read
+    reads_same (fill x values) read = read
+    reads_same (put place x size index value) read = read
+    reads_same (take c within condition) read = kept_within within read
+    reads_same (set_under c x value) read = read
+    reads_same (put_under c place x size index value) read = read
+    reads_same (branch condition accepted otherwise) read = (all_same accepted read.0, all_same otherwise read.1)
+    reads_same (repeats x low high body) read = all_same body read
+
+    all_same : (s : StraightBlock) → AllReadKept a s → AllReadKept b s
+    all_same nothing read = read
+    all_same (first s rest) read = (reads_same s read.0, all_same rest read.1)

@@ -1,0 +1,459 @@
+-- The code of a program whose variables need not all be at home at first: those that the first statement that names
+-- them sets and does not read, and which nothing loads. Until then their slots count, as if they had no homes.
+use Rattle.std.proofs.Common.{◌≡◌, ℕ, zero, suc, ◌+◌, ◌*◌, ◌^◌, ◌<◌, ◌≤◌, ◌==◌, ◌&&◌, ◌||◌, ◌≢◌, not, Bool, true, false, cond}
+use Rattle.std.proofs.Common.{List, [], ◌∷◌, ◌++◌, length, length-append, append_assoc, Option, None, Some, slice_get}
+use Rattle.std.proofs.Common.{slice_index, refl, sym, ap, ap₂, ◌∙◌, subst, arith, eq-eqb, ne_eqb, if◌then◌else◌}
+use Rattle.std.proofs.lemmas.Bool.{and_left, or_from, or_parts, true≢false}
+use Rattle.codegen.proofs.EntryRuns.{entry_runs}
+use Rattle.codegen.proofs.FewerHomes.{but, control_same, home_but, home_kept, home_left_out, home_was, homes_fewer, into_same}
+use Rattle.codegen.proofs.FewerHomes.{reads_same, result_same, statement_same}
+use Rattle.codegen.proofs.Language.{after, after_all, AreTyped, block_work, branch, clear, fill, first, Fits}
+use Rattle.codegen.proofs.Language.{bits_of, FlatVariable, IsResult, IsSet, IsTyped, nothing, numbers_in}
+use Rattle.codegen.proofs.Language.{path_along, path_at, put, put_under, repeats, set, set_under, statement_work}
+use Rattle.codegen.proofs.Language.{StraightBlock, StraightState, StraightTree, take, TermTree, types_of, value_in}
+use Rattle.codegen.proofs.Language.{value_nodes, with_variable, word_as, WordType}
+use Rattle.codegen.proofs.Logic.{After, along, as_code, at_control, base_of, Before, beside, bytes_of, cheaper, eqb-false, eqb-true}
+use Rattle.codegen.proofs.Logic.{gives, HeldAt, Holds, home_beside, IsHome, Kept, kept_less, kept_number, mask_of, none}
+use Rattle.codegen.proofs.Logic.{none-some, place_of, quietly, Ready, Runs, same_Some, seq, Setting, slice_get_within}
+use Rattle.codegen.proofs.Logic.{Steps, steps_of, variables_kept, ValuedIn, weaken, fits_assigned, one_held}
+use Rattle.codegen.proofs.Machine.{Allocation, AllReadKept, at_home, block_code, control_location, control_offset}
+use Rattle.codegen.proofs.Machine.{depth_in, depth_in_all, entry_code, far, height_in, height_in_all, height_of}
+use Rattle.codegen.proofs.Machine.{home_count, home_of, InRegister, InSlot, Instr, is_unread, number_at, ReadsKept}
+use Rattle.codegen.proofs.Machine.{result_code, result_height, set_code, slots_to, statement_code, variable_offset}
+use Rattle.codegen.proofs.SetRuns.{Given, result_runs, set_cost, steps_of_result}
+use Rattle.codegen.proofs.Arguments.{Left}
+use Rattle.codegen.proofs.Slots.{homed_runs, Laid, suits_fits}
+use Rattle.codegen.proofs.StatementRuns.{statement_runs}
+use Rattle.codegen.specs.private.Fresh.{homes_but, is_fresh, names, names_in, names_in_result, sets_fresh}
+use Rattle.expression_code.specs.Allocation.{IsAllocation}
+use Rattle.rv_machine.specs.Machine as machine
+
+-- Fewer homes.
+
+none_left_out : (b : Bool) (h : Option ℕ) → h ≡ None → (if b then None else h) ≡ None
+none_left_out true h away = refl
+none_left_out false h away = away
+
+allocated_but : (declared : List FlatVariable) (a : Allocation) (out : ℕ → Bool) → IsAllocation declared a
+    → IsAllocation declared (but a out)
+allocated_but declared a out allocated = record {
+  some = allocated.some;
+  few = allocated.few;
+  allowed = λ x home at. allocated.allowed x home (home_was a out x home at);
+  apart = λ x y home here there. allocated.apart x y home (home_was a out x home here) (home_was a out y home there);
+  words = λ x d size known is. home_but a out x
+      ∙ none_left_out (out x) (home_of a.homes x) (allocated.words x d size known is);
+}
+
+abbrev pub fewer : Setting → (ℕ → Bool) → Setting
+fewer z out = record {
+  code = z.code;
+  frame = z.frame;
+  size = z.size;
+  counts = z.counts;
+  declared = z.declared;
+  controls = z.controls;
+  depths = z.depths;
+  allocation = but z.allocation out;
+  allocated = allocated_but z.declared z.allocation out z.allocated;
+  even = z.even;
+  ends = z.ends;
+  room = z.room;
+}
+
+-- a variable is none of those any more
+abbrev without : (ℕ → Bool) → ℕ → ℕ → Bool
+without out x y = not (y == x) && out y
+
+-- Variables that are set first.
+
+two_ways : (a b c : Bool) → a ≡ false → (a || (not b && c)) ≡ true → (b ≡ false) × (c ≡ true)
+two_ways false false true off h = (refl, refl)
+two_ways false false false off h = absurd (true≢false (sym h))
+two_ways false true c off h = absurd (true≢false (sym h))
+two_ways true b c off h = absurd (true≢false off)
+
+-- one that a statement sets so is not read there
+not_read : (x y : ℕ) (read fresh : Bool) → (x == y) ≡ true
+    → (((x == y) && not read) || (not ((x == y) || read) && fresh)) ≡ true → read ≡ false
+not_read x y false fresh same h = refl
+not_read x y true fresh same h = absurd (true≢false (sym (subst
+    (λ b. ((b && false) || (not (b || true) && fresh)) ≡ true) same h)))
+
+both_true : (b c : Bool) → (not b && c) ≡ true → (b ≡ false) × (c ≡ true)
+both_true false true h = (refl, refl)
+both_true false false h = absurd (true≢false (sym h))
+both_true true c h = absurd (true≢false (sym h))
+
+module _ (z : Setting) where
+  abbrev a : Allocation
+  a = z.allocation
+
+  -- what is done with fewer homes
+  in_all : {n : ℕ} {steps : Steps} {is : List Instr} {P : Before} {Q : After} (out : ℕ → Bool)
+      → Runs (fewer z out) n steps is P Q → Runs z n steps is P Q
+  in_all out one = record {
+    placed_at = λ p placed.
+        let x = one.placed_at p placed in
+        record {
+          leak = x.leak;
+          runs = λ env s rest at fine fit.
+              let e = x.runs env s rest at fine fit in
+              record {
+                turns = e.turns;
+                end = e.end;
+                seen = e.seen;
+                leads = e.leads;
+                within = e.within;
+                shown = e.shown;
+                inside = e.inside;
+                keeps = record { regs = e.keeps.regs; beside = e.keeps.beside };
+                at = e.at;
+                done = e.done;
+              };
+        };
+  }
+
+  -- Ready with other homes.
+
+  -- the home of a control value is none of those
+  control_home : (out : ℕ → Bool) → ((y : ℕ) → out y ≡ true → y < length z.declared) → (c : ℕ)
+      → home_of (but a out).homes (length z.declared + c) ≡ home_of a.homes (length z.declared + c)
+  control_home out variables c = by_test (out (length z.declared + c)) refl
+    where
+      by_test : (b : Bool) → out (length z.declared + c) ≡ b
+          → home_of (but a out).homes (length z.declared + c) ≡ home_of a.homes (length z.declared + c)
+      by_test true is = absurd (omega (arith, variables (length z.declared + c) is))
+      by_test false is = home_kept a out (length z.declared + c) is
+
+  -- where a control value has its mask, it has it with other homes of variables
+  control_there : (one other : ℕ → Bool) → ((y : ℕ) → one y ≡ true → y < length z.declared)
+      → ((y : ℕ) → other y ≡ true → y < length z.declared) → (c v : ℕ) (s t : machine.State)
+      → ((home : ℕ) → home_of a.homes (length z.declared + c) ≡ Some home → t.regs home ≡ s.regs home)
+      → number_at t.bytes 4 (z.frame + control_offset z.declared c)
+      ≡ number_at s.bytes 4 (z.frame + control_offset z.declared c)
+      → Holds (fewer z one) (control_location z.declared (but a one) c) s v
+      → Holds (fewer z other) (control_location z.declared (but a other) c) t v
+  control_there one other first second c v s t homes slot there =
+      let same = control_home one first c in
+      let same' = control_home other second c in
+      at_control (fewer z other) c (λ l. Holds (fewer z other) l t v)
+      (λ home at.
+      let was : home_of a.homes (length z.declared + c) ≡ Some home = sym same' ∙ at in
+      homes home was
+      ∙ subst (λ l. Holds (fewer z one) l s v)
+      (ap (λ h. at_home h (InSlot (control_offset z.declared c))) (same ∙ was)) there)
+      (λ away.
+      let was : home_of a.homes (length z.declared + c) ≡ None = sym same' ∙ away in
+      slot
+      ∙ subst (λ l. Holds (fewer z one) l s v)
+      (ap (λ h. at_home h (InSlot (control_offset z.declared c))) (same ∙ was)) there)
+
+  -- the same homes, otherwise left out
+  ready_alike : (one other : ℕ → Bool) → ((y : ℕ) → one y ≡ true → y < length z.declared)
+      → ((y : ℕ) → other y ≡ true → y < length z.declared)
+      → ((y : ℕ) → home_of (but a other).homes y ≡ home_of (but a one).homes y)
+      → (env : StraightState) (s : machine.State) → Ready (fewer z one) env s → Ready (fewer z other) env s
+  ready_alike one other first second same env s ready = record {
+    held = record { base = ready.held.base; data_there = ready.held.data_there };
+    fits = ready.fits;
+    homes_there = λ y home d is at. ready.homes_there y home d is (sym (same y) ∙ at);
+    variables_there = λ y d i is away below. ready.variables_there y d i is (sym (same y) ∙ away) below;
+    controls_there = λ c below read. control_there one other first second c (mask_of (env.controls c)) s s
+        (λ home at. refl) refl (ready.controls_there c below read);
+  }
+
+  -- a variable comes to its home
+  module _ (out : ℕ → Bool) (variables : (y : ℕ) → out y ≡ true → y < length z.declared) (x home v : ℕ)
+      (word : WordType) (mutable : Bool) (known : slice_get z.declared x ≡ Some (word_as word mutable))
+      (at : home_of a.homes x ≡ Some home) (fits : v < 2 ^ bits_of word.kind)
+      (env : StraightState) (s t : machine.State) (ready : Ready (fewer z out) env s) (held : HeldAt z t)
+      (kept : Kept z (base_of z) s t) (there : t.regs home ≡ v)
+      (others : (r : ℕ) → IsHome z.allocation.count r → r ≢ home → t.regs r ≡ s.regs r) where
+    abbrev rest : ℕ → Bool
+    rest = without out x
+
+    still_variables : (y : ℕ) → rest y ≡ true → y < length z.declared
+    still_variables y is = variables y (both_true (y == x) (out y) is).1
+
+    -- another one is left out as before
+    as_before : (y : ℕ) → (y == x) ≡ false → home_of (but a out).homes y ≡ home_of (but a rest).homes y
+    as_before y apart =
+        home_but a out y
+        ∙ (ap (λ b. if not b && out y then None else home_of a.homes y) (sym apart) ∙ sym (home_but a rest y))
+
+    own : (y other : ℕ) (d : FlatVariable) → slice_get z.declared y ≡ Some d
+        → home_of (but a rest).homes y ≡ Some other → (b : Bool) → (y == x) ≡ b
+        → t.regs other ≡ slice_index (cond b (v ∷ []) (env.variables y)) 0
+    own y other d is here true q =
+        let was = home_was a rest y other here in
+        let same = same_Some home other (sym at ∙ (ap (λ n. home_of a.homes n) (sym (eqb-true y x q)) ∙ was)) in
+        ap t.regs (sym same) ∙ there
+    own y other d is here false q =
+        let was = home_was a rest y other here in
+        others other (z.allocated.allowed y other was)
+        (λ same. eqb-false y x q (z.allocated.apart y x home (was ∙ ap Some same) at))
+        ∙ ready.homes_there y other d is (as_before y q ∙ here)
+
+    away_at : (y : ℕ) (d : FlatVariable) (i : ℕ) → slice_get z.declared y ≡ Some d
+        → home_of (but a rest).homes y ≡ None → i < numbers_in d.elements → (b : Bool) → (y == x) ≡ b
+        → number_at t.bytes (bytes_of d) (z.frame + place_of z.declared y d i)
+        ≡ Some (slice_index (cond b (v ∷ []) (env.variables y)) i)
+    away_at y d i is away below true q =
+        let off : rest y ≡ false = ap (λ b. not b && out y) q in
+        absurd (none-some home (sym away ∙ (home_kept a rest y off
+        ∙ (ap (λ n. home_of a.homes n) (eqb-true y x q) ∙ at))))
+    away_at y d i is away below false q =
+        variables_kept (fewer z out) (base_of z) env s t (omega arith) ready kept y d i is (as_before y q ∙ away) below
+
+    control_at : (c : ℕ) (other : ℕ) → home_of a.homes (length z.declared + c) ≡ Some other → other ≢ home
+    control_at c other here same =
+        let below = slice_get_within z.declared x _ known in
+        let one = z.allocated.apart (length z.declared + c) x home (here ∙ ap Some same) at in
+        omega (arith, below, one)
+
+    ready_acquired : Ready (fewer z rest) (with_variable env x (v ∷ [])) t
+    ready_acquired = record {
+      held = record { base = held.base; data_there = held.data_there };
+      fits = fits_assigned (types_of z.code.profile z.declared) env.variables x (v ∷ []) (word_as word mutable) known
+          (one_held word mutable v fits) ready.fits;
+      homes_there = λ y other d is here. own y other d is here (y == x) refl;
+      variables_there = λ y d i is away below. away_at y d i is away below (y == x) refl;
+      controls_there = λ c below read. control_there out rest variables still_variables c (mask_of (env.controls c)) s t
+          (λ other here. others other (z.allocated.allowed (length z.declared + c) other here)
+          (control_at c other here))
+          (kept_number z (base_of z) s t kept 4 (control_offset z.declared c) (omega (arith, below)))
+          (ready.controls_there c below read);
+    }
+
+  -- Statements.
+
+  abbrev base : ℕ
+  base = base_of z
+
+  abbrev code_of : StraightTree → List Instr
+  code_of s = statement_code z.declared a z.controls z.depths 0 s
+
+  -- what one statement makes of a state in which some variables are not at home yet
+  abbrev Steps_on : (ℕ → Bool) → (ℕ → Bool) → StraightTree → Type 0
+  Steps_on out rest s = Runs z (32 * statement_work z.counts s) (λ env. path_at env s) (code_of s)
+      (Ready (fewer z out)) (λ env s' t. Ready (fewer z rest) (after env s) t)
+
+  -- a statement that names none of those
+  kept_runs : (out : ℕ → Bool) → ((y : ℕ) → out y ≡ true → y < length z.declared)
+      → (s : StraightTree) → ((y : ℕ) → out y ≡ true → names y s ≡ false)
+      → IsTyped z.code.profile z.declared z.controls s → ReadsKept a s
+      → base + 4 * slots_to a.count (height_in s) ≤ z.size → depth_in s ≤ z.depths
+      → length (code_of s) < far → Steps_on out out s
+  kept_runs out variables s unnamed typed read room within few =
+      let same = statement_same z.declared a out variables z.controls z.depths 0 s unnamed in
+      as_code (sym same)
+      (gives (λ env s' t fine ready done. done.ready)
+      (in_all out
+      (statement_runs (fewer z out) 0 s typed (reads_same z.declared a out variables s read) room
+      (omega (arith, within)) (subst (λ (is : List Instr). length is < far) (sym same) few))))
+
+  -- one of those is set
+  module _ (out : ℕ → Bool) (variables : (y : ℕ) → out y ≡ true → y < length z.declared) (x : ℕ) (value : TermTree)
+      (typed : IsSet z.code.profile z.declared x value) (unread : (y : ℕ) → out y ≡ true → names_in y value ≡ false)
+      (room : base + 4 * slots_to a.count (height_of value) ≤ z.size) where
+    -- into its home
+    home_runs : (home : ℕ) → home_of a.homes x ≡ Some home → Steps_on out (without out x) (set x value)
+    home_runs home at =
+        let is = z.allocated.allowed x home at in
+        let same = into_same z.declared a out variables base home 0 value unread in
+        as_code
+        (ap (λ h. set_code z.declared a base (at_home h (InSlot (variable_offset z.declared x))) value) at
+        ∙ sym same)
+        (cheaper (omega (arith, set_cost value))
+        (gives
+        (λ env s t fine ready done.
+        let v = value_in env.variables value in
+        let fits = suits_fits z.code.profile z.declared typed.word value env.variables ready.fits typed.suits in
+        ready_acquired out variables x home v typed.word typed.mutable typed.known at fits env s t ready
+        (record { base = done.held.base; data_there = done.held.data_there })
+        (kept_less z base (base + 4 * (0 - a.count)) s t (omega arith) done.kept) done.there
+        (λ r other apart. done.lower r (home_beside a.count 0 home r other.0 other.1 apart)))
+        (in_all out (homed_runs (fewer z out) home is typed.suits.has_type room))))
+
+    -- or it has none
+    slot_runs : ReadsKept a (set x value) → length (code_of (set x value)) < far → home_of a.homes x ≡ None
+        → Steps_on out (without out x) (set x value)
+    slot_runs read few away =
+        let rest = without out x in
+        let fewer_variables = λ (y : ℕ) (is : rest y ≡ true). variables y (both_true (y == x) (out y) is).1 in
+        weaken
+        (λ env s fine ready. ready_alike out rest variables fewer_variables
+        (λ y. same_homes y (y == x) refl) env s ready)
+        (λ env s t fine ready done. done)
+        (kept_runs rest fewer_variables (set x value)
+        (λ y is.
+        let both = both_true (y == x) (out y) is in
+        or_from (x == y) (names_in y value) (ne_eqb x y (λ e. eqb-false y x both.0 (sym e))) (unread y both.1))
+        typed read room (omega arith) few)
+      where
+        same_homes : (y : ℕ) (b : Bool) → (y == x) ≡ b
+            → home_of (but a (without out x)).homes y ≡ home_of (but a out).homes y
+        same_homes y true q =
+            let none_here : home_of a.homes y ≡ None = ap (λ n. home_of a.homes n) (eqb-true y x q) ∙ away in
+            home_but a (without out x) y
+            ∙ (none_left_out (without out x y) (home_of a.homes y) none_here
+            ∙ sym (home_but a out y ∙ none_left_out (out y) (home_of a.homes y) none_here))
+        same_homes y false q =
+            home_but a (without out x) y
+            ∙ (ap (λ b. if not b && out y then None else home_of a.homes y) q ∙ sym (home_but a out y))
+
+    fresh_runs : ReadsKept a (set x value) → length (code_of (set x value)) < far
+        → Steps_on out (without out x) (set x value)
+    fresh_runs read few = by_home (home_of a.homes x) refl
+      where
+        by_home : (h : Option ℕ) → home_of a.homes x ≡ h → Steps_on out (without out x) (set x value)
+        by_home None away = slot_runs read few away
+        by_home (Some home) at = home_runs home at
+
+  -- Statements, and the result behind them.
+
+  -- what a program leaves in the end
+  pub record Ended (value : Option TermTree) (env : StraightState) (t : machine.State) : Type 0 where
+    pub held : HeldAt z t
+    pub fits : Fits (types_of z.code.profile z.declared) env.variables
+    pub arrays_there : (x : ℕ) (d : FlatVariable) (size i : ℕ) → slice_get z.declared x ≡ Some d
+        → d.elements ≡ Some size → i < numbers_in d.elements
+        → number_at t.bytes (bytes_of d) (z.frame + place_of z.declared x d i)
+        ≡ Some (slice_index (env.variables x) i)
+    pub left : Left z.frame z.declared value env.variables t.bytes
+
+  module _ (returned : Option WordType) (value : Option TermTree)
+      (typed_result : IsResult (types_of z.code.profile z.declared) returned value)
+      (room_result : base + 4 * slots_to a.count (result_height value) ≤ z.size) where
+    -- one statement is run, and these are not at home yet
+    record Stepped (out : ℕ → Bool) (s : StraightTree) (rest : StraightBlock) : Type 0 where
+      left : ℕ → Bool
+      variables : (y : ℕ) → left y ≡ true → y < length z.declared
+      fresh : (y : ℕ) → left y ≡ true → is_fresh y rest value ≡ true
+      runs : Steps_on out left s
+
+    module _ (out : ℕ → Bool) (variables : (y : ℕ) → out y ≡ true → y < length z.declared) where
+      stepped_on : (s : StraightTree) (rest : StraightBlock)
+          → ((y : ℕ) → out y ≡ true → is_fresh y (first s rest) value ≡ true)
+          → ((y : ℕ) → out y ≡ true → sets_fresh y s ≡ false)
+          → IsTyped z.code.profile z.declared z.controls s → ReadsKept a s
+          → base + 4 * slots_to a.count (height_in s) ≤ z.size → depth_in s ≤ z.depths
+          → length (code_of s) < far → Stepped out s rest
+      stepped_on s rest fresh off typed read room within few =
+          let ways = λ (y : ℕ) (on : out y ≡ true). two_ways (sets_fresh y s) (names y s) (is_fresh y rest value)
+          (off y on) (fresh y on) in
+          record {
+            left = out;
+            variables = variables;
+            fresh = λ y on. (ways y on).1;
+            runs = kept_runs out variables s (λ y on. (ways y on).0) typed read room within few;
+          }
+
+      stepped : (s : StraightTree) (rest : StraightBlock)
+          → ((y : ℕ) → out y ≡ true → is_fresh y (first s rest) value ≡ true)
+          → IsTyped z.code.profile z.declared z.controls s → ReadsKept a s
+          → base + 4 * slots_to a.count (height_in s) ≤ z.size → depth_in s ≤ z.depths
+          → length (code_of s) < far → Stepped out s rest
+      stepped (set x e) rest fresh typed read room within few = by_test (out x) refl
+        where
+          unread_by : (y : ℕ) → out y ≡ true → (b : Bool) → (x == y) ≡ b → names_in y e ≡ false
+          unread_by y on true same = not_read x y (names_in y e) (is_fresh y rest value) same (fresh y on)
+          unread_by y on false apart =
+              let ways = two_ways (sets_fresh y (set x e)) (names y (set x e)) (is_fresh y rest value)
+              (and_left (x == y) (not (names_in y e)) apart) (fresh y on) in
+              (or_parts (x == y) (names_in y e) ways.0).1
+
+          by_test : (b : Bool) → out x ≡ b → Stepped out (set x e) rest
+          by_test true is = record {
+            left = without out x;
+            variables = λ y on. variables y (both_true (y == x) (out y) on).1;
+            fresh = λ y on.
+                let both = both_true (y == x) (out y) on in
+                let apart = ne_eqb x y (λ same. eqb-false y x both.0 (sym same)) in
+                (two_ways (sets_fresh y (set x e)) (names y (set x e)) (is_fresh y rest value)
+                (and_left (x == y) (not (names_in y e)) apart) (fresh y both.1)).1;
+            runs = fresh_runs out variables x e typed (λ y on. unread_by y on (x == y) refl) room read few;
+          }
+          by_test false is =
+              stepped_on (set x e) rest fresh
+              (λ y on. and_left (x == y) (not (names_in y e))
+              (ne_eqb x y (λ same. true≢false (sym on ∙ (ap out (sym same) ∙ is)))))
+              typed read room within few
+      stepped s rest fresh typed read room within few =
+          stepped_on s rest fresh (λ y on. refl) typed read room within few
+
+    not_named : (b : Bool) → not b ≡ true → b ≡ false
+    not_named false h = refl
+    not_named true h = absurd (true≢false (sym h))
+
+    abbrev block_of : StraightBlock → List Instr
+    block_of b = block_code z.declared a z.controls z.depths 0 b
+
+    behind_runs : (b : StraightBlock) (out : ℕ → Bool) → ((y : ℕ) → out y ≡ true → y < length z.declared)
+        → ((y : ℕ) → out y ≡ true → is_fresh y b value ≡ true)
+        → AreTyped z.code.profile z.declared z.controls b → AllReadKept a b
+        → base + 4 * slots_to a.count (height_in_all b) ≤ z.size → depth_in_all b ≤ z.depths
+        → length (block_of b) < far
+        → Runs z (32 * block_work z.counts b + 32 * value_nodes value)
+        (λ env. path_along env b ++ steps_of_result value (after_all env b))
+        (block_of b ++ result_code z.declared a base value) (Ready (fewer z out))
+        (λ env s t. Ended value (after_all env b) t)
+    behind_runs nothing out variables fresh typed read room within few =
+        as_code
+        (sym (result_same z.declared a out variables base value
+        (λ y on. not_named (names_in_result y value) (fresh y on))))
+        (cheaper (omega arith)
+        (gives
+        (λ env s t fine ready given. record {
+          held = record { base = given.ready.held.base; data_there = given.ready.held.data_there };
+          fits = given.ready.fits;
+          arrays_there = λ x d size i is array below. given.ready.variables_there x d i is
+              ((fewer z out).allocated.words x d size is array) below;
+          left = given.left;
+        })
+        (in_all out (result_runs (fewer z out) returned value typed_result room_result))))
+    behind_runs (first s rest) out variables fresh typed read room within few =
+        let step = stepped out variables s rest fresh typed.0 read.0 (omega (arith, room)) (omega (arith, within))
+        (omega (arith, length-append {A = Instr}, few)) in
+        as_code (append_assoc (code_of s) (block_of rest) (result_code z.declared a base value))
+        (along (λ env. append_assoc (path_at env s) (path_along (after env s) rest)
+        (steps_of_result value (after_all (after env s) rest)))
+        (cheaper (omega arith)
+        (gives
+        (λ env s' t fine ready done. done.second)
+        (seq step.runs
+        (beside (λ env. after env s)
+        (behind_runs rest step.left step.variables step.fresh typed.1 read.1 (omega (arith, room))
+        (omega (arith, within)) (omega (arith, length-append {A = Instr}, few))))
+        (λ env s' t ready done. done)))))
+
+    -- A program: the homes but those of some words are filled first.
+
+    pub program_runs : (b : StraightBlock) (out : ℕ → Bool) → ((y : ℕ) → out y ≡ true → y < length z.declared)
+        → ((y : ℕ) → out y ≡ true → is_fresh y b value ≡ true)
+        → length a.homes ≤ length z.declared + z.controls
+        → AreTyped z.code.profile z.declared z.controls b → AllReadKept a b
+        → base + 4 * slots_to a.count (height_in_all b) ≤ z.size → depth_in_all b ≤ z.depths
+        → length (block_of b) < far
+        → Runs z (3 * home_count a.homes + (32 * block_work z.counts b + 32 * value_nodes value))
+        (λ env. path_along env b ++ steps_of_result value (after_all env b))
+        (entry_code z.declared 0 (homes_but out 0 a.homes) ++ (block_of b ++ result_code z.declared a base value))
+        (Laid z) (λ env s t. Ended value (after_all env b) t)
+    program_runs b out variables fresh few_homes typed read room within few =
+        let count = homes_fewer out 0 a.homes in
+        cheaper (omega (arith, count.0))
+        (gives
+        (λ env s t fine laid done. done.second)
+        (quietly
+        (weaken
+        (λ env s fine laid. record {
+          held = record { base = laid.held.base; data_there = laid.held.data_there };
+          fits = laid.fits;
+          slots_there = laid.slots_there;
+          controls_there = laid.controls_there;
+        })
+        (λ env s t fine laid done. done)
+        (in_all out (entry_runs (fewer z out) (omega (arith, count.1, few_homes)))))
+        (behind_runs b out variables fresh typed read room within few)
+        (λ env s t laid ready. ready)))

@@ -1,0 +1,71 @@
+-- Which variables need not hold anything at first: the first statement that names one sets it and does not read it, or
+-- none names it.
+use Rattle.std.specs.Prelude.{ℕ, ◌+◌, ◌==◌, ◌&&◌, ◌||◌, Bool, false, true, not, nat_lt, List, [], ◌∷◌, length}
+use Rattle.std.specs.Prelude.{Option, None, Some, if◌then◌else◌}
+use Rattle.branch_removal.specs.Straight.{StraightTree, set, clear, fill, put, take, set_under, put_under, branch}
+use Rattle.branch_removal.specs.Straight.{repeats, StraightBlock, nothing, first, StraightProgram}
+use Rattle.inline.specs.Flat.{TermTree, number, truth, variable, prefix, binary, rotate, convert, select, element}
+
+-- whether an expression names a variable
+abbrev pub names_in : ℕ → TermTree → Bool
+names_in y (number value kind) = false
+names_in y (truth value) = false
+names_in y (variable x) = x == y
+names_in y (prefix operator width e) = names_in y e
+names_in y (binary place operator width left right) = names_in y left || names_in y right
+names_in y (rotate width e amount) = names_in y e
+names_in y (convert kind e) = names_in y e
+names_in y (select condition accepted otherwise) =
+    names_in y condition || (names_in y accepted || names_in y otherwise)
+names_in y (element place x size index) = (x == y) || names_in y index
+
+-- whether one of some expressions does
+abbrev pub names_in_any : ℕ → List TermTree → Bool
+names_in_any y [] = false
+names_in_any y (e ∷ es) = names_in y e || names_in_any y es
+
+abbrev mutual
+  -- whether a statement does
+  pub names : ℕ → StraightTree → Bool
+  names y (set x value) = (x == y) || names_in y value
+  names y (clear x size) = x == y
+  names y (fill x values) = (x == y) || names_in_any y values
+  names y (put place x size index value) = (x == y) || (names_in y index || names_in y value)
+  names y (take control within condition) = names_in y condition
+  names y (set_under control x value) = (x == y) || names_in y value
+  names y (put_under control place x size index value) = (x == y) || (names_in y index || names_in y value)
+  names y (branch condition accepted otherwise) =
+      names_in y condition || (any_names y accepted || any_names y otherwise)
+  names y (repeats x low high body) = (x == y) || (names_in y low || (names_in y high || any_names y body))
+
+  -- whether one of some statements does
+  pub any_names : ℕ → StraightBlock → Bool
+  any_names y nothing = false
+  any_names y (first statement rest) = names y statement || any_names y rest
+
+-- whether a result does, where there is one
+abbrev pub names_in_result : ℕ → Option TermTree → Bool
+names_in_result y None = false
+names_in_result y (Some value) = names_in y value
+
+-- whether a statement sets a variable and reads what it held before nowhere
+abbrev pub sets_fresh : ℕ → StraightTree → Bool
+sets_fresh y (set x value) = (x == y) && not (names_in y value)
+sets_fresh y statement = false
+
+-- whether the first statement that names a variable is one of these, or neither one nor the result names it
+abbrev pub is_fresh : ℕ → StraightBlock → Option TermTree → Bool
+is_fresh y nothing value = not (names_in_result y value)
+is_fresh y (first statement rest) value =
+    sets_fresh y statement || (not (names y statement) && is_fresh y rest value)
+
+-- whether the word of a home is such a variable: it is not loaded at the start
+abbrev pub starts_fresh : StraightProgram → ℕ → Bool
+starts_fresh p y = nat_lt y (length p.declared) && is_fresh y p.body p.value
+
+-- the homes of the word x and those behind it but those of some words
+abbrev pub homes_but : (ℕ → Bool) → ℕ → List (Option ℕ) → List (Option ℕ)
+homes_but left_out x [] = []
+homes_but left_out x (None ∷ homes) = None ∷ homes_but left_out (x + 1) homes
+homes_but left_out x (Some home ∷ homes) =
+    (if left_out x then None else Some home) ∷ homes_but left_out (x + 1) homes

@@ -1,0 +1,120 @@
+// Which variables need not hold anything at first: the first statement that names one sets it, and does not read it.
+
+ghost use Rattle.std.specs.Prelude.{◌≡◌, map};
+ghost use Rattle.branch_removal.specs.Straight.{straight_tree, straight_block};
+ghost use Rattle.codegen.specs.private.Fresh.{names_in, names_in_any, names_in_result, names, any_names, sets_fresh, is_fresh, starts_fresh};
+ghost use Rattle.inline.specs.Flat.{term_tree};
+ghost use Rattle.std.specs.Option.{option_map};
+
+use branch_removal::{Straight, StraightStatement};
+use inline::Term;
+
+/// Whether an expression names a variable.
+fn names_in(term: &Term, variable: usize) -> bool
+    ensures { result ≡ names_in variable (term_tree term.now) }
+{
+    match term {
+        Term::Number(_, _) | Term::Truth(_) => false,
+        Term::Variable(named) => *named as usize == variable,
+        Term::Prefix(_, _, operand) | Term::Rotate(_, operand, _) | Term::Convert(_, operand) => {
+            names_in(operand, variable)
+        }
+        Term::Element(_, array, _, index) => *array as usize == variable
+            || names_in(index, variable),
+        Term::Binary(_, _, _, left, right) => names_in(left, variable) || names_in(right, variable),
+        Term::Select(condition, accepted, otherwise) => {
+            names_in(condition, variable)
+                || (names_in(accepted, variable) || names_in(otherwise, variable))
+        }
+    }
+}
+
+/// Whether one of some expressions names a variable.
+fn names_in_any(terms: &[Term], variable: usize) -> bool
+    ensures { result ≡ names_in_any variable (map term_tree terms.now) }
+{
+    for term in terms {
+        if names_in(term, variable) {
+            return true;
+        }
+    }
+    false
+}
+
+/// Whether a statement names a variable.
+#[cycle(naming)]
+fn names(statement: &StraightStatement, variable: usize) -> bool
+    ensures { result ≡ names variable (straight_tree statement.now) }
+{
+    match statement {
+        StraightStatement::Set(set, value) | StraightStatement::SetUnder(_, set, value) => {
+            *set as usize == variable || names_in(value, variable)
+        }
+        StraightStatement::Clear(set, _) => *set as usize == variable,
+        StraightStatement::Fill(set, values) => *set as usize == variable
+            || names_in_any(values, variable),
+        StraightStatement::Put(_, set, _, index, value)
+        | StraightStatement::PutUnder(_, _, set, _, index, value) => {
+            *set as usize == variable || (names_in(index, variable) || names_in(value, variable))
+        }
+        StraightStatement::Take(_, _, condition) => names_in(condition, variable),
+        StraightStatement::Branch(condition, accepted, otherwise) => {
+            names_in(condition, variable)
+                || (any_names(accepted, variable) || any_names(otherwise, variable))
+        }
+        StraightStatement::Repeat(counter, low, high, body) => {
+            *counter as usize == variable
+                || (names_in(low, variable)
+                    || (names_in(high, variable) || any_names(body, variable)))
+        }
+    }
+}
+
+/// Whether one of some statements names a variable.
+#[cycle(naming)]
+fn any_names(statements: &[StraightStatement], variable: usize) -> bool
+    ensures { result ≡ any_names variable (straight_block statements.now) }
+{
+    for statement in statements {
+        if names(statement, variable) {
+            return true;
+        }
+    }
+    false
+}
+
+/// Whether a statement sets a variable, and reads nowhere what it held before.
+fn sets_fresh(statement: &StraightStatement, variable: usize) -> bool
+    ensures { result ≡ sets_fresh variable (straight_tree statement.now) }
+{
+    match statement {
+        StraightStatement::Set(set, value) => *set as usize == variable
+            && !names_in(value, variable),
+        _ => false,
+    }
+}
+
+/// Whether the first of some statements that names a variable sets it so, or neither one nor the result names it.
+fn is_fresh(statements: &[StraightStatement], value: Option<&Term>, variable: usize) -> bool
+    ensures { result ≡ is_fresh variable (straight_block statements.now) (option_map (λ term. term_tree term.now) value.entry) }
+{
+    for statement in statements {
+        if sets_fresh(statement, variable) {
+            return true;
+        }
+        if names(statement, variable) {
+            return false;
+        }
+    }
+    match value {
+        Some(value) => !names_in(value, variable),
+        None => true,
+    }
+}
+
+/// Whether the word of a home is such a variable of a program, which is not loaded at the start.
+pub fn starts_fresh(straight: &Straight<'_>, number: usize) -> bool
+    ensures { result ≡ starts_fresh straight.now number }
+{
+    number < straight.declared().len() && is_fresh(straight.body(), straight.value(), number)
+}
