@@ -10,8 +10,8 @@ use Rattle.codegen.proofs.WordLengths.{read_length, stored_length, value_length}
 use Rattle.codegen.specs.private.Loops.{any_sets}
 use Rattle.codegen.proofs.Language.{element_bytes, array_words, IsTyped, AreTyped, types_but, types_of, AllSuit}
 use Rattle.codegen.proofs.Language.{HasType, Boolean, WordType, Profile}
-use Rattle.codegen.specs.private.Emitted.{read_code, read_register, stored_code, stored_register}
-use Rattle.codegen.specs.private.Erased.{erase_under_code, gives_zero}
+use Rattle.codegen.specs.private.Emitted.{gives_zero, read_code, read_register, stored_code, stored_register}
+use Rattle.codegen.specs.private.Erased.{erase_under_code}
 use Rattle.codegen.specs.private.Emitted.{set_code, set_under_code, taken_code, kept_code, join_code, masks_code, unless_unread, element_store_code, clear_code}
 use Rattle.codegen.specs.private.Emitted.{fill_code, statement_code, block_code}
 use Rattle.branch_removal.specs.Heights.{height_of_all}

@@ -13,7 +13,8 @@ use Rattle.codegen.proofs.Language.{value_in, Values, word_as}
 use Rattle.codegen.proofs.Machine.{Allocation, at_home, control_location, height_of, home_of, InSlot, Instr, is_unread}
 use Rattle.codegen.proofs.Machine.{number_at, read_code, read_register, set_under_code, slots_to, statement_code}
 use Rattle.codegen.proofs.Machine.{Sw, variable_location, variable_offset, with_number}
-use Rattle.codegen.specs.private.Erased.{erase_code, erase_under_code, gives_zero, is_zero}
+use Rattle.codegen.specs.private.Erased.{erase_code, erase_under_code}
+use Rattle.codegen.specs.private.Words.{gives_zero, is_zero}
 use Rattle.codegen.proofs.Masks.{fetched_homes, mask_apart, mask_register, mask_runs, mask_small, mask_some}
 use Rattle.codegen.proofs.SetRuns.{chosen_fits, under_alone, under_by, under_word}
 use Rattle.codegen.proofs.Slots.{cut_kind, hidden_by, hidden_then, hidden_wrote, ready_chosen, ready_homed, ready_put}

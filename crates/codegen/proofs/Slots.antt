@@ -6,7 +6,7 @@ use Rattle.std.specs.Prelude.{slice_set}
 use Rattle.codegen.proofs.Machine.{variable_offset, control_offset, next_offset, result_offset, ByteMap, number_at}
 use Rattle.codegen.proofs.Machine.{Allocation, assign_code, byte_count, control_location, home_of_term, home_or}
 use Rattle.codegen.proofs.Machine.{is_zero, read_code, read_register, store_size, stored_code, stored_register}
-use Rattle.codegen.proofs.Machine.{stores_zero, unless_home}
+use Rattle.codegen.proofs.Machine.{gives_zero, unless_home}
 use Rattle.codegen.proofs.Machine.{with_number, slots_to, height_of, home_of, into_code, store_code, Instr, Sw}
 use Rattle.codegen.proofs.Language.{StraightState, with_variable, with_element, FlatVariable}
 use Rattle.codegen.proofs.Language.{numbers_in}
@@ -539,17 +539,17 @@ module _ (z : Setting) where
   IsOffered r = (r ≡ 0) ⊎ IsSource z 5 r
 
   pub offered_register : (e : TermTree) → IsOffered (stored_register z.allocation e)
-  offered_register e = by_test (stores_zero z.allocation e)
+  offered_register e = by_test (gives_zero z.allocation e)
     where
       by_test : (b : Bool) → IsOffered (cond b 0 (read_register z.allocation 5 e))
       by_test true = inl refl
       by_test false = inr (read_source z e 5 (omega arith) (omega arith))
 
   -- an expression that is stored as 0 is that
-  pub stored_zero : (a : Allocation) (e : TermTree) → stores_zero a e ≡ true → number_of e ≡ Some 0
+  pub stored_zero : (a : Allocation) (e : TermTree) → gives_zero a e ≡ true → number_of e ≡ Some 0
   stored_zero a e is = by_test a.immediates (number_of e) refl is
     where
-      by_test : (b : Bool) (m : Option ℕ) → number_of e ≡ m → cond b (is_zero m) false ≡ true → number_of e ≡ Some 0
+      by_test : (b : Bool) (m : Option ℕ) → number_of e ≡ m → (b && is_zero m) ≡ true → number_of e ≡ Some 0
       by_test true (Some n) f same = f ∙ ap Some (eqb-true n 0 same)
       by_test true None f same = absurd (false≢true same)
       by_test false m f same = absurd (false≢true same)
@@ -558,9 +558,9 @@ module _ (z : Setting) where
       → base_of z + 4 * slots_to z.allocation.count (height_of e) ≤ z.size
       → Runs z (16 * term_nodes e) (steps_of e) (stored_code z.declared z.allocation (base_of z) e) (Ready z)
       (Offered e (stored_register z.allocation e))
-  offered_runs {e = e} has room = by_test (stores_zero z.allocation e) refl
+  offered_runs {e = e} has room = by_test (gives_zero z.allocation e) refl
     where
-      by_test : (b : Bool) → stores_zero z.allocation e ≡ b
+      by_test : (b : Bool) → gives_zero z.allocation e ≡ b
           → Runs z (16 * term_nodes e) (steps_of e)
           (cond b [] (read_code z.declared z.allocation (base_of z) 5 0 e)) (Ready z)
           (Offered e (cond b 0 (read_register z.allocation 5 e)))

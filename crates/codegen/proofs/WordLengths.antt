@@ -4,7 +4,7 @@ use Rattle.codegen.proofs.Language.{FlatVariable, TermTree, term_nodes}
 use Rattle.codegen.proofs.Logic.{into_length, move_length, one_of, store_length}
 use Rattle.codegen.proofs.Machine.{Allocation, InRegister, InSlot, into_code, Location}
 use Rattle.codegen.specs.private.Words.{assign_code, home_of_term, put_word_code, read_code, stored_code}
-use Rattle.codegen.specs.private.Words.{stored_register, stores_zero, unless_home}
+use Rattle.codegen.specs.private.Words.{stored_register, gives_zero, unless_home}
 
 pub value_length : (declared : List FlatVariable) (allocation : Allocation) (free d place : ℕ) (e : TermTree)
     → length (into_code declared allocation free d place e) ≤ 16 * term_nodes e
@@ -22,7 +22,7 @@ read_length declared allocation free register place e = by_home (home_of_term al
 pub stored_length : (declared : List FlatVariable) (allocation : Allocation) (free : ℕ) (e : TermTree)
     → length (stored_code declared allocation free e) ≤ 16 * term_nodes e
 stored_length declared allocation free e =
-    one_of (stores_zero allocation e) _ _ (16 * term_nodes e) (omega arith) (read_length declared allocation free 5 0 e)
+    one_of (gives_zero allocation e) _ _ (16 * term_nodes e) (omega arith) (read_length declared allocation free 5 0 e)
 
 pub assign_length : (declared : List FlatVariable) (allocation : Allocation) (free : ℕ) (e : TermTree) (o : ℕ)
     → length (assign_code declared allocation free e o) ≤ 16 * term_nodes e + 3

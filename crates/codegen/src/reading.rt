@@ -1,8 +1,7 @@
 // Values of expressions, read where they are: a variable that has a home costs no instruction.
 
 ghost use Rattle.std.specs.Prelude.{◌≡◌, ◌++◌, ◌+◌, ◌*◌, ◌≤◌, length, IfOk, OnOk};
-ghost use Rattle.codegen.specs.private.Emitted.{assign_code, home_of_term, is_zero, read_code, read_register, stored_code, stored_register, stores_zero};
-ghost use Rattle.codegen.specs.private.Erased.{gives_zero};
+ghost use Rattle.codegen.specs.private.Emitted.{assign_code, home_of_term, gives_zero, is_zero, read_code, read_register, stored_code, stored_register};
 ghost use Rattle.expression_code.specs.Allocation.{slots_to};
 ghost use Rattle.expression_code.specs.Layout.{temporaries_offset};
 ghost use Rattle.expression_code.specs.TermCode.{IsAmong};
@@ -61,25 +60,21 @@ fn is_zero(known: Option<u32>) -> bool
     }
 }
 
-/// Whether an expression is 0, where numbers go into instructions.
-fn stores_zero(layout: &Layout<'_>, term: &Term) -> bool
-    ensures { result ≡ stores_zero layout.now.allocation (term_tree term.now) }
+/// Whether an expression is the number 0, where numbers go into instructions.
+pub fn gives_zero(layout: &Layout<'_>, term: &Term) -> bool
+    ensures { result ≡ gives_zero layout.now.allocation (term_tree term.now) }
 {
     layout.immediates() && is_zero(number(term))
 }
 
 /// An expression that is stored: its register, once its code is there. x0 has 0 without any.
-pub fn stored(
-    code: &mut Vec<Instr>,
-    layout: &Layout<'_>,
-    term: &Term,
-) -> Result<Reg, AllocError>
+pub fn stored(code: &mut Vec<Instr>, layout: &Layout<'_>, term: &Term) -> Result<Reg, AllocError>
     requires among { IsAmong (length layout.now.declared) (term_tree term.now) }
     requires room { temporaries_offset layout.now.declared layout.now.controls layout.now.depths + 4 * slots_to layout.now.allocation.count (height_of (term_tree term.now)) ≤ 65536 }
     ensures code { OnOk result (code.new.items ≡ code.old.items ++ stored_code layout.now.declared layout.now.allocation (temporaries_offset layout.now.declared layout.now.controls layout.now.depths) (term_tree term.now)) }
     ensures register { IfOk result (λ r. r ≡ stored_register layout.now.allocation (term_tree term.now)) }
 {
-    if stores_zero(layout, term) {
+    if gives_zero(layout, term) {
         return Ok(Reg::X0);
     }
     read(code, layout, Reg::X5, 0, term)
@@ -98,11 +93,4 @@ pub fn assign(
 {
     let register = stored(code, layout, term)?;
     emit::store(code, register, offset)
-}
-
-/// Whether an expression is the number 0, where numbers go into instructions.
-pub fn gives_zero(layout: &Layout<'_>, term: &Term) -> bool
-    ensures { result ≡ gives_zero layout.now.allocation (term_tree term.now) }
-{
-    layout.immediates() && matches!(term, Term::Number(0, _) | Term::Truth(false))
 }

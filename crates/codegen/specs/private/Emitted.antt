@@ -4,10 +4,10 @@ use Rattle.std.specs.Prelude.{if◌then◌else◌}
 use Rattle.branch_removal.specs.Straight.{StraightTree, set, clear, fill, put, take, set_under, put_under, branch}
 use Rattle.branch_removal.specs.Straight.{repeats, StraightBlock, nothing, first}
 use Rattle.codegen.specs.private.Jumps.{branch_code, loop_code}
-pub use Rattle.codegen.specs.private.Erased.{erase_code, erase_under_code, gives_zero}
+pub use Rattle.codegen.specs.private.Erased.{erase_code, erase_under_code}
 pub use Rattle.codegen.specs.private.Loops.{any_sets, bounds_code, count_code, repeat_code, sets, test_code}
 pub use Rattle.codegen.specs.private.Words.{assign_code, home_of_term, home_or, put_word_code, read_code}
-pub use Rattle.codegen.specs.private.Words.{is_zero, read_register, stored_code, stored_register, stores_zero}
+pub use Rattle.codegen.specs.private.Words.{gives_zero, is_zero, read_register, stored_code, stored_register}
 pub use Rattle.codegen.specs.private.Words.{unless_home}
 use Rattle.expression_code.specs.Allocation.{Allocation, is_unread, register_of}
 use Rattle.expression_code.specs.Layout.{variable_offset, variable_location, control_location, next_offset}

@@ -1,24 +1,14 @@
 -- The instructions that are emitted for a variable that becomes 0 where a control value is true.
-use Rattle.std.specs.Prelude.{ℕ, ◌==◌, ◌&&◌, Bool, false, List, [], ◌∷◌, ◌++◌, Option, None, Some}
-use Rattle.expression_code.specs.Allocation.{Allocation, register_of}
-use Rattle.expression_code.specs.NumberRows.{number_of}
+use Rattle.std.specs.Prelude.{ℕ, List, [], ◌∷◌, ◌++◌}
+use Rattle.expression_code.specs.Allocation.{register_of}
 use Rattle.expression_code.specs.Registers.{value_register, second_register, third_register}
 use Rattle.expression_code.specs.TermCode.{fetch_code, load_code, store_code}
 use Rattle.expression_code.specs.declared.locations.Location.{Location}
 use Rattle.expression_code.specs.declared.locations.Location.TheVariants.{InRegister, InSlot}
-use Rattle.inline.specs.Flat.{TermTree}
 use Rattle.rv_code.specs.declared.instructions.Instr.{Instr}
 use Rattle.rv_code.specs.declared.instructions.Instr.TheVariants.{Immediate, Register}
 use Rattle.rv_code.specs.declared.operations.ImmediateOperation.TheVariants.{Xori}
 use Rattle.rv_code.specs.declared.operations.RegisterOperation.TheVariants.{And}
-
-abbrev pub is_zero : Option ℕ → Bool
-is_zero None = false
-is_zero (Some n) = n == 0
-
--- whether an expression is the number 0, where numbers go into instructions
-abbrev pub gives_zero : Allocation → TermTree → Bool
-gives_zero allocation e = allocation.immediates && is_zero (number_of e)
 
 -- of two registers, 0 where the mask is all ones, and the old word where it is 0, into another; t is written too
 abbrev pub erase_code : ℕ → ℕ → ℕ → ℕ → List Instr

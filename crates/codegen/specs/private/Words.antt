@@ -1,5 +1,5 @@
 -- The instructions that are emitted for words: an expression's value is read where it is, and put where it belongs.
-use Rattle.std.specs.Prelude.{ℕ, ◌==◌, Bool, false, List, [], ◌++◌, Option, None, Some, if◌then◌else◌}
+use Rattle.std.specs.Prelude.{ℕ, ◌==◌, ◌&&◌, Bool, false, List, [], ◌++◌, Option, None, Some, if◌then◌else◌}
 use Rattle.expression_code.specs.Allocation.{Allocation, home_of}
 use Rattle.expression_code.specs.NumberRows.{number_of}
 use Rattle.expression_code.specs.Registers.{zero_register, value_register}
@@ -42,18 +42,18 @@ abbrev pub is_zero : Option ℕ → Bool
 is_zero None = false
 is_zero (Some n) = n == 0
 
--- whether an expression is 0, where numbers go into instructions
-abbrev pub stores_zero : Allocation → TermTree → Bool
-stores_zero allocation e = if allocation.immediates then is_zero (number_of e) else false
+-- whether an expression is the number 0, where numbers go into instructions
+abbrev pub gives_zero : Allocation → TermTree → Bool
+gives_zero allocation e = allocation.immediates && is_zero (number_of e)
 
 abbrev pub stored_code : List FlatVariable → Allocation → ℕ → TermTree → List Instr
 stored_code declared allocation free e =
-    if stores_zero allocation e then [] else read_code declared allocation free value_register 0 e
+    if gives_zero allocation e then [] else read_code declared allocation free value_register 0 e
 
 -- and the register where it is then
 abbrev pub stored_register : Allocation → TermTree → ℕ
 stored_register allocation e =
-    if stores_zero allocation e then zero_register else read_register allocation value_register e
+    if gives_zero allocation e then zero_register else read_register allocation value_register e
 
 -- the value of an expression into a slot
 abbrev pub assign_code : List FlatVariable → Allocation → ℕ → TermTree → ℕ → List Instr
