@@ -3,7 +3,11 @@ use Rattle.std.proofs.Common.{◌≡◌, ◌≤◌, ℕ, zero, suc, length, Bool
 use Rattle.std.proofs.Common.{Some, replicate, slice_set, slice_index}
 use Rattle.std.proofs.Common.{refl, ap, arith}
 use Rattle.std.proofs.lemmas.Option.{none-some}
+use Rattle.language.specs.declared.typing.WordType.{WordType}
+use Rattle.inline.specs.Fitting.{Fits, IsWithinKind}
+use Rattle.inline.specs.Flat.{word_as}
 use Rattle.inline.specs.FlatMeaning.{Values}
+use Rattle.inline.specs.FlatTyping.{Types}
 use Rattle.constants.specs.declared.known.Constant.{Constant}
 use Rattle.constants.specs.private.Known.{Words, known, without, short}
 
@@ -76,6 +80,18 @@ nothing_first (suc n) (suc x) c is = nothing_first n x c is
 -- what is known is what the variables hold
 abbrev pub Agrees : Words → Values → Type 0
 Agrees words m = (x : ℕ) (c : Constant) → known words x ≡ Some c → slice_index (m x) 0 ≡ c.value
+
+-- What is known of variables is of their kinds.
+abbrev pub AreOfKind : Types → Words → Type 0
+AreOfKind types words = (x : ℕ) (c : Constant) (word : WordType) (mutable : Bool) → known words x ≡ Some c
+    → types.at x ≡ Some (word_as word mutable)
+    → (c.kind ≡ word.kind) × IsWithinKind c.kind c.value
+
+-- what is known is of its kind and what the variables hold, and each holds what it is declared as
+pub record Holds (types : Types) (words : Words) (m : Values) : Type 0 where
+  pub agrees : Agrees words m
+  pub kinds : AreOfKind types words
+  pub fits : Fits types m
 
 -- no more is known
 abbrev pub IsBelow : Words → Words → Type 0

@@ -1,6 +1,7 @@
 -- A simpler expression suits where the expression suits: it is of the same kind, and public where that one is.
 use Rattle.std.proofs.Common.{◌≡◌, ℕ, ◌<◌, ◌==◌, ◌&&◌, Bool, true, false, if◌then◌else◌, List, [], ◌∷◌, map, Option}
 use Rattle.std.proofs.Common.{None, Some, option_map, refl, sym, ap, ◌∙◌, subst}
+use Rattle.std.proofs.lemmas.Bool.{false≢true}
 use Rattle.std.proofs.lemmas.Option.{none-some, same_Some}
 use Rattle.inline.proofs.Fitting.{value_fits}
 use Rattle.inline.specs.Fitting.{IsWithinKind}
@@ -15,6 +16,7 @@ use Rattle.language.specs.declared.signature.Label.{Label}
 use Rattle.language.specs.declared.signature.Label.TheVariants.{Public, Secret}
 use Rattle.language.specs.declared.tree.BinaryOperator.{BinaryOperator}
 use Rattle.language.specs.declared.tree.PrefixOperator.{PrefixOperator}
+use Rattle.language.specs.declared.tree.PrefixOperator.TheVariants.{Not, Complement, Negate}
 use Rattle.language.specs.declared.operation.Operation.{Operation}
 use Rattle.language.specs.declared.operation.Operation.TheVariants.{Division}
 use Rattle.language.specs.declared.typing.WordType.{WordType}
@@ -32,7 +34,11 @@ use Rattle.word.specs.declared.width.Width.{Width}
 use Rattle.constants.specs.declared.known.Constant.{Constant}
 use Rattle.constants.specs.private.Known.{Words, known}
 use Rattle.constants.specs.private.Folding.{constant, constant_of, number_of, known_or, decision}
-use Rattle.constants.specs.private.Folding.{between, chosen, simple}
+use Rattle.constants.specs.private.Folding.{applied, between, chosen, is_among, is_left_identity, is_right_identity}
+use Rattle.constants.specs.private.Folding.{negation_of, opposite_of, reduced, simple}
+use Rattle.constants.proofs.Identities.{left_identity_kind, reduced_by, right_identity_kind}
+use Rattle.constants.proofs.KnownLemmas.{AreOfKind}
+use Rattle.constants.proofs.Opposites.{opposite, opposite_by}
 
 -- Labels.
 
@@ -92,6 +98,18 @@ lowered (order {l = a} {m = b} numeric) l m f g =
 lowered (logic {l = a} {m = b}) l m f g =
     record { label = joined l m; makes = logic; lower = joined_lower a b l m f g }
 
+-- operands of what is public
+public_parts : {profile : Profile} {operation : Operation} {one other whole : WordType}
+    → Makes profile operation one other whole
+    → whole.label ≡ Public → (one.label ≡ Public) × (other.label ≡ Public)
+public_parts (arithmetic {l = a} {m = b} numeric) public = joined_public a b public
+public_parts (multiplication {l = a} {m = b} numeric may) public = joined_public a b public
+public_parts (division numeric) public = (refl, refl)
+public_parts (shift {l = a} {m = b} numeric) public = joined_public a b public
+public_parts (equality {l = a} {m = b}) public = joined_public a b public
+public_parts (order {l = a} {m = b} numeric) public = joined_public a b public
+public_parts (logic {l = a} {m = b}) public = joined_public a b public
+
 made_kind : {profile : Profile} {operation : Operation} {one other whole : WordType}
     → Makes profile operation one other whole → operation_kind operation one.kind ≡ whole.kind
 made_kind (arithmetic numeric) = refl
@@ -114,12 +132,6 @@ closed_fits : (profile : Profile) (e : TermTree) (word : WordType) → HasType (
     → IsWithinKind word.kind (value_in nothing_held e)
 closed_fits profile e word has =
     value_fits (without_variables profile) nothing_held (λ x d there. absurd (none-some d there)) has
-
--- What is known of variables is of their kinds.
-abbrev pub AreOfKind : Types → Words → Type 0
-AreOfKind types words = (x : ℕ) (c : Constant) (word : WordType) (mutable : Bool) → known words x ≡ Some c
-    → types.at x ≡ Some (word_as word mutable)
-    → (c.kind ≡ word.kind) × IsWithinKind c.kind c.value
 
 module _ (types : Types) where
   abbrev pub IsOfKind : Constant → WordType → Type 0
@@ -165,17 +177,45 @@ module _ (types : Types) where
   public_typed {e = e} {kind = kind} suits =
       subst (λ l. HasType types e (labelled kind l)) (suits.label refl) (retyped suits)
 
+  -- `!` of a condition
+  negation_type : (width : Width) {e : TermTree} {word : WordType} → HasType types e word
+      → HasType types (prefix Not width e) word → HasType types (negation_of width e) word
+  negation_type width (of_number below) stays = stays
+  negation_type width of_truth stays = stays
+  negation_type width (of_variable there) stays = stays
+  negation_type width (of_prefix {operator = Not} has takes even) stays = has
+  negation_type width (of_prefix {operator = Complement} has takes even) stays = stays
+  negation_type width (of_prefix {operator = Negate} has takes even) stays = stays
+  negation_type width (of_binary {place = place} {operator = operator} {width = w} {left = left} {right = right} {one =
+      one} {other = other} {whole = whole} has more makes even) stays =
+      opposite_by (λ e. HasType types e whole) (opposite_of operator) place w left right
+      (prefix Not width (binary place operator w left right))
+      (λ next is. of_binary has more
+      (subst (λ (o : Operation). Makes types.profile o one other whole) (sym (opposite operator next is).operation)
+      makes) even)
+      stays
+  negation_type width (of_rotation has numeric low high even) stays = stays
+  negation_type width (of_conversion has numeric) stays = stays
+  negation_type width (of_selection chooser has more) stays = stays
+  negation_type width (of_element there has) stays = stays
+
+  applied_type : (operator : PrefixOperator) (width : Width) {e : TermTree} {word : WordType} → HasType types e word
+      → HasType types (prefix operator width e) word → HasType types (applied operator width e) word
+  applied_type Not width has stays = negation_type width has stays
+  applied_type Complement width has stays = stays
+  applied_type Negate width has stays = stays
+
   -- one operand, and what its number comes to
   prefix_suits : (operator : PrefixOperator) (width : Width) (e : TermTree) (kind : Kind) (label : Label)
       → Suits types (labelled kind label) e → Takes operator kind → width ≡ width_of kind
       → (o : Option Constant) → constant_of e ≡ o
       → Suits types (labelled kind label)
       (known_or (option_map (λ c. constant (prefix_value operator width c.value) c.kind) o)
-      (prefix operator width e))
+      (applied operator width e))
   prefix_suits operator width e kind label suits takes even None is =
       record {
         word = labelled kind suits.word.label;
-        has_type = of_prefix (retyped suits) takes even;
+        has_type = applied_type operator width (retyped suits) (of_prefix (retyped suits) takes even);
         kind = refl;
         label = suits.label;
       }
@@ -233,8 +273,8 @@ module _ (types : Types) where
       (left_suits : Suits types one left) (right_suits : Suits types other right)
       (makes : Makes types.profile (operation_of operator) one other result)
       (even : width ≡ width_of one.kind) where
-    unfolded : Suits types result (binary place operator width left right)
-    unfolded =
+    stays_binary : Suits types result (binary place operator width left right)
+    stays_binary =
         let lower = lowered makes left_suits.word.label right_suits.word.label left_suits.label right_suits.label in
         record {
           word = labelled result.kind lower.label;
@@ -243,12 +283,45 @@ module _ (types : Types) where
           label = lower.lower;
         }
 
+    -- the one operand alone
+    left_alone : is_among (is_right_identity operator width) (constant_of right) ≡ true → Suits types result left
+    left_alone is = by_constant (constant_of right) is
+      where
+        by_constant : (o : Option Constant) → is_among (is_right_identity operator width) o ≡ true
+            → Suits types result left
+        by_constant None h = absurd (false≢true h)
+        by_constant (Some c) h = record {
+          word = left_suits.word;
+          has_type = left_suits.has_type;
+          kind = left_suits.kind ∙ right_identity_kind operator width c.value makes h;
+          label = λ public. left_suits.label (public_parts makes public).0;
+        }
+
+    right_alone : is_among (is_left_identity operator width) (constant_of left) ≡ true → Suits types result right
+    right_alone is = by_constant (constant_of left) is
+      where
+        by_constant : (o : Option Constant) → is_among (is_left_identity operator width) o ≡ true
+            → Suits types result right
+        by_constant None h = absurd (false≢true h)
+        by_constant (Some c) h = record {
+          word = right_suits.word;
+          has_type = right_suits.has_type;
+          kind = right_suits.kind ∙ left_identity_kind operator width c.value makes h;
+          label = λ public. right_suits.label (public_parts makes public).1;
+        }
+
+    unfolded : Suits types result (reduced place operator width left right)
+    unfolded =
+        reduced_by (Suits types result) (is_among (is_right_identity operator width) (constant_of right))
+        (is_among (is_left_identity operator width) (constant_of left)) left right
+        (binary place operator width left right) left_alone right_alone stays_binary
+
     abbrev number_by : Constant → Constant → Bool → Option Constant
     number_by a b stays = option_map (λ v. constant v (operation_kind (operation_of operator) a.kind)) (if stays
         then None else Some (operated operator width a.value b.value))
 
     binary_suits : (a b : Option Constant) → constant_of left ≡ a → constant_of right ≡ b
-        → Suits types result (known_or (between operator width a b) (binary place operator width left right))
+        → Suits types result (known_or (between operator width a b) (reduced place operator width left right))
     binary_suits None b is also = unfolded
     binary_suits (Some a) None is also = unfolded
     binary_suits (Some a) (Some b) is also = by_zero (divides operator && (b.value == 0))
@@ -272,7 +345,7 @@ module _ (types : Types) where
             (kind, subst (λ k. IsWithinKind k (operated operator width a.value b.value)) (sym kind) fits)
 
         by_zero : (stays : Bool)
-            → Suits types result (known_or (number_by a b stays) (binary place operator width left right))
+            → Suits types result (known_or (number_by a b stays) (reduced place operator width left right))
         by_zero true = unfolded
         by_zero false = folds
 

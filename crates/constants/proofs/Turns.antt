@@ -24,9 +24,9 @@ module _ (f : ℕ → Words → Words) (code : ℕ → Words → StraightBlock) 
       (of_turns_below Q limit each keep n (i + 1) (f i w) (omega (arith, below)) (keep i w here q))
 
 -- what each turn keeps, of numbers below a limit, all keep
-pub kept_below : (Q : Words → Type 0) (f : ℕ → Words → Words) (limit : ℕ)
-    → ((i : ℕ) (w : Words) → i < limit → Q w → Q (f i w))
-    → (n i : ℕ) (w : Words) → i + n ≤ limit → Q w → Q (turns n i f w)
-kept_below Q f limit keep zero i w below q = q
-kept_below Q f limit keep (suc n) i w below q =
-    kept_below Q f limit keep n (i + 1) (f i w) (omega (arith, below)) (keep i w (omega (arith, below)) q)
+pub kept_below : {S : Type 0} (Q : S → Type 0) (f : ℕ → S → S) (limit : ℕ)
+    → ((i : ℕ) (s : S) → i < limit → Q s → Q (f i s))
+    → (n i : ℕ) (s : S) → i + n ≤ limit → Q s → Q (turns n i f s)
+kept_below Q f limit keep zero i s below q = q
+kept_below Q f limit keep (suc n) i s below q =
+    kept_below Q f limit keep n (i + 1) (f i s) (omega (arith, below)) (keep i s (omega (arith, below)) q)

@@ -22,12 +22,13 @@ use Rattle.constants.specs.private.Known.{Words, known, without, forgotten_all, 
 use Rattle.constants.specs.declared.terms.Numbers.{Numbers}
 use Rattle.constants.specs.private.Simplification.{at_turn, code_of_turns, knowing, knowing_all}
 use Rattle.constants.specs.private.Simplification.{single, simplified, simplified_all}
-use Rattle.constants.proofs.KnownLemmas.{known_beside, known_here, without_same, IsBelow}
-use Rattle.constants.proofs.TermTypes.{AreOfKind, number_kind, suited_number, still_suits, still_public, still_typed}
+use Rattle.constants.proofs.KnownLemmas.{known_beside, known_here, without_same, AreOfKind, IsBelow}
+use Rattle.constants.proofs.TermTypes.{number_kind, suited_number, still_suits, still_public, still_typed}
 use Rattle.constants.proofs.TermTypes.{all_still_suit}
 use Rattle.constants.proofs.Turns.{of_all_turns, of_turns_below, kept_below}
 use Rattle.constants.proofs.Unset.{behind_part, within_loop, decided_any, unrolled_any}
-use Rattle.constants.proofs.Learned.{bounds_of, unrolled_by}
+use Rattle.constants.proofs.Decisions.{bounds_of, unrolled_by}
+use Rattle.constants.proofs.Held.{counter_limit}
 
 module _ (copies : List ℕ) (declared : List FlatVariable) where
   hidden-chain : (these those : StraightBlock) → AreHidden declared these → AreHidden declared those
@@ -83,7 +84,7 @@ module _ (copies : List ℕ) (profile : Profile) (declared : List FlatVariable) 
   fewer_kinds less words below kinds x c word mutable is there = kinds x c word mutable (below x c is) there
 
   -- and among fewer variables
-  but_kinds : (words : Words) (x : ℕ) → AreKinds words → AreOfKind (types_but profile declared x) words
+  pub but_kinds : (words : Words) (x : ℕ) → AreKinds words → AreOfKind (types_but profile declared x) words
   but_kinds words x kinds y c word mutable is there = kinds y c word mutable is (by_number (y == x) there)
     where
       by_number : (b : Bool) → cond b None (slice_get declared y) ≡ Some (word_as word mutable)
@@ -94,13 +95,13 @@ module _ (copies : List ℕ) (profile : Profile) (declared : List FlatVariable) 
   without_kinds : (words : Words) (x : ℕ) → AreKinds words → AreKinds (without words x)
   without_kinds words x kinds = fewer_kinds (without words x) words (λ y c is. without_same words x y c is) kinds
 
-  part_kinds : (words : Words) (body : StraightBlock) → AreKinds words
+  pub part_kinds : (words : Words) (body : StraightBlock) → AreKinds words
       → AreKinds (forgotten_all (knowing_all copies words body) body)
   part_kinds words body kinds =
       fewer_kinds (forgotten_all (knowing_all copies words body) body) words
       (λ y c is. (behind_part copies words body y c is).0) kinds
 
-  inside_kinds : (words : Words) (x : ℕ) (body : StraightBlock) → AreKinds words
+  pub inside_kinds : (words : Words) (x : ℕ) (body : StraightBlock) → AreKinds words
       → AreKinds (in_loop words x body)
   inside_kinds words x body kinds =
       fewer_kinds (in_loop words x body) words (λ y c is. (within_loop words x body y c is).0) kinds
@@ -128,9 +129,6 @@ module _ (copies : List ℕ) (profile : Profile) (declared : List FlatVariable) 
 
   -- Counters.
 
-  abbrev counter_limit : ℕ
-  counter_limit = 2 ^ bits_of counter_type.kind
-
   -- a counter may be set to a number of its kind
   counter_set : (x i : ℕ) → slice_get declared x ≡ Some (word_as counter_type false) → i < counter_limit
       → IsSet profile declared x (number i counter_type.kind)
@@ -141,7 +139,7 @@ module _ (copies : List ℕ) (profile : Profile) (declared : List FlatVariable) 
     suits = record { word = counter_type; has_type = of_number below; kind = refl; label = λ public. refl };
   }
 
-  turn_kinds : (words : Words) (x i : ℕ) → AreKinds words → slice_get declared x ≡ Some (word_as counter_type false)
+  pub turn_kinds : (words : Words) (x i : ℕ) → AreKinds words → slice_get declared x ≡ Some (word_as counter_type false)
       → i < counter_limit → AreKinds (at_turn x i words)
   turn_kinds words x i kinds there below =
       set_kinds words x (number i counter_type.kind) kinds (counter_set x i there below)

@@ -4,11 +4,14 @@ use Rattle.std.proofs.Common.{◌∙◌, subst, arith}
 use Rattle.inline.specs.declared.flat.FlatVariable.{FlatVariable}
 use Rattle.inline.specs.Flat.{TermTree}
 use Rattle.inline.specs.FlatMeaning.{Values, value_in, results_of, path_of_result}
-use Rattle.inline.specs.FlatTyping.{types_of}
+use Rattle.inline.specs.FlatTyping.{Types, types_of, IsResult}
 use Rattle.inline.specs.Path.{AreFine}
+use Rattle.arguments.specs.Within.{AreWithin}
+use Rattle.language.specs.declared.typing.WordType.{WordType}
 use Rattle.language.specs.declared.values.Arg.{Arg}
 use Rattle.branch_removal.specs.Kept.{IsStraight}
 use Rattle.branch_removal.specs.Replaced.{IsReplaced}
+use Rattle.branch_removal.specs.StraightTyping.{IsTypedStraight}
 use Rattle.branch_removal.specs.declared.straight.StraightStatement.{StraightStatement}
 use Rattle.branch_removal.specs.Straight.{StraightBlock, StraightProgram, chain, straight_block, with_body}
 use Rattle.branch_removal.specs.StraightMeaning.{StraightState, start, end_of, outcome_of, path_of, path_along}
@@ -16,43 +19,65 @@ use Rattle.constants.specs.private.Folding.{simple}
 use Rattle.constants.specs.private.Choice.{AreAllowed}
 use Rattle.constants.specs.private.Known.{Words}
 use Rattle.constants.specs.private.Simplification.{knowing_all, simplified_all, nothing_known, simplified_program}
-use Rattle.constants.proofs.KnownLemmas.{nothing_first, Agrees}
+use Rattle.constants.proofs.KnownLemmas.{nothing_first, Holds}
+use Rattle.constants.proofs.Held.{start_fits}
 use Rattle.branch_removal.proofs.Sequences.{fine_both, fine_front, fine_back}
-use Rattle.constants.proofs.TermLemmas.{same_value, fine_path}
+use Rattle.constants.proofs.TermLemmas.{same_suited, fine_suited}
 use Rattle.constants.proofs.TermTypes.{still_result}
-use Rattle.constants.proofs.Learned.{learned_all}
+use Rattle.constants.proofs.Learned.{hold_after_all}
 use Rattle.constants.proofs.Same.{same_after_all, still_fine_all}
 use Rattle.constants.proofs.Typed.{AreKinds, kinds_after_all, still_all_typed, still_hidden_all}
 use Rattle.constants.proofs.Bounds.{stays_low_all, less_all, lower_result, fewer_in_value}
 
 -- the result
-same_result : (words : Words) (m : Values) → Agrees words m → (value : Option TermTree)
+same_result : (types : Types) (words : Words) (m : Values) → Holds types words m → (returned : Option WordType)
+    (value : Option TermTree) → IsResult types returned value
     → option_map (value_in m) (option_map (simple words) value) ≡ option_map (value_in m) value
-same_result words m agrees None = refl
-same_result words m agrees (Some value) = ap Some (same_value words m agrees value)
+same_result types words m holds None None is = refl
+same_result types words m holds None (Some value) is = absurd is
+same_result types words m holds (Some word) None is = absurd is
+same_result types words m holds (Some word) (Some value) is = ap Some (same_suited types words m holds is)
 
-fine_result : (most : List ℕ) (words : Words) (m : Values) → Agrees words m → (value : Option TermTree)
+fine_result : (most : List ℕ) (types : Types) (words : Words) (m : Values) → Holds types words m
+    → (returned : Option WordType) (value : Option TermTree) → IsResult types returned value
     → AreFine most (path_of_result m value) → AreFine most (path_of_result m (option_map (simple words) value))
-fine_result most words m agrees None fine = fine
-fine_result most words m agrees (Some value) fine = fine_path most words m agrees value fine
+fine_result most types words m holds None None is fine = fine
+fine_result most types words m holds None (Some value) is fine = absurd is
+fine_result most types words m holds (Some word) None is fine = absurd is
+fine_result most types words m holds (Some word) (Some value) is fine =
+    fine_suited most types words m holds is fine
 
 module _ (copies : List ℕ) (p : StraightProgram) where
-  first_agrees : (m : Values) → Agrees (nothing_known p) m
-  first_agrees m x c is = absurd (nothing_first (length p.declared) x c is)
+  first_kinds : AreKinds copies p.profile p.declared p.controls (nothing_known p)
+  first_kinds x c word mutable is there = absurd (nothing_first (length p.declared) x c is)
 
-  module _ (args : List Arg) where
+  module _ (typed : IsTypedStraight p) (args : List Arg) (within : AreWithin p.parameters args) where
+    abbrev types : Types
+    types = types_of p.profile p.declared
+
+    first_holds : Holds types (nothing_known p) (start p args).variables
+    first_holds = record {
+      agrees = λ x c is. absurd (nothing_first (length p.declared) x c is);
+      kinds = first_kinds;
+      fits = start_fits p.profile p.parameters p.declared args typed.parameters within;
+    }
+
     same_end : end_of (simplified_program copies p) args ≡ end_of p args
     same_end = ap (λ (s : StraightState). s.variables)
-        (same_after_all copies (nothing_known p) p.body (start p args) (first_agrees (start p args).variables))
+        (same_after_all copies p.profile p.declared p.controls (nothing_known p) p.body typed.body (start p args)
+        first_holds)
 
-    last_agrees : Agrees (knowing_all copies (nothing_known p) p.body) (end_of p args)
-    last_agrees = learned_all copies (nothing_known p) p.body (start p args) (first_agrees (start p args).variables)
+    last_holds : Holds types (knowing_all copies (nothing_known p) p.body) (end_of p args)
+    last_holds =
+        hold_after_all copies p.profile p.declared p.controls (nothing_known p) p.body typed.body (start p args)
+        first_holds
 
     same_outcome : outcome_of (simplified_program copies p) args ≡ outcome_of p args
     same_outcome =
         ap (results_of p.parameters (simplified_program copies p).value) same_end
         ∙ ap (λ (v : Option ℕ). record { returned = v; arrays = (outcome_of p args).arrays })
-        (same_result (knowing_all copies (nothing_known p) p.body) (end_of p args) last_agrees p.value)
+        (same_result types (knowing_all copies (nothing_known p) p.body) (end_of p args) last_holds p.returned p.value
+        typed.result)
 
     still_fine_path : AreFine p.turns (path_of p args) → AreFine p.turns (path_of (simplified_program copies p) args)
     still_fine_path fine =
@@ -61,16 +86,13 @@ module _ (copies : List ℕ) (p : StraightProgram) where
         let back = path_of_result (end_of p args) p.value in
         fine_both p.turns (path_along s (simplified_program copies p).body)
         (path_of_result (end_of (simplified_program copies p) args) (simplified_program copies p).value)
-        (still_fine_all p.turns copies (nothing_known p) p.body s (first_agrees s.variables)
-        (fine_front p.turns front back fine))
+        (still_fine_all p.turns copies p.profile p.declared p.controls (nothing_known p) p.body typed.body s
+        first_holds (fine_front p.turns front back fine))
         (subst (λ (m : Values). AreFine p.turns (path_of_result m (simplified_program copies p).value)) (sym same_end)
-        (fine_result p.turns (knowing_all copies (nothing_known p) p.body) (end_of p args) last_agrees p.value
-        (fine_back p.turns front back fine)))
+        (fine_result p.turns types (knowing_all copies (nothing_known p) p.body) (end_of p args) last_holds p.returned
+        p.value typed.result (fine_back p.turns front back fine)))
 
   module _ (kept : IsStraight p) (allowed : AreAllowed copies p.turns) where
-    first_kinds : AreKinds copies p.profile p.declared p.controls (nothing_known p)
-    first_kinds x c word mutable is there = absurd (nothing_first (length p.declared) x c is)
-
     pub still_straight : IsStraight (simplified_program copies p)
     still_straight = record {
       typed = record {
@@ -114,8 +136,8 @@ module _ (copies : List ℕ) (p : StraightProgram) where
       work = refl;
       turns = refl;
       straight = still_straight;
-      outcome = λ args within. same_outcome args;
-      fine = λ args within fine. still_fine_path args fine;
+      outcome = λ args within. same_outcome kept.typed args within;
+      fine = λ args within fine. still_fine_path kept.typed args within fine;
     }
 
 -- a program of these parts is the simpler one

@@ -2,7 +2,7 @@
 
 ghost use Rattle.std.specs.Prelude.{◌≡◌};
 ghost use Rattle.language.specs.Operators.{prefix_value, truth_of};
-ghost use Rattle.constants.specs.private.Folding.{folded};
+ghost use Rattle.constants.specs.private.Folding.{folded, is_left_identity, is_right_identity, opposite_of};
 
 use language::{BinaryOperator, PrefixOperator};
 use word::Width;
@@ -60,4 +60,81 @@ pub fn folded(operator: BinaryOperator, width: Width, a: u32, b: u32) -> Option<
         }
     };
     Some(value)
+}
+
+/// Whether an operator, its left operand of this width, leaves that as it is where this is the right one.
+pub fn is_right_identity(operator: BinaryOperator, width: Width, right: u32) -> bool
+    ensures { result ≡ is_right_identity operator width right }
+{
+    match operator {
+        BinaryOperator::Both => is_true(right),
+        BinaryOperator::BitAnd => right == word::complement(width, 0),
+        BinaryOperator::Multiply | BinaryOperator::Divide => right == 1,
+        BinaryOperator::Either
+        | BinaryOperator::BitOr
+        | BinaryOperator::BitXor
+        | BinaryOperator::ShiftLeft
+        | BinaryOperator::ShiftRight
+        | BinaryOperator::Add
+        | BinaryOperator::Subtract => right == 0,
+        BinaryOperator::Equal
+        | BinaryOperator::Unequal
+        | BinaryOperator::Less
+        | BinaryOperator::LessOrEqual
+        | BinaryOperator::Greater
+        | BinaryOperator::GreaterOrEqual
+        | BinaryOperator::Remainder => false,
+    }
+}
+
+/// Whether an operator, its left operand of this width, leaves the right one as it is where this is the left one.
+pub fn is_left_identity(operator: BinaryOperator, width: Width, left: u32) -> bool
+    ensures { result ≡ is_left_identity operator width left }
+{
+    match operator {
+        BinaryOperator::Both => is_true(left),
+        BinaryOperator::BitAnd => left == word::complement(width, 0),
+        BinaryOperator::Multiply => left == 1,
+        BinaryOperator::Either
+        | BinaryOperator::BitOr
+        | BinaryOperator::BitXor
+        | BinaryOperator::Add => left == 0,
+        BinaryOperator::Equal
+        | BinaryOperator::Unequal
+        | BinaryOperator::Less
+        | BinaryOperator::LessOrEqual
+        | BinaryOperator::Greater
+        | BinaryOperator::GreaterOrEqual
+        | BinaryOperator::ShiftLeft
+        | BinaryOperator::ShiftRight
+        | BinaryOperator::Subtract
+        | BinaryOperator::Divide
+        | BinaryOperator::Remainder => false,
+    }
+}
+
+/// The comparison that holds exactly where another one does not.
+pub fn opposite_of(operator: BinaryOperator) -> Option<BinaryOperator>
+    ensures { result ≡ opposite_of operator }
+{
+    match operator {
+        BinaryOperator::Equal => Some(BinaryOperator::Unequal),
+        BinaryOperator::Unequal => Some(BinaryOperator::Equal),
+        BinaryOperator::Less => Some(BinaryOperator::GreaterOrEqual),
+        BinaryOperator::LessOrEqual => Some(BinaryOperator::Greater),
+        BinaryOperator::Greater => Some(BinaryOperator::LessOrEqual),
+        BinaryOperator::GreaterOrEqual => Some(BinaryOperator::Less),
+        BinaryOperator::Either
+        | BinaryOperator::Both
+        | BinaryOperator::BitOr
+        | BinaryOperator::BitXor
+        | BinaryOperator::BitAnd
+        | BinaryOperator::ShiftLeft
+        | BinaryOperator::ShiftRight
+        | BinaryOperator::Add
+        | BinaryOperator::Subtract
+        | BinaryOperator::Multiply
+        | BinaryOperator::Divide
+        | BinaryOperator::Remainder => None,
+    }
 }

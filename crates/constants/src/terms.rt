@@ -2,12 +2,15 @@
 
 ghost use Rattle.std.specs.Prelude.{◌≡◌, map, IfOk};
 ghost use Rattle.std.specs.Option.{option_map};
-ghost use Rattle.inline.specs.Flat.{term_tree};
+ghost use Rattle.inline.specs.Flat.{prefix, term_tree};
+ghost use Rattle.language.specs.declared.tree.PrefixOperator.TheVariants.{Not};
 ghost use Rattle.constants.specs.private.Folding as folding;
 ghost use Rattle.constants.specs.private.Folding.{chosen, constant_of, decision, number_of, numbers_of, simple};
 
 use crate::known::{Constant, Known};
-use crate::operators::{folded, is_true, prefix_value};
+use crate::operators::{
+    folded, is_left_identity, is_right_identity, is_true, opposite_of, prefix_value,
+};
 use inline::Term;
 use language::{BinaryOperator, Kind, Place, PrefixOperator};
 use std::alloc::{AllocError, Global};
@@ -51,8 +54,56 @@ pub fn decision(condition: &Term) -> Option<bool>
     Some(is_true(constant_of(condition)?.value))
 }
 
-/// A prefix operator and its operand.
-fn prefix(
+/// `!` and its operand.
+fn not(alloc: Global, width: Width, operand: Term) -> Result<Term, AllocError>
+    ensures { IfOk result (λ term. term_tree term ≡ prefix Not width (term_tree operand)) }
+{
+    let operand = Box::new(alloc, operand)?;
+    Ok(Term::Prefix(PrefixOperator::Not, width, operand))
+}
+
+/// `!` and its operand, simple: of a comparison the opposite one, of another `!` the operand of that.
+fn negation_of(alloc: Global, width: Width, operand: Term) -> Result<Term, AllocError>
+    ensures { IfOk result (λ term. term_tree term ≡ folding.negation_of width (term_tree operand)) }
+{
+    match operand {
+        Term::Prefix(operator, inner, operand) => match operator {
+            PrefixOperator::Not => Ok(Box::into_inner(operand)),
+            PrefixOperator::Complement | PrefixOperator::Negate => {
+                not(alloc, width, Term::Prefix(operator, inner, operand))
+            }
+        },
+        Term::Binary(place, operator, inner, left, right) => match opposite_of(operator) {
+            Some(opposite) => Ok(Term::Binary(place, opposite, inner, left, right)),
+            None => {
+                let whole = Term::Binary(place, operator, inner, left, right);
+                not(alloc, width, whole)
+            }
+        },
+        other => not(alloc, width, other),
+    }
+}
+
+/// A prefix operator and its operand, simple, where that is no number.
+fn applied(
+    alloc: Global,
+    operator: PrefixOperator,
+    width: Width,
+    operand: Term,
+) -> Result<Term, AllocError>
+    ensures { IfOk result (λ term. term_tree term ≡ folding.applied operator width (term_tree operand)) }
+{
+    match operator {
+        PrefixOperator::Not => negation_of(alloc, width, operand),
+        PrefixOperator::Complement | PrefixOperator::Negate => {
+            let operand = Box::new(alloc, operand)?;
+            Ok(Term::Prefix(operator, width, operand))
+        }
+    }
+}
+
+/// A prefix operator and its operand, simple.
+fn prefixed(
     alloc: Global,
     operator: PrefixOperator,
     width: Width,
@@ -65,7 +116,7 @@ fn prefix(
             value: prefix_value(operator, width, known.value),
             kind: known.kind,
         })),
-        None => Ok(Term::Prefix(operator, width, Box::new(alloc, operand)?)),
+        None => applied(alloc, operator, width, operand),
     }
 }
 
@@ -82,7 +133,49 @@ fn between(operator: BinaryOperator, width: Width, left: &Term, right: &Term) ->
     })
 }
 
-/// An operator and its two operands.
+/// Whether the right operand of an operator is a number that leaves the left one as it is.
+fn leaves_left(operator: BinaryOperator, width: Width, right: &Term) -> bool
+    ensures { result ≡ folding.is_among (folding.is_right_identity operator width) (constant_of (term_tree right.now)) }
+{
+    match constant_of(right) {
+        Some(known) => is_right_identity(operator, width, known.value),
+        None => false,
+    }
+}
+
+/// Whether the left operand of an operator is a number that leaves the right one as it is.
+fn leaves_right(operator: BinaryOperator, width: Width, left: &Term) -> bool
+    ensures { result ≡ folding.is_among (folding.is_left_identity operator width) (constant_of (term_tree left.now)) }
+{
+    match constant_of(left) {
+        Some(known) => is_left_identity(operator, width, known.value),
+        None => false,
+    }
+}
+
+/// An operator and its two operands: where the one leaves the other as it is, that one alone.
+fn reduced(
+    alloc: Global,
+    place: Place,
+    operator: BinaryOperator,
+    width: Width,
+    left: Term,
+    right: Term,
+) -> Result<Term, AllocError>
+    ensures { IfOk result (λ term. term_tree term ≡ folding.reduced place operator width (term_tree left) (term_tree right)) }
+{
+    if leaves_left(operator, width, &right) {
+        Ok(left)
+    } else if leaves_right(operator, width, &left) {
+        Ok(right)
+    } else {
+        let left = Box::new(alloc, left)?;
+        let right = Box::new(alloc, right)?;
+        Ok(Term::Binary(place, operator, width, left, right))
+    }
+}
+
+/// An operator and its two operands, simple.
 fn binary(
     alloc: Global,
     place: Place,
@@ -95,11 +188,7 @@ fn binary(
 {
     match between(operator, width, &left, &right) {
         Some(known) => Ok(number_of(known)),
-        None => {
-            let left = Box::new(alloc, left)?;
-            let right = Box::new(alloc, right)?;
-            Ok(Term::Binary(place, operator, width, left, right))
-        }
+        None => reduced(alloc, place, operator, width, left, right),
     }
 }
 
@@ -163,7 +252,7 @@ pub fn simple(alloc: Global, known: &Known, term: &Term) -> Result<Term, AllocEr
         },
         Term::Prefix(operator, width, operand) => {
             let operand = simple(alloc, known, operand)?;
-            prefix(alloc, *operator, *width, operand)
+            prefixed(alloc, *operator, *width, operand)
         }
         Term::Binary(place, operator, width, left, right) => {
             let left = simple(alloc, known, left)?;

@@ -1,15 +1,21 @@
--- Expressions in which what is known is a number: an operator between numbers is what it comes to. A division by 0
--- stays, since it comes to nothing.
+-- Expressions in which what is known is a number: an operator between numbers is what it comes to, one that leaves its
+-- operand as it is is that operand, and a comparison that `!` stands before is the opposite one. A division by 0 stays,
+-- since it comes to nothing.
 use Rattle.std.specs.Prelude.{ℕ, ◌-◌, ◌==◌, ◌&&◌, Bool, true, false, nat_le, Option, None, Some, if◌then◌else◌}
 use Rattle.std.specs.Option.{option_map}
 use Rattle.inline.specs.Flat.{TermTree, number, truth, variable, prefix, binary, rotate, convert, select, element}
 use Rattle.language.specs.declared.signature.Kind.{Kind}
 use Rattle.language.specs.declared.signature.Kind.TheVariants.{Boolean}
 use Rattle.language.specs.declared.tree.BinaryOperator.{BinaryOperator}
+use Rattle.language.specs.declared.tree.BinaryOperator.TheVariants.{Either, Both, Equal, Unequal, Less, LessOrEqual}
+use Rattle.language.specs.declared.tree.BinaryOperator.TheVariants.{Greater, GreaterOrEqual, BitOr, BitXor, BitAnd}
+use Rattle.language.specs.declared.tree.BinaryOperator.TheVariants.{ShiftLeft, ShiftRight, Add, Subtract, Multiply}
+use Rattle.language.specs.declared.tree.BinaryOperator.TheVariants.{Divide}
 use Rattle.language.specs.declared.tree.PrefixOperator.{PrefixOperator}
+use Rattle.language.specs.declared.tree.PrefixOperator.TheVariants.{Not, Complement, Negate}
 use Rattle.language.specs.ExprTyping.{operation_of, operation_kind}
 use Rattle.language.specs.Operators.{divides, operated, prefix_value, truth_of, width_of}
-use Rattle.word.specs.Operators.{rotated_left, converted, word_of}
+use Rattle.word.specs.Operators.{complemented, rotated_left, converted, word_of}
 use Rattle.word.specs.declared.place.Place.{Place}
 use Rattle.word.specs.declared.width.Width.{Width}
 use Rattle.constants.specs.declared.known.Constant.{Constant}
@@ -41,10 +47,44 @@ decision e = option_map (λ c. truth_of c.value) (constant_of e)
 
 -- Nodes with their operands.
 
+-- the comparison that holds exactly where another one does not
+abbrev pub opposite_of : BinaryOperator → Option BinaryOperator
+opposite_of Equal = Some Unequal
+opposite_of Unequal = Some Equal
+opposite_of Less = Some GreaterOrEqual
+opposite_of LessOrEqual = Some Greater
+opposite_of Greater = Some LessOrEqual
+opposite_of GreaterOrEqual = Some Less
+opposite_of _ = None
+
+-- two operands with this operator between them, where there is one, else an expression
+abbrev pub binary_or : Option BinaryOperator → Place → Width → TermTree → TermTree → TermTree → TermTree
+binary_or None place width left right e = e
+binary_or (Some operator) place width left right e = binary place operator width left right
+
+-- the operand of `!`, else an expression
+abbrev pub operand_of_not : PrefixOperator → TermTree → TermTree → TermTree
+operand_of_not Not operand e = operand
+operand_of_not Complement operand e = e
+operand_of_not Negate operand e = e
+
+-- `!` and its operand: of a comparison the opposite one, of another `!` the operand of that
+abbrev pub negation_of : Width → TermTree → TermTree
+negation_of width (prefix operator w operand) =
+    operand_of_not operator operand (prefix Not width (prefix operator w operand))
+negation_of width (binary place operator w left right) =
+    binary_or (opposite_of operator) place w left right (prefix Not width (binary place operator w left right))
+negation_of width e = prefix Not width e
+
+abbrev pub applied : PrefixOperator → Width → TermTree → TermTree
+applied Not width operand = negation_of width operand
+applied Complement width operand = prefix Complement width operand
+applied Negate width operand = prefix Negate width operand
+
 abbrev pub prefixed : PrefixOperator → Width → TermTree → TermTree
 prefixed operator width operand =
     known_or (option_map (λ c. constant (prefix_value operator width c.value) c.kind) (constant_of operand))
-    (prefix operator width operand)
+    (applied operator width operand)
 
 -- the value between two numbers, where they have one
 abbrev pub folded : BinaryOperator → Width → ℕ → ℕ → Option ℕ
@@ -56,9 +96,47 @@ between operator width (Some a) (Some b) =
     (folded operator width a.value b.value)
 between operator width _ _ = None
 
+-- the right identities of an operator, its left operand of this width: with one of them on the right it leaves what is
+-- on the left as it is
+abbrev pub is_right_identity : BinaryOperator → Width → ℕ → Bool
+is_right_identity Either w b = b == 0
+is_right_identity Both w b = truth_of b
+is_right_identity BitOr w b = b == 0
+is_right_identity BitXor w b = b == 0
+is_right_identity BitAnd w b = b == complemented w 0
+is_right_identity ShiftLeft w b = b == 0
+is_right_identity ShiftRight w b = b == 0
+is_right_identity Add w b = b == 0
+is_right_identity Subtract w b = b == 0
+is_right_identity Multiply w b = b == 1
+is_right_identity Divide w b = b == 1
+is_right_identity _ w b = false
+
+-- and its left identities
+abbrev pub is_left_identity : BinaryOperator → Width → ℕ → Bool
+is_left_identity Either w a = a == 0
+is_left_identity Both w a = truth_of a
+is_left_identity BitOr w a = a == 0
+is_left_identity BitXor w a = a == 0
+is_left_identity BitAnd w a = a == complemented w 0
+is_left_identity Add w a = a == 0
+is_left_identity Multiply w a = a == 1
+is_left_identity _ w a = false
+
+-- an operand is a number among these
+abbrev pub is_among : (ℕ → Bool) → Option Constant → Bool
+is_among numbers None = false
+is_among numbers (Some c) = numbers c.value
+
+-- an operator whose one operand is an identity is the other operand
+abbrev pub reduced : Place → BinaryOperator → Width → TermTree → TermTree → TermTree
+reduced place operator width left right = if is_among (is_right_identity operator width) (constant_of right) then left
+    else (if is_among (is_left_identity operator width) (constant_of left) then right
+    else binary place operator width left right)
+
 abbrev pub operated_on : Place → BinaryOperator → Width → TermTree → TermTree → TermTree
 operated_on place operator width left right =
-    known_or (between operator width (constant_of left) (constant_of right)) (binary place operator width left right)
+    known_or (between operator width (constant_of left) (constant_of right)) (reduced place operator width left right)
 
 abbrev pub rotated : Width → TermTree → ℕ → TermTree
 rotated width operand amount =
