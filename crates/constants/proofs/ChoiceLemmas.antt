@@ -3,9 +3,8 @@ use Rattle.std.proofs.Common.{◌≡◌, ℕ, zero, suc, ◌+◌, ◌-◌, ◌*�
 use Rattle.std.proofs.Common.{◌&&◌, if◌then◌else◌, slice_index, slice_set, arith}
 use Rattle.branch_removal.specs.Straight.{StraightTree, set, clear, fill, put, take, set_under, put_under, branch}
 use Rattle.branch_removal.specs.Straight.{repeats, StraightBlock, nothing, first, StraightProgram}
-use Rattle.inline.specs.FlatSize.{term_nodes}
 use Rattle.constants.specs.private.Choice.{AreAllowed, Chosen, begun, chosen, chosen_all, copies_of, counted, grown}
-use Rattle.constants.specs.private.Choice.{settled}
+use Rattle.constants.specs.private.Choice.{most_in_turn, settled, term_size}
 
 -- a count of nodes serves as they do
 pub grown_by : (so_far : Chosen) (count n : ℕ) → count ≡ counted n → grown so_far count ≡ grown so_far n
@@ -21,11 +20,11 @@ pub settled_by : (before room x count own : ℕ) (inner same : Chosen) → count
     → settled before room x count inner ≡ settled before room x own same
 settled_by before room x count own inner same is alike =
     ap (λ (n : ℕ). if nat_le 1 (slice_index inner.copies x)
-    && nat_le (counted (counted (inner.nodes + 2) * slice_index inner.copies x)) room
+    && nat_le inner.nodes most_in_turn && nat_le (counted (inner.nodes * slice_index inner.copies x)) room
     then record {
       copies = inner.copies;
-      room = room - counted (counted (inner.nodes + 2) * slice_index inner.copies x);
-      nodes = counted (before + counted (counted (inner.nodes + 2) * slice_index inner.copies x));
+      room = room - counted (inner.nodes * slice_index inner.copies x);
+      nodes = counted (before + counted (inner.nodes * slice_index inner.copies x));
     }
     else record { copies = slice_set inner.copies x 0; room = inner.room; nodes = n })
     (the_same before count own inner.nodes is)
@@ -49,7 +48,7 @@ module _ (turns : List ℕ) where
       → AreAllowed (settled before room x own inner).copies turns
   settled_allowed before room x own inner allowed =
       by_room (nat_le 1 (slice_index inner.copies x)
-      && nat_le (counted (counted (inner.nodes + 2) * slice_index inner.copies x)) room) _ _ allowed
+      && nat_le inner.nodes most_in_turn && nat_le (counted (inner.nodes * slice_index inner.copies x)) room) _ _ allowed
       (refused inner.copies turns x allowed)
     where
       by_room : (b : Bool) (one other : Chosen) → AreAllowed one.copies turns → AreAllowed other.copies turns
@@ -68,11 +67,11 @@ module _ (turns : List ℕ) where
     chosen_allowed so_far (set_under control x value) allowed = allowed
     chosen_allowed so_far (put_under control place x size index value) allowed = allowed
     chosen_allowed so_far (branch condition accepted otherwise) allowed =
-        all_allowed (chosen_all (grown so_far (1 + term_nodes condition)) accepted) otherwise
-        (all_allowed (grown so_far (1 + term_nodes condition)) accepted allowed)
+        all_allowed (chosen_all (grown so_far (1 + term_size condition)) accepted) otherwise
+        (all_allowed (grown so_far (1 + term_size condition)) accepted allowed)
     chosen_allowed so_far (repeats x low high body) allowed =
         let inner : Chosen = record { copies = so_far.copies; room = so_far.room; nodes = 0 } in
-        settled_allowed so_far.nodes so_far.room x (1 + term_nodes low + term_nodes high) (chosen_all inner body)
+        settled_allowed so_far.nodes so_far.room x (1 + term_size low + term_size high) (chosen_all inner body)
         (all_allowed inner body allowed)
 
     all_allowed : (so_far : Chosen) (body : StraightBlock) → AreAllowed so_far.copies turns

@@ -3,22 +3,24 @@
 ghost use Rattle.std.specs.Prelude.{◌≡◌, map, slice_index, slice_set, IfOk};
 ghost use Rattle.branch_removal.specs.Straight.{straight_block, straight_tree};
 ghost use Rattle.inline.specs.Flat.{term_tree};
-ghost use Rattle.inline.specs.FlatSize.{term_nodes, terms_nodes};
-ghost use Rattle.constants.specs.private.Choice.{begun, choice_of, chosen, chosen_all, counted, grown, settled};
+ghost use Rattle.constants.specs.private.Choice.{begun, choice_of, chosen, chosen_all, counted, grown, settled, term_size, terms_size};
 
 use branch_removal::{Straight, StraightStatement};
 use inline::Term;
 use std::alloc::{AllocError, Global};
 
 /// How many nodes the turns of loops have room for, for each node of the source.
-const ROOM_FACTOR: u64 = 16;
+const ROOM_FACTOR: u64 = 32;
 
-/// How many nodes there are in setting a counter.
-const COUNTER_NODES: u64 = 2;
+/// The most room that there is, however large the source is.
+const MOST_ROOM: u64 = 96_000;
 
-/// How many nodes an expression has.
+/// How many nodes a turn may have.
+const MOST_IN_TURN: u64 = 384;
+
+/// How many nodes an expression has, but for those of indices: these mostly become numbers.
 fn nodes_in(term: &Term) -> u64
-    ensures { result ≡ counted (term_nodes (term_tree term.now)) }
+    ensures { result ≡ counted (term_size (term_tree term.now)) }
 {
     match term {
         Term::Number(_, _) => 1,
@@ -34,13 +36,13 @@ fn nodes_in(term: &Term) -> u64
             .saturating_add(nodes_in(accepted))
             .saturating_add(nodes_in(otherwise))
             .saturating_add(1),
-        Term::Element(_, _, _, index) => nodes_in(index).saturating_add(1),
+        Term::Element(_, _, _, _) => 1,
     }
 }
 
-/// How many nodes expressions have.
+/// How many nodes expressions have, but for those of indices.
 fn nodes_in_all(terms: &[Term]) -> u64
-    ensures { result ≡ counted (terms_nodes (map term_tree terms.now)) }
+    ensures { result ≡ counted (terms_size (map term_tree terms.now)) }
 {
     let mut sum = 0u64;
     for term in terms {
@@ -81,7 +83,7 @@ impl Choice {
     {
         let mut choice = Choice {
             copies: straight.turns().to_vec(alloc)?,
-            room: u64::from(straight.nodes()) * ROOM_FACTOR,
+            room: (u64::from(straight.nodes()) * ROOM_FACTOR).min(MOST_ROOM),
             nodes: 0,
         };
         choice.choose_all(straight.body());
@@ -96,16 +98,13 @@ impl Choice {
     }
 
     /// Behind so many nodes, where there was so much room, a loop of so many nodes without its body, for which all is
-    /// chosen: it becomes its turns where there is room for them.
+    /// chosen: it becomes its turns where each is short and there is room for all.
     fn settle(&mut self, before: u64, room: u64, counter: u32, own: u64)
         ensures { choice_of self.new ≡ settled before room counter own (choice_of self.old) }
     {
         let turns = copies_of(self.copies.as_slice(), counter);
-        let cost = self
-            .nodes
-            .saturating_add(COUNTER_NODES)
-            .saturating_mul(u64::from(turns));
-        if turns >= 1 && cost <= room {
+        let cost = self.nodes.saturating_mul(u64::from(turns));
+        if turns >= 1 && self.nodes <= MOST_IN_TURN && cost <= room {
             self.room = room - cost;
             self.nodes = before.saturating_add(cost);
         } else {
@@ -125,11 +124,8 @@ impl Choice {
             | StraightStatement::Take(_, _, value) => self.grow(nodes_in(value).saturating_add(1)),
             StraightStatement::Clear(_, _) => self.grow(1),
             StraightStatement::Fill(_, values) => self.grow(nodes_in_all(values).saturating_add(1)),
-            StraightStatement::Put(_, _, _, index, value)
-            | StraightStatement::PutUnder(_, _, _, _, index, value) => {
-                let nodes = nodes_in(index).saturating_add(nodes_in(value));
-                self.grow(nodes.saturating_add(2));
-            }
+            StraightStatement::Put(_, _, _, _, value)
+            | StraightStatement::PutUnder(_, _, _, _, _, value) => self.grow(nodes_in(value).saturating_add(1)),
             StraightStatement::Branch(condition, accepted, otherwise) => {
                 self.grow(nodes_in(condition).saturating_add(1));
                 self.choose_all(accepted);

@@ -43,9 +43,9 @@ pub fn simplify<'f>(alloc: Global, straight: &Straight<'f>) -> Result<Straight<'
 }
 
 /// Simpler straight code, as `simplify` makes it, in which loops are their turns, one after the other: those whose bounds
-/// are numbers once they are reached, innermost loops first, as far as 16 times as many nodes as the source has go. It
-/// may stand in the place of the code that it is made of, which alone decides it. Running out of memory alone refuses
-/// it.
+/// are numbers once they are reached, innermost loops first, where a turn is short, and as far as 32 times as many nodes
+/// as the source has go. It may stand in the place of the code that it is made of, which alone decides it. Running out of
+/// memory alone refuses it.
 pub fn unroll<'f>(alloc: Global, straight: &Straight<'f>) -> Result<Straight<'f>, Refusal>
     ensures replaced { IfOk result (IsReplaced straight.now) }
     ensures exact { IfOk result (λ simpler. simpler ≡ unrolled_of straight.now) }

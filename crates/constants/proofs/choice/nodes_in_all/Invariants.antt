@@ -1,6 +1,6 @@
 use Rattle.std.proofs.Common.{◌≡◌, ◌≤◌, ◌+◌, ◌-◌, ◌^◌, drop, map}
 use Rattle.inline.specs.Flat.{term_tree}
-use Rattle.inline.specs.FlatSize.{terms_nodes}
+use Rattle.constants.specs.private.Choice.{terms_size}
 use Rattle.constants.specs.private.Choice.{counted}
 use Rattle.constants.proofs.choice.nodes_in_all.Given as goal
 
@@ -8,5 +8,5 @@ use Rattle.constants.proofs.choice.nodes_in_all.Given as goal
 abbrev pub invariant-loop-term : goal.invariant-loop-term
 invariant-loop-term l =
     (l.sum ≤ 2 ^ 64 - 1)
-    × (counted (l.sum + terms_nodes (map term_tree (drop l.term-index l.terms)))
-    ≡ counted (terms_nodes (map term_tree l.terms)))
+    × (counted (l.sum + terms_size (map term_tree (drop l.term-index l.terms)))
+    ≡ counted (terms_size (map term_tree l.terms)))

@@ -2,7 +2,7 @@ use Rattle.std.proofs.Common.{◌+◌, ◌*◌, ◌<◌, rules, refl, ap, sym, �
 use Rattle.branch_removal.specs.Bounds.{block_nodes, statement_nodes}
 use Rattle.branch_removal.specs.Straight.{straight_block, straight_tree}
 use Rattle.inline.specs.Flat.{term_tree}
-use Rattle.inline.specs.FlatSize.{term_nodes}
+use Rattle.constants.specs.private.Choice.{term_size}
 use Rattle.constants.specs.private.Choice.{choice_of, chosen, chosen_all}
 use Rattle.constants.proofs.ChoiceLemmas.{grown_by, settled_by}
 use Rattle.branch_removal.proofs.StatementTrees.{tree_of_branch, tree_of_loop, accepted_smaller, otherwise_smaller}
@@ -45,7 +45,7 @@ choose-returns-in-Branch t c =
     (c.choose_all.ensures
     ∙ ap (λ s. chosen_all s (straight_block c.deref-in-Branch.result.now))
     (c.grow-in-Branch.ensures
-    ∙ grown_by (choice_of c.args.self.now) _ (1 + term_nodes (term_tree c.in-Branch.condition))
+    ∙ grown_by (choice_of c.args.self.now) _ (1 + term_size (term_tree c.in-Branch.condition))
     (omega (arith, c.saturating_add-in-Branch.ensures, c.nodes_in.ensures))))
     ∙ sym (ap (chosen (choice_of c.args.self.now))
     (tree_of_branch c.in-Branch.accepted c.in-Branch.otherwise c.in-Branch.is c.deref-in-Branch.ensures.value
@@ -55,7 +55,7 @@ pub choose-returns-in-Repeat : goal.choose-returns-in-Repeat
 choose-returns-in-Repeat t c =
     c.settle.ensures
     ∙ (settled_by c.args.self.now.nodes c.args.self.now.room c.in-Repeat.counter _
-    (1 + term_nodes (term_tree c.in-Repeat.low) + term_nodes (term_tree c.in-Repeat.high)) _ _
+    (1 + term_size (term_tree c.in-Repeat.low) + term_size (term_tree c.in-Repeat.high)) _ _
     (omega (
       arith,
       c.saturating_add-in-Repeat.ensures,
