@@ -14,14 +14,14 @@ use Rattle.codegen.proofs.Machine.{image_of, result_slot, HasRoom, variable_offs
 use Rattle.codegen.proofs.Machine.{word_of, Observation, number_at, Leads, Halts, Code, IsAt, IsInside, AreBases}
 use Rattle.codegen.proofs.Machine.{Allocation, body_of, IsFitting, IsFollowed, IsGenerated, Ecall, type_in, Slot}
 use Rattle.codegen.proofs.Arguments.{loaded, parameters_first, LiesAt, arrays_are, returned_is}
-use Rattle.codegen.proofs.SetRuns.{steps_of_result, Given, result_runs}
+use Rattle.codegen.proofs.SetRuns.{steps_of_result}
 use Rattle.codegen.proofs.Standing.{words_alone, body_words_before, placed_alone, leads_among, stand_placed, placed}
 use Rattle.codegen.proofs.FreshRuns.{Ended, program_runs}
 use Rattle.codegen.specs.private.Fresh.{starts_fresh}
 use Rattle.std.proofs.lemmas.Bool.{and_parts, ltb-true}
 use Rattle.codegen.proofs.Slots.{Laid, laid_same}
-use Rattle.codegen.proofs.Logic.{bytes_of, place_of, Setting, seen_by, Straight, Steps, Runs, seq, quietly, gives}
-use Rattle.codegen.proofs.Logic.{cheaper, beside, All-one, Placed, Placed-left, Placed-right, Halts-after}
+use Rattle.codegen.proofs.Logic.{bytes_of, place_of, Setting, seen_by, Straight, Steps, Runs}
+use Rattle.codegen.proofs.Logic.{cheaper, All-one, Placed, Placed-left, Placed-right, Halts-after}
 use Rattle.codegen.proofs.Logic.{ecall_halts}
 use Rattle.rv_code.specs.declared.instructions.Instr.TheVariants as instr
 use Rattle.rv_machine.specs.Machine as machine
@@ -81,8 +81,8 @@ module _ (a : Allocation) (p : StraightProgram) (room : HasRoom p) (fitting : Is
   body_runs =
       cheaper (omega (arith, room.worked, fitting.few))
       (program_runs setting p.returned p.value room.typed.result (omega arith) p.body (starts_fresh p)
-      (λ y on. ltb-true y (length p.declared) (and_parts _ _ on).0) (λ y on. (and_parts _ _ on).1) fitting.within room.typed.body
-      fitting.read (omega arith) (omega arith) (omega (arith, length-append {A = Instr}, short, room.nodes)))
+      (λ y on. ltb-true y (length p.declared) (and_parts _ _ on).0) (λ y on. (and_parts _ _ on).1) fitting.within
+      room.typed.body fitting.read (omega arith) (omega arith) (omega (arith, length-append {A = Instr}, short, room.nodes)))
 
   standing : Stand code start (map word_of (body_code a p))
   standing = subst (λ (ws : List ℕ). Stand code start ws) (body_words-image a p) there.words

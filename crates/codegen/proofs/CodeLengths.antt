@@ -1,5 +1,6 @@
 -- How long the code of statements is. And well-typed statements that the frame has room for have their places.
-use Rattle.std.proofs.Common.{ℕ, ◌+◌, ◌*◌, ◌≤◌, nat_lt, List, [], ◌∷◌, ◌++◌, length, Option, None, Some, arith, length-append, ◌≡◌, ◌<◌, ◌==◌, Bool, true, false, slice_get, cond}
+use Rattle.std.proofs.Common.{ℕ, ◌+◌, ◌*◌, ◌≤◌, nat_lt, List, [], ◌∷◌, ◌++◌, length, Option, None, Some, arith}
+use Rattle.std.proofs.Common.{length-append, ◌≡◌, ◌<◌, ◌==◌, Bool, true, false, slice_get, cond}
 use Rattle.codegen.proofs.Language.{statement_nodes, block_nodes, StraightTree, set, clear}
 use Rattle.codegen.proofs.Language.{fill, put, take, set_under, put_under, branch, repeats, StraightBlock, nothing}
 use Rattle.codegen.proofs.Language.{first, FlatVariable, TermTree, array_as, term_nodes, terms_nodes, declared_words}
@@ -10,9 +11,10 @@ use Rattle.codegen.proofs.WordLengths.{read_length, stored_length, value_length}
 use Rattle.codegen.specs.private.Loops.{any_sets}
 use Rattle.codegen.proofs.Language.{element_bytes, array_words, IsTyped, AreTyped, types_but, types_of, AllSuit}
 use Rattle.codegen.proofs.Language.{HasType, Boolean, WordType, Profile}
-use Rattle.codegen.specs.private.Emitted.{gives_zero, read_code, read_register, stored_code, stored_register}
+use Rattle.codegen.specs.private.Emitted.{gives_zero, read_register, stored_code, stored_register}
 use Rattle.codegen.specs.private.Erased.{erase_under_code}
-use Rattle.codegen.specs.private.Emitted.{set_code, set_under_code, taken_code, kept_code, join_code, masks_code, unless_unread, element_store_code, clear_code}
+use Rattle.codegen.specs.private.Emitted.{set_code, set_under_code, taken_code, kept_code, join_code, masks_code}
+use Rattle.codegen.specs.private.Emitted.{unless_unread, element_store_code, clear_code}
 use Rattle.codegen.specs.private.Emitted.{fill_code, statement_code, block_code}
 use Rattle.branch_removal.specs.Heights.{height_of_all}
 use Rattle.codegen.specs.private.Emitted.{index_code}

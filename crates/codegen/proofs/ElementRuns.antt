@@ -34,7 +34,7 @@ use Rattle.codegen.proofs.Machine.{height_of_put, address_code, with_number}
 use Rattle.rv_code.specs.declared.instructions.Instr.TheVariants as instr
 use Rattle.rv_machine.specs.Machine as machine
 use Rattle.codegen.proofs.SetRuns.{chosen_fits}
-use Rattle.codegen.proofs.Slots.{Shown, suits_fits, puts, ready_valued, ready_with, wrote_as, hidden_valued, IsSource}
+use Rattle.codegen.proofs.Slots.{Shown, suits_fits, ready_valued, ready_with, wrote_as, hidden_valued, IsSource}
 use Rattle.codegen.proofs.Slots.{read_runs, read_source, reads, source_apart, Hidden, hidden_then, hidden_by}
 use Rattle.codegen.proofs.Slots.{hidden_kept, hidden_wrote, cut_kind, cut_element, ready_same, ready_put}
 use Rattle.codegen.proofs.Slots.{ready_chosen, IsOffered, offered_put, offered_register, offered_runs, ready_offered}

@@ -1,6 +1,6 @@
 -- The code that sets a variable to 0 under a control value, and that which sets it under one to any value.
 use Rattle.std.proofs.Common.{◌≡◌, ℕ, ◌+◌, ◌*◌, ◌^◌, ◌<◌, ◌≤◌, ◌==◌, ◌≢◌, ◌&&◌, nat_lt, eq-eqb, ne_eqb, Bool, true}
-use Rattle.std.proofs.Common.{false, if◌then◌else◌, List, [], ◌∷◌, ◌++◌, Option, None, Some, length, bit_and, bit_xor}
+use Rattle.std.proofs.Common.{false, if◌then◌else◌, List, [], ◌∷◌, ◌++◌, Option, None, Some, bit_and, bit_xor}
 use Rattle.std.proofs.Common.{slice_index, refl, sym, ap, ap₂, ◌∙◌, subst, arith, inl}
 use Rattle.std.proofs.lemmas.Bool.{true≢false}
 use Rattle.std.proofs.lemmas.Nat.{and_mask}
@@ -15,12 +15,11 @@ use Rattle.codegen.proofs.Machine.{number_at, read_code, read_register, set_unde
 use Rattle.codegen.proofs.Machine.{Sw, variable_location, variable_offset, with_number}
 use Rattle.codegen.specs.private.Erased.{erase_code, erase_under_code}
 use Rattle.codegen.specs.private.Words.{gives_zero, is_zero}
-use Rattle.codegen.proofs.Masks.{fetched_homes, mask_apart, mask_register, mask_runs, mask_small, mask_some}
+use Rattle.codegen.proofs.Masks.{fetched_homes, mask_register, mask_runs, mask_small, mask_some}
 use Rattle.codegen.proofs.SetRuns.{chosen_fits, under_alone, under_by, under_word}
 use Rattle.codegen.proofs.Slots.{cut_kind, hidden_by, hidden_then, hidden_wrote, ready_chosen, ready_homed, ready_put}
 use Rattle.codegen.proofs.Slots.{ready_with, Shown, suits_fits, word_before}
 use Rattle.expression_code.specs.NumberRows.{number_of}
-use Rattle.rv_machine.specs.Machine as machine
 
 -- an old word and the complement of a mask
 erased : (b : Bool) (old : ℕ) → old < 2 ^ 32

@@ -1,5 +1,5 @@
 -- The code of what does not name some variables is the same where these have no homes.
-use Rattle.std.proofs.Common.{◌≡◌, ℕ, zero, suc, ◌+◌, ◌<◌, ◌≤◌, ◌==◌, ◌||◌, Bool, true, false, cond, List, [], ◌∷◌, ◌++◌}
+use Rattle.std.proofs.Common.{◌≡◌, ℕ, zero, suc, ◌+◌, ◌<◌, ◌≤◌, ◌==◌, ◌||◌, Bool, true, false, List, [], ◌∷◌, ◌++◌}
 use Rattle.std.proofs.Common.{length, Option, None, Some, refl, sym, ap, ap₂, ◌∙◌, arith, eq-eqb, if◌then◌else◌}
 use Rattle.std.proofs.lemmas.Bool.{or_parts, true≢false}
 use Rattle.codegen.proofs.Language.{branch, clear, fill, first, FlatVariable, nothing, put, put_under, repeats, set}
@@ -8,13 +8,14 @@ use Rattle.codegen.proofs.Logic.{none-some}
 use Rattle.codegen.proofs.Machine.{home_count}
 use Rattle.codegen.proofs.Machine.{Allocation, AllReadKept, block_code, control_location, home_of, InRegister, InSlot}
 use Rattle.codegen.proofs.Machine.{into_code, Location, next_offset, put_element_code, put_element_under_code}
-use Rattle.codegen.proofs.Machine.{read_code, read_register, ReadsKept, set_code, statement_code, temporaries_offset, result_offset}
+use Rattle.codegen.proofs.Machine.{read_code, read_register, ReadsKept, set_code, statement_code, temporaries_offset}
+use Rattle.codegen.proofs.Machine.{result_offset}
 use Rattle.codegen.proofs.Machine.{assign_code, fill_code, home_of_term, IsKeptWithin, result_code, taken_code}
-use Rattle.codegen.proofs.Machine.{near_element, unless_home, variable_location, variable_offset, kind_at, Instr}
+use Rattle.codegen.proofs.Machine.{unless_home, variable_location, variable_offset, kind_at, Instr}
 use Rattle.codegen.specs.private.Fresh.{any_names, homes_but, names, names_in, names_in_any, names_in_result}
-use Rattle.codegen.specs.private.Loops.{any_sets, counting_home, loop_from, repeat_code, short_number, to_number_code}
+use Rattle.codegen.specs.private.Loops.{any_sets, counting_home, loop_from, repeat_code, short_number}
 use Rattle.expression_code.specs.Allocation.{working_register}
-use Rattle.expression_code.specs.TermCode.{is_at_home, operand, right_row, left_row}
+use Rattle.expression_code.specs.TermCode.{is_at_home, operand}
 use Rattle.inline.specs.Flat as flat
 use Rattle.language.specs.declared.signature.Kind.{Kind}
 
@@ -93,12 +94,12 @@ homes_fewer out k (None ∷ homes) =
     (rest.0, ap suc rest.1)
 homes_fewer out k (Some home ∷ homes) =
     let rest = homes_fewer out (k + 1) homes in
-    (by_test (out k), ap suc rest.1)
+    (by_test (out k) rest.0, ap suc rest.1)
   where
-    by_test : (b : Bool) → home_count ((if b then None else Some home) ∷ homes_but out (k + 1) homes)
-        ≤ 1 + home_count homes
-    by_test true = omega (arith, (homes_fewer out (k + 1) homes).0)
-    by_test false = omega (arith, (homes_fewer out (k + 1) homes).0)
+    by_test : (b : Bool) → home_count (homes_but out (k + 1) homes) ≤ home_count homes
+        → home_count ((if b then None else Some home) ∷ homes_but out (k + 1) homes) ≤ 1 + home_count homes
+    by_test true fewer = omega (arith, fewer)
+    by_test false fewer = omega (arith, fewer)
 
 module _ (declared : List FlatVariable) (a : Allocation) (left_out : ℕ → Bool)
     (variables : (y : ℕ) → left_out y ≡ true → y < length declared) where

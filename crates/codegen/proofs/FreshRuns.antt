@@ -1,26 +1,27 @@
 -- The code of a program whose variables need not all be at home at first: those that the first statement that names
 -- them sets and does not read, and which nothing loads. Until then their slots count, as if they had no homes.
-use Rattle.std.proofs.Common.{◌≡◌, ℕ, zero, suc, ◌+◌, ◌*◌, ◌^◌, ◌<◌, ◌≤◌, ◌==◌, ◌&&◌, ◌||◌, ◌≢◌, not, Bool, true, false, cond}
+use Rattle.std.proofs.Common.{◌≡◌, ℕ, ◌+◌, ◌-◌, ◌*◌, ◌^◌, ◌<◌, ◌≤◌, ◌==◌, ◌&&◌, ◌||◌, ◌≢◌, not, Bool, true, false, cond}
 use Rattle.std.proofs.Common.{List, [], ◌∷◌, ◌++◌, length, length-append, append_assoc, Option, None, Some, slice_get}
-use Rattle.std.proofs.Common.{slice_index, refl, sym, ap, ap₂, ◌∙◌, subst, arith, eq-eqb, ne_eqb, if◌then◌else◌}
+use Rattle.std.proofs.Common.{slice_index, refl, sym, ap, ◌∙◌, subst, arith, ne_eqb, if◌then◌else◌}
 use Rattle.std.proofs.lemmas.Bool.{and_left, or_from, or_parts, true≢false}
 use Rattle.codegen.proofs.EntryRuns.{entry_runs}
-use Rattle.codegen.proofs.FewerHomes.{but, control_same, home_but, home_kept, home_left_out, home_was, homes_fewer, into_same}
+use Rattle.codegen.proofs.FewerHomes.{but, home_but, home_kept, home_was, homes_fewer, into_same}
 use Rattle.codegen.proofs.FewerHomes.{reads_same, result_same, statement_same}
-use Rattle.codegen.proofs.Language.{after, after_all, AreTyped, block_work, branch, clear, fill, first, Fits}
+use Rattle.codegen.proofs.Language.{after, after_all, AreTyped, block_work, first, Fits}
 use Rattle.codegen.proofs.Language.{bits_of, FlatVariable, IsResult, IsSet, IsTyped, nothing, numbers_in}
-use Rattle.codegen.proofs.Language.{path_along, path_at, put, put_under, repeats, set, set_under, statement_work}
-use Rattle.codegen.proofs.Language.{StraightBlock, StraightState, StraightTree, take, TermTree, types_of, value_in}
+use Rattle.codegen.proofs.Language.{path_along, path_at, set, statement_work}
+use Rattle.codegen.proofs.Language.{StraightBlock, StraightState, StraightTree, TermTree, types_of, value_in}
 use Rattle.codegen.proofs.Language.{value_nodes, with_variable, word_as, WordType}
-use Rattle.codegen.proofs.Logic.{After, along, as_code, at_control, base_of, Before, beside, bytes_of, cheaper, eqb-false, eqb-true}
-use Rattle.codegen.proofs.Logic.{gives, HeldAt, Holds, home_beside, IsHome, Kept, kept_less, kept_number, mask_of, none}
+use Rattle.codegen.proofs.Logic.{After, along, as_code, at_control, base_of, Before, beside, bytes_of, cheaper}
+use Rattle.codegen.proofs.Logic.{eqb-false, eqb-true}
+use Rattle.codegen.proofs.Logic.{gives, HeldAt, Holds, home_beside, IsHome, Kept, kept_less, kept_number, mask_of}
 use Rattle.codegen.proofs.Logic.{none-some, place_of, quietly, Ready, Runs, same_Some, seq, Setting, slice_get_within}
-use Rattle.codegen.proofs.Logic.{Steps, steps_of, variables_kept, ValuedIn, weaken, fits_assigned, one_held}
+use Rattle.codegen.proofs.Logic.{Steps, variables_kept, weaken, fits_assigned, one_held}
 use Rattle.codegen.proofs.Machine.{Allocation, AllReadKept, at_home, block_code, control_location, control_offset}
 use Rattle.codegen.proofs.Machine.{depth_in, depth_in_all, entry_code, far, height_in, height_in_all, height_of}
-use Rattle.codegen.proofs.Machine.{home_count, home_of, InRegister, InSlot, Instr, is_unread, number_at, ReadsKept}
+use Rattle.codegen.proofs.Machine.{home_count, home_of, InSlot, Instr, number_at, ReadsKept}
 use Rattle.codegen.proofs.Machine.{result_code, result_height, set_code, slots_to, statement_code, variable_offset}
-use Rattle.codegen.proofs.SetRuns.{Given, result_runs, set_cost, steps_of_result}
+use Rattle.codegen.proofs.SetRuns.{result_runs, set_cost, steps_of_result}
 use Rattle.codegen.proofs.Arguments.{Left}
 use Rattle.codegen.proofs.Slots.{homed_runs, Laid, suits_fits}
 use Rattle.codegen.proofs.StatementRuns.{statement_runs}
@@ -34,7 +35,7 @@ none_left_out : (b : Bool) (h : Option ℕ) → h ≡ None → (if b then None e
 none_left_out true h away = refl
 none_left_out false h away = away
 
-allocated_but : (declared : List FlatVariable) (a : Allocation) (out : ℕ → Bool) → IsAllocation declared a
+pub allocated_but : (declared : List FlatVariable) (a : Allocation) (out : ℕ → Bool) → IsAllocation declared a
     → IsAllocation declared (but a out)
 allocated_but declared a out allocated = record {
   some = allocated.some;
@@ -134,9 +135,9 @@ module _ (z : Setting) where
       ≡ number_at s.bytes 4 (z.frame + control_offset z.declared c)
       → Holds (fewer z one) (control_location z.declared (but a one) c) s v
       → Holds (fewer z other) (control_location z.declared (but a other) c) t v
-  control_there one other first second c v s t homes slot there =
-      let same = control_home one first c in
-      let same' = control_home other second c in
+  control_there one other in_one in_other c v s t homes slot there =
+      let same = control_home one in_one c in
+      let same' = control_home other in_other c in
       at_control (fewer z other) c (λ l. Holds (fewer z other) l t v)
       (λ home at.
       let was : home_of a.homes (length z.declared + c) ≡ Some home = sym same' ∙ at in
@@ -154,12 +155,12 @@ module _ (z : Setting) where
       → ((y : ℕ) → other y ≡ true → y < length z.declared)
       → ((y : ℕ) → home_of (but a other).homes y ≡ home_of (but a one).homes y)
       → (env : StraightState) (s : machine.State) → Ready (fewer z one) env s → Ready (fewer z other) env s
-  ready_alike one other first second same env s ready = record {
+  ready_alike one other in_one in_other same env s ready = record {
     held = record { base = ready.held.base; data_there = ready.held.data_there };
     fits = ready.fits;
     homes_there = λ y home d is at. ready.homes_there y home d is (sym (same y) ∙ at);
     variables_there = λ y d i is away below. ready.variables_there y d i is (sym (same y) ∙ away) below;
-    controls_there = λ c below read. control_there one other first second c (mask_of (env.controls c)) s s
+    controls_there = λ c below read. control_there one other in_one in_other c (mask_of (env.controls c)) s s
         (λ home at. refl) refl (ready.controls_there c below read);
   }
 
@@ -390,15 +391,29 @@ module _ (z : Setting) where
     abbrev block_of : StraightBlock → List Instr
     block_of b = block_code z.declared a z.controls z.depths 0 b
 
+    -- a block and the result behind it are run, and these are not at home yet
+    abbrev Behind : StraightBlock → (ℕ → Bool) → Type 0
+    Behind b out = Runs z (32 * block_work z.counts b + 32 * value_nodes value)
+        (λ env. path_along env b ++ steps_of_result value (after_all env b))
+        (block_of b ++ result_code z.declared a base value) (Ready (fewer z out))
+        (λ env s t. Ended value (after_all env b) t)
+
+    one_before : (out : ℕ → Bool) (s : StraightTree) (rest : StraightBlock) (step : Stepped out s rest)
+        → Behind rest step.left → Behind (first s rest) out
+    one_before out s rest step behind =
+        as_code (append_assoc (code_of s) (block_of rest) (result_code z.declared a base value))
+        (along (λ env. append_assoc (path_at env s) (path_along (after env s) rest)
+        (steps_of_result value (after_all (after env s) rest)))
+        (cheaper (omega arith)
+        (gives
+        (λ env s' t fine ready done. done.second)
+        (seq step.runs (beside (λ env. after env s) behind) (λ env s' t ready done. done)))))
+
     behind_runs : (b : StraightBlock) (out : ℕ → Bool) → ((y : ℕ) → out y ≡ true → y < length z.declared)
         → ((y : ℕ) → out y ≡ true → is_fresh y b value ≡ true)
         → AreTyped z.code.profile z.declared z.controls b → AllReadKept a b
         → base + 4 * slots_to a.count (height_in_all b) ≤ z.size → depth_in_all b ≤ z.depths
-        → length (block_of b) < far
-        → Runs z (32 * block_work z.counts b + 32 * value_nodes value)
-        (λ env. path_along env b ++ steps_of_result value (after_all env b))
-        (block_of b ++ result_code z.declared a base value) (Ready (fewer z out))
-        (λ env s t. Ended value (after_all env b) t)
+        → length (block_of b) < far → Behind b out
     behind_runs nothing out variables fresh typed read room within few =
         as_code
         (sym (result_same z.declared a out variables base value
@@ -416,17 +431,9 @@ module _ (z : Setting) where
     behind_runs (first s rest) out variables fresh typed read room within few =
         let step = stepped out variables s rest fresh typed.0 read.0 (omega (arith, room)) (omega (arith, within))
         (omega (arith, length-append {A = Instr}, few)) in
-        as_code (append_assoc (code_of s) (block_of rest) (result_code z.declared a base value))
-        (along (λ env. append_assoc (path_at env s) (path_along (after env s) rest)
-        (steps_of_result value (after_all (after env s) rest)))
-        (cheaper (omega arith)
-        (gives
-        (λ env s' t fine ready done. done.second)
-        (seq step.runs
-        (beside (λ env. after env s)
+        one_before out s rest step
         (behind_runs rest step.left step.variables step.fresh typed.1 read.1 (omega (arith, room))
-        (omega (arith, within)) (omega (arith, length-append {A = Instr}, few))))
-        (λ env s' t ready done. done)))))
+        (omega (arith, within)) (omega (arith, length-append {A = Instr}, few)))
 
     -- A program: the homes but those of some words are filled first.
 

@@ -15,7 +15,7 @@ use Rattle.codegen.proofs.Language.{IsResult, set_under, StraightState, with_var
 use Rattle.codegen.proofs.Language.{after, IsSet, WordType, bits_of}
 use Rattle.codegen.proofs.Machine.{at_home, control_location, fetch_code, home_of, InSlot, Instr}
 use Rattle.codegen.proofs.Machine.{is_unread, merge_code, set_code}
-use Rattle.codegen.proofs.Machine.{set_under_code, statement_code, result_code, result_height, read_code}
+use Rattle.codegen.proofs.Machine.{set_under_code, result_code, result_height, read_code}
 use Rattle.codegen.proofs.Machine.{read_register, variable_location}
 use Rattle.codegen.proofs.Machine.{variable_offset, result_offset, slots_to, load_code, store_code}
 use Rattle.codegen.proofs.Machine.{height_of, Sw, number_at, with_number}
@@ -42,7 +42,7 @@ behind_one a b c d e =
     ∙ append_assoc a ((b ++ c) ++ d) e
 
 -- a value and a store take no more than the work of setting a word
-set_cost : (value : TermTree) → 16 * term_nodes value + 3 ≤ 32 * set_work value
+pub set_cost : (value : TermTree) → 16 * term_nodes value + 3 ≤ 32 * set_work value
 set_cost (flat.number value kind) = omega arith
 set_cost (flat.truth value) = omega arith
 set_cost (flat.variable x) = omega arith

@@ -24,7 +24,7 @@ use Rattle.codegen.proofs.Logic.{number_at_apart, number_at-with_number, with_nu
 use Rattle.codegen.proofs.Logic.{bytes_by, bytes_of, place_of, place_within, ends_before_result}
 use Rattle.codegen.proofs.Logic.{apart_from, elements_apart, Setting, base_of, Kept, Ready, Wrote, wrote_kept}
 use Rattle.codegen.proofs.Logic.{number_same, variables_kept, Before, After, Steps, Then, Still}
-use Rattle.codegen.proofs.Logic.{steps_of, into_runs, held_regs, HomesKept, IsHome, ValuedIn, home_beside}
+use Rattle.codegen.proofs.Logic.{steps_of, into_runs, Held, held_regs, HomesKept, IsHome, ValuedIn, home_beside}
 use Rattle.codegen.proofs.Logic.{home_target, homes_by, homes_moved, kept_number, place_before}
 use Rattle.codegen.proofs.Logic.{place_target, variables_home, is_free, idle, lt-ltb, works_at, IsTarget, Leaves, put}
 use Rattle.codegen.proofs.Logic.{then_moves, setting, Runs, gives, cheaper, kept_less, kept_by, ready_below}
@@ -579,7 +579,8 @@ module _ (z : Setting) where
           gives
           (λ env s t fine ready done. record {
             held = done.held;
-            there = register-at t.regs (read_register z.allocation 5 e) (λ f. omega (arith, source.low, f)) ∙ done.there;
+            there = register-at t.regs (read_register z.allocation 5 e) (λ f. omega (arith, source.low, f))
+                ∙ done.there;
             kept = done.kept;
             homes = done.homes;
           })

@@ -6,7 +6,8 @@ use Rattle.codegen.proofs.Language.{fill, put, take, set_under, put_under, branc
 use Rattle.codegen.proofs.Language.{first, after, after_all, path_at, path_along, IsTyped, AreTyped, labelled}
 use Rattle.codegen.proofs.Language.{Boolean}
 use Rattle.codegen.proofs.Language.{Public}
-use Rattle.codegen.proofs.Machine.{AllReadKept, ReadsKept, statement_code, block_code, height_in, height_in_all, depth_in, depth_in_all}
+use Rattle.codegen.proofs.Machine.{AllReadKept, ReadsKept, statement_code, block_code, height_in, height_in_all}
+use Rattle.codegen.proofs.Machine.{depth_in, depth_in_all}
 use Rattle.codegen.proofs.Machine.{far, next_offset, slots_to, Instr, variable_location}
 use Rattle.codegen.proofs.ElementRuns.{put_runs, put_under_runs, fill_runs}
 use Rattle.codegen.proofs.LoopLengths.{repeat_spans}

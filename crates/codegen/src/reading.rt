@@ -8,7 +8,7 @@ ghost use Rattle.expression_code.specs.TermCode.{IsAmong};
 ghost use Rattle.branch_removal.specs.Heights.{height_of};
 ghost use Rattle.inline.specs.Flat.{term_tree};
 
-use expression_code::{Layout, emit, into};
+use expression_code::{Layout, emit, into, number};
 use inline::Term;
 use rv_code::{Instr, Reg};
 use std::alloc::AllocError;

@@ -1,14 +1,17 @@
 -- What is known of a term: how many temporaries it has at once, how many instructions it is, and which variables it
 -- names.
-use Rattle.std.proofs.Common.{◌≡◌, ℕ, ◌+◌, ◌*◌, ◌%◌, ◌<◌, ◌≤◌, ◌==◌, Bool, true, false, cond, nat_lt, List, ◌++◌, length, Option, None, Some, ◌-◌, arith, length-append}
+use Rattle.std.proofs.Common.{◌≡◌, ℕ, ◌+◌, ◌*◌, ◌%◌, ◌<◌, ◌≤◌, ◌==◌, Bool, true, false, cond, nat_lt, List, ◌++◌}
+use Rattle.std.proofs.Common.{length, Option, None, Some, ◌-◌, arith, length-append}
 use Rattle.std.proofs.lemmas.Option.{slice_get_within}
 use Rattle.expression_code.proofs.Below.{address_code, Allocation, around_code, binary, BinaryOperator, bits, code_by}
 use Rattle.expression_code.proofs.Below.{constant_code, convert, convert_code, copy_code, cut_code, element}
-use Rattle.expression_code.proofs.Below.{element_code, emitted_operator, expr_code, fetch_code, Finish, finish_code, FlatVariable}
+use Rattle.expression_code.proofs.Below.{element_code, emitted_operator, expr_code, fetch_code, Finish, finish_code}
+use Rattle.expression_code.proofs.Below.{FlatVariable}
 use Rattle.expression_code.proofs.Below.{HasType, height_of, InRegister, InSlot, Instr, into_code, IsAmong}
 use Rattle.expression_code.proofs.Below.{is_at_home, keep_code, Kind, kind_at, left_row, load_code, Location}
 use Rattle.expression_code.proofs.Below.{move_code, narrow_code, narrowed_in, near_code, near_element, number_code}
-use Rattle.expression_code.proofs.Below.{NumberRow, NumberStep, number_step_code, of_binary, of_conversion, of_element, of_number, of_prefix}
+use Rattle.expression_code.proofs.Below.{NumberRow, NumberStep, number_step_code, of_binary, of_conversion, of_element}
+use Rattle.expression_code.proofs.Below.{of_number, of_prefix}
 use Rattle.expression_code.proofs.Below.{of_rotation, of_selection, of_truth, of_truths, of_variable, operand}
 use Rattle.expression_code.proofs.Below.{operator_code, placed_code, prefix, prefix_code, PrefixOperator, Profile}
 use Rattle.expression_code.proofs.Below.{raise_code, register_of, right_row, rotate, rotate_code, row_of, scale_code}
@@ -125,8 +128,11 @@ number_step_length d r (KeepsLow others) = omega arith
 number_step_length d r step = omega arith
 
 pub number_length : (d r : ℕ) (w : Width) (row : NumberRow) → length (number_code d r w row) ≤ 4
-number_length d r w row = simp length-append (omega (arith, number_step_length d r row.step,
-    finish_length d w row.finish))
+number_length d r w row = simp length-append (omega (
+  arith,
+  number_step_length d r row.step,
+  finish_length d w row.finish,
+))
 
 pub prefix_length : (d r : ℕ) (o : PrefixOperator) (w : Width) → length (prefix_code d r o w) ≤ 4
 prefix_length d r prefixes.Not w = omega arith

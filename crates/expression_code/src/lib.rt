@@ -19,3 +19,4 @@ pub use expressions::{expression, height, into};
 pub use laws::expressions_are_computed;
 pub use layout::{Layout, WORD_BYTES, offsets, slots};
 pub use locations::{Location, fetch, move_register};
+pub use numbers::number;

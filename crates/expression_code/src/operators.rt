@@ -168,12 +168,7 @@ fn gives_more(code: &mut Vec<Instr>, r: Reg, instruction: Instr) -> Result<(), A
 }
 
 /// What is made of an outcome in a register.
-fn finished(
-    code: &mut Vec<Instr>,
-    r: Reg,
-    width: Width,
-    finish: Finish,
-) -> Result<(), AllocError>
+fn finished(code: &mut Vec<Instr>, r: Reg, width: Width, finish: Finish) -> Result<(), AllocError>
     ensures { OnOk result (code.new.items ≡ code.old.items ++ finish_code r width finish) }
 {
     match finish {
@@ -185,12 +180,7 @@ fn finished(
 }
 
 /// A step of a register and a number, into another register.
-fn number_step(
-    code: &mut Vec<Instr>,
-    d: Reg,
-    r: Reg,
-    step: NumberStep,
-) -> Result<(), AllocError>
+fn number_step(code: &mut Vec<Instr>, d: Reg, r: Reg, step: NumberStep) -> Result<(), AllocError>
     ensures { OnOk result (code.new.items ≡ code.old.items ++ number_step_code d r step) }
 {
     match step {
