@@ -3,6 +3,7 @@ use Rattle.std.proofs.Common.{◌≡◌, ℕ, zero, suc, ◌+◌, ◌-◌, ◌*�
 use Rattle.std.proofs.Common.{option_map, slice_index, arith}
 use Rattle.std.proofs.lemmas.List.{length-map}
 use Rattle.std.proofs.Math.Nat.{mul-le-mul_left, mul-le-mul_right}
+use Rattle.inline.specs.declared.flat.FlatVariable.{FlatVariable}
 use Rattle.inline.specs.Flat.{TermTree, counter_type, number, truth, variable, prefix, binary, rotate, convert}
 use Rattle.inline.specs.Flat.{select, element}
 use Rattle.inline.specs.FlatSize.{term_nodes, value_nodes}
@@ -49,10 +50,10 @@ low_single : (most deepest : ℕ) (statement : StraightTree) → height_in state
     → depth_in statement ≤ deepest → IsLow most deepest (single statement)
 low_single most deepest statement m d = record { height = omega (arith, m); depth = omega (arith, d) }
 
-module _ (copies : List ℕ) where
+module _ (copies : List ℕ) (declared : List FlatVariable) where
   mutual
     pub stays_low : (words : Words) (statement : StraightTree)
-        → IsLow (height_in statement) (depth_in statement) (simplified copies words statement)
+        → IsLow (height_in statement) (depth_in statement) (simplified copies declared words statement)
     stays_low words (set x value) = low_single _ _ (set x (simple words value)) (lower words value) (omega arith)
     stays_low words (clear x size) = low_single _ _ (clear x size) (omega arith) (omega arith)
     stays_low words (fill x values) =
@@ -69,14 +70,14 @@ module _ (copies : List ℕ) where
         (omega (arith, lower words index, lower words value)) (omega arith)
     stays_low words (branch condition accepted otherwise) =
         let whole = branch condition accepted otherwise in
-        let arm = forgotten_all (knowing_all copies words accepted) accepted in
+        let arm = forgotten_all (knowing_all copies declared words accepted) accepted in
         let one = stays_low_all words accepted in
         let other = stays_low_all words otherwise in
         let second = stays_low_all arm otherwise in
-        let both = branch (simple words condition) (simplified_all copies words accepted)
-        (simplified_all copies arm otherwise) in
+        let both = branch (simple words condition) (simplified_all copies declared words accepted)
+        (simplified_all copies declared arm otherwise) in
         decided_any (IsLow (height_in whole) (depth_in whole)) (decision (simple words condition))
-        (simplified_all copies words accepted) (simplified_all copies words otherwise) (single both)
+        (simplified_all copies declared words accepted) (simplified_all copies declared words otherwise) (single both)
         (higher (height_in_all accepted) (depth_in_all accepted) _ _ _ (omega arith) (omega arith) one)
         (higher (height_in_all otherwise) (depth_in_all otherwise) _ _ _ (omega arith) (omega arith) other)
         (low_single _ _ both (omega (arith, lower words condition, one.height, second.height))
@@ -85,14 +86,14 @@ module _ (copies : List ℕ) where
         let whole = repeats x low high body in
         let inside = in_loop words x body in
         let inner = stays_low_all inside body in
-        let simpler = repeats x (simple words low) (simple words high) (simplified_all copies inside body) in
+        let simpler = repeats x (simple words low) (simple words high) (simplified_all copies declared inside body) in
         unrolled_any (IsLow (height_in whole) (depth_in whole))
         (numbers_of (slice_index copies x) (constant_of (simple words low)) (constant_of (simple words high)))
-        (λ each. code_of_turns (each.high - each.low) each.low (λ i w. knowing_all copies (at_turn x i w) body)
-        (λ i w. first (set x (number i counter_type.kind)) (simplified_all copies (at_turn x i w) body)) words)
+        (λ each. code_of_turns (each.high - each.low) each.low (λ i w. knowing_all copies declared (at_turn x i w) body)
+        (λ i w. first (set x (number i counter_type.kind)) (simplified_all copies declared (at_turn x i w) body)) words)
         (single simpler)
-        (λ each. of_all_turns (λ i w. knowing_all copies (at_turn x i w) body)
-        (λ i w. first (set x (number i counter_type.kind)) (simplified_all copies (at_turn x i w) body))
+        (λ each. of_all_turns (λ i w. knowing_all copies declared (at_turn x i w) body)
+        (λ i w. first (set x (number i counter_type.kind)) (simplified_all copies declared (at_turn x i w) body))
         (IsLow (height_in whole) (depth_in whole)) (record { height = omega arith; depth = omega arith })
         (low-chain (height_in whole) (depth_in whole))
         (λ i w. let turn = stays_low_all (at_turn x i w) body in
@@ -102,17 +103,17 @@ module _ (copies : List ℕ) where
         (omega (arith, inner.depth)))
 
     pub stays_low_all : (words : Words) (body : StraightBlock)
-        → IsLow (height_in_all body) (depth_in_all body) (simplified_all copies words body)
+        → IsLow (height_in_all body) (depth_in_all body) (simplified_all copies declared words body)
     stays_low_all words nothing = record { height = omega arith; depth = omega arith }
     stays_low_all words (first statement rest) =
         let most = height_in_all (first statement rest) in
         let deepest = depth_in_all (first statement rest) in
-        low-chain most deepest (simplified copies words statement)
-        (simplified_all copies (knowing copies words statement) rest)
+        low-chain most deepest (simplified copies declared words statement)
+        (simplified_all copies declared (knowing copies declared words statement) rest)
         (higher (height_in statement) (depth_in statement) most deepest _ (omega arith) (omega arith)
         (stays_low words statement))
         (higher (height_in_all rest) (depth_in_all rest) most deepest _ (omega arith) (omega arith)
-        (stays_low_all (knowing copies words statement) rest))
+        (stays_low_all (knowing copies declared words statement) rest))
 
 pub lower_result : (words : Words) (value : Option TermTree)
     → result_height (option_map (simple words) value) ≤ result_height value
@@ -167,10 +168,10 @@ module _ (counts : List ℕ) where
         work_of_turns f code most each n (i + 1) (f i w),
       )
 
-module _ (copies counts : List ℕ) (allowed : AreAllowed copies counts) where
+module _ (copies : List ℕ) (declared : List FlatVariable) (counts : List ℕ) (allowed : AreAllowed copies counts) where
   mutual
     less : (words : Words) (statement : StraightTree)
-        → block_work counts (simplified copies words statement) ≤ statement_work counts statement
+        → block_work counts (simplified copies declared words statement) ≤ statement_work counts statement
     less words (set x value) = omega (arith, set_less words value)
     less words (clear x size) = omega arith
     less words (fill x values) = omega (arith, fewer_nodes_all words values, length-map values (simple words))
@@ -180,31 +181,31 @@ module _ (copies counts : List ℕ) (allowed : AreAllowed copies counts) where
     less words (put_under control place x size index value) =
         omega (arith, fewer_nodes words index, fewer_nodes words value)
     less words (branch condition accepted otherwise) =
-        let arm = forgotten_all (knowing_all copies words accepted) accepted in
+        let arm = forgotten_all (knowing_all copies declared words accepted) accepted in
         let one = less_all words accepted in
         let other = less_all words otherwise in
         let second = less_all arm otherwise in
         decided_any (λ (code : StraightBlock). block_work counts code
         ≤ statement_work counts (branch condition accepted otherwise)) (decision (simple words condition))
-        (simplified_all copies words accepted) (simplified_all copies words otherwise)
-        (single (branch (simple words condition) (simplified_all copies words accepted)
-        (simplified_all copies arm otherwise)))
+        (simplified_all copies declared words accepted) (simplified_all copies declared words otherwise)
+        (single (branch (simple words condition) (simplified_all copies declared words accepted)
+        (simplified_all copies declared arm otherwise)))
         (omega (arith, one)) (omega (arith, other)) (omega (arith, one, second, fewer_nodes words condition))
     less words (repeats x low high body) =
         let inside = in_loop words x body in
-        let code = simplified_all copies inside body in
+        let code = simplified_all copies declared inside body in
         let inner = less_all inside body in
         let loops : (slice_index counts x + 1) * (1 + block_work counts code)
         ≤ (slice_index counts x + 1) * (1 + block_work counts body) =
         mul-le-mul_left (slice_index counts x + 1) (omega (arith, inner)) in
         unrolled_by (λ (b : StraightBlock). block_work counts b ≤ statement_work counts (repeats x low high body))
         (numbers_of (slice_index copies x) (constant_of (simple words low)) (constant_of (simple words high)))
-        (λ each. code_of_turns (each.high - each.low) each.low (λ i w. knowing_all copies (at_turn x i w) body)
-        (λ i w. first (set x (number i counter_type.kind)) (simplified_all copies (at_turn x i w) body)) words)
+        (λ each. code_of_turns (each.high - each.low) each.low (λ i w. knowing_all copies declared (at_turn x i w) body)
+        (λ i w. first (set x (number i counter_type.kind)) (simplified_all copies declared (at_turn x i w) body)) words)
         (single (repeats x (simple words low) (simple words high) code))
         (λ each numbers.
-        let all = work_of_turns counts (λ i w. knowing_all copies (at_turn x i w) body)
-        (λ i w. first (set x (number i counter_type.kind)) (simplified_all copies (at_turn x i w) body))
+        let all = work_of_turns counts (λ i w. knowing_all copies declared (at_turn x i w) body)
+        (λ i w. first (set x (number i counter_type.kind)) (simplified_all copies declared (at_turn x i w) body))
         (1 + block_work counts body) (λ i w. omega (arith, less_all (at_turn x i w) body))
         (each.high - each.low) each.low words in
         let few : each.high - each.low ≤ slice_index counts x + 1 =
@@ -216,16 +217,16 @@ module _ (copies counts : List ℕ) (allowed : AreAllowed copies counts) where
         (omega (arith, fewer_nodes words low, fewer_nodes words high, loops))
 
     pub less_all : (words : Words) (body : StraightBlock)
-        → block_work counts (simplified_all copies words body) ≤ block_work counts body
+        → block_work counts (simplified_all copies declared words body) ≤ block_work counts body
     less_all words nothing = omega arith
     less_all words (first statement rest) =
-        let here = simplified copies words statement in
-        let behind = simplified_all copies (knowing copies words statement) rest in
+        let here = simplified copies declared words statement in
+        let behind = simplified_all copies declared (knowing copies declared words statement) rest in
         omega (
           arith,
           work-chain counts here behind,
           less words statement,
-          less_all (knowing copies words statement) rest,
+          less_all (knowing copies declared words statement) rest,
         )
 
 pub fewer_in_value : (words : Words) (value : Option TermTree)

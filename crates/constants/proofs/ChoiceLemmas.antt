@@ -48,7 +48,8 @@ module _ (turns : List ℕ) where
       → AreAllowed (settled before room x own inner).copies turns
   settled_allowed before room x own inner allowed =
       by_room (nat_le 1 (slice_index inner.copies x)
-      && nat_le inner.nodes most_in_turn && nat_le (counted (inner.nodes * slice_index inner.copies x)) room) _ _ allowed
+      && nat_le inner.nodes most_in_turn && nat_le (counted (inner.nodes * slice_index inner.copies x)) room) _ _
+      allowed
       (refused inner.copies turns x allowed)
     where
       by_room : (b : Bool) (one other : Chosen) → AreAllowed one.copies turns → AreAllowed other.copies turns

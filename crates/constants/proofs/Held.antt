@@ -1,7 +1,7 @@
 -- Well-typed straight code keeps in each variable what it is declared as.
-use Rattle.std.proofs.Common.{◌≡◌, ℕ, zero, suc, ◌+◌, ◌-◌, ◌^◌, ◌<◌, ◌≤◌, ◌==◌, Bool, true, false, cond, List, []}
+use Rattle.std.proofs.Common.{◌≡◌, ℕ, zero, suc, ◌-◌, ◌^◌, ◌<◌, ◌≤◌, ◌==◌, Bool, true, false, cond, List, []}
 use Rattle.std.proofs.Common.{◌∷◌, ◌++◌, length, map, take as first_of, drop, replicate, All, slice_get, slice_set}
-use Rattle.std.proofs.Common.{None, Some, if◌then◌else◌, sym, ap, ◌∙◌, subst, refl, arith}
+use Rattle.std.proofs.Common.{None, Some, if◌then◌else◌, sym, ap, ◌∙◌, subst, arith}
 use Rattle.std.proofs.lemmas.List.{length-set, length-replicate, length-map, take-append-drop}
 use Rattle.std.proofs.lemmas.List.Elements.{All-nil, All-cons, All-set, All-replicate}
 use Rattle.std.proofs.lemmas.Option.{none-some, same_Some}
@@ -9,7 +9,7 @@ use Rattle.arguments.specs.Within.{AreWithin, IsWithin, greatest_of, words_of}
 use Rattle.inline.specs.declared.flat.FlatVariable.{FlatVariable}
 use Rattle.inline.specs.Fitting.{IsWithinKind, IsHeld, Fits}
 use Rattle.inline.specs.Flat.{TermTree, counter_type, word_as, array_as, declaration_of, numbers_in}
-use Rattle.inline.specs.FlatMeaning.{Values, with_value, value_in, turns, given}
+use Rattle.inline.specs.FlatMeaning.{Values, value_in, given}
 use Rattle.inline.specs.FlatTyping.{Types, types_of, AllSuit}
 use Rattle.inline.proofs.Fitting.{value_fits, suited_fits, some_bit}
 use Rattle.inline.proofs.FittingBodies.{fits_assigned, one_held}

@@ -1,10 +1,10 @@
 -- What is known after a statement is what the variables then hold.
 use Rattle.std.proofs.Common.{◌≡◌, ℕ, zero, suc, ◌+◌, ◌-◌, ◌≤◌, ◌<◌, ◌==◌, Bool, true, false, cond, not}
-use Rattle.std.proofs.Common.{if◌then◌else◌, List, [], ◌∷◌, slice_get}
-use Rattle.std.proofs.Common.{Option, None, Some, slice_set, slice_index, nat_le, refl, sym, ap, ap₂, ◌∙◌, subst}
+use Rattle.std.proofs.Common.{List, [], ◌∷◌, slice_get}
+use Rattle.std.proofs.Common.{◌⊎◌, inl, inr, Option, None, Some, slice_index, refl, sym, ap, ap₂, ◌∙◌, subst}
 use Rattle.std.proofs.Common.{arith}
-use Rattle.std.proofs.lemmas.Option.{none-some, same_Some}
-use Rattle.std.proofs.lemmas.Bool.{cond-false, cond-true, eqb-true, eqb-false, leb-true}
+use Rattle.std.proofs.lemmas.Option.{same_Some}
+use Rattle.std.proofs.lemmas.Bool.{cond-false, cond-true, eqb-true, eqb-false}
 use Rattle.word.specs.declared.profile.Profile.{Profile}
 use Rattle.language.specs.declared.typing.WordType.{WordType}
 use Rattle.inline.proofs.Fitting.{value_fits}
@@ -19,15 +19,20 @@ use Rattle.branch_removal.specs.StraightMeaning.{StraightState, value_at, counte
 use Rattle.branch_removal.specs.StraightTyping.{IsTyped, AreTyped}
 use Rattle.constants.specs.declared.known.Constant.{Constant}
 use Rattle.constants.specs.private.Folding.{simple, constant, constant_of, decision, numbers_of}
-use Rattle.constants.specs.private.Known.{Words, known, without, forgotten_all, in_loop}
+use Rattle.constants.specs.declared.known.WordCopy.{WordCopy}
+use Rattle.constants.specs.private.Known.{Words, known, with_word, without, forgotten_all, in_loop}
 use Rattle.constants.specs.declared.terms.Numbers.{Numbers}
-use Rattle.constants.specs.private.Simplification.{decided, unrolled, at_turn, knowing, knowing_all}
-use Rattle.constants.proofs.KnownLemmas.{known_beside, known_here, without_apart, without_same, Agrees, Holds}
+use Rattle.constants.specs.private.Simplification.{at_turn, copied, copied_where, may_be_read_as, set_to, variable_of}
+use Rattle.constants.specs.private.Simplification.{knowing, knowing_all}
+use Rattle.constants.proofs.KnownLemmas.{Fact, valued, copy, IsIn, Knows, IsAbout, IsFree, IsTrue, in_more, known_here}
+use Rattle.constants.proofs.KnownLemmas.{known_beside, still_copy, without_apart, without_same, same_truth, Agrees}
+use Rattle.constants.proofs.KnownLemmas.{Holds}
 use Rattle.constants.proofs.TermLemmas.{constant_value, decided_value, same_value, same_suited}
 use Rattle.constants.proofs.Decisions.{bounds_of, decided_by, unrolled_by}
 use Rattle.constants.proofs.Held.{counter_limit, counted_fits, fits_after, fits_after_all}
 use Rattle.constants.proofs.Typed.{inside_kinds, kinds_after, kinds_after_all, part_kinds, turn_kinds}
-use Rattle.constants.proofs.Unset.{behind_part, within_loop, left_alone, turn_begins, turn_ends}
+use Rattle.constants.proofs.CopyLemmas.{read_value, two_variables}
+use Rattle.constants.proofs.Unset.{beside, at_itself, behind_part, within_loop, left_alone, turn_begins, turn_ends}
 
 -- the arm that a decided condition takes
 module _ (types : Types) (words : Words) (s : StraightState) (holds : Holds types words s.variables)
@@ -89,30 +94,67 @@ counts_below types m fits has_low has_high =
 -- a variable is set, and what is noted is its word
 noted : (words : Words) (m : Values) (x v : ℕ) (word : Option Constant) → Agrees words m
     → ((c : Constant) → word ≡ Some c → v ≡ c.value)
-    → Agrees (slice_set words x word) (with_value m x (v ∷ []))
-noted words m x v word agrees right y c is = by_number (y == x) refl
+    → Agrees (with_word words x word) (with_value m x (v ∷ []))
+noted words m x v word agrees right (valued y c) is = by_number (y == x) refl
   where
     by_number : (b : Bool) → (y == x) ≡ b → slice_index (cond b (v ∷ []) (m y)) 0 ≡ c.value
     by_number true same =
         right c
-        (known_here words x word c (subst (λ z. known (slice_set words x word) z ≡ Some c) (eqb-true y x same) is))
-    by_number false apart = agrees y c (sym (known_beside words x y word (eqb-false y x apart)) ∙ is)
+        (known_here words x word c (subst (λ z. known (with_word words x word) z ≡ Some c) (eqb-true y x same) is))
+    by_number false apart =
+        agrees (valued y c)
+        (known_beside words x word (valued y c) (λ z about here. eqb-false y x apart (sym about ∙ here)) is)
+noted words m x v word agrees right (copy c) is =
+    let found = still_copy words x word c is in
+    same_truth (copy c) m (with_value m x (v ∷ [])) (λ y about. beside m x y (v ∷ []) (found.1 y about))
+    (agrees (copy c) found.0)
+
+-- and where it is a copy, that too
+noted_copy : (declared : List FlatVariable) (words : Words) (m : Values) (x v : ℕ) (e : TermTree) → Agrees words m
+    → v ≡ value_in m e
+    → Agrees (set_to declared words x e) (with_value m x (v ∷ []))
+noted_copy declared words m x v e agrees same f is = by_variable (variable_of e) refl is
+  where
+    after_set : Agrees (with_word words x (constant_of e)) (with_value m x (v ∷ []))
+    after_set = noted words m x v (constant_of e) agrees (λ c found. same ∙ constant_value m e c found)
+
+    by_choice : (b : Bool) (y : ℕ) (g : Fact) → may_be_read_as declared x y ≡ b → v ≡ slice_index (m y) 0
+        → Knows (copied_where b x y (with_word words x (constant_of e))) g → IsTrue g (with_value m x (v ∷ []))
+    by_choice false y g may holds h = after_set g h
+    by_choice true y (valued z c) may holds h = after_set (valued z c) h
+    by_choice true y (copy c) may holds h =
+        in_either (in_more (with_word words x (constant_of e)) c (record { variable = x; source = y }) h)
+      where
+        in_either : IsIn c (with_word words x (constant_of e)).copies ⊎ (record { variable = x; source = y } ≡ c)
+            → IsTrue (copy c) (with_value m x (v ∷ []))
+        in_either (inl there) = after_set (copy c) there
+        in_either (inr here) =
+            subst (λ (d : WordCopy). IsTrue (copy d) (with_value m x (v ∷ []))) here
+            (ap (λ numbers. slice_index numbers 0) (at_itself m x (v ∷ []))
+            ∙ (holds ∙ ap (λ numbers. slice_index numbers 0)
+            (sym (beside m x y (v ∷ []) (λ h. two_variables declared x y may (sym h))))))
+
+    by_variable : (o : Option ℕ) → variable_of e ≡ o → Knows (copied declared x o (with_word words x (constant_of e))) f
+        → IsTrue f (with_value m x (v ∷ []))
+    by_variable None known_as h = after_set f h
+    by_variable (Some y) known_as h =
+        by_choice (may_be_read_as declared x y) y f refl (same ∙ read_value m e y known_as) h
 
 -- what is known of variables that a statement leaves alone
 kept : (words behind : Words) (statement : StraightTree) (s : StraightState) → Agrees words s.variables
-    → ((y : ℕ) (c : Constant) → known behind y ≡ Some c → known words y ≡ Some c)
-    → ((y : ℕ) (c : Constant) → known behind y ≡ Some c → (after s statement).variables y ≡ s.variables y)
+    → ((f : Fact) → Knows behind f → Knows words f)
+    → ((f : Fact) → Knows behind f → (y : ℕ) → IsAbout y f → (after s statement).variables y ≡ s.variables y)
     → Agrees behind (after s statement).variables
-kept words behind statement s agrees known_before alone y c is =
-    ap (λ numbers. slice_index numbers 0) (alone y c is) ∙ agrees y c (known_before y c is)
+kept words behind statement s agrees known_before alone f is =
+    same_truth f s.variables (after s statement).variables (alone f is) (agrees f (known_before f is))
 
 -- nothing is known of the variable that is set
 unknown : (words : Words) (x : ℕ) (statement : StraightTree) (s : StraightState) → Agrees words s.variables
-    → ((y : ℕ) → (y ≡ x → ⊥) → (after s statement).variables y ≡ s.variables y)
+    → ((f : Fact) → IsFree x f → (y : ℕ) → IsAbout y f → (after s statement).variables y ≡ s.variables y)
     → Agrees (without words x) (after s statement).variables
 unknown words x statement s agrees alone =
-    kept words (without words x) statement s agrees (λ y c is. without_same words x y c is)
-    (λ y c is. alone y (without_apart words x y c is))
+    kept words (without words x) statement s agrees (λ f is. without_same words x f is)
+    (λ f is. alone f (without_apart words x f is))
 
 -- what each two turns keep, of numbers below a limit, all keep
 pub turns_along : {S T : Type 0} (P : S → T → Type 0) (f : ℕ → S → S) (g : ℕ → T → T) (limit : ℕ)
@@ -142,53 +184,55 @@ module _ (copies : List ℕ) (profile : Profile) (declared : List FlatVariable) 
 
   mutual
     pub learned : (words : Words) (statement : StraightTree) → IsTyped profile declared controls statement
-        → (s : StraightState) → AllHolds words s → Agrees (knowing copies words statement) (after s statement).variables
+        → (s : StraightState) → AllHolds words s
+        → Agrees (knowing copies declared words statement) (after s statement).variables
     learned words (set x value) is s holds =
-        noted words s.variables x (value_at s value) (constant_of (simple words value)) holds.agrees
-        (λ c found. sym (same_suited (types_of profile declared) words s.variables holds is.suits)
-        ∙ constant_value s.variables (simple words value) c found)
+        noted_copy declared words s.variables x (value_at s value) (simple words value) holds.agrees
+        (sym (same_suited (types_of profile declared) words s.variables holds is.suits))
     learned words (clear x size) is s holds =
-        unknown words x (clear x size) s holds.agrees (λ y apart. left_alone (clear x size) y apart s)
+        unknown words x (clear x size) s holds.agrees (λ f apart y about. left_alone (clear x size) f apart y about s)
     learned words (fill x values) is s holds =
-        unknown words x (fill x values) s holds.agrees (λ y apart. left_alone (fill x values) y apart s)
+        unknown words x (fill x values) s holds.agrees (λ f apart y about. left_alone (fill x values) f apart y about s)
     learned words (put place x size index value) is s holds =
         unknown words x (put place x size index value) s holds.agrees
-        (λ y apart. left_alone (put place x size index value) y apart s)
+        (λ f apart y about. left_alone (put place x size index value) f apart y about s)
     learned words (take control within condition) is s holds = holds.agrees
     learned words (set_under control x value) is s holds =
         unknown words x (set_under control x value) s holds.agrees
-        (λ y apart. left_alone (set_under control x value) y apart s)
+        (λ f apart y about. left_alone (set_under control x value) f apart y about s)
     learned words (put_under control place x size index value) is s holds =
         unknown words x (put_under control place x size index value) s holds.agrees
-        (λ y apart. left_alone (put_under control place x size index value) y apart s)
+        (λ f apart y about. left_alone (put_under control place x size index value) f apart y about s)
     learned words (branch condition accepted otherwise) is s holds =
         let whole = branch condition accepted otherwise in
-        let arm = forgotten_all (knowing_all copies words accepted) accepted in
+        let arm = forgotten_all (knowing_all copies declared words accepted) accepted in
         decided_by (λ (w : Words). Agrees w (after s whole).variables) (decision (simple words condition))
-        (knowing_all copies words accepted) (knowing_all copies words otherwise)
-        (forgotten_all (knowing_all copies arm otherwise) otherwise)
-        (λ says. subst (λ (t : StraightState). Agrees (knowing_all copies words accepted) t.variables)
+        (knowing_all copies declared words accepted) (knowing_all copies declared words otherwise)
+        (forgotten_all (knowing_all copies declared arm otherwise) otherwise)
+        (λ says. subst (λ (t : StraightState). Agrees (knowing_all copies declared words accepted) t.variables)
         (sym (takes_accepted (types_of profile declared) words s holds is.0 accepted otherwise says))
         (learned_all words accepted is.1 s holds))
-        (λ says. subst (λ (t : StraightState). Agrees (knowing_all copies words otherwise) t.variables)
+        (λ says. subst (λ (t : StraightState). Agrees (knowing_all copies declared words otherwise) t.variables)
         (sym (takes_otherwise (types_of profile declared) words s holds is.0 accepted otherwise says))
         (learned_all words otherwise is.2 s holds))
-        (kept words (forgotten_all (knowing_all copies arm otherwise) otherwise) whole s holds.agrees
-        (λ y c found. (behind_part copies words accepted y c (behind_part copies arm otherwise y c found).0).0)
-        (λ y c found.
-        let second = behind_part copies arm otherwise y c found in
-        left_alone whole y ((behind_part copies words accepted y c second.0).1, second.1) s))
+        (kept words (forgotten_all (knowing_all copies declared arm otherwise) otherwise) whole s holds.agrees
+        (λ f found.
+        (behind_part copies declared words accepted f (behind_part copies declared arm otherwise f found).0).0)
+        (λ f found y about.
+        let second = behind_part copies declared arm otherwise f found in
+        left_alone whole f ((behind_part copies declared words accepted f second.0).1, second.1) y about s))
     learned words (repeats x low high body) is s holds =
         let whole = repeats x low high body in
         let inside = in_loop words x body in
         unrolled_by (λ (w : Words). Agrees w (after s whole).variables)
         (numbers_of (slice_index copies x) (constant_of (simple words low)) (constant_of (simple words high)))
-        (λ each. turns (each.high - each.low) each.low (λ i w. knowing_all copies (at_turn x i w) body) words)
-        (forgotten_all (knowing_all copies inside body) body)
+        (λ each. turns (each.high - each.low) each.low (λ i w. knowing_all copies declared (at_turn x i w) body) words)
+        (forgotten_all (knowing_all copies declared inside body) body)
         (λ each numbers. subst (λ (t : StraightState). Agrees (turns (each.high - each.low) each.low
-        (λ i w. knowing_all copies (at_turn x i w) body) words) t.variables)
+        (λ i w. knowing_all copies declared (at_turn x i w) body) words) t.variables)
         (turns_between (types_of profile declared) words s holds is.0 is.1 (slice_index copies x) each numbers x body)
-        (turns_along AllHolds (λ i w. knowing_all copies (at_turn x i w) body) (λ i t. after_all (counted x i t) body)
+        (turns_along AllHolds (λ i w. knowing_all copies declared (at_turn x i w) body)
+        (λ i t. after_all (counted x i t) body)
         counter_limit
         (λ i w t below known. record {
           agrees = learned_all (at_turn x i w) body is.3 (counted x i t) (turn_known w t x i is.2 below known);
@@ -200,23 +244,25 @@ module _ (copies : List ℕ) (profile : Profile) (declared : List FlatVariable) 
         (each.high - each.low) each.low words s
         (each_below (types_of profile declared) words s holds is.0 is.1 (slice_index copies x) each numbers)
         holds).agrees)
-        (kept words (forgotten_all (knowing_all copies inside body) body) whole s holds.agrees
-        (λ y c found. (within_loop words x body y c (behind_part copies inside body y c found).0).0)
-        (λ y c found.
-        left_alone whole y (within_loop words x body y c (behind_part copies inside body y c found).0).1 s))
+        (kept words (forgotten_all (knowing_all copies declared inside body) body) whole s holds.agrees
+        (λ f found. (within_loop words x body f (behind_part copies declared inside body f found).0).0)
+        (λ f found y about.
+        left_alone whole f (within_loop words x body f (behind_part copies declared inside body f found).0).1 y about
+        s))
 
     pub learned_all : (words : Words) (body : StraightBlock) → AreTyped profile declared controls body
-        → (s : StraightState) → AllHolds words s → Agrees (knowing_all copies words body) (after_all s body).variables
+        → (s : StraightState) → AllHolds words s
+        → Agrees (knowing_all copies declared words body) (after_all s body).variables
     learned_all words nothing is s holds = holds.agrees
     learned_all words (first statement rest) is s holds =
-        learned_all (knowing copies words statement) rest is.1 (after s statement) (record {
+        learned_all (knowing copies declared words statement) rest is.1 (after s statement) (record {
           agrees = learned words statement is.0 s holds;
           kinds = kinds_after copies profile declared controls words statement holds.kinds is.0;
           fits = fits_after profile declared controls statement is.0 s holds.fits;
         })
 
   pub hold_after_all : (words : Words) (body : StraightBlock) → AreTyped profile declared controls body
-      → (s : StraightState) → AllHolds words s → AllHolds (knowing_all copies words body) (after_all s body)
+      → (s : StraightState) → AllHolds words s → AllHolds (knowing_all copies declared words body) (after_all s body)
   hold_after_all words body is s holds = record {
     agrees = learned_all words body is s holds;
     kinds = kinds_after_all copies profile declared controls words body holds.kinds is;
@@ -224,7 +270,7 @@ module _ (copies : List ℕ) (profile : Profile) (declared : List FlatVariable) 
   }
 
   pub hold_after : (words : Words) (statement : StraightTree) → IsTyped profile declared controls statement
-      → (s : StraightState) → AllHolds words s → AllHolds (knowing copies words statement) (after s statement)
+      → (s : StraightState) → AllHolds words s → AllHolds (knowing copies declared words statement) (after s statement)
   hold_after words statement is s holds = record {
     agrees = learned words statement is s holds;
     kinds = kinds_after copies profile declared controls words statement holds.kinds is;
@@ -234,9 +280,9 @@ module _ (copies : List ℕ) (profile : Profile) (declared : List FlatVariable) 
   -- Where the second arm begins, and in a loop that stays.
 
   pub arm_begins : (words : Words) (accepted : StraightBlock) (s : StraightState) → AllHolds words s
-      → AllHolds (forgotten_all (knowing_all copies words accepted) accepted) s
+      → AllHolds (forgotten_all (knowing_all copies declared words accepted) accepted) s
   arm_begins words accepted s holds = record {
-    agrees = λ y c is. holds.agrees y c (behind_part copies words accepted y c is).0;
+    agrees = λ f is. holds.agrees f (behind_part copies declared words accepted f is).0;
     kinds = part_kinds copies profile declared controls words accepted holds.kinds;
     fits = holds.fits;
   }
@@ -244,7 +290,7 @@ module _ (copies : List ℕ) (profile : Profile) (declared : List FlatVariable) 
   pub loop_begins : (words : Words) (x : ℕ) (body : StraightBlock) (s : StraightState) → AllHolds words s
       → AllHolds (in_loop words x body) s
   loop_begins words x body s holds = record {
-    agrees = λ y c is. holds.agrees y c (within_loop words x body y c is).0;
+    agrees = λ f is. holds.agrees f (within_loop words x body f is).0;
     kinds = inside_kinds copies profile declared controls words x body holds.kinds;
     fits = holds.fits;
   }

@@ -1,4 +1,5 @@
 pub mod KnownLemmas
+pub mod CopyLemmas
 pub mod Identities
 pub mod Opposites
 pub mod TermTypes

@@ -1,11 +1,10 @@
 -- What `!` makes of a condition: of a comparison the opposite one, and of another `!` its operand.
-use Rattle.std.proofs.Common.{◌≡◌, ℕ, ◌==◌, ◌<◌, Bool, true, false, not, [], Option, None, Some, refl, sym, ap, ◌∙◌}
+use Rattle.std.proofs.Common.{◌≡◌, ℕ, ◌==◌, ◌<◌, Bool, true, false, not, Option, None, Some, refl, sym, ap, ◌∙◌}
 use Rattle.std.proofs.Common.{nat_le, nat_lt, subst, arith}
 use Rattle.std.proofs.lemmas.Bool.Decides.{nat_tests}
 use Rattle.std.proofs.lemmas.Option.{none-some, same_Some}
 use Rattle.inline.specs.Flat.{TermTree, binary}
 use Rattle.inline.specs.FlatMeaning.{marks_of}
-use Rattle.inline.specs.Path.{Path}
 use Rattle.language.specs.declared.tree.BinaryOperator.{BinaryOperator}
 use Rattle.language.specs.declared.tree.BinaryOperator.TheVariants.{Either, Both, Equal, Unequal, Less, LessOrEqual}
 use Rattle.language.specs.declared.tree.BinaryOperator.TheVariants.{Greater, GreaterOrEqual, BitOr, BitXor, BitAnd}

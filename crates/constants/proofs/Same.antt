@@ -1,7 +1,7 @@
 -- Simpler statements leave the state that the statements leave, and their path is fine where that of the statements
 -- is.
 use Rattle.std.proofs.Common.{◌≡◌, ℕ, zero, suc, ◌+◌, ◌-◌, ◌<◌, ◌≤◌, ◌==◌, ◌&&◌, not, Bool, true, false}
-use Rattle.std.proofs.Common.{if◌then◌else◌, List, [], ◌∷◌, ◌++◌, map, Some, refl, sym, ap, ap₂, ◌∙◌, subst}
+use Rattle.std.proofs.Common.{if◌then◌else◌, List, [], ◌∷◌, ◌++◌, length, map, refl, sym, ap, ap₂, ◌∙◌, subst}
 use Rattle.std.proofs.Common.{slice_index, arith}
 use Rattle.std.proofs.lemmas.Bool.{cond-false, cond-true}
 use Rattle.word.specs.declared.profile.Profile.{Profile}
@@ -16,7 +16,7 @@ use Rattle.branch_removal.specs.Straight.{repeats, StraightBlock, nothing, first
 use Rattle.branch_removal.specs.StraightMeaning.{StraightState, holds as holds_under, with_variable, with_element}
 use Rattle.branch_removal.specs.StraightMeaning.{with_controls}
 use Rattle.branch_removal.specs.StraightMeaning.{value_at, counted, after, after_all, path_at, path_along}
-use Rattle.branch_removal.specs.StraightTyping.{types_but, IsPut, IsTyped, AreTyped}
+use Rattle.branch_removal.specs.StraightTyping.{types_but, IsFilled, IsPut, IsTyped, AreTyped}
 use Rattle.branch_removal.proofs.Sequences.{after-chain, path-chain, fine_both, fine_front, fine_back, fine_alone}
 use Rattle.constants.specs.private.Folding.{simple, constant_of, decision, numbers_of}
 use Rattle.constants.specs.private.Known.{Words, forgotten_all, in_loop}
@@ -62,24 +62,27 @@ module _ (copies : List ℕ) (profile : Profile) (declared : List FlatVariable) 
   types = types_of profile declared
 
   -- what holds where an array gets its first values
-  pub holds_but : (words : Words) (x : ℕ) (m : Values) → Holds types words m
+  pub holds_but : (words : Words) (x : ℕ) (values : List TermTree)
+      → IsFilled profile declared x (length values) values → (m : Values) → Holds types words m
       → Holds (types_but profile declared x) words m
-  holds_but words x m holds = record {
+  holds_but words x values is m holds = record {
     agrees = holds.agrees;
-    kinds = but_kinds copies profile declared controls words x holds.kinds;
+    kinds = but_kinds copies profile declared controls words x is.word is.mutable (length values) is.known
+        holds.kinds;
     fits = fewer_fit profile declared x m holds.fits;
   }
 
   mutual
     pub same_after : (words : Words) (statement : StraightTree) → IsTyped profile declared controls statement
         → (s : StraightState) → AllHolds copies profile declared controls words s
-        → after_all s (simplified copies words statement) ≡ after s statement
+        → after_all s (simplified copies declared words statement) ≡ after s statement
     same_after words (set x value) is s holds =
         ap (λ v. with_variable s x (v ∷ [])) (same_suited types words s.variables holds is.suits)
     same_after words (clear x size) is s holds = refl
     same_after words (fill x values) is s holds =
         ap (with_variable s x)
-        (same_values (types_but profile declared x) words s.variables (holds_but words x s.variables holds) is.word
+        (same_values (types_but profile declared x) words s.variables (holds_but words x values is s.variables holds)
+        is.word
         values is.suit)
     same_after words (put place x size index value) is s holds =
         ap₂ (with_element s x) (same_value types words s.variables holds is.index_type)
@@ -96,34 +99,36 @@ module _ (copies : List ℕ) (profile : Profile) (declared : List FlatVariable) 
         (same_suited types words s.variables holds is.1.suits)
     same_after words (branch condition accepted otherwise) is s holds =
         let whole = branch condition accepted otherwise in
-        let arm = forgotten_all (knowing_all copies words accepted) accepted in
+        let arm = forgotten_all (knowing_all copies declared words accepted) accepted in
         let one = same_after_all words accepted is.1 s holds in
         decided_by (λ (code : StraightBlock). after_all s code ≡ after s whole) (decision (simple words condition))
-        (simplified_all copies words accepted) (simplified_all copies words otherwise)
-        (single (branch (simple words condition) (simplified_all copies words accepted)
-        (simplified_all copies arm otherwise)))
+        (simplified_all copies declared words accepted) (simplified_all copies declared words otherwise)
+        (single (branch (simple words condition) (simplified_all copies declared words accepted)
+        (simplified_all copies declared arm otherwise)))
         (λ says. one ∙ sym (takes_accepted types words s holds is.0 accepted otherwise says))
         (λ says. same_after_all words otherwise is.2 s holds
         ∙ sym (takes_otherwise types words s holds is.0 accepted otherwise says))
-        (ap (λ v. if v == 0 then after_all s (simplified_all copies arm otherwise)
-        else after_all s (simplified_all copies words accepted)) (same_value types words s.variables holds is.0)
+        (ap (λ v. if v == 0 then after_all s (simplified_all copies declared arm otherwise)
+        else after_all s (simplified_all copies declared words accepted))
+        (same_value types words s.variables holds is.0)
         ∙ ap₂ (λ (t u : StraightState). if value_at s condition == 0 then t
-        else u) (same_after_all arm otherwise is.2 s (arm_begins copies profile declared controls words accepted s holds))
+        else u) (same_after_all arm otherwise is.2 s
+        (arm_begins copies profile declared controls words accepted s holds))
         one)
     same_after words (repeats x low high body) is s holds =
         let whole = repeats x low high body in
         let inside = in_loop words x body in
-        let code = simplified_all copies inside body in
+        let code = simplified_all copies declared inside body in
         let turn : ℕ → StraightState → StraightState = λ i t. after_all (counted x i t) body in
         let simpler : ℕ → StraightState → StraightState = λ i t. after_all (counted x i t) code in
         unrolled_by (λ (b : StraightBlock). after_all s b ≡ after s whole)
         (numbers_of (slice_index copies x) (constant_of (simple words low)) (constant_of (simple words high)))
-        (λ each. code_of_turns (each.high - each.low) each.low (λ i w. knowing_all copies (at_turn x i w) body)
-        (λ i w. first (set x (number i counter_type.kind)) (simplified_all copies (at_turn x i w) body)) words)
+        (λ each. code_of_turns (each.high - each.low) each.low (λ i w. knowing_all copies declared (at_turn x i w) body)
+        (λ i w. first (set x (number i counter_type.kind)) (simplified_all copies declared (at_turn x i w) body)) words)
         (single (repeats x (simple words low) (simple words high) code))
         (λ each numbers. same_turns (AllHolds copies profile declared controls)
-        (λ i w. knowing_all copies (at_turn x i w) body)
-        (λ i w. first (set x (number i counter_type.kind)) (simplified_all copies (at_turn x i w) body)) turn
+        (λ i w. knowing_all copies declared (at_turn x i w) body)
+        (λ i w. first (set x (number i counter_type.kind)) (simplified_all copies declared (at_turn x i w) body)) turn
         counter_limit
         (λ i w t below known. same_after_all (at_turn x i w) body is.3 (counted x i t)
         (turn_known copies profile declared controls w t x i is.2 below known))
@@ -144,14 +149,15 @@ module _ (copies : List ℕ) (profile : Profile) (declared : List FlatVariable) 
 
     pub same_after_all : (words : Words) (body : StraightBlock) → AreTyped profile declared controls body
         → (s : StraightState) → AllHolds copies profile declared controls words s
-        → after_all s (simplified_all copies words body) ≡ after_all s body
+        → after_all s (simplified_all copies declared words body) ≡ after_all s body
     same_after_all words nothing is s holds = refl
     same_after_all words (first statement rest) is s holds =
-        after-chain s (simplified copies words statement)
-        (simplified_all copies (knowing copies words statement) rest)
-        ∙ (ap (λ (t : StraightState). after_all t (simplified_all copies (knowing copies words statement) rest))
+        after-chain s (simplified copies declared words statement)
+        (simplified_all copies declared (knowing copies declared words statement) rest)
+        ∙ (ap (λ (t : StraightState). after_all t (simplified_all copies declared
+        (knowing copies declared words statement) rest))
         (same_after words statement is.0 s holds)
-        ∙ same_after_all (knowing copies words statement) rest is.1 (after s statement)
+        ∙ same_after_all (knowing copies declared words statement) rest is.1 (after s statement)
         (hold_after copies profile declared controls words statement is.0 s holds))
 
 -- Paths.
@@ -239,7 +245,8 @@ module _ (most : List ℕ) where
     mutual
       pub still_fine : (words : Words) (statement : StraightTree) → IsTyped profile declared controls statement
           → (s : StraightState) → AllHolds copies profile declared controls words s
-          → AreFine most (path_at s statement) → AreFine most (path_along s (simplified copies words statement))
+          → AreFine most (path_at s statement)
+          → AreFine most (path_along s (simplified copies declared words statement))
       still_fine words (set x value) is s holds fine =
           fine_alone most (path_in s.variables (simple words value))
           (fine_suited most all_types words s.variables holds is.suits fine)
@@ -247,7 +254,7 @@ module _ (most : List ℕ) where
       still_fine words (fill x values) is s holds fine =
           fine_alone most (path_in_all s.variables (map (simple words) values))
           (fine_path_all most (types_but profile declared x) words s.variables
-          (holds_but copies profile declared controls words x s.variables holds) is.word values is.suit fine)
+          (holds_but copies profile declared controls words x values is s.variables holds) is.word values is.suit fine)
       still_fine words (put place x size index value) is s holds fine =
           put_fine profile declared words place x size index value is s holds fine
       still_fine words (take control within condition) is s holds fine =
@@ -260,14 +267,14 @@ module _ (most : List ℕ) where
           put_fine profile declared words place x size index value is.1 s holds fine
       still_fine words (branch condition accepted otherwise) is s holds fine =
           let c = simple words condition in
-          let arm = forgotten_all (knowing_all copies words accepted) accepted in
-          let one = simplified_all copies words accepted in
-          let other = simplified_all copies arm otherwise in
+          let arm = forgotten_all (knowing_all copies declared words accepted) accepted in
+          let one = simplified_all copies declared words accepted in
+          let other = simplified_all copies declared arm otherwise in
           let run : Path = decided_mark (value_at s condition)
           ∷ (if value_at s condition == 0 then path_along s otherwise else path_along s accepted) in
           let arms = (fine_back most (path_in s.variables condition) run fine).1 in
           decided_by (λ (code : StraightBlock). AreFine most (path_along s code)) (decision c) one
-          (simplified_all copies words otherwise) (single (branch c one other))
+          (simplified_all copies declared words otherwise) (single (branch c one other))
           (λ says. still_fine_all words accepted is.1 s holds
           (subst (AreFine most) (cond-false (value_at s condition == 0) (path_along s otherwise)
           (path_along s accepted)
@@ -295,7 +302,7 @@ module _ (most : List ℕ) where
           let l = simple words low in
           let h = simple words high in
           let inside = in_loop words x body in
-          let code = simplified_all copies inside body in
+          let code = simplified_all copies declared inside body in
           let turn : ℕ → StraightState → StraightState = λ i t. after_all (counted x i t) body in
           let simpler : ℕ → StraightState → StraightState = λ i t. after_all (counted x i t) code in
           let along : ℕ → StraightState → Path = λ i t. path_along (counted x i t) body in
@@ -308,14 +315,17 @@ module _ (most : List ℕ) where
           let inner = fine_back most bounds run fine in
           unrolled_by (λ (b : StraightBlock). AreFine most (path_along s b))
           (numbers_of (slice_index copies x) (constant_of l) (constant_of h))
-          (λ each. code_of_turns (each.high - each.low) each.low (λ i w. knowing_all copies (at_turn x i w) body)
-          (λ i w. first (set x (number i counter_type.kind)) (simplified_all copies (at_turn x i w) body)) words)
+          (λ each. code_of_turns (each.high - each.low) each.low
+          (λ i w. knowing_all copies declared (at_turn x i w) body)
+          (λ i w. first (set x (number i counter_type.kind)) (simplified_all copies declared (at_turn x i w) body))
+          words)
           (single (repeats x l h code))
           (λ each numbers.
           let both = first_and_end all_types words s holds is.0 is.1 (slice_index copies x) each numbers in
           copies_fine (AllHolds copies profile declared controls)
-          (λ i w. knowing_all copies (at_turn x i w) body)
-          (λ i w. first (set x (number i counter_type.kind)) (simplified_all copies (at_turn x i w) body)) turn along
+          (λ i w. knowing_all copies declared (at_turn x i w) body)
+          (λ i w. first (set x (number i counter_type.kind)) (simplified_all copies declared (at_turn x i w) body))
+          turn along
           counter_limit
           (λ i w t below known. same_after_all copies profile declared controls (at_turn x i w) body is.3
           (counted x i t) (turn_known copies profile declared controls w t x i is.2 below known))
@@ -351,17 +361,17 @@ module _ (most : List ℕ) where
 
       pub still_fine_all : (words : Words) (body : StraightBlock) → AreTyped profile declared controls body
           → (s : StraightState) → AllHolds copies profile declared controls words s
-          → AreFine most (path_along s body) → AreFine most (path_along s (simplified_all copies words body))
+          → AreFine most (path_along s body) → AreFine most (path_along s (simplified_all copies declared words body))
       still_fine_all words nothing is s holds fine = tt
       still_fine_all words (first statement rest) is s holds fine =
-          let code = simplified copies words statement in
-          let more = simplified_all copies (knowing copies words statement) rest in
+          let code = simplified copies declared words statement in
+          let more = simplified_all copies declared (knowing copies declared words statement) rest in
           subst (AreFine most) (sym (path-chain s code more))
           (fine_both most (path_along s code) (path_along (after_all s code) more)
           (still_fine words statement is.0 s holds
           (fine_front most (path_at s statement) (path_along (after s statement) rest) fine))
           (subst (λ (t : StraightState). AreFine most (path_along t more))
           (sym (same_after copies profile declared controls words statement is.0 s holds))
-          (still_fine_all (knowing copies words statement) rest is.1 (after s statement)
+          (still_fine_all (knowing copies declared words statement) rest is.1 (after s statement)
           (hold_after copies profile declared controls words statement is.0 s holds)
           (fine_back most (path_at s statement) (path_along (after s statement) rest) fine))))

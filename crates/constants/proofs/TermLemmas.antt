@@ -1,7 +1,8 @@
 -- A simpler expression has the value that the expression has, its path is fine where that one's is, and it has no more
 -- nodes and no more temporaries.
 use Rattle.std.proofs.Common.{◌≡◌, ℕ, ◌+◌, ◌≤◌, ◌==◌, ◌&&◌, Bool, true, false, not, if◌then◌else◌, List}
-use Rattle.std.proofs.Common.{[], ◌∷◌, ◌++◌, map, slice_index, Option, None, Some, option_map, refl, sym, ap}
+use Rattle.std.proofs.Common.{[], ◌∷◌, ◌⊎◌, inl, inr, ◌++◌, map, slice_index, Option, None, Some, option_map, refl}
+use Rattle.std.proofs.Common.{sym, ap}
 use Rattle.std.proofs.Common.{ap₂, ◌∙◌, subst, arith}
 use Rattle.std.proofs.lemmas.Bool.{cond-false, cond-true, false≢true}
 use Rattle.std.proofs.lemmas.Option.{none-some, same_Some}
@@ -28,12 +29,13 @@ use Rattle.word.specs.declared.place.Place.{Place}
 use Rattle.word.specs.declared.profile.Profile.{Profile}
 use Rattle.word.specs.declared.width.Width.{Width}
 use Rattle.constants.specs.declared.known.Constant.{Constant}
-use Rattle.constants.specs.private.Known.{Words, known}
+use Rattle.constants.specs.declared.known.WordCopy.{WordCopy}
+use Rattle.constants.specs.private.Known.{Words, known, source_in}
 use Rattle.constants.specs.private.Folding.{constant, constant_of, known_or, decision}
 use Rattle.constants.specs.private.Folding.{applied, between, chosen, is_among, is_left_identity, is_right_identity}
 use Rattle.constants.specs.private.Folding.{negation_of, opposite_of, reduced, simple}
 use Rattle.constants.proofs.Identities.{left_leaves, reduced_by, right_leaves}
-use Rattle.constants.proofs.KnownLemmas.{Holds}
+use Rattle.constants.proofs.KnownLemmas.{Holds, IsSource, copy, read_as, valued}
 use Rattle.constants.proofs.Opposites.{denied, denied_twice, opposite, opposite_by}
 use Rattle.constants.proofs.TermTypes.{simple_suits}
 
@@ -94,7 +96,7 @@ module _ (words : Words) where
   pub fewer_nodes : (e : TermTree) → term_nodes (simple words e) ≤ term_nodes e
   fewer_nodes (number value kind) = omega arith
   fewer_nodes (truth value) = omega arith
-  fewer_nodes (variable x) = known_nodes (known words x) (variable x)
+  fewer_nodes (variable x) = known_nodes (known words x) (variable (source_in words.copies x))
   fewer_nodes (prefix operator width operand) =
       let whole =
       known_nodes (option_map (λ c. constant (prefix_value operator width c.value) c.kind)
@@ -172,7 +174,7 @@ module _ (words : Words) where
   pub lower : (e : TermTree) → height_of (simple words e) ≤ height_of e
   lower (number value kind) = omega arith
   lower (truth value) = omega arith
-  lower (variable x) = known_height (known words x) (variable x)
+  lower (variable x) = known_height (known words x) (variable (source_in words.copies x))
   lower (prefix operator width operand) =
       let whole =
       known_height (option_map (λ c. constant (prefix_value operator width c.value) c.kind)
@@ -324,10 +326,18 @@ module _ (types : Types) (m : Values) (fits : Fits types m) where
   applied_value Negate width has = refl
 
 module _ (types : Types) (words : Words) (m : Values) (holds : Holds types words m) where
+  -- a copy has its source's value
+  source_value : (x : ℕ) → (source_in words.copies x ≡ x) ⊎ ((c : WordCopy) × IsSource words.copies x c)
+      → slice_index (m (source_in words.copies x)) 0 ≡ slice_index (m x) 0
+  source_value x (inl same) = ap (λ y. slice_index (m y) 0) same
+  source_value x (inr found) =
+      ap (λ y. slice_index (m y) 0) (sym found.1.source)
+      ∙ (sym (holds.agrees (copy found.0) found.1.there) ∙ ap (λ y. slice_index (m y) 0) found.1.variable)
+
   variable_value : (x : ℕ) (o : Option Constant) → known words x ≡ o
-      → value_in m (known_or o (variable x)) ≡ slice_index (m x) 0
-  variable_value x None is = refl
-  variable_value x (Some c) is = sym (holds.agrees x c is)
+      → value_in m (known_or o (variable (source_in words.copies x))) ≡ slice_index (m x) 0
+  variable_value x None is = source_value x (read_as words.copies x)
+  variable_value x (Some c) is = sym (holds.agrees (valued x c) is)
 
   pub same_value : {e : TermTree} {word : WordType} → HasType types e word
       → value_in m (simple words e) ≡ value_in m e
@@ -424,7 +434,8 @@ module _ (most : List ℕ) (types : Types) (words : Words) (m : Values) (holds :
       → AreFine most (path_in m (simple words e))
   fine_path (of_number below) fine = tt
   fine_path of_truth fine = tt
-  fine_path (of_variable {x = x} there) fine = known_fine most m (known words x) (variable x) tt
+  fine_path (of_variable {x = x} there) fine =
+      known_fine most m (known words x) (variable (source_in words.copies x)) tt
   fine_path (of_prefix {operator = operator} {width = width} {operand = operand} has takes even) fine =
       let e = simple words operand in
       known_fine most m (option_map (λ c. constant (prefix_value operator width c.value) c.kind) (constant_of e))

@@ -1,6 +1,6 @@
 -- A simpler expression suits where the expression suits: it is of the same kind, and public where that one is.
 use Rattle.std.proofs.Common.{◌≡◌, ℕ, ◌<◌, ◌==◌, ◌&&◌, Bool, true, false, if◌then◌else◌, List, [], ◌∷◌, map, Option}
-use Rattle.std.proofs.Common.{None, Some, option_map, refl, sym, ap, ◌∙◌, subst}
+use Rattle.std.proofs.Common.{None, ◌⊎◌, inl, inr, Some, option_map, refl, sym, ap, ◌∙◌, subst}
 use Rattle.std.proofs.lemmas.Bool.{false≢true}
 use Rattle.std.proofs.lemmas.Option.{none-some, same_Some}
 use Rattle.inline.proofs.Fitting.{value_fits}
@@ -32,12 +32,13 @@ use Rattle.word.specs.declared.profile.Profile.{Profile}
 use Rattle.word.specs.declared.profile.Profile.TheVariants.{P2}
 use Rattle.word.specs.declared.width.Width.{Width}
 use Rattle.constants.specs.declared.known.Constant.{Constant}
-use Rattle.constants.specs.private.Known.{Words, known}
+use Rattle.constants.specs.declared.known.WordCopy.{WordCopy}
+use Rattle.constants.specs.private.Known.{Words, known, source_in}
 use Rattle.constants.specs.private.Folding.{constant, constant_of, number_of, known_or, decision}
 use Rattle.constants.specs.private.Folding.{applied, between, chosen, is_among, is_left_identity, is_right_identity}
 use Rattle.constants.specs.private.Folding.{negation_of, opposite_of, reduced, simple}
 use Rattle.constants.proofs.Identities.{left_identity_kind, reduced_by, right_identity_kind}
-use Rattle.constants.proofs.KnownLemmas.{AreOfKind}
+use Rattle.constants.proofs.KnownLemmas.{AreOfKind, IsSource, copy, read_as, valued}
 use Rattle.constants.proofs.Opposites.{opposite, opposite_by}
 
 -- Labels.
@@ -390,12 +391,33 @@ module _ (types : Types) where
     choice_suits (Some false) = second_suits
 
   module _ (words : Words) (of_kind : AreOfKind types words) where
+    -- a copy is read as a word of the same type
+    source_suits : (x : ℕ) (word : WordType) (mutable : Bool) → types.at x ≡ Some (word_as word mutable)
+        → (source_in words.copies x ≡ x) ⊎ ((c : WordCopy) × IsSource words.copies x c)
+        → Suits types word (variable (source_in words.copies x))
+    source_suits x word mutable there (inl same) = record {
+      word = word;
+      has_type = subst (λ y. HasType types (variable y) word) (sym same) (of_variable there);
+      kind = refl;
+      label = λ public. public;
+    }
+    source_suits x word mutable there (inr found) =
+        let c = found.0 in
+        let declared : types.at c.variable ≡ Some (word_as word mutable) = ap types.at found.1.variable ∙ there in
+        let source = of_kind (copy c) found.1.there word mutable declared in
+        record {
+          word = word;
+          has_type = subst (λ y. HasType types (variable y) word) found.1.source (of_variable source.1);
+          kind = refl;
+          label = λ public. public;
+        }
+
     variable_suits : (x : ℕ) (word : WordType) (mutable : Bool) → types.at x ≡ Some (word_as word mutable)
         → (o : Option Constant) → known words x ≡ o
-        → Suits types word (known_or o (variable x))
-    variable_suits x word mutable there None is =
-        record { word = word; has_type = of_variable there; kind = refl; label = λ public. public }
-    variable_suits x word mutable there (Some c) is = number_suits c word (of_kind x c word mutable is there)
+        → Suits types word (known_or o (variable (source_in words.copies x)))
+    variable_suits x word mutable there None is = source_suits x word mutable there (read_as words.copies x)
+    variable_suits x word mutable there (Some c) is =
+        number_suits c word (of_kind (valued x c) is word mutable there)
 
     pub simple_suits : {e : TermTree} {word : WordType} → HasType types e word → Suits types word (simple words e)
     simple_suits (of_number {kind = kind} below) =

@@ -49,7 +49,7 @@ fine_result most types words m holds (Some word) (Some value) is fine =
 
 module _ (copies : List ℕ) (p : StraightProgram) where
   first_kinds : AreKinds copies p.profile p.declared p.controls (nothing_known p)
-  first_kinds x c word mutable is there = absurd (nothing_first (length p.declared) x c is)
+  first_kinds f is = absurd (nothing_first (length p.declared) f is)
 
   module _ (typed : IsTypedStraight p) (args : List Arg) (within : AreWithin p.parameters args) where
     abbrev types : Types
@@ -57,7 +57,7 @@ module _ (copies : List ℕ) (p : StraightProgram) where
 
     first_holds : Holds types (nothing_known p) (start p args).variables
     first_holds = record {
-      agrees = λ x c is. absurd (nothing_first (length p.declared) x c is);
+      agrees = λ f is. absurd (nothing_first (length p.declared) f is);
       kinds = first_kinds;
       fits = start_fits p.profile p.parameters p.declared args typed.parameters within;
     }
@@ -67,7 +67,7 @@ module _ (copies : List ℕ) (p : StraightProgram) where
         (same_after_all copies p.profile p.declared p.controls (nothing_known p) p.body typed.body (start p args)
         first_holds)
 
-    last_holds : Holds types (knowing_all copies (nothing_known p) p.body) (end_of p args)
+    last_holds : Holds types (knowing_all copies p.declared (nothing_known p) p.body) (end_of p args)
     last_holds =
         hold_after_all copies p.profile p.declared p.controls (nothing_known p) p.body typed.body (start p args)
         first_holds
@@ -76,7 +76,8 @@ module _ (copies : List ℕ) (p : StraightProgram) where
     same_outcome =
         ap (results_of p.parameters (simplified_program copies p).value) same_end
         ∙ ap (λ (v : Option ℕ). record { returned = v; arrays = (outcome_of p args).arrays })
-        (same_result types (knowing_all copies (nothing_known p) p.body) (end_of p args) last_holds p.returned p.value
+        (same_result types (knowing_all copies p.declared (nothing_known p) p.body) (end_of p args) last_holds
+        p.returned p.value
         typed.result)
 
     still_fine_path : AreFine p.turns (path_of p args) → AreFine p.turns (path_of (simplified_program copies p) args)
@@ -89,7 +90,8 @@ module _ (copies : List ℕ) (p : StraightProgram) where
         (still_fine_all p.turns copies p.profile p.declared p.controls (nothing_known p) p.body typed.body s
         first_holds (fine_front p.turns front back fine))
         (subst (λ (m : Values). AreFine p.turns (path_of_result m (simplified_program copies p).value)) (sym same_end)
-        (fine_result p.turns types (knowing_all copies (nothing_known p) p.body) (end_of p args) last_holds p.returned
+        (fine_result p.turns types (knowing_all copies p.declared (nothing_known p) p.body) (end_of p args) last_holds
+        p.returned
         p.value typed.result (fine_back p.turns front back fine)))
 
   module _ (kept : IsStraight p) (allowed : AreAllowed copies p.turns) where
@@ -100,7 +102,7 @@ module _ (copies : List ℕ) (p : StraightProgram) where
         body = still_all_typed copies p.profile p.declared p.controls (nothing_known p) p.body first_kinds
             kept.typed.body;
         hidden = still_hidden_all copies p.declared (nothing_known p) p.body kept.typed.hidden;
-        result = still_result (types_of p.profile p.declared) (knowing_all copies (nothing_known p) p.body)
+        result = still_result (types_of p.profile p.declared) (knowing_all copies p.declared (nothing_known p) p.body)
             (kinds_after_all copies p.profile p.declared p.controls (nothing_known p) p.body first_kinds
             kept.typed.body)
             p.returned p.value kept.typed.result;
@@ -112,16 +114,16 @@ module _ (copies : List ℕ) (p : StraightProgram) where
         nodes = kept.bounded.nodes;
         worked = omega (
           arith,
-          less_all copies p.turns allowed (nothing_known p) p.body,
-          fewer_in_value (knowing_all copies (nothing_known p) p.body) p.value,
+          less_all copies p.declared p.turns allowed (nothing_known p) p.body,
+          fewer_in_value (knowing_all copies p.declared (nothing_known p) p.body) p.value,
           kept.bounded.worked,
         );
         work_fits = kept.bounded.work_fits;
         framed = omega (
           arith,
-          (stays_low_all copies (nothing_known p) p.body).height,
-          (stays_low_all copies (nothing_known p) p.body).depth,
-          lower_result (knowing_all copies (nothing_known p) p.body) p.value,
+          (stays_low_all copies p.declared (nothing_known p) p.body).height,
+          (stays_low_all copies p.declared (nothing_known p) p.body).depth,
+          lower_result (knowing_all copies p.declared (nothing_known p) p.body) p.value,
           kept.bounded.framed,
         );
       };
@@ -143,14 +145,19 @@ module _ (copies : List ℕ) (p : StraightProgram) where
 -- a program of these parts is the simpler one
 pub as_simplified : (copies : List ℕ) (p : StraightProgram) (declared : List FlatVariable) (words last : Words)
     (body code : StraightBlock) (front : List StraightStatement) (given value : Option TermTree)
-    → declared ≡ p.declared → words ≡ replicate (length declared) None → body ≡ p.body → front ≡ []
-    → code ≡ chain (straight_block front) (simplified_all copies words body) → last ≡ knowing_all copies words body
+    → declared ≡ p.declared → words ≡ record { numbers = replicate (length declared) None; copies = [] }
+    → body ≡ p.body → front ≡ []
+    → code ≡ chain (straight_block front) (simplified_all copies declared words body)
+    → last ≡ knowing_all copies declared words body
     → given ≡ p.value → value ≡ option_map (simple last) given → with_body p code value ≡ simplified_program copies p
 as_simplified copies p declared words last body code front given value same nothing whole none made known result
     simpler =
     let at_first : words ≡ nothing_known p = nothing
-    ∙ ap (λ (ds : List FlatVariable). replicate (length ds) None) same in
+    ∙ ap (λ (ds : List FlatVariable). record { numbers = replicate (length ds) None; copies = [] }) same in
     ap₂ (with_body p) (made ∙ ap (λ (xs : List StraightStatement). chain (straight_block xs)
-    (simplified_all copies words body)) none ∙ ap₂ (simplified_all copies) at_first whole)
+    (simplified_all copies declared words body)) none
+    ∙ (ap (λ (ds : List FlatVariable). simplified_all copies ds words body) same
+    ∙ ap₂ (simplified_all copies p.declared) at_first whole))
     (simpler ∙ ap₂ (λ (w : Words) (v : Option TermTree). option_map (simple w) v) (known
-    ∙ ap₂ (knowing_all copies) at_first whole) result)
+    ∙ (ap (λ (ds : List FlatVariable). knowing_all copies ds words body) same
+    ∙ ap₂ (knowing_all copies p.declared) at_first whole)) result)

@@ -125,7 +125,9 @@ impl Choice {
             StraightStatement::Clear(_, _) => self.grow(1),
             StraightStatement::Fill(_, values) => self.grow(nodes_in_all(values).saturating_add(1)),
             StraightStatement::Put(_, _, _, _, value)
-            | StraightStatement::PutUnder(_, _, _, _, _, value) => self.grow(nodes_in(value).saturating_add(1)),
+            | StraightStatement::PutUnder(_, _, _, _, _, value) => {
+                self.grow(nodes_in(value).saturating_add(1))
+            }
             StraightStatement::Branch(condition, accepted, otherwise) => {
                 self.grow(nodes_in(condition).saturating_add(1));
                 self.choose_all(accepted);

@@ -23,17 +23,22 @@ fn simpler<'f>(
     ensures replaced { IfOk result (IsReplaced straight.now) }
     ensures exact { IfOk result (λ simpler. simpler ≡ simplified_program copies.now straight.now) }
 {
-    let pass = Pass { alloc, copies };
-    let mut known = Known::nothing(alloc, straight.declared().len())?;
+    let declared = straight.declared();
+    let pass = Pass {
+        alloc,
+        copies,
+        declared,
+    };
+    let mut known = Known::nothing(alloc, declared.len())?;
     let mut code = Vec::new(alloc);
     statements(&pass, &mut known, &mut code, straight.body())?;
     let value = simple_where_any(alloc, &known, straight.value())?;
     Ok(straight.with_body(code, value))
 }
 
-/// Simpler straight code: a word that is known is a number, an operator between numbers is what it comes to, a branch
-/// that a number decides is its one arm, and a loop without turns is gone. It may stand in the place of the code that it
-/// is made of, which alone decides it. Running out of memory alone refuses it.
+/// Simpler straight code: a word that is known is a number, a copy is read as its source, an operator between numbers
+/// is what it comes to, a branch that a number decides is its one arm, and a loop without turns is gone. It may stand
+/// in the place of the code that it is made of, which alone decides it. Running out of memory alone refuses it.
 pub fn simplify<'f>(alloc: Global, straight: &Straight<'f>) -> Result<Straight<'f>, Refusal>
     ensures replaced { IfOk result (IsReplaced straight.now) }
     ensures exact { IfOk result (λ simpler. simpler ≡ simplified_of straight.now) }
@@ -42,10 +47,10 @@ pub fn simplify<'f>(alloc: Global, straight: &Straight<'f>) -> Result<Straight<'
     Ok(simpler(alloc, straight, &[])?)
 }
 
-/// Simpler straight code, as `simplify` makes it, in which loops are their turns, one after the other: those whose bounds
-/// are numbers once they are reached, innermost loops first, where a turn is short, and as far as 32 times as many nodes
-/// as the source has go. It may stand in the place of the code that it is made of, which alone decides it. Running out of
-/// memory alone refuses it.
+/// Simpler straight code, as `simplify` makes it, in which loops are their turns, one after the other: those whose
+/// bounds are numbers once they are reached, innermost loops first, where a turn is short, and as far as 32 times as
+/// many nodes as the source has go. It may stand in the place of the code that it is made of, which alone decides it.
+/// Running out of memory alone refuses it.
 pub fn unroll<'f>(alloc: Global, straight: &Straight<'f>) -> Result<Straight<'f>, Refusal>
     ensures replaced { IfOk result (IsReplaced straight.now) }
     ensures exact { IfOk result (λ simpler. simpler ≡ unrolled_of straight.now) }

@@ -3,14 +3,15 @@
 ghost use Rattle.std.specs.Prelude.{◌≡◌, IfOk, OnOk};
 ghost use Rattle.branch_removal.specs.Straight.{chain, straight_block, straight_tree};
 ghost use Rattle.inline.specs.Flat.{term_tree};
-ghost use Rattle.constants.specs.private.Known.{forgotten_all};
+ghost use Rattle.constants.specs.private.Known.{forgotten_all, words_of};
 ghost use Rattle.constants.specs.private.Simplification.{branch_code, branch_known, knowing, knowing_all, loop_code, loop_known, simplified, simplified_all, single, turns_code, turns_known};
 
 use crate::choice::copies_of;
+use crate::copies::learn;
 use crate::known::{Constant, Known};
-use crate::terms::{Numbers, all_simple, constant_of, decision, number_of, numbers_of, simple};
+use crate::terms::{Numbers, all_simple, decision, number_of, numbers_of, simple};
 use branch_removal::{StraightStatement, branch_of, loop_of};
-use inline::Term;
+use inline::{FlatVariable, Term};
 use language::Kind;
 use std::alloc::{AllocError, Global};
 
@@ -20,6 +21,7 @@ pub struct Pass<'p> {
     pub alloc: Global,
     /// How many turns the loop of each counter may become, at the counter's number.
     pub copies: &'p [u32],
+    pub declared: &'p [FlatVariable],
 }
 
 /// The counter of a loop and its bounds.
@@ -46,13 +48,13 @@ fn statement(
     code: &mut Vec<StraightStatement>,
     statement: &StraightStatement,
 ) -> Result<(), AllocError>
-    ensures code { OnOk result (straight_block code.new.items ≡ chain (straight_block code.old.items) (simplified pass.now.copies.now known.old.words.items (straight_tree statement.now))) }
-    ensures known { OnOk result (known.new.words.items ≡ knowing pass.now.copies.now known.old.words.items (straight_tree statement.now)) }
+    ensures code { OnOk result (straight_block code.new.items ≡ chain (straight_block code.old.items) (simplified pass.now.copies.now pass.now.declared.now (words_of known.old) (straight_tree statement.now))) }
+    ensures known { OnOk result (words_of known.new ≡ knowing pass.now.copies.now pass.now.declared.now (words_of known.old) (straight_tree statement.now)) }
 {
     match statement {
         StraightStatement::Set(variable, value) => {
             let value = simple(pass.alloc, known, value)?;
-            known.note(*variable, constant_of(&value));
+            learn(pass.declared, known, *variable, &value)?;
             push(code, StraightStatement::Set(*variable, value))?;
         }
         StraightStatement::Clear(array, size) => {
@@ -120,8 +122,8 @@ fn branch(
     accepted: &[StraightStatement],
     otherwise: &[StraightStatement],
 ) -> Result<(), AllocError>
-    ensures code { OnOk result (straight_block code.new.items ≡ chain (straight_block code.old.items) (branch_code pass.now.copies.now known.old.words.items (term_tree condition) (straight_block accepted.now) (straight_block otherwise.now))) }
-    ensures known { OnOk result (known.new.words.items ≡ branch_known pass.now.copies.now known.old.words.items (term_tree condition) (straight_block accepted.now) (straight_block otherwise.now)) }
+    ensures code { OnOk result (straight_block code.new.items ≡ chain (straight_block code.old.items) (branch_code pass.now.copies.now pass.now.declared.now (words_of known.old) (term_tree condition) (straight_block accepted.now) (straight_block otherwise.now))) }
+    ensures known { OnOk result (words_of known.new ≡ branch_known pass.now.copies.now pass.now.declared.now (words_of known.old) (term_tree condition) (straight_block accepted.now) (straight_block otherwise.now)) }
 {
     match decision(&condition) {
         Some(true) => statements(pass, known, code, accepted),
@@ -143,8 +145,8 @@ fn repeat(
     bounds: Bounds,
     body: &[StraightStatement],
 ) -> Result<(), AllocError>
-    ensures code { OnOk result (straight_block code.new.items ≡ chain (straight_block code.old.items) (loop_code pass.now.copies.now known.old.words.items bounds.counter (term_tree bounds.low) (term_tree bounds.high) (straight_block body.now))) }
-    ensures known { OnOk result (known.new.words.items ≡ loop_known pass.now.copies.now known.old.words.items bounds.counter (term_tree bounds.low) (term_tree bounds.high) (straight_block body.now)) }
+    ensures code { OnOk result (straight_block code.new.items ≡ chain (straight_block code.old.items) (loop_code pass.now.copies.now pass.now.declared.now (words_of known.old) bounds.counter (term_tree bounds.low) (term_tree bounds.high) (straight_block body.now))) }
+    ensures known { OnOk result (words_of known.new ≡ loop_known pass.now.copies.now pass.now.declared.now (words_of known.old) bounds.counter (term_tree bounds.low) (term_tree bounds.high) (straight_block body.now)) }
 {
     let most = copies_of(pass.copies, bounds.counter);
     match numbers_of(most, &bounds.low, &bounds.high) {
@@ -167,8 +169,8 @@ fn turns(
     numbers: Numbers,
     body: &[StraightStatement],
 ) -> Result<(), AllocError>
-    ensures code { OnOk result (straight_block code.new.items ≡ chain (straight_block code.old.items) (turns_code pass.now.copies.now known.old.words.items counter numbers (straight_block body.now))) }
-    ensures known { OnOk result (known.new.words.items ≡ turns_known pass.now.copies.now known.old.words.items counter numbers (straight_block body.now)) }
+    ensures code { OnOk result (straight_block code.new.items ≡ chain (straight_block code.old.items) (turns_code pass.now.copies.now pass.now.declared.now (words_of known.old) counter numbers (straight_block body.now))) }
+    ensures known { OnOk result (words_of known.new ≡ turns_known pass.now.copies.now pass.now.declared.now (words_of known.old) counter numbers (straight_block body.now)) }
 {
     for value in numbers.low..numbers.high {
         let number = Constant {
@@ -189,8 +191,8 @@ fn part(
     known: &mut Known,
     body: &[StraightStatement],
 ) -> Result<Vec<StraightStatement>, AllocError>
-    ensures code { IfOk result (λ code. straight_block code.items ≡ simplified_all pass.now.copies.now known.old.words.items (straight_block body.now)) }
-    ensures known { OnOk result (known.new.words.items ≡ forgotten_all (knowing_all pass.now.copies.now known.old.words.items (straight_block body.now)) (straight_block body.now)) }
+    ensures code { IfOk result (λ code. straight_block code.items ≡ simplified_all pass.now.copies.now pass.now.declared.now (words_of known.old) (straight_block body.now)) }
+    ensures known { OnOk result (words_of known.new ≡ forgotten_all (knowing_all pass.now.copies.now pass.now.declared.now (words_of known.old) (straight_block body.now)) (straight_block body.now)) }
 {
     let mut code = Vec::new(pass.alloc);
     statements(pass, known, &mut code, body)?;
@@ -206,8 +208,8 @@ pub fn statements(
     code: &mut Vec<StraightStatement>,
     body: &[StraightStatement],
 ) -> Result<(), AllocError>
-    ensures code { OnOk result (straight_block code.new.items ≡ chain (straight_block code.old.items) (simplified_all pass.now.copies.now known.old.words.items (straight_block body.now))) }
-    ensures known { OnOk result (known.new.words.items ≡ knowing_all pass.now.copies.now known.old.words.items (straight_block body.now)) }
+    ensures code { OnOk result (straight_block code.new.items ≡ chain (straight_block code.old.items) (simplified_all pass.now.copies.now pass.now.declared.now (words_of known.old) (straight_block body.now))) }
+    ensures known { OnOk result (words_of known.new ≡ knowing_all pass.now.copies.now pass.now.declared.now (words_of known.old) (straight_block body.now)) }
 {
     for each in body {
         statement(pass, known, code, each)?;

@@ -5,6 +5,7 @@ ghost use Rattle.std.specs.Option.{option_map};
 ghost use Rattle.inline.specs.Flat.{prefix, term_tree};
 ghost use Rattle.language.specs.declared.tree.PrefixOperator.TheVariants.{Not};
 ghost use Rattle.constants.specs.private.Folding as folding;
+ghost use Rattle.constants.specs.private.Known.{words_of};
 ghost use Rattle.constants.specs.private.Folding.{chosen, constant_of, decision, number_of, numbers_of, simple};
 
 use crate::known::{Constant, Known};
@@ -241,14 +242,14 @@ fn select(
 
 /// An expression, where this is known of the variables.
 pub fn simple(alloc: Global, known: &Known, term: &Term) -> Result<Term, AllocError>
-    ensures { IfOk result (λ simpler. term_tree simpler ≡ simple known.now.words.items (term_tree term.now)) }
+    ensures { IfOk result (λ simpler. term_tree simpler ≡ simple (words_of known.now) (term_tree term.now)) }
 {
     match term {
         Term::Number(value, kind) => Ok(Term::Number(*value, *kind)),
         Term::Truth(value) => Ok(Term::Truth(*value)),
         Term::Variable(number) => match known.of(*number) {
             Some(word) => Ok(number_of(word)),
-            None => Ok(Term::Variable(*number)),
+            None => Ok(Term::Variable(known.source_of(*number))),
         },
         Term::Prefix(operator, width, operand) => {
             let operand = simple(alloc, known, operand)?;
@@ -282,7 +283,7 @@ pub fn simple(alloc: Global, known: &Known, term: &Term) -> Result<Term, AllocEr
 
 /// Expressions, in their order.
 pub fn all_simple(alloc: Global, known: &Known, terms: &[Term]) -> Result<Vec<Term>, AllocError>
-    ensures { IfOk result (λ simpler. map term_tree simpler.items ≡ map (simple known.now.words.items) (map term_tree terms.now)) }
+    ensures { IfOk result (λ simpler. map term_tree simpler.items ≡ map (simple (words_of known.now)) (map term_tree terms.now)) }
 {
     let mut simpler = Vec::new(alloc);
     for term in terms {
@@ -297,7 +298,7 @@ pub fn simple_where_any(
     known: &Known,
     term: Option<&Term>,
 ) -> Result<Option<Term>, AllocError>
-    ensures { IfOk result (λ simpler. option_map term_tree simpler ≡ option_map (simple known.now.words.items) (option_map (λ term. term_tree term.now) term.entry)) }
+    ensures { IfOk result (λ simpler. option_map term_tree simpler ≡ option_map (simple (words_of known.now)) (option_map (λ term. term_tree term.now) term.entry)) }
 {
     match term {
         Some(term) => Ok(Some(simple(alloc, known, term)?)),

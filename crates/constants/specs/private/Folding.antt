@@ -1,6 +1,6 @@
 -- Expressions in which what is known is a number: an operator between numbers is what it comes to, one that leaves its
 -- operand as it is is that operand, and a comparison that `!` stands before is the opposite one. A division by 0 stays,
--- since it comes to nothing.
+-- since it comes to nothing. A word that is another one's copy is read as that one.
 use Rattle.std.specs.Prelude.{ℕ, ◌-◌, ◌==◌, ◌&&◌, Bool, true, false, nat_le, Option, None, Some, if◌then◌else◌}
 use Rattle.std.specs.Option.{option_map}
 use Rattle.inline.specs.Flat.{TermTree, number, truth, variable, prefix, binary, rotate, convert, select, element}
@@ -20,7 +20,7 @@ use Rattle.word.specs.declared.place.Place.{Place}
 use Rattle.word.specs.declared.width.Width.{Width}
 use Rattle.constants.specs.declared.known.Constant.{Constant}
 use Rattle.constants.specs.declared.terms.Numbers.{Numbers}
-use Rattle.constants.specs.private.Known.{Words, known}
+use Rattle.constants.specs.private.Known.{Words, known, source_in}
 
 -- a number of this value and kind
 abbrev pub constant : ℕ → Kind → Constant
@@ -158,7 +158,7 @@ chosen (Some false) condition accepted otherwise = otherwise
 abbrev pub simple : Words → TermTree → TermTree
 simple words (number value kind) = number value kind
 simple words (truth value) = truth value
-simple words (variable x) = known_or (known words x) (variable x)
+simple words (variable x) = known_or (known words x) (variable (source_in words.copies x))
 simple words (prefix operator width operand) = prefixed operator width (simple words operand)
 simple words (binary place operator width left right) =
     operated_on place operator width (simple words left) (simple words right)

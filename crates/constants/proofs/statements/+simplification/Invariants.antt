@@ -1,6 +1,7 @@
 use Rattle.std.proofs.Common.{◌≡◌, ◌+◌, ◌*◌, drop}
 use Rattle.branch_removal.specs.Bounds.{block_nodes, statement_nodes}
 use Rattle.branch_removal.specs.Straight.{chain, straight_block, straight_tree}
+use Rattle.constants.specs.private.Known.{words_of}
 use Rattle.constants.specs.private.Simplification.{knowing_all, simplified_all, turns_code, turns_known}
 use Rattle.constants.proofs.StatementCode.{turns_left, known_left}
 use Rattle.constants.proofs.statements.+simplification.Given as goal
@@ -12,10 +13,12 @@ invariant-statements-loop-each l =
     let rest = straight_block (drop l.each-index l.body) in
     let all = straight_block l.fn.body in
     record {
-      code : chain (straight_block l.code.items) (simplified_all l.pass.copies.now l.known.words.items rest)
-          ≡ chain (straight_block l.fn.code.items) (simplified_all l.pass.copies.now l.fn.known.words.items all);
-      known : knowing_all l.pass.copies.now l.known.words.items rest
-          ≡ knowing_all l.pass.copies.now l.fn.known.words.items all;
+      code : chain (straight_block l.code.items) (simplified_all l.pass.copies.now l.pass.declared.now
+          (words_of l.known) rest)
+          ≡ chain (straight_block l.fn.code.items)
+          (simplified_all l.pass.copies.now l.pass.declared.now (words_of l.fn.known) all);
+      known : knowing_all l.pass.copies.now l.pass.declared.now (words_of l.known) rest
+          ≡ knowing_all l.pass.copies.now l.pass.declared.now (words_of l.fn.known) all;
     }
 
 -- the code so far and that of the turns that are left are the code of all turns
@@ -23,12 +26,13 @@ abbrev pub invariant-turns-loop-value : goal.invariant-turns-loop-value
 invariant-turns-loop-value l =
     let body = straight_block l.fn.body in
     record {
-      code : turns_left l.pass.copies.now l.counter body l.value-end l.value (straight_block l.code.items)
-          l.known.words.items
+      code : turns_left l.pass.copies.now l.pass.declared.now l.counter body l.value-end l.value
+          (straight_block l.code.items)
+          (words_of l.known)
           ≡ chain (straight_block l.fn.code.items)
-          (turns_code l.pass.copies.now l.fn.known.words.items l.counter l.fn.numbers body);
-      known : known_left l.pass.copies.now l.counter body l.value-end l.value l.known.words.items
-          ≡ turns_known l.pass.copies.now l.fn.known.words.items l.counter l.fn.numbers body;
+          (turns_code l.pass.copies.now l.pass.declared.now (words_of l.fn.known) l.counter l.fn.numbers body);
+      known : known_left l.pass.copies.now l.pass.declared.now l.counter body l.value-end l.value (words_of l.known)
+          ≡ turns_known l.pass.copies.now l.pass.declared.now (words_of l.fn.known) l.counter l.fn.numbers body;
     }
 
 -- Each call is for a part of what it is called in.

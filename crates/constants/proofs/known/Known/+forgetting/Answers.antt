@@ -1,7 +1,7 @@
 use Rattle.std.proofs.Common.{◌+◌, ◌*◌, ◌<◌, rules, refl, ap, sym, ◌∙◌, arith}
 use Rattle.branch_removal.specs.Bounds.{block_nodes, statement_nodes}
 use Rattle.branch_removal.specs.Straight.{straight_block, straight_tree}
-use Rattle.constants.specs.private.Known.{forgotten, forgotten_all}
+use Rattle.constants.specs.private.Known.{forgotten, forgotten_all, words_of}
 use Rattle.branch_removal.proofs.StatementTrees.{tree_of_branch, tree_of_loop, accepted_smaller, otherwise_smaller}
 use Rattle.branch_removal.proofs.StatementTrees.{body_smaller, item_here, smaller_here}
 use Rattle.constants.proofs.known.Known.+forgetting.Goals as goal
@@ -39,7 +39,7 @@ pub forget-returns-in-Branch : goal.forget-returns-in-Branch
 forget-returns-in-Branch t c =
     c.forget_all-in-Branch.ensures
     ∙ (ap (λ w. forgotten_all w (straight_block c.deref-in-Branch.result.now)) c.forget_all.ensures
-    ∙ sym (ap (forgotten c.args.self.now.words.items)
+    ∙ sym (ap (forgotten (words_of c.args.self.now))
     (tree_of_branch c.in-Branch.accepted c.in-Branch.otherwise c.in-Branch.is c.deref.ensures.value
     c.deref-in-Branch.ensures.value)))
 
@@ -47,7 +47,7 @@ pub forget-returns-in-Repeat : goal.forget-returns-in-Repeat
 forget-returns-in-Repeat t c =
     c.forget_all-in-Repeat.ensures
     ∙ (ap (λ w. forgotten_all w (straight_block c.deref-in-Repeat.result.now)) c.note.ensures
-    ∙ sym (ap (forgotten c.args.self.now.words.items)
+    ∙ sym (ap (forgotten (words_of c.args.self.now))
     (tree_of_loop c.in-Repeat.body c.in-Repeat.is c.deref-in-Repeat.ensures.value)))
 
 pub forget_all-forget-requires : goal.forget_all-forget-requires

@@ -1,14 +1,14 @@
 use Rattle.std.proofs.Common.{◌≡◌, ◌+◌, ◌*◌, drop}
 use Rattle.branch_removal.specs.Bounds.{block_nodes, statement_nodes}
 use Rattle.branch_removal.specs.Straight.{straight_block, straight_tree}
-use Rattle.constants.specs.private.Known.{forgotten_all}
+use Rattle.constants.specs.private.Known.{forgotten_all, words_of}
 use Rattle.constants.proofs.known.Known.+forgetting.Given as goal
 
 -- what is left to forget leaves what forgetting all does
 abbrev pub invariant-forget_all-loop-statement : goal.invariant-forget_all-loop-statement
 invariant-forget_all-loop-statement l =
-    forgotten_all l.self.words.items (straight_block (drop l.statement-index l.body))
-    ≡ forgotten_all l.fn.self.words.items (straight_block l.fn.body)
+    forgotten_all (words_of l.self) (straight_block (drop l.statement-index l.body))
+    ≡ forgotten_all (words_of l.fn.self) (straight_block l.fn.body)
 
 -- Each call is for a part of what it is called in.
 

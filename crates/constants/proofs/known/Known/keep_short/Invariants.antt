@@ -8,4 +8,5 @@ abbrev pub invariant-loop-number : goal.invariant-loop-number
 invariant-loop-number l = record {
   left : shorts_from l.number l.self.words.items ≡ map short l.fn.self.words.items;
   lengths : length l.self.words.items ≡ length l.fn.self.words.items;
+  copies : l.self.copies ≡ l.fn.self.copies;
 }
