@@ -47,7 +47,7 @@ pub fn certificates_hold()
 {}
 
 /// Two calls of `certify` with one image, the same given values and the same setting of shifts answer the same, where
-/// neither wants memory.
+/// neither runs out of memory.
 pub fn certifications_agree()
     ensures { (image : Fields) (given : List (Option Arg)) (shifts : Shifts) (a b : Result CertifiedEnd RunFault)
         → Certified image given shifts a → Certified image given shifts b → a ≢ Err RunFault.Memory → b ≢ Err RunFault.Memory → a ≡ b }

@@ -99,7 +99,7 @@ fn set_under(
     }
 }
 
-/// A statement that so many loops are around. A jump that does not reach refuses it, or want of memory.
+/// A statement that so many loops are around. A jump that does not reach refuses it, or running out of memory.
 #[cycle(statements)]
 fn statement(
     alloc: Global,

@@ -112,7 +112,7 @@ pub fn accepted_texts_are_evaluated()
     faultless_arguments();
 }
 
-/// Two calls of `execute` with one image, one list of arguments and one list of what was recorded before. Where neither wants
+/// Two calls of `execute` with one image, one list of arguments and one list of what was recorded before. Where neither lacks
 /// memory they answer the same and leave one list. Where one of them does, or its recorder, what it leaves is a beginning of
 /// what the other leaves.
 pub fn executions_agree()
@@ -124,7 +124,7 @@ pub fn executions_agree()
         → (WantsMemory a → ⊥) → WantsMemory b → (rest : List Observation) × (one ≡ other ++ rest) }
 {}
 
-/// Two calls of `pair` with one image and the same two lists of arguments answer the same, where neither wants memory.
+/// Two calls of `pair` with one image and the same two lists of arguments answer the same, where neither runs out of memory.
 pub fn comparisons_agree()
     ensures { (image : Fields) (one other : List Arg) (a b : Result Pairing RunFault)
         → Paired image one other a → Paired image one other b

@@ -16,7 +16,7 @@ ghost use Rattle.word.specs.declared.profile.Profile.{Profile};
 
 use hepurita::cut_off_runs_are_right;
 
-/// An image on arguments has one stop and one listing. Two calls of `leak` answer the same, where neither wants memory and no
+/// An image on arguments has one stop and one listing. Two calls of `leak` answer the same, where neither lacks memory and no
 /// call of a sink fails; and where one failed, what went out is a beginning of what went out where none did.
 pub fn leaks_agree()
     ensures answer { (image : Fields) (args : List Arg) (a b : Result Stop LeakFault)

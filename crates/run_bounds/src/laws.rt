@@ -29,8 +29,8 @@ pub fn runs_evaluate_what_is_counted()
         → (program_run program args).nodes ≤ evaluated_by (flattened profile before p) args }
 {}
 
-/// A program that all passes accept is answered by its outcome, with any budget that the most work fits: it meets no fault,
-/// and it uses no budget up.
+/// Of a program that all passes accept its outcome is answered, within any budget that is at least the greatest work that is
+/// allowed: it meets no fault, and it uses no budget up.
 pub fn accepted_programs_are_answered()
     ensures { (profile : Profile) (program : ProgramTree) (before : List ProcedureTree) (p : ProcedureTree) (args : List Arg) (budget : ℕ) → length (violations profile program) ≡ 0
         → exported [] program.procedures ≡ Some (before, p) → AllByRecursion IsGrammatical before → IsGrammatical p → IsTypedProgram (flattened profile before p)

@@ -97,7 +97,7 @@ fn parse_tokens<'t, 'a>(
     }
 }
 
-/// The program of a text, or the first refusal. A place is named for all refusals but want of
+/// The program of a text, or the first refusal. A place is named for all refusals but running out of
 /// memory. A text that is too long is refused as that whatever memory there is.
 pub fn parse(alloc: Global, text: &str) -> Result<Program<'_>, Refusal>
     ensures too_long { text_limit < length text.now → IsErrAnd result (λ r. (r.rule ≡ Rule.TextTooLong) × (r.place ≡ Some origin)) }
