@@ -13,12 +13,15 @@ use std::alloc::{AllocError, Global};
 const ROOM_FACTOR: u64 = 32;
 
 /// The most room that there is, however large the source is.
-const MOST_ROOM: u64 = 96_000;
+const MOST_ROOM: u64 = 48_000;
 
 /// How many nodes a turn may have.
 const MOST_IN_TURN: u64 = 384;
 
-/// How many nodes an expression has, but for those of indices: these mostly become numbers.
+/// How many nodes an index has for each that counts: most of them become numbers.
+const INDEX_NODES: u64 = 4;
+
+/// How many nodes an expression has, of indices a quarter.
 fn nodes_in(term: &Term) -> u64
     ensures { result ≡ counted (term_size (term_tree term.now)) }
 {
@@ -36,11 +39,11 @@ fn nodes_in(term: &Term) -> u64
             .saturating_add(nodes_in(accepted))
             .saturating_add(nodes_in(otherwise))
             .saturating_add(1),
-        Term::Element(_, _, _, _) => 1,
+        Term::Element(_, _, _, index) => (nodes_in(index) / INDEX_NODES).saturating_add(1),
     }
 }
 
-/// How many nodes expressions have, but for those of indices.
+/// How many nodes expressions have, of indices a quarter.
 fn nodes_in_all(terms: &[Term]) -> u64
     ensures { result ≡ counted (terms_size (map term_tree terms.now)) }
 {
@@ -124,9 +127,10 @@ impl Choice {
             | StraightStatement::Take(_, _, value) => self.grow(nodes_in(value).saturating_add(1)),
             StraightStatement::Clear(_, _) => self.grow(1),
             StraightStatement::Fill(_, values) => self.grow(nodes_in_all(values).saturating_add(1)),
-            StraightStatement::Put(_, _, _, _, value)
-            | StraightStatement::PutUnder(_, _, _, _, _, value) => {
-                self.grow(nodes_in(value).saturating_add(1))
+            StraightStatement::Put(_, _, _, index, value)
+            | StraightStatement::PutUnder(_, _, _, _, index, value) => {
+                let nodes = (nodes_in(index) / INDEX_NODES).saturating_add(nodes_in(value));
+                self.grow(nodes.saturating_add(1));
             }
             StraightStatement::Branch(condition, accepted, otherwise) => {
                 self.grow(nodes_in(condition).saturating_add(1));

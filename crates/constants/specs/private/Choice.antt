@@ -1,15 +1,19 @@
 -- Which loops become their turns: innermost loops first, in the order of the text, each whose turns are short and for
 -- which there is still room. All turns together have room for 32 times as many nodes as the source has, up to a limit
--- that keeps the building of large sources short. Counted are the nodes that a turn will have: an index is mostly made
--- of counters and numbers, so it counts nothing, and neither does the counter.
-use Rattle.std.specs.Prelude.{ℕ, ◌+◌, ◌-◌, ◌*◌, ◌^◌, ◌≤◌, ◌&&◌, List, [], ◌∷◌, min, nat_le, slice_index, slice_set}
+-- that keeps the building of large sources short. Counted are about the nodes that a turn will have: an index is mostly
+-- made of counters and numbers, so a quarter of its nodes counts, and the counter does not.
+use Rattle.std.specs.Prelude.{ℕ, ◌+◌, ◌-◌, ◌*◌, ◌/◌, ◌^◌, ◌≤◌, ◌&&◌, List, [], ◌∷◌, min, nat_le, slice_index, slice_set}
 use Rattle.std.specs.Prelude.{if◌then◌else◌}
 use Rattle.branch_removal.specs.Straight.{StraightTree, set, clear, fill, put, take, set_under, put_under, branch}
 use Rattle.branch_removal.specs.Straight.{repeats, StraightBlock, nothing, first, StraightProgram}
 use Rattle.constants.specs.declared.choice.Choice.{Choice}
 use Rattle.inline.specs.Flat.{TermTree, number, truth, variable, prefix, binary, rotate, convert, select, element}
 
--- the nodes of an expression but for those of indices
+-- a count stops at the greatest number of 64 bits
+abbrev pub counted : ℕ → ℕ
+counted n = min n (2 ^ 64 - 1)
+
+-- the nodes of an expression, of indices a quarter
 abbrev pub term_size : TermTree → ℕ
 term_size (number value kind) = 1
 term_size (truth value) = 1
@@ -20,7 +24,7 @@ term_size (rotate width operand amount) = 1 + term_size operand
 term_size (convert kind operand) = 1 + term_size operand
 term_size (select condition accepted otherwise) =
     1 + term_size condition + term_size accepted + term_size otherwise
-term_size (element place x size index) = 1
+term_size (element place x size index) = 1 + counted (term_size index) / 4
 
 -- of expressions
 abbrev pub terms_size : List TermTree → ℕ
@@ -30,10 +34,6 @@ terms_size (e ∷ es) = term_size e + terms_size es
 -- how many nodes a turn may have
 abbrev pub most_in_turn : ℕ
 most_in_turn = 384
-
--- a count stops at the greatest number of 64 bits
-abbrev pub counted : ℕ → ℕ
-counted n = min n (2 ^ 64 - 1)
 
 -- what is chosen so far: how many turns the loop of each counter may become, at its number; how many nodes there is
 -- room for; and how many there are, with the turns of the loops that are chosen
@@ -68,10 +68,11 @@ abbrev mutual
   chosen so_far (set x value) = grown so_far (1 + term_size value)
   chosen so_far (clear x size) = grown so_far 1
   chosen so_far (fill x values) = grown so_far (1 + terms_size values)
-  chosen so_far (put place x size index value) = grown so_far (1 + term_size value)
+  chosen so_far (put place x size index value) = grown so_far (1 + counted (term_size index) / 4 + term_size value)
   chosen so_far (take control within condition) = grown so_far (1 + term_size condition)
   chosen so_far (set_under control x value) = grown so_far (1 + term_size value)
-  chosen so_far (put_under control place x size index value) = grown so_far (1 + term_size value)
+  chosen so_far (put_under control place x size index value) =
+      grown so_far (1 + counted (term_size index) / 4 + term_size value)
   chosen so_far (branch condition accepted otherwise) =
       chosen_all (chosen_all (grown so_far (1 + term_size condition)) accepted) otherwise
   chosen so_far (repeats x low high body) =
@@ -85,7 +86,7 @@ abbrev mutual
 
 -- the room of a source of so many nodes
 abbrev pub room_for : ℕ → ℕ
-room_for nodes = min (32 * nodes) 96000
+room_for nodes = min (32 * nodes) 48000
 
 -- where nothing is chosen yet, all turns that are counted are allowed
 abbrev pub begun : StraightProgram → Chosen
