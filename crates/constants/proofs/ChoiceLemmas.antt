@@ -20,11 +20,11 @@ pub settled_by : (before room x count own : ℕ) (inner same : Chosen) → count
     → settled before room x count inner ≡ settled before room x own same
 settled_by before room x count own inner same is alike =
     ap (λ (n : ℕ). if nat_le 1 (slice_index inner.copies x)
-    && nat_le inner.nodes most_in_turn && nat_le (counted (inner.nodes * slice_index inner.copies x)) room
+    && nat_le inner.nodes most_in_turn && nat_le (counted (counted (inner.nodes + 2) * slice_index inner.copies x)) room
     then record {
       copies = inner.copies;
-      room = room - counted (inner.nodes * slice_index inner.copies x);
-      nodes = counted (before + counted (inner.nodes * slice_index inner.copies x));
+      room = room - counted (counted (inner.nodes + 2) * slice_index inner.copies x);
+      nodes = counted (before + counted (counted (inner.nodes + 2) * slice_index inner.copies x));
     }
     else record { copies = slice_set inner.copies x 0; room = inner.room; nodes = n })
     (the_same before count own inner.nodes is)
@@ -48,7 +48,7 @@ module _ (turns : List ℕ) where
       → AreAllowed (settled before room x own inner).copies turns
   settled_allowed before room x own inner allowed =
       by_room (nat_le 1 (slice_index inner.copies x)
-      && nat_le inner.nodes most_in_turn && nat_le (counted (inner.nodes * slice_index inner.copies x)) room) _ _
+      && nat_le inner.nodes most_in_turn && nat_le (counted (counted (inner.nodes + 2) * slice_index inner.copies x)) room) _ _
       allowed
       (refused inner.copies turns x allowed)
     where

@@ -18,6 +18,9 @@ const MOST_ROOM: u64 = 48_000;
 /// How many nodes a turn may have.
 const MOST_IN_TURN: u64 = 384;
 
+/// How many nodes there are in setting a counter.
+const COUNTER_NODES: u64 = 2;
+
 /// How many nodes an index has for each that counts: most of them become numbers.
 const INDEX_NODES: u64 = 4;
 
@@ -106,7 +109,10 @@ impl Choice {
         ensures { choice_of self.new ≡ settled before room counter own (choice_of self.old) }
     {
         let turns = copies_of(self.copies.as_slice(), counter);
-        let cost = self.nodes.saturating_mul(u64::from(turns));
+        let cost = self
+            .nodes
+            .saturating_add(COUNTER_NODES)
+            .saturating_mul(u64::from(turns));
         if turns >= 1 && self.nodes <= MOST_IN_TURN && cost <= room {
             self.room = room - cost;
             self.nodes = before.saturating_add(cost);

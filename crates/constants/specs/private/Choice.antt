@@ -1,7 +1,7 @@
 -- Which loops become their turns: innermost loops first, in the order of the text, each whose turns are short and for
 -- which there is still room. All turns together have room for 32 times as many nodes as the source has, up to a limit
 -- that keeps the building of large sources short. Counted are about the nodes that a turn will have: an index is mostly
--- made of counters and numbers, so a quarter of its nodes counts, and the counter does not.
+-- made of counters and numbers, so a quarter of its nodes counts.
 use Rattle.std.specs.Prelude.{ℕ, ◌+◌, ◌-◌, ◌*◌, ◌/◌, ◌^◌, ◌≤◌, ◌&&◌, List, [], ◌∷◌, min, nat_le, slice_index, slice_set}
 use Rattle.std.specs.Prelude.{if◌then◌else◌}
 use Rattle.branch_removal.specs.Straight.{StraightTree, set, clear, fill, put, take, set_under, put_under, branch}
@@ -49,11 +49,12 @@ abbrev pub grown : Chosen → ℕ → Chosen
 grown so_far n = record { copies = so_far.copies; room = so_far.room; nodes = counted (so_far.nodes + n) }
 
 -- behind so many nodes, where there was so much room, a loop of so many nodes without its body, for which all is
--- chosen: its turns, where each is short and there is room for all of them; or else the loop
+-- chosen: its turns, each a counter that is set and the body, where each is short and there is room for all of them; or
+-- else the loop
 abbrev pub settled : ℕ → ℕ → ℕ → ℕ → Chosen → Chosen
 settled before room x own inner =
     let turns = slice_index inner.copies x in
-    let cost = counted (inner.nodes * turns) in
+    let cost = counted (counted (inner.nodes + 2) * turns) in
     if nat_le 1 turns && nat_le inner.nodes most_in_turn && nat_le cost room
     then record { copies = inner.copies; room = room - cost; nodes = counted (before + cost) }
     else record {
