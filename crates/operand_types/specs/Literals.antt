@@ -17,7 +17,7 @@ use Rattle.language.specs.Tree.{RightTree, called, computed, StatementTree, decl
 use Rattle.language.specs.Tree.{element_assignment, call, conditional, loop, ParameterTree, ProcedureTree, written}
 use Rattle.language.specs.Types.{Scope, bits_of, callee, found, is_numeric, kind_of, of_two, word}
 use Rattle.language.specs.Typing.{called_one, parameter_value, result_value}
-use Rattle.operand_types.specs.Mismatches.{first_argument, first_value}
+use Rattle.operand_types.specs.Mismatches.{called_argument, first_value}
 use Rattle.operand_types.specs.Nodes.{Node, of_call, of_element, of_expr, of_return, of_statement}
 use Rattle.operand_types.specs.Sites.{Site}
 use Rattle.operand_types.specs.declared.mismatch.Mismatch.TheVariants.{Widths}
@@ -79,8 +79,7 @@ argument_literal None = None
 argument_literal (Some (p, e)) = literal_as e (Some (parameter_value p p.form))
 
 abbrev pub call_literal : Scope → List ExprTree → Option (Callee × ProcedureTree) → Option (ℕ × Kind)
-call_literal scope arguments None = None
-call_literal scope arguments (Some (c, p)) = argument_literal (first_argument Widths scope p.parameters arguments)
+call_literal scope arguments one = argument_literal (called_argument Widths scope arguments one)
 
 abbrev pub value_literal : ValueType → Option ExprTree → Option (ℕ × Kind)
 value_literal wanted None = None

@@ -3,10 +3,11 @@ use Rattle.std.specs.Prelude.{Bool, false, ◌==◌, List, [], ◌∷◌, Option
 use Rattle.std.specs.List.{list_any}
 use Rattle.language.specs.declared.rule.Rule.{Rule}
 use Rattle.language.specs.declared.rule.Rule.TheVariants.{WidthsDiffer, WrongKind, ArrayShapeOrLabel, SecretToPublic}
+use Rattle.language.specs.declared.typing.Callee.{Callee}
 use Rattle.language.specs.declared.typing.ValueType.{ValueType}
 use Rattle.language.specs.ExprTyping.{type_of}
 use Rattle.language.specs.Rules.{rank_of}
-use Rattle.language.specs.Tree.{ExprTree, ParameterTree}
+use Rattle.language.specs.Tree.{ExprTree, ParameterTree, ProcedureTree}
 use Rattle.language.specs.Types.{Scope, of_one}
 use Rattle.language.specs.Typing.{argument_rules, parameter_value}
 use Rattle.operand_types.specs.declared.mismatch.Mismatch.{Mismatch}
@@ -33,6 +34,12 @@ first_argument m scope [] arguments = None
 first_argument m scope (p ∷ ps) [] = None
 first_argument m scope (p ∷ ps) (e ∷ es) =
     if is_violated_by m scope (parameter_value p p.form) e then Some (p, e) else first_argument m scope ps es
+
+-- the same of a call, by the procedure that is called
+abbrev pub called_argument : Mismatch → Scope → List ExprTree → Option (Callee × ProcedureTree)
+    → Option (ParameterTree × ExprTree)
+called_argument m scope arguments None = None
+called_argument m scope arguments (Some (c, p)) = first_argument m scope p.parameters arguments
 
 -- the first of an array's values that violates it
 abbrev pub first_value : Mismatch → Scope → ValueType → List ExprTree → Option ExprTree

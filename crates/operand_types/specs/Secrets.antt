@@ -9,7 +9,7 @@ use Rattle.language.specs.Types.{callee, found, is_hidden, of_one, word}
 use Rattle.language.specs.Typing.{called_one}
 use Rattle.language.specs.declared.typing.Callee.{Callee}
 use Rattle.names.specs.Scope.{found as placed_at}
-use Rattle.operand_types.specs.Mismatches.{first_argument, first_value}
+use Rattle.operand_types.specs.Mismatches.{called_argument, first_value}
 use Rattle.operand_types.specs.Nodes.{Node, of_call, of_element, of_expr, of_return, of_statement}
 use Rattle.operand_types.specs.Sites.{Site}
 use Rattle.operand_types.specs.declared.around.Around.{Around}
@@ -52,10 +52,9 @@ secret_in_found around (Some e) = secret_in around e
 
 -- in the first secret argument for a public parameter
 abbrev pub secret_argument : Around → List ExprTree → Option (Callee × ProcedureTree) → Option Secret
-secret_argument around arguments None = None
-secret_argument around arguments (Some (c, p)) =
+secret_argument around arguments one =
     secret_in_found around (option_map (λ (both : ParameterTree × ExprTree). both.1)
-    (first_argument Labels around.scope p.parameters arguments))
+    (called_argument Labels around.scope arguments one))
 
 -- among the operands of `/`, `%` and `*`, and in an index
 abbrev pub secret_operand : Around → ExprTree → Option Secret

@@ -54,13 +54,17 @@ in_arms around place condition = record {
   under = if of_one false is_hidden (type_of around.scope condition) then Some place else around.under;
 }
 
+-- behind parameters
+abbrev pub with_places : Around → List ParameterTree → Around
+with_places around parameters = record {
+  scope = with_parameters around.scope parameters;
+  places = places_of around.places parameters;
+  under = around.under;
+}
+
 -- where the body of a procedure begins, whose name is in scope
 abbrev pub in_body : Scope → ProcedureTree → Around
-in_body scope p = record {
-  scope = with_parameters scope p.parameters;
-  places = places_of [] p.parameters;
-  under = None;
-}
+in_body scope p = with_places (record { scope = scope; places = []; under = None }) p.parameters
 
 abbrev mutual
   -- at this offset in a statement

@@ -10,7 +10,7 @@ use Rattle.language.specs.Tree.{RightTree, called, computed, StatementTree, decl
 use Rattle.language.specs.Tree.{element_assignment, call, conditional, loop, ParameterTree, ProcedureTree, written}
 use Rattle.language.specs.Types.{Scope, callee, found, of_one, of_two, of_three, word}
 use Rattle.language.specs.Typing.{called_one, parameter_value, result_value}
-use Rattle.operand_types.specs.Mismatches.{first_argument, first_value}
+use Rattle.operand_types.specs.Mismatches.{called_argument, first_value}
 use Rattle.operand_types.specs.Nodes.{Node, of_call, of_element, of_expr, of_return, of_statement}
 use Rattle.operand_types.specs.Sites.{Site}
 use Rattle.operand_types.specs.TypeTexts.{type_text}
@@ -69,8 +69,7 @@ argument_line m scope (Some (p, e)) =
     (parameter_value p p.form)) (type_of scope e)
 
 abbrev pub call_line : Mismatch → Scope → List ExprTree → Option (Callee × ProcedureTree) → List ℕ
-call_line m scope arguments None = []
-call_line m scope arguments (Some (c, p)) = argument_line m scope (first_argument m scope p.parameters arguments)
+call_line m scope arguments one = argument_line m scope (called_argument m scope arguments one)
 
 -- of a value, and of what it is put into
 abbrev pub value_line : Mismatch → List ℕ → Option ValueType → Option ValueType → List ℕ

@@ -1,12 +1,12 @@
 // What is in scope at a place.
 
-ghost use Rattle.std.specs.Prelude.{◌≡◌, false, length, map, OnOk};
+ghost use Rattle.std.specs.Prelude.{◌≡◌, false, [], None, length, map, OnOk};
 ghost use Rattle.language.specs.Tree.{block_tree, expr_tree, parameter_tree, procedure_tree, statement_tree};
 ghost use Rattle.language.specs.Types.{declared, is_hidden, of_one};
 ghost use Rattle.language.specs.ExprTyping.{type_of};
 ghost use Rattle.language.specs.Typing.{declared_array, declared_as, parameter_as, parameter_value, with_parameters, with_procedure};
 ghost use Rattle.names.specs.Scope.{declared as placed};
-ghost use Rattle.operand_types.specs.Sites.{after, around_at, around_in, in_arms, in_turns, places_of};
+ghost use Rattle.operand_types.specs.Sites.{after, around_at, around_in, in_arms, in_turns, places_of, with_places};
 
 use crate::expressions::type_of;
 use crate::nodes::{is_at, is_in};
@@ -16,7 +16,7 @@ use language::{
 };
 use names::Names;
 use scopes::{Scope, assigns_public};
-use std::alloc::AllocError;
+use std::alloc::{AllocError, Global};
 
 /// What the names in scope stand for, and where each is declared.
 #[derive(Drop)]
@@ -28,6 +28,19 @@ pub struct Around<'a> {
 }
 
 impl<'a> Around<'a> {
+    /// A scope, where no place is known, outside any `if`.
+    pub fn new(alloc: Global, scope: Scope<'a>) -> Self
+        ensures scope { result.scope ≡ scope.entry }
+        ensures places { result.places ≡ [] }
+        ensures under { result.under ≡ None }
+    {
+        Around {
+            scope,
+            places: Names::new(alloc),
+            under: None,
+        }
+    }
+
     /// One name more; of two declarations of a name the first keeps it.
     fn declare(&mut self, name: &'a str, place: Place, what: Declared) -> Result<(), AllocError>
         ensures scope { OnOk result (self.new.scope ≡ declared self.old.scope name.now what) }
@@ -100,7 +113,7 @@ pub fn enter_procedure<'a>(
 }
 
 /// Parameters are in scope.
-pub fn enter_parameters<'a>(
+fn enter_parameters<'a>(
     around: &mut Around<'a>,
     parameters: &[Parameter<'a>],
 ) -> Result<(), AllocError>
@@ -215,7 +228,7 @@ fn enter_loop<'a>(
 
 /// What is in scope at a place in a block, and behind the block where the place is not in it.
 #[cycle(entering)]
-pub fn enter_block<'a>(
+fn enter_block<'a>(
     at: u32,
     around: &mut Around<'a>,
     block: &[Statement<'a>],
@@ -229,4 +242,17 @@ pub fn enter_block<'a>(
         leave_statement(around, statement)?;
     }
     Ok(())
+}
+
+/// What is in scope at a place in a procedure, whose own name is in scope.
+pub fn enter_body<'a>(
+    at: u32,
+    around: &mut Around<'a>,
+    procedure: &Procedure<'a>,
+) -> Result<(), AllocError>
+    ensures { OnOk result (around.new ≡ around_in at
+        (with_places around.old (procedure_tree procedure.now).parameters) (procedure_tree procedure.now).body) }
+{
+    enter_parameters(around, procedure.parameters.as_slice())?;
+    enter_block(at, around, procedure.body.as_slice())
 }

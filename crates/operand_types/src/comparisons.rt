@@ -9,7 +9,7 @@ ghost use Rattle.language.specs.Types.{callee, found, of_one, of_two, of_three, 
 ghost use Rattle.language.specs.Typing.{called_one, result_value};
 ghost use Rattle.language.specs.Tree.{written};
 ghost use Rattle.operand_types.specs.Found.{node, site as site_of};
-ghost use Rattle.operand_types.specs.Mismatches.{first_value};
+ghost use Rattle.operand_types.specs.Mismatches.{called_argument, first_value};
 ghost use Rattle.operand_types.specs.Nodes.{values_tree};
 ghost use Rattle.operand_types.specs.TypeLines.{argument_line, call_line, choice_lines, element_line, expr_lines, node_lines, one_line, return_line, right_gives, statement_line, two_line, type_lines, value_line};
 
@@ -151,8 +151,33 @@ pub fn called_one<'p, 'a>(
     ensures { option_map (λ known. (known.0, procedure_tree known.1.now)) result
         ≡ called_one (map procedure_tree earlier.now) (callee (found names.now (call_tree call.now).name)) }
 {
-    let callee = names.callee(call.name)?;
-    Some((callee, earlier.get(callee.number)?))
+    match names.callee(call.name) {
+        Some(callee) => match earlier.get(callee.number) {
+            Some(procedure) => Some((callee, procedure)),
+            None => None,
+        },
+        None => None,
+    }
+}
+
+/// The first argument of a call that violates the rule, and its parameter.
+pub fn called_argument<'p, 'a>(
+    mismatch: Mismatch,
+    earlier: &'p [Procedure<'a>],
+    names: &Scope<'a>,
+    call: &'p Call<'a>,
+) -> Option<(&'p Parameter<'a>, &'p Expr<'a>)>
+    ensures { option_map (λ both. (parameter_tree both.0.now, expr_tree both.1.now)) result
+        ≡ called_argument mismatch names.now (call_tree call.now).arguments
+        (called_one (map procedure_tree earlier.now) (callee (found names.now (call_tree call.now).name))) }
+{
+    match called_one(earlier, names, call) {
+        Some((_, procedure)) => {
+            let parameters = procedure.parameters.as_slice();
+            first_argument(mismatch, names, parameters, call.arguments.as_slice())
+        }
+        None => None,
+    }
 }
 
 /// What a procedure gives.
@@ -215,15 +240,8 @@ fn call_line<'p, 'a>(
     ensures { IfOk result (λ line. string_bytes line
         ≡ call_line mismatch names.now (call_tree call.now).arguments (called_one (map procedure_tree earlier.now) (callee (found names.now (call_tree call.now).name)))) }
 {
-    match called_one(earlier, names, call) {
-        Some((_, procedure)) => {
-            let parameters = procedure.parameters.as_slice();
-            let arguments = call.arguments.as_slice();
-            let first = first_argument(mismatch, names, parameters, arguments);
-            argument_line(alloc, mismatch, names, first)
-        }
-        None => Ok(String::new(alloc)),
-    }
+    let argument = called_argument(mismatch, earlier, names, call);
+    argument_line(alloc, mismatch, names, argument)
 }
 
 /// The line of a value, and of what it is put into.

@@ -13,9 +13,9 @@ ghost use Rattle.operand_types.specs.Nodes.{values_tree};
 ghost use Rattle.operand_types.specs.declared.mismatch.Mismatch.TheVariants.{Widths};
 
 use crate::around::parameter_value;
-use crate::comparisons::{called_one, first_of_values};
+use crate::comparisons::{called_argument, first_of_values};
 use crate::expressions::{name_type, type_of};
-use crate::mismatch::{Mismatch, first_argument};
+use crate::mismatch::Mismatch;
 use crate::nodes::Node;
 use crate::operators::element;
 use crate::sites::Site;
@@ -139,14 +139,7 @@ fn call_literal<'p, 'a>(
     ensures { result
         ≡ call_literal names.now (call_tree call.now).arguments (called_one (map procedure_tree earlier.now) (callee (found names.now (call_tree call.now).name))) }
 {
-    match called_one(earlier, names, call) {
-        Some((_, procedure)) => {
-            let parameters = procedure.parameters.as_slice();
-            let arguments = call.arguments.as_slice();
-            argument_literal(first_argument(Mismatch::Widths, names, parameters, arguments))
-        }
-        None => None,
-    }
+    argument_literal(called_argument(Mismatch::Widths, earlier, names, call))
 }
 
 /// The first of an array's values of another width.

@@ -1,10 +1,12 @@
 // What stands at a place.
 
 ghost use Rattle.std.specs.Prelude.{◌≡◌, is_some, map};
-ghost use Rattle.std.specs.Option.{option_map};
+ghost use Rattle.std.specs.Option.{option_map, option_or};
 ghost use Rattle.language.specs.Tree.{block_tree, call_tree, expr_tree, procedure_tree, return_tree, right_tree, statement_tree, written};
 ghost use Rattle.operand_types.specs.Found.{node};
-ghost use Rattle.operand_types.specs.Nodes.{expr_at, exprs_at, here, node_at, node_in, node_in_call, node_in_procedure, node_in_return, node_in_right, of_expr, values_tree};
+ghost use Rattle.operand_types.specs.Nodes.{expr_at, exprs_at, here, node_at, node_in, node_in_call};
+ghost use Rattle.operand_types.specs.Nodes.{node_in_procedure, node_in_return, node_in_right, of_element, of_expr};
+ghost use Rattle.operand_types.specs.Nodes.{of_statement, values_tree};
 
 use language::{
     ArrayDeclaration, Call, ElementAssignment, Expr, Place, Procedure, Return, RightSide,
@@ -52,6 +54,17 @@ fn expr_at<'p, 'a>(at: u32, expr: &'p Expr<'a>) -> Option<&'p Expr<'a>>
     }
 }
 
+/// The expression at a place in the bounds of a loop.
+fn bound_at<'p, 'a>(at: u32, low: &'p Expr<'a>, high: &'p Expr<'a>) -> Option<&'p Expr<'a>>
+    ensures { option_map (λ found. expr_tree found.now) result
+        ≡ option_or (expr_at at (expr_tree low.now)) (expr_at at (expr_tree high.now)) }
+{
+    match expr_at(at, low) {
+        Some(found) => Some(found),
+        None => expr_at(at, high),
+    }
+}
+
 /// The one of some expressions that is at a place.
 fn exprs_at<'p, 'a>(at: u32, exprs: &'p [Expr<'a>]) -> Option<&'p Expr<'a>>
     ensures { option_map (λ found. expr_tree found.now) result ≡ exprs_at at (map expr_tree exprs.now) }
@@ -69,7 +82,7 @@ fn of_expr<'p, 'a>(expr: Option<&'p Expr<'a>>) -> Option<Node<'p, 'a>>
     ensures { option_map node result ≡ option_map of_expr (option_map (λ found. expr_tree found.now) expr.entry) }
 {
     match expr {
-        Some(expr) => Some(Node::Expr(expr)),
+        Some(found) => Some(Node::Expr(found)),
         None => None,
     }
 }
@@ -78,8 +91,11 @@ fn of_expr<'p, 'a>(expr: Option<&'p Expr<'a>>) -> Option<Node<'p, 'a>>
 fn node_in_call<'p, 'a>(at: u32, call: &'p Call<'a>) -> Option<Node<'p, 'a>>
     ensures { option_map node result ≡ node_in_call at (call_tree call.now) }
 {
-    let arguments = of_expr(exprs_at(at, call.arguments.as_slice()));
-    here(at, call.place, Node::Call(call)).or(arguments)
+    if call.place.offset == at {
+        return Some(Node::Call(call));
+    }
+    let arguments = call.arguments.as_slice();
+    of_expr(exprs_at(at, arguments))
 }
 
 /// The node at a place in a right side.
@@ -87,18 +103,66 @@ fn node_in_right<'p, 'a>(at: u32, right: &'p RightSide<'a>) -> Option<Node<'p, '
     ensures { option_map node result ≡ node_in_right at (right_tree right.now) }
 {
     match right {
-        RightSide::Call(call) => node_in_call(at, call),
-        RightSide::Value(expr) => of_expr(expr_at(at, expr)),
+        RightSide::Call(it) => node_in_call(at, it),
+        RightSide::Value(it) => of_expr(expr_at(at, it)),
     }
 }
 
-/// The node at a place in an array's first values, where they are written.
-fn node_in_values<'p, 'a>(at: u32, array: &'p ArrayDeclaration<'a>) -> Option<Node<'p, 'a>>
-    ensures { option_map node result ≡ option_map of_expr (exprs_at at (written (values_tree array.now.values))) }
+/// The node at a place in a statement with a right side.
+fn node_with_right<'p, 'a>(
+    at: u32,
+    place: Place,
+    statement: &'p Statement<'a>,
+    right: &'p RightSide<'a>,
+) -> Option<Node<'p, 'a>>
+    ensures { option_map node result
+        ≡ option_or (here at place (of_statement (statement_tree statement.now))) (node_in_right at (right_tree right.now)) }
 {
-    match &array.values {
+    if place.offset == at {
+        return Some(Node::Statement(statement));
+    }
+    node_in_right(at, right)
+}
+
+/// The node at a place in the declaration of an array.
+fn node_with_values<'p, 'a>(
+    at: u32,
+    statement: &'p Statement<'a>,
+    it: &'p ArrayDeclaration<'a>,
+) -> Option<Node<'p, 'a>>
+    ensures { option_map node result
+        ≡ option_or (here at it.now.place (of_statement (statement_tree statement.now)))
+        (option_map of_expr (exprs_at at (written (values_tree it.now.values)))) }
+{
+    if it.place.offset == at {
+        return Some(Node::Statement(statement));
+    }
+    match &it.values {
         Some(values) => of_expr(exprs_at(at, values.as_slice())),
         None => None,
+    }
+}
+
+/// The node at a place in an assignment to an element.
+fn node_with_element<'p, 'a>(
+    at: u32,
+    statement: &'p Statement<'a>,
+    it: &'p ElementAssignment<'a>,
+) -> Option<Node<'p, 'a>>
+    ensures { option_map node result
+        ≡ option_or (here at it.now.place (of_statement (statement_tree statement.now)))
+        (option_or (here at it.now.bracket (of_element it.now.name.now (expr_tree it.now.index)))
+        (option_or (option_map of_expr (expr_at at (expr_tree it.now.index))) (node_in_right at (right_tree it.now.value)))) }
+{
+    if it.place.offset == at {
+        return Some(Node::Statement(statement));
+    }
+    if it.bracket.offset == at {
+        return Some(Node::Target(it));
+    }
+    match expr_at(at, &it.index) {
+        Some(expr) => Some(Node::Expr(expr)),
+        None => node_in_right(at, &it.value),
     }
 }
 
@@ -107,23 +171,32 @@ fn node_in_values<'p, 'a>(at: u32, array: &'p ArrayDeclaration<'a>) -> Option<No
 fn node_at<'p, 'a>(at: u32, statement: &'p Statement<'a>) -> Option<Node<'p, 'a>>
     ensures { option_map node result ≡ node_at at (statement_tree statement.now) }
 {
-    let whole = Node::Statement(statement);
     match statement {
-        Statement::Declare(it) => here(at, it.place, whole).or(node_in_right(at, &it.value)),
-        Statement::DeclareArray(it) => here(at, it.place, whole).or(node_in_values(at, it)),
-        Statement::Assign(it) => here(at, it.place, whole).or(node_in_right(at, &it.value)),
-        Statement::AssignElement(it) => {
-            let inside = of_expr(expr_at(at, &it.index)).or(node_in_right(at, &it.value));
-            here(at, it.place, whole).or(here(at, it.bracket, Node::Target(it)).or(inside))
-        }
+        Statement::Declare(it) => node_with_right(at, it.place, statement, &it.value),
+        Statement::DeclareArray(it) => node_with_values(at, statement, it),
+        Statement::Assign(it) => node_with_right(at, it.place, statement, &it.value),
+        Statement::AssignElement(it) => node_with_element(at, statement, it),
         Statement::Call(it) => node_in_call(at, it),
         Statement::If(place, condition, accepted, otherwise) => {
-            let arms = node_in(at, accepted.as_slice()).or(node_in(at, otherwise.as_slice()));
-            here(at, *place, whole).or(of_expr(expr_at(at, condition)).or(arms))
+            if place.offset == at {
+                return Some(Node::Statement(statement));
+            }
+            if let Some(found) = expr_at(at, condition) {
+                return Some(Node::Expr(found));
+            }
+            if let Some(found) = node_in(at, accepted.as_slice()) {
+                return Some(found);
+            }
+            node_in(at, otherwise.as_slice())
         }
         Statement::For(place, _, low, high, body) => {
-            let inside = of_expr(expr_at(at, high)).or(node_in(at, body.as_slice()));
-            here(at, *place, whole).or(of_expr(expr_at(at, low)).or(inside))
+            if place.offset == at {
+                return Some(Node::Statement(statement));
+            }
+            if let Some(found) = bound_at(at, low, high) {
+                return Some(Node::Expr(found));
+            }
+            node_in(at, body.as_slice())
         }
     }
 }
@@ -156,17 +229,16 @@ pub fn is_in(at: u32, block: &[Statement<'_>]) -> bool
 }
 
 /// The node at a place in the `return` of a procedure.
-fn node_in_return<'p, 'a>(
-    at: u32,
-    wanted: Option<WordType>,
-    returned: &'p Option<Return<'a>>,
-) -> Option<Node<'p, 'a>>
-    ensures { option_map node result ≡ node_in_return at wanted (option_map return_tree returned.now) }
+fn node_in_return<'p, 'a>(at: u32, procedure: &'p Procedure<'a>) -> Option<Node<'p, 'a>>
+    ensures { option_map node result ≡ node_in_return at procedure.now.result (option_map return_tree procedure.now.returned) }
 {
-    match returned {
-        Some(it) => here(at, it.place, Node::Return(wanted, it)).or(of_expr(expr_at(
-            at, &it.value,
-        ))),
+    match &procedure.returned {
+        Some(it) => {
+            if it.place.offset == at {
+                return Some(Node::Return(procedure.result, it));
+            }
+            of_expr(expr_at(at, &it.value))
+        }
         None => None,
     }
 }
@@ -175,6 +247,8 @@ fn node_in_return<'p, 'a>(
 pub fn node_in_procedure<'p, 'a>(at: u32, procedure: &'p Procedure<'a>) -> Option<Node<'p, 'a>>
     ensures { option_map node result ≡ node_in_procedure at (procedure_tree procedure.now) }
 {
-    let returned = node_in_return(at, procedure.result, &procedure.returned);
-    node_in(at, procedure.body.as_slice()).or(returned)
+    match node_in(at, procedure.body.as_slice()) {
+        Some(found) => Some(found),
+        None => node_in_return(at, procedure),
+    }
 }

@@ -1,7 +1,7 @@
 // The first secret name among the operands that a rule looks at.
 
 ghost use Rattle.std.specs.Prelude.{◌≡◌, map, IfOk};
-ghost use Rattle.std.specs.Option.{option_map};
+ghost use Rattle.std.specs.Option.{option_map, option_or};
 ghost use Rattle.std.specs.String.{string_bytes};
 ghost use Rattle.language.specs.Tree.{call_tree, expr_tree, procedure_tree, right_tree, statement_tree};
 ghost use Rattle.language.specs.Types.{callee, found};
@@ -11,16 +11,16 @@ ghost use Rattle.operand_types.specs.FoundSecret.{secret};
 ghost use Rattle.operand_types.specs.Secrets.{secret_argument, secret_at, secret_in, secret_in_found, secret_in_right, secret_line, secret_name, secret_of_node, secret_of_statement, secret_operand};
 
 use crate::around::Around;
-use crate::comparisons::{called_one, first_of_values};
+use crate::comparisons::{called_argument, first_of_values};
 use crate::expressions::name_type;
-use crate::mismatch::{Mismatch, first_argument};
+use crate::mismatch::Mismatch;
 use crate::nodes::Node;
 use crate::sites::Site;
 use language::{Call, Expr, Place, Procedure, RightSide, Statement};
 use std::alloc::{AllocError, Global};
 
 /// A secret variable's name, and where it is declared.
-#[derive(Clone, Copy, Debug)]
+#[derive(Clone, Copy)]
 pub struct Secret<'a> {
     pub name: &'a str,
     pub place: Place,
@@ -57,6 +57,16 @@ fn secret_in<'a>(around: &Around<'a>, expr: &Expr<'a>) -> Option<Secret<'a>>
     }
 }
 
+/// The first in two expressions.
+fn secret_in_two<'a>(around: &Around<'a>, one: &Expr<'a>, other: &Expr<'a>) -> Option<Secret<'a>>
+    ensures { option_map secret result ≡ option_or (secret_in around.now (expr_tree one.now)) (secret_in around.now (expr_tree other.now)) }
+{
+    match secret_in(around, one) {
+        Some(found) => Some(found),
+        None => secret_in(around, other),
+    }
+}
+
 /// The first in a right side; a call has none.
 fn secret_in_right<'a>(around: &Around<'a>, right: &RightSide<'a>) -> Option<Secret<'a>>
     ensures { option_map secret result ≡ secret_in_right around.now (right_tree right.now) }
@@ -86,11 +96,10 @@ fn secret_argument<'p, 'a>(
     ensures { option_map secret result
         ≡ secret_argument around.now (call_tree call.now).arguments (called_one (map procedure_tree earlier.now) (callee (found around.now.scope (call_tree call.now).name))) }
 {
-    let (_, procedure) = called_one(earlier, &around.scope, call)?;
-    let parameters = procedure.parameters.as_slice();
-    let arguments = call.arguments.as_slice();
-    let (_, argument) = first_argument(Mismatch::Labels, &around.scope, parameters, arguments)?;
-    secret_in(around, argument)
+    match called_argument(Mismatch::Labels, earlier, &around.scope, call) {
+        Some((_, argument)) => secret_in(around, argument),
+        None => None,
+    }
 }
 
 /// The first in the operands of `/`, `%` and `*`, and in an index.
@@ -102,7 +111,7 @@ fn secret_operand<'a>(around: &Around<'a>, expr: &Expr<'a>) -> Option<Secret<'a>
         Expr::Truth(_, _) => None,
         Expr::Name(_, _) => None,
         Expr::Prefix(_, _, _) => None,
-        Expr::Binary(_, _, left, right) => secret_in(around, left).or(secret_in(around, right)),
+        Expr::Binary(_, _, left, right) => secret_in_two(around, left, right),
         Expr::Rotate(_, _, _) => None,
         Expr::Convert(_, _, _) => None,
         Expr::Select(_, _, _, _) => None,
@@ -127,7 +136,7 @@ fn secret_of_statement<'p, 'a>(
         Statement::AssignElement(it) => secret_in_right(around, &it.value),
         Statement::Call(it) => secret_argument(earlier, around, it),
         Statement::If(_, condition, _, _) => secret_in(around, condition),
-        Statement::For(_, _, low, high, _) => secret_in(around, low).or(secret_in(around, high)),
+        Statement::For(_, _, low, high, _) => secret_in_two(around, low, high),
     }
 }
 

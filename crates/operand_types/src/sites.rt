@@ -7,10 +7,9 @@ ghost use Rattle.language.specs.Types.{empty};
 ghost use Rattle.operand_types.specs.Found.{site};
 ghost use Rattle.operand_types.specs.Sites.{around_in, in_body, site_at};
 
-use crate::around::{Around, enter_block, enter_parameters, enter_procedure};
+use crate::around::{Around, enter_body, enter_procedure};
 use crate::nodes::{Node, node_in_procedure};
 use language::{Procedure, Profile, Program};
-use names::Names;
 use scopes::Scope;
 use std::alloc::{AllocError, Global};
 
@@ -31,15 +30,11 @@ fn around_in<'a>(
 ) -> Result<Around<'a>, AllocError>
     ensures { IfOk result (λ around. around ≡ around_in at (in_body scope.entry (procedure_tree procedure.now)) (procedure_tree procedure.now).body) }
 {
-    let places = Names::new(alloc);
-    let mut around = Around {
-        scope,
-        places,
-        under: None,
-    };
-    enter_parameters(&mut around, procedure.parameters.as_slice())?;
-    enter_block(at, &mut around, procedure.body.as_slice())?;
-    Ok(around)
+    let mut around = Around::new(alloc, scope);
+    match enter_body(at, &mut around, procedure) {
+        Ok(()) => Ok(around),
+        Err(error) => Err(error),
+    }
 }
 
 /// The node that stands behind so many bytes of the source, for an observer.
