@@ -8,4 +8,6 @@ pub mod Removed
 pub mod Exact
 pub mod Replaced
 pub mod Quiet
+pub mod Uses
+pub mod Greatest
 pub mod private

@@ -11,13 +11,11 @@ use Rattle.branch_removal.specs.Heights.{height_of, height_of_all, height_in, he
 use Rattle.branch_removal.specs.Heights.{result_height}
 use Rattle.branch_removal.specs.Straight.{StraightTree, set, clear, fill, put, take, set_under, put_under, branch}
 use Rattle.branch_removal.specs.Straight.{repeats, StraightBlock, nothing, first}
-use Rattle.live_words.specs.private.Held.{Table, Held, share, anew, joined}
+use Rattle.live_words.specs.private.Held.{Table, Held, share, anew}
 use Rattle.live_words.specs.private.Terms.{renamed, is_dead}
 use Rattle.live_words.specs.private.Gathering.{at_head}
-use Rattle.live_words.specs.private.Sharing.{before, before_all, closed, in_front, shared, shared_all}
-use Rattle.live_words.proofs.HeldLemmas.{grows_joined}
-use Rattle.live_words.proofs.TermLemmas.{grows_reading}
-use Rattle.live_words.proofs.Same.{fits_before, fits_before_all, is_closed, grows_bounds}
+use Rattle.live_words.specs.private.Sharing.{before, before_all, in_front, shared, shared_all}
+use Rattle.live_words.proofs.Same.{fits_before, arms_fit, loop_fits}
 
 pub max_both : (a b c d : ℕ) → a ≤ c → b ≤ d → max a b ≤ max c d
 max_both a b c d p q = max-le (omega (arith, p, le-max_left c d)) (omega (arith, q, le-max_right c d))
@@ -115,21 +113,16 @@ module _ (table : Table) where
           (1 + term_nodes value) (omega (arith, same_nodes value))
       less held (put_under control place x size index value) f = omega (arith, same_nodes index, same_nodes value)
       less held (branch condition accepted otherwise) f =
-          let second = before_all table held otherwise in
-          let one = before_all table (anew second held.holders) accepted in
-          let both = joined one 0 second.holders in
-          let fits = (grows_joined one 0 second.holders).fits ((grows_reading table [] both condition).fits f) in
+          let fits = arms_fit table held condition accepted otherwise f in
           omega (
             arith,
             same_nodes condition,
-            less_all (anew second held.holders) accepted fits,
-            less_all held otherwise (fits_before_all table (anew second held.holders) accepted fits),
+            less_all (anew (before_all table held otherwise) held.holders) accepted fits.0,
+            less_all held otherwise fits.1,
           )
       less held (repeats x low high body) f =
           let head = at_head table held x body in
-          let turn = before_all table head body in
-          let last = closed table x head turn in
-          let parts = is_closed table x head turn ((grows_bounds table last low high).fits f) in
+          let parts = loop_fits table held x low high body f in
           let inner = less_all head body parts.turn_fits in
           let code = block_work turns (shared_all table head body) in
           let whole = block_work turns body in

@@ -139,6 +139,27 @@ module _ (table : Table) where
     fits_before_all held (first statement rest) f =
         fits_before_all held rest (fits_before (before_all table held rest) statement f)
 
+  -- and before each arm of a branch
+  pub arms_fit : (held : Held) (condition : TermTree) (accepted otherwise : StraightBlock)
+      → (before table held (branch condition accepted otherwise)).fits ≡ true
+      → ((before_all table (anew (before_all table held otherwise) held.holders) accepted).fits ≡ true)
+      × ((before_all table held otherwise).fits ≡ true)
+  arms_fit held condition accepted otherwise f =
+      let second = before_all table held otherwise in
+      let one = before_all table (anew second held.holders) accepted in
+      let both = joined one 0 second.holders in
+      let fits = (grows_joined one 0 second.holders).fits ((grows_reading table [] both condition).fits f) in
+      (fits, fits_before_all (anew second held.holders) accepted fits)
+
+  -- and in a loop
+  pub loop_fits : (held : Held) (x : ℕ) (low high : TermTree) (body : StraightBlock)
+      → (before table held (repeats x low high body)).fits ≡ true
+      → IsClosed x (at_head table held x body) (before_all table (at_head table held x body) body)
+  loop_fits held x low high body f =
+      let head = at_head table held x body in
+      let turn = before_all table head body in
+      is_closed x head turn ((grows_bounds (closed table x head turn) low high).fits f)
+
   -- Two runs side by side.
 
   -- what is live is alike, and the control values are the same

@@ -35,7 +35,7 @@ use Rattle.live_words.proofs.HeldLemmas.{Grows, grows_same, grows_on, grows_hold
 use Rattle.live_words.proofs.HeldLemmas.{alike_first}
 use Rattle.live_words.proofs.TermLemmas.{grows_reading, IsRead, read_before, same_value, same_path}
 use Rattle.live_words.proofs.Same.{AreReady, fits_before_all, keeps_all}
-use Rattle.live_words.proofs.Typed.{IsKept, still_all_typed, still_hidden_all, still_result}
+use Rattle.live_words.proofs.Typed.{IsKept, are_kept, still_all_typed, still_hidden_all, still_result}
 use Rattle.live_words.proofs.Bounds.{less_all, lower_all, flatter_all, same_value_nodes, same_result_height, max_both}
 use Rattle.live_words.proofs.Copied.{same_term, same_block, unfit}
 
@@ -168,12 +168,12 @@ module _ (table : Table) where
       still_straight = record {
         typed = record {
           parameters = straight.typed.parameters;
-          body = still_all_typed table p.profile p.declared p.controls declared (at_end table held p) p.body
+          body = still_all_typed table p.profile p.declared p.controls declared (at_end table held p) p.body fits
               straight.typed.body;
           hidden = still_hidden_all table p.profile p.declared p.controls declared (at_end table held p) p.body
               straight.typed.hidden;
-          result = still_result table (types_of p.profile p.declared) declared.same p.returned p.value
-              straight.typed.result;
+          result = still_result table (types_of p.profile p.declared)
+              (are_kept table p.profile p.declared p.controls declared) p.returned p.value straight.typed.result;
         };
         bounded = still_bounded;
       }

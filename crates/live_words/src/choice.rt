@@ -1,10 +1,11 @@
 // Which words share a variable.
 
-ghost use Rattle.std.specs.Prelude.{◌≡◌, [], slice_get, IfOk};
+ghost use Rattle.std.specs.Prelude.{◌≡◌, ◌≤◌, length, slice_get, slice_set, IfOk};
 ghost use Rattle.language.specs.Types.{same_label};
-ghost use Rattle.live_words.specs.private.Choice.{all_allowed, are_alike, chosen, conflicts_with, first_shared, is_allowed, is_conflict, is_fixed, is_noted, is_some, is_word, may_share, merged, noted_where, same_mutable, same_words, variable_for};
+ghost use Rattle.live_words.specs.private.Choice.{all_allowed, are_alike, chosen, conflicts_with, first_shared, is_allowed, is_conflict, is_fixed, is_noted, is_some, is_word, may_share, merged, none_placed, noted_where, own_variables, placed, placed_all, placing_by, same_words, variable_for, with_own};
 
-use crate::live::{conflict_place, holder, mark, share};
+use crate::live::{conflict_place, holder, mark};
+use branch_removal::{greatest_of, heaviest, take_greatest};
 use inline::FlatVariable;
 use language::Label;
 use std::alloc::{AllocError, Global};
@@ -19,13 +20,6 @@ fn is_same_label(one: Label, other: Label) -> bool
     }
 }
 
-/// Whether both may be assigned to, or neither.
-fn is_same_mutable(one: bool, other: bool) -> bool
-    ensures { result ≡ same_mutable one other }
-{
-    if one { other } else { !other }
-}
-
 /// Whether a variable with so many elements, where it is an array, is a word.
 fn is_word(elements: Option<u32>) -> bool
     ensures { result ≡ is_word elements }
@@ -36,7 +30,7 @@ fn is_word(elements: Option<u32>) -> bool
     }
 }
 
-/// Whether two words are declared alike.
+/// Whether two variables are words of one type. One may be assigned to where the other may not: straight code sets both.
 fn same_words(one: FlatVariable, other: FlatVariable) -> bool
     ensures { result ≡ same_words one other }
 {
@@ -44,10 +38,9 @@ fn same_words(one: FlatVariable, other: FlatVariable) -> bool
         && is_word(other.elements)
         && one.word.kind.is_same(other.word.kind)
         && is_same_label(one.word.label, other.word.label)
-        && is_same_mutable(one.mutable, other.mutable)
 }
 
-/// Whether two variables are words that are declared alike.
+/// Whether there are two variables, and they are words of one type.
 fn are_alike(one: Option<FlatVariable>, other: Option<FlatVariable>) -> bool
     ensures { result ≡ are_alike one other }
 {
@@ -133,38 +126,38 @@ impl<'w> Words<'w> {
             || is_conflict(conflicts, self.width, word, word)
     }
 
-    /// Whether a word may share a variable of an earlier one.
-    fn may_share(&self, conflicts: &[bool], table: &[u32], word: u32, variable: u32) -> bool
-        ensures { result ≡ may_share self.now.declared.now conflicts.now self.now.width table.now word variable }
+    /// Whether a word may share this variable, in which another is placed. That of a counter is not shared, since a loop
+    /// counts in a register only where its body sets the counter nowhere.
+    fn may_share(&self, conflicts: &[bool], word: u32, variable: u32) -> bool
+        ensures { result ≡ may_share self.now.declared.now conflicts.now self.now.width word variable }
     {
-        share(table, variable) == variable
-            && are_alike(
-                at(self.declared, word as usize),
-                at(self.declared, variable as usize),
-            )
-            && !is_conflict(conflicts, self.width, variable, word)
+        are_alike(
+            at(self.declared, word as usize),
+            at(self.declared, variable as usize),
+        ) && !is_conflict(conflicts, self.width, variable, word)
+            && !is_conflict(conflicts, self.width, variable, variable)
     }
 
-    /// The first variable of an earlier word that a word may share, else its own.
-    fn first_shared(&self, conflicts: &[bool], table: &[u32], word: u32) -> u32
-        ensures { result ≡ first_shared self.now.declared.now conflicts.now self.now.width table.now word word 0 }
+    /// The first of these variables that a word may share, else its own.
+    fn first_shared(&self, conflicts: &[bool], word: u32, variables: &[u32]) -> u32
+        ensures { result ≡ first_shared self.now.declared.now conflicts.now self.now.width word variables.now }
     {
-        for variable in 0..word {
-            if self.may_share(conflicts, table, word, variable) {
-                return variable;
+        for variable in variables {
+            if self.may_share(conflicts, word, *variable) {
+                return *variable;
             }
         }
         word
     }
 
-    /// The variable that a word gets.
-    fn variable_for(&self, conflicts: &[bool], table: &[u32], word: u32) -> u32
-        ensures { result ≡ variable_for self.now.declared.now self.now.starts.now conflicts.now self.now.width table.now word }
+    /// The variable that a word gets, its own or one of these.
+    fn variable_for(&self, conflicts: &[bool], variables: &[u32], word: u32) -> u32
+        ensures { result ≡ variable_for self.now.declared.now self.now.starts.now conflicts.now self.now.width variables.now word }
     {
         if self.is_fixed(conflicts, word) {
             word
         } else {
-            self.first_shared(conflicts, table, word)
+            self.first_shared(conflicts, word, variables)
         }
     }
 }
@@ -197,19 +190,98 @@ fn merge_other(conflicts: &mut Vec<bool>, width: u32, variable: u32, word: u32)
     }
 }
 
-/// The variables that words live in, one after the other.
+/// A word that is placed in its own variable has it listed.
+fn push_own(variables: &mut Vec<u32>, variable: u32, word: u32) -> Result<(), AllocError>
+    ensures { IfOk result (λ done. variables.new.items ≡ with_own variables.old.items variable word) }
+{
+    if variable == word {
+        variables.push(word)?;
+    }
+    Ok(())
+}
+
+/// A word lives in this variable.
+fn set_variable(table: &mut Vec<u32>, word: u32, variable: u32)
+    ensures { table.new.items ≡ slice_set table.old.items word variable }
+{
+    if let Some(entry) = table.get_mut(word as usize) {
+        *entry = variable;
+    }
+}
+
+/// So many words live in their own variables.
+fn own_variables(alloc: Global, width: u32) -> Result<Vec<u32>, AllocError>
+    ensures { IfOk result (λ table. table.items ≡ own_variables width 0) }
+{
+    let mut table = Vec::new(alloc);
+    for word in 0..width {
+        table.push(word)?;
+    }
+    Ok(table)
+}
+
+/// The words that are placed.
+#[derive(Drop)]
+pub struct Placed {
+    /// Which words are in conflict: a row for each, and of the first word of a variable a row for all words of this.
+    conflicts: Vec<bool>,
+    /// The variables that words are placed in, in the order of placing.
+    variables: Vec<u32>,
+    /// For each word the variable that it lives in.
+    table: Vec<u32>,
+}
+
+impl Placed {
+    /// No word is placed of so many.
+    fn nothing(alloc: Global, width: u32, conflicts: Vec<bool>) -> Result<Self, AllocError>
+        ensures { IfOk result (λ placed. placing_by placed ≡ none_placed width conflicts.items) }
+    {
+        Ok(Placed {
+            conflicts,
+            variables: Vec::new(alloc),
+            table: own_variables(alloc, width)?,
+        })
+    }
+
+    /// Places a word.
+    fn place(&mut self, words: Words<'_>, word: u32) -> Result<(), AllocError>
+        ensures { IfOk result (λ done. placing_by self.new ≡ placed words.entry.declared.now words.entry.starts.now words.entry.width (placing_by self.old) word) }
+    {
+        let variable = words.variable_for(&self.conflicts, &self.variables, word);
+        merge_other(&mut self.conflicts, words.width, variable, word);
+        push_own(&mut self.variables, variable, word)?;
+        set_variable(&mut self.table, word, variable);
+        Ok(())
+    }
+
+    /// Places the words that are used, by their weights, the greatest first.
+    fn place_all(&mut self, words: Words<'_>, weights: &mut Vec<u64>) -> Result<(), AllocError>
+        requires { length weights.old.items ≤ words.width }
+        ensures { IfOk result (λ done. placing_by self.new ≡ placed_all words.entry.declared.now words.entry.starts.now words.entry.width words.entry.width weights.old.items (placing_by self.old)) }
+    {
+        for _ in 0..words.width {
+            if greatest_of(weights.as_slice()) == 0 {
+                return Ok(());
+            }
+            let word = heaviest(weights.as_slice()) as u32;
+            take_greatest(weights);
+            self.place(words, word)?;
+        }
+        Ok(())
+    }
+}
+
+/// The variables that words live in, by how much the words are used.
 pub fn choose(
     alloc: Global,
     words: Words<'_>,
-    conflicts: &mut Vec<bool>,
+    mut weights: Vec<u64>,
+    conflicts: Vec<bool>,
 ) -> Result<Vec<u32>, AllocError>
-    ensures { IfOk result (λ table. table.items ≡ chosen words.entry.declared.now words.entry.starts.now words.entry.width words.entry.width 0 conflicts.old.items []) }
+    ensures { IfOk result (λ table. table.items ≡ chosen words.entry.declared.now words.entry.starts.now words.entry.width weights.items conflicts.items) }
 {
-    let mut table = Vec::new(alloc);
-    for word in 0..words.width {
-        let variable = words.variable_for(conflicts, &table, word);
-        merge_other(conflicts, words.width, variable, word);
-        table.push(variable)?;
-    }
-    Ok(table)
+    weights.truncate(words.width as usize);
+    let mut placed = Placed::nothing(alloc, words.width, conflicts)?;
+    placed.place_all(words, &mut weights)?;
+    Ok(placed.table)
 }

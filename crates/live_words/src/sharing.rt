@@ -13,7 +13,7 @@ use crate::choice::{Words, all_allowed, choose};
 use crate::live::{Live, hold_own, share};
 use crate::statements::statements;
 use crate::terms::{read_any, renamed_any};
-use branch_removal::{Straight, StraightStatement};
+use branch_removal::{Straight, StraightStatement, variable_weights};
 use inline::Term;
 use language::{Form, Param, Refusal};
 use std::alloc::{AllocError, Global};
@@ -68,7 +68,7 @@ fn over(
 }
 
 /// Whether sharing fits: no variable has to hold two words at once, what is live at the beginning keeps its number, and
-/// words live in variables that are declared as they are.
+/// words live in variables of their type.
 fn all_fits(straight: &Straight<'_>, live: &Live, table: &[u32]) -> bool
     ensures { result ≡ all_fits table.now (held_by live.now) straight.now }
 {
@@ -89,12 +89,14 @@ fn table_for(alloc: Global, straight: &Straight<'_>) -> Result<Vec<u32>, AllocEr
     let width = straight.declared().len().min(MOST_SHARING) as u32;
     let mut live = nothing_live(alloc, straight, width)?;
     over(alloc, straight, &mut live, &[])?;
+    let weights = variable_weights(alloc, straight)?;
+    let conflicts = live.conflicts;
     let words = Words {
         declared: straight.declared(),
         starts: live.holders.as_slice(),
         width: live.width,
     };
-    choose(alloc, words, &mut live.conflicts)
+    choose(alloc, words, weights, conflicts)
 }
 
 /// A program's body and result in which words share variables, where that fits, and else as they are.

@@ -4,6 +4,7 @@ use Rattle.std.specs.Prelude.{replicate, Option}
 use Rattle.std.specs.Prelude.{None, Some, if◌then◌else◌}
 use Rattle.std.specs.Option.{option_map}
 use Rattle.branch_removal.specs.Straight.{StraightProgram, with_body}
+use Rattle.branch_removal.specs.Uses.{weights_of}
 use Rattle.inline.specs.Flat.{TermTree}
 use Rattle.language.specs.Typing.{is_mutable}
 use Rattle.language.specs.declared.signature.Param.{Param}
@@ -53,16 +54,16 @@ over table held p =
     with_body p (shared_all table (at_end table held p) p.body) (option_map (renamed table) p.value)
 
 -- sharing fits: no variable has to hold two words at once, what is live at the beginning keeps its number, and words
--- live in variables that are declared as they are
+-- live in variables of their type
 abbrev pub all_fits : Table → Held → StraightProgram → Bool
 all_fits table held p = held.fits && hold_own 0 held.holders && all_allowed p.declared 0 table
 
 abbrev pub nothing_live : StraightProgram → ℕ → Held
 nothing_live p width = none_live (length p.declared) width
 
--- the words that share variables, by what is live where each is in its own
+-- the words that share variables, by what is live where each is in its own, and how much each is used
 abbrev pub table_by : StraightProgram → Held → Table
-table_by p held = chosen p.declared held.holders held.width held.width 0 held.conflicts []
+table_by p held = chosen p.declared held.holders held.width (weights_of p) held.conflicts
 
 abbrev pub table_for : StraightProgram → Table
 table_for p = table_by p (at_start [] (nothing_live p (min (length p.declared) most_sharing)) p)
