@@ -16,7 +16,7 @@ use Rattle.constants.specs.private.Known.{Words, forgotten_all, in_loop}
 use Rattle.constants.specs.private.Choice.{AreAllowed}
 use Rattle.constants.specs.private.Simplification.{at_turn, code_of_turns, knowing, knowing_all, single}
 use Rattle.constants.specs.private.Simplification.{simplified, simplified_all}
-use Rattle.constants.proofs.TermLemmas.{fewer_nodes, fewer_nodes_all, lower, lower_all}
+use Rattle.constants.proofs.TermSizes.{fewer_nodes, fewer_nodes_all, lower, lower_all}
 use Rattle.constants.proofs.Decisions.{bounds_of, unrolled_by}
 use Rattle.constants.proofs.Turns.{of_all_turns}
 use Rattle.constants.proofs.Unset.{decided_any, unrolled_any}

@@ -4,7 +4,7 @@ use Rattle.std.proofs.Common.{◌&&◌, if◌then◌else◌, slice_index, slice_
 use Rattle.branch_removal.specs.Straight.{StraightTree, set, clear, fill, put, take, set_under, put_under, branch}
 use Rattle.branch_removal.specs.Straight.{repeats, StraightBlock, nothing, first, StraightProgram}
 use Rattle.constants.specs.private.Choice.{AreAllowed, Chosen, begun, chosen, chosen_all, copies_of, counted, grown}
-use Rattle.constants.specs.private.Choice.{most_in_turn, settled, term_size}
+use Rattle.constants.specs.private.Choice.{most_nodes_of, settled, term_size}
 
 -- a count of nodes serves as they do
 pub grown_by : (so_far : Chosen) (count n : ℕ) → count ≡ counted n → grown so_far count ≡ grown so_far n
@@ -20,7 +20,8 @@ pub settled_by : (before room x count own : ℕ) (inner same : Chosen) → count
     → settled before room x count inner ≡ settled before room x own same
 settled_by before room x count own inner same is alike =
     ap (λ (n : ℕ). if nat_le 1 (slice_index inner.copies x)
-    && nat_le inner.nodes most_in_turn && nat_le (counted (counted (inner.nodes + 2) * slice_index inner.copies x)) room
+    && nat_le inner.nodes (most_nodes_of (slice_index inner.copies x))
+    && nat_le (counted (counted (inner.nodes + 2) * slice_index inner.copies x)) room
     then record {
       copies = inner.copies;
       room = room - counted (counted (inner.nodes + 2) * slice_index inner.copies x);
@@ -48,7 +49,8 @@ module _ (turns : List ℕ) where
       → AreAllowed (settled before room x own inner).copies turns
   settled_allowed before room x own inner allowed =
       by_room (nat_le 1 (slice_index inner.copies x)
-      && nat_le inner.nodes most_in_turn && nat_le (counted (counted (inner.nodes + 2) * slice_index inner.copies x)) room) _ _
+      && nat_le inner.nodes (most_nodes_of (slice_index inner.copies x))
+      && nat_le (counted (counted (inner.nodes + 2) * slice_index inner.copies x)) room) _ _
       allowed
       (refused inner.copies turns x allowed)
     where

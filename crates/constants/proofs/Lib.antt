@@ -1,8 +1,14 @@
 pub mod KnownLemmas
 pub mod CopyLemmas
 pub mod Identities
+pub mod OneOperand
 pub mod Opposites
+pub mod TurnedRound
+pub mod TwoShifts
+pub mod PowerSteps
+pub mod Suiting
 pub mod TermTypes
+pub mod TermSizes
 pub mod TermLemmas
 pub mod Unset
 pub mod Turns

@@ -107,10 +107,11 @@ opposite Multiply other is = absurd (none-some other is)
 opposite Divide other is = absurd (none-some other is)
 opposite Remainder other is = absurd (none-some other is)
 
--- what holds of the opposite comparison, where there is one, and of another expression, holds of what becomes of both
-pub opposite_by : (P : TermTree → Type 0) (o : Option BinaryOperator) (place : Place) (w : Width)
+-- what holds of two operands with an operator between them, where there is one, and of another expression, holds of
+-- what becomes of both
+pub binary_by : (P : TermTree → Type 0) (o : Option BinaryOperator) (place : Place) (w : Width)
     (left right e : TermTree)
     → ((other : BinaryOperator) → o ≡ Some other → P (binary place other w left right)) → P e
     → P (binary_or o place w left right e)
-opposite_by P None place w left right e found stays = stays
-opposite_by P (Some other) place w left right e found stays = found other refl
+binary_by P None place w left right e found stays = stays
+binary_by P (Some other) place w left right e found stays = found other refl

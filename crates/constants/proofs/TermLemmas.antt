@@ -1,23 +1,21 @@
--- A simpler expression has the value that the expression has, its path is fine where that one's is, and it has no more
--- nodes and no more temporaries.
-use Rattle.std.proofs.Common.{◌≡◌, ℕ, ◌+◌, ◌≤◌, ◌==◌, ◌&&◌, Bool, true, false, not, if◌then◌else◌, List}
+-- A simpler expression has the value that the expression has, and its path is fine where that one's is.
+use Rattle.std.proofs.Common.{◌≡◌, ℕ, ◌==◌, ◌&&◌, Bool, true, false, not, if◌then◌else◌, List}
 use Rattle.std.proofs.Common.{[], ◌∷◌, ◌⊎◌, inl, inr, ◌++◌, map, slice_index, Option, None, Some, option_map, refl}
 use Rattle.std.proofs.Common.{sym, ap}
-use Rattle.std.proofs.Common.{ap₂, ◌∙◌, subst, arith}
+use Rattle.std.proofs.Common.{ap₂, ◌∙◌, subst}
 use Rattle.std.proofs.lemmas.Bool.{cond-false, cond-true, false≢true}
 use Rattle.std.proofs.lemmas.Option.{none-some, same_Some}
-use Rattle.branch_removal.specs.Heights.{height_of, height_of_all}
 use Rattle.inline.proofs.Fitting.{value_fits}
 use Rattle.inline.specs.Fitting.{IsWithinKind, Fits}
 use Rattle.inline.specs.Flat.{TermTree, number, truth, variable, prefix, binary, rotate, convert, select, element}
 use Rattle.inline.specs.FlatMeaning.{Values, value_in, path_in, path_in_all, marks_of}
-use Rattle.inline.specs.FlatSize.{term_nodes, terms_nodes}
 use Rattle.inline.specs.FlatTyping.{Types, HasType, of_number, of_truth, of_variable, of_prefix, of_binary}
 use Rattle.inline.specs.FlatTyping.{of_rotation, of_conversion, of_selection, of_element, Suits, AllSuit}
 use Rattle.branch_removal.proofs.Sequences.{fine_both, fine_front, fine_back}
 use Rattle.inline.specs.Path.{Path, AreFine, indexed}
 use Rattle.language.specs.declared.signature.Kind.{Kind}
 use Rattle.language.specs.declared.tree.BinaryOperator.{BinaryOperator}
+use Rattle.language.specs.declared.tree.BinaryOperator.TheVariants.{Multiply}
 use Rattle.language.specs.declared.tree.PrefixOperator.{PrefixOperator}
 use Rattle.language.specs.declared.tree.PrefixOperator.TheVariants.{Not, Complement, Negate}
 use Rattle.language.specs.declared.typing.WordType.{WordType}
@@ -26,186 +24,27 @@ use Rattle.language.specs.Operators.{divides, operated, prefix_value, truth_of, 
 use Rattle.language.specs.WellTyped.{Makes}
 use Rattle.word.specs.Operators.{rotated_left, converted}
 use Rattle.word.specs.declared.place.Place.{Place}
-use Rattle.word.specs.declared.profile.Profile.{Profile}
 use Rattle.word.specs.declared.width.Width.{Width}
+use Rattle.constants.specs.declared.fields.Field.{Field}
 use Rattle.constants.specs.declared.known.Constant.{Constant}
 use Rattle.constants.specs.declared.known.WordCopy.{WordCopy}
+use Rattle.constants.specs.declared.powers.Step.{Step}
 use Rattle.constants.specs.private.Known.{Words, known, source_in}
 use Rattle.constants.specs.private.Folding.{constant, constant_of, known_or, decision}
 use Rattle.constants.specs.private.Folding.{applied, between, chosen, is_among, is_left_identity, is_right_identity}
-use Rattle.constants.specs.private.Folding.{negation_of, opposite_of, reduced, simple}
+use Rattle.constants.specs.private.Fields.{amount_of, field_of, lifted, mask_of, moved}
+use Rattle.constants.specs.private.Folding.{decided, narrowed, negation_of, number_of, operation, opposite_of, reduced}
+use Rattle.constants.specs.private.Folding.{simple, stepped, stepped_or, truth_or, turned, turned_by}
+use Rattle.constants.specs.private.Powers.{step_of, turned_step}
 use Rattle.constants.proofs.Identities.{left_leaves, reduced_by, right_leaves}
 use Rattle.constants.proofs.KnownLemmas.{Holds, IsSource, copy, read_as, valued}
-use Rattle.constants.proofs.Opposites.{denied, denied_twice, opposite, opposite_by}
+use Rattle.constants.proofs.OneOperand.{is_decided, truth_by}
+use Rattle.constants.proofs.Opposites.{denied, denied_twice, opposite, binary_by}
+use Rattle.constants.proofs.PowerSteps.{IsStep, is_step, is_turned, step_value, stepped_by, turned_step_value}
+use Rattle.constants.proofs.PowerSteps.{unmarked}
 use Rattle.constants.proofs.TermTypes.{simple_suits}
-
--- Nodes.
-
-pub some_node : (e : TermTree) → 1 ≤ term_nodes e
-some_node (number value kind) = omega arith
-some_node (truth value) = omega arith
-some_node (variable x) = omega arith
-some_node (prefix operator width operand) = omega arith
-some_node (binary place operator width left right) = omega arith
-some_node (rotate width operand amount) = omega arith
-some_node (convert kind operand) = omega arith
-some_node (select condition accepted otherwise) = omega arith
-some_node (element place x size index) = omega arith
-
-known_nodes : (o : Option Constant) (e : TermTree) → term_nodes (known_or o e) ≤ term_nodes e
-known_nodes None e = omega arith
-known_nodes (Some c) e = some_node e
-
-negation_nodes : (width : Width) (e : TermTree) → term_nodes (negation_of width e) ≤ 1 + term_nodes e
-negation_nodes width (number value kind) = omega arith
-negation_nodes width (truth value) = omega arith
-negation_nodes width (variable x) = omega arith
-negation_nodes width (prefix Not w operand) = omega arith
-negation_nodes width (prefix Complement w operand) = omega arith
-negation_nodes width (prefix Negate w operand) = omega arith
-negation_nodes width (binary place operator w left right) =
-    opposite_by (λ e. term_nodes e ≤ 1 + (1 + term_nodes left + term_nodes right)) (opposite_of operator) place w left
-    right (prefix Not width (binary place operator w left right)) (λ other is. omega arith) (omega arith)
-negation_nodes width (rotate w operand amount) = omega arith
-negation_nodes width (convert kind operand) = omega arith
-negation_nodes width (select condition accepted otherwise) = omega arith
-negation_nodes width (element place x size index) = omega arith
-
-applied_nodes : (operator : PrefixOperator) (width : Width) (e : TermTree)
-    → term_nodes (applied operator width e) ≤ 1 + term_nodes e
-applied_nodes Not width e = negation_nodes width e
-applied_nodes Complement width e = omega arith
-applied_nodes Negate width e = omega arith
-
-reduced_nodes : (place : Place) (operator : BinaryOperator) (width : Width) (left right : TermTree)
-    → term_nodes (reduced place operator width left right) ≤ 1 + term_nodes left + term_nodes right
-reduced_nodes place operator width left right =
-    reduced_by (λ e. term_nodes e ≤ 1 + term_nodes left + term_nodes right)
-    (is_among (is_right_identity operator width) (constant_of right))
-    (is_among (is_left_identity operator width) (constant_of left)) left right (binary place operator width left right)
-    (λ is. omega arith) (λ is. omega arith) (omega arith)
-
-chosen_nodes : (d : Option Bool) (condition accepted otherwise : TermTree)
-    → term_nodes (chosen d condition accepted otherwise) ≤ 1 + term_nodes condition + term_nodes accepted
-    + term_nodes otherwise
-chosen_nodes None condition accepted otherwise = omega arith
-chosen_nodes (Some true) condition accepted otherwise = omega arith
-chosen_nodes (Some false) condition accepted otherwise = omega arith
-
-module _ (words : Words) where
-  pub fewer_nodes : (e : TermTree) → term_nodes (simple words e) ≤ term_nodes e
-  fewer_nodes (number value kind) = omega arith
-  fewer_nodes (truth value) = omega arith
-  fewer_nodes (variable x) = known_nodes (known words x) (variable (source_in words.copies x))
-  fewer_nodes (prefix operator width operand) =
-      let whole =
-      known_nodes (option_map (λ c. constant (prefix_value operator width c.value) c.kind)
-      (constant_of (simple words operand))) (applied operator width (simple words operand)) in
-      let less = applied_nodes operator width (simple words operand) in
-      omega (arith, whole, less, fewer_nodes operand)
-  fewer_nodes (binary place operator width left right) =
-      let whole =
-      known_nodes (between operator width (constant_of (simple words left)) (constant_of (simple words right)))
-      (reduced place operator width (simple words left) (simple words right)) in
-      let less = reduced_nodes place operator width (simple words left) (simple words right) in
-      omega (arith, whole, less, fewer_nodes left, fewer_nodes right)
-  fewer_nodes (rotate width operand amount) =
-      let whole =
-      known_nodes (option_map (λ c. constant (rotated_left width c.value amount) c.kind)
-      (constant_of (simple words operand))) (rotate width (simple words operand) amount) in
-      omega (arith, whole, fewer_nodes operand)
-  fewer_nodes (convert kind operand) =
-      let whole =
-      known_nodes (option_map (λ c. constant (converted (width_of kind) c.value) kind)
-      (constant_of (simple words operand))) (convert kind (simple words operand)) in
-      omega (arith, whole, fewer_nodes operand)
-  fewer_nodes (select condition accepted otherwise) =
-      let whole = chosen_nodes (decision (simple words condition)) (simple words condition) (simple words accepted)
-      (simple words otherwise) in
-      omega (arith, whole, fewer_nodes condition, fewer_nodes accepted, fewer_nodes otherwise)
-  fewer_nodes (element place x size index) = omega (arith, fewer_nodes index)
-
-  pub fewer_nodes_all : (es : List TermTree) → terms_nodes (map (simple words) es) ≤ terms_nodes es
-  fewer_nodes_all [] = omega arith
-  fewer_nodes_all (e ∷ es) = omega (arith, fewer_nodes e, fewer_nodes_all es)
-
--- Temporaries.
-
-known_height : (o : Option Constant) (e : TermTree) → height_of (known_or o e) ≤ height_of e
-known_height None e = omega arith
-known_height (Some c) e = omega arith
-
-negation_height : (width : Width) (e : TermTree) → height_of (negation_of width e) ≤ height_of e
-negation_height width (number value kind) = omega arith
-negation_height width (truth value) = omega arith
-negation_height width (variable x) = omega arith
-negation_height width (prefix Not w operand) = omega arith
-negation_height width (prefix Complement w operand) = omega arith
-negation_height width (prefix Negate w operand) = omega arith
-negation_height width (binary place operator w left right) =
-    opposite_by (λ e. height_of e ≤ height_of (binary place operator w left right)) (opposite_of operator) place w left
-    right (prefix Not width (binary place operator w left right)) (λ other is. omega arith) (omega arith)
-negation_height width (rotate w operand amount) = omega arith
-negation_height width (convert kind operand) = omega arith
-negation_height width (select condition accepted otherwise) = omega arith
-negation_height width (element place x size index) = omega arith
-
-applied_height : (operator : PrefixOperator) (width : Width) (e : TermTree)
-    → height_of (applied operator width e) ≤ height_of e
-applied_height Not width e = negation_height width e
-applied_height Complement width e = omega arith
-applied_height Negate width e = omega arith
-
-reduced_height : (place : Place) (operator : BinaryOperator) (width : Width) (left right : TermTree)
-    → height_of (reduced place operator width left right) ≤ height_of (binary place operator width left right)
-reduced_height place operator width left right =
-    reduced_by (λ e. height_of e ≤ height_of (binary place operator width left right))
-    (is_among (is_right_identity operator width) (constant_of right))
-    (is_among (is_left_identity operator width) (constant_of left)) left right (binary place operator width left right)
-    (λ is. omega arith) (λ is. omega arith) (omega arith)
-
-chosen_height : (d : Option Bool) (condition accepted otherwise : TermTree)
-    → height_of (chosen d condition accepted otherwise) ≤ height_of (select condition accepted otherwise)
-chosen_height None condition accepted otherwise = omega arith
-chosen_height (Some true) condition accepted otherwise = omega arith
-chosen_height (Some false) condition accepted otherwise = omega arith
-
-module _ (words : Words) where
-  pub lower : (e : TermTree) → height_of (simple words e) ≤ height_of e
-  lower (number value kind) = omega arith
-  lower (truth value) = omega arith
-  lower (variable x) = known_height (known words x) (variable (source_in words.copies x))
-  lower (prefix operator width operand) =
-      let whole =
-      known_height (option_map (λ c. constant (prefix_value operator width c.value) c.kind)
-      (constant_of (simple words operand))) (applied operator width (simple words operand)) in
-      let less = applied_height operator width (simple words operand) in
-      omega (arith, whole, less, lower operand)
-  lower (binary place operator width left right) =
-      let whole =
-      known_height (between operator width (constant_of (simple words left)) (constant_of (simple words right)))
-      (reduced place operator width (simple words left) (simple words right)) in
-      let less = reduced_height place operator width (simple words left) (simple words right) in
-      omega (arith, whole, less, lower left, lower right)
-  lower (rotate width operand amount) =
-      let whole =
-      known_height (option_map (λ c. constant (rotated_left width c.value amount) c.kind)
-      (constant_of (simple words operand))) (rotate width (simple words operand) amount) in
-      omega (arith, whole, lower operand)
-  lower (convert kind operand) =
-      let whole =
-      known_height (option_map (λ c. constant (converted (width_of kind) c.value) kind)
-      (constant_of (simple words operand))) (convert kind (simple words operand)) in
-      omega (arith, whole, lower operand)
-  lower (select condition accepted otherwise) =
-      let whole = chosen_height (decision (simple words condition)) (simple words condition) (simple words accepted)
-      (simple words otherwise) in
-      omega (arith, whole, lower condition, lower accepted, lower otherwise)
-  lower (element place x size index) = lower index
-
-  pub lower_all : (es : List TermTree) → height_of_all (map (simple words) es) ≤ height_of_all es
-  lower_all [] = omega arith
-  lower_all (e ∷ es) = omega (arith, lower e, lower_all es)
+use Rattle.constants.proofs.TurnedRound.{turned_round}
+use Rattle.constants.proofs.TwoShifts.{is_narrowed, lifted_by, moved_by, moved_value}
 
 -- Values.
 
@@ -238,9 +77,36 @@ module _ (m : Values) where
       by_constant None same h = absurd (false≢true h)
       by_constant (Some c) same h = ap numbers (constant_value e c same) ∙ h
 
+  -- bits of a word
+  narrowed_value : {types : Types} {left : TermTree} {held : WordType} → Fits types m → HasType types left held
+      → (place : Place) (operator : BinaryOperator) (width : Width) (right : TermTree)
+      → value_in m (narrowed place (mask_of operator (constant_of right)) left (binary place operator width left right))
+      ≡ operated operator width (value_in m left) (value_in m right)
+  narrowed_value {types = types} fits (of_binary {place = inner} {operator = down} {width = w} {left = word} {right =
+      amount} {one = one} has more makes even) place operator width right =
+      let both = operated operator width (operated down w (value_in m word) (value_in m amount)) (value_in m right) in
+      moved_by (λ e. value_in m e ≡ both)
+      (field_of (mask_of operator (constant_of right)) (amount_of down w (constant_of amount))) place w word
+      (binary place operator width (binary inner down w word amount) right)
+      (λ field is. moved_value m operator down w width (constant_of right) (constant_of amount) field
+      (is_narrowed operator (constant_of right) down w (constant_of amount) field is) place word one.kind
+      (value_fits types m fits has) (value_in m amount) (value_in m right) (constant_value amount)
+      (constant_value right))
+      refl
+  narrowed_value fits (of_number below) place operator width right = refl
+  narrowed_value fits of_truth place operator width right = refl
+  narrowed_value fits (of_variable there) place operator width right = refl
+  narrowed_value fits (of_prefix has takes even) place operator width right = refl
+  narrowed_value fits (of_rotation has numeric low high even) place operator width right = refl
+  narrowed_value fits (of_conversion has numeric) place operator width right = refl
+  narrowed_value fits (of_selection chooser has more) place operator width right = refl
+  narrowed_value fits (of_element there has) place operator width right = refl
+
   -- an operator on two operands that are within their kinds
-  module _ {profile : Profile} (place : Place) (operator : BinaryOperator) (width : Width) (left right : TermTree)
-      {one other result : WordType} (makes : Makes profile (operation_of operator) one other result)
+  module _ {types : Types} (place : Place) (operator : BinaryOperator) (width : Width) (left right : TermTree)
+      {held also one other result : WordType} (fits : Fits types m) (has : HasType types left held)
+      (more : HasType types right also)
+      (makes : Makes types.profile (operation_of operator) one other result)
       (even : width ≡ width_of one.kind) (low : IsWithinKind one.kind (value_in m left))
       (high : IsWithinKind other.kind (value_in m right)) where
     abbrev number_by : Constant → Constant → Bool → Option Constant
@@ -250,26 +116,71 @@ module _ (m : Values) where
     abbrev HasValue : TermTree → Type 0
     HasValue e = value_in m e ≡ operated operator width (value_in m left) (value_in m right)
 
+    -- turned round, or as it is
+    turned_value : HasValue (turned place operator width left right)
+    turned_value =
+        binary_by HasValue (turned_by operator (constant_of left)) place width right left
+        (operation place operator width left right)
+        (λ next is. (turned_round operator next (constant_of left) is).value width (value_in m left) (value_in m right))
+        (narrowed_value fits has place operator width right)
+
+    -- by a power of two on the left, or as it is without
+    turned_or_stays : HasValue (stepped_or (turned_step operator (constant_of left)) place width right
+        (turned place operator width left right))
+    turned_or_stays =
+        stepped_by HasValue (turned_step operator (constant_of left)) place width right
+        (turned place operator width left right)
+        (λ step is.
+        let found = is_turned operator (constant_of left) step is in
+        narrowed_value fits more place step.operator width (number_of step.number)
+        ∙ (turned_step_value operator width (value_in m right) (constant_of left) step found
+        ∙ ap (λ v. operated operator width v (value_in m right))
+        (sym (constant_value left found.is.power found.is.there))))
+        turned_value
+
+    stepped_value : HasValue (stepped place operator width left right)
+    stepped_value =
+        stepped_by HasValue (step_of operator (constant_of right)) place width left
+        (stepped_or (turned_step operator (constant_of left)) place width right
+        (turned place operator width left right))
+        (λ step is.
+        let found = is_step operator (constant_of right) step is in
+        narrowed_value fits has place step.operator width (number_of step.number)
+        ∙ (step_value operator width (value_in m left) (constant_of right) step makes even low found
+        ∙ ap (operated operator width (value_in m left)) (sym (constant_value right found.power found.there))))
+        turned_or_stays
+
     reduced_value : HasValue (reduced place operator width left right)
     reduced_value =
         reduced_by HasValue (is_among (is_right_identity operator width) (constant_of right))
         (is_among (is_left_identity operator width) (constant_of left)) left right
-        (binary place operator width left right)
+        (stepped place operator width left right)
         (λ is. sym (right_leaves operator width (value_in m left) (value_in m right) makes even low
         (among_value (is_right_identity operator width) right is)))
         (λ is. sym (left_leaves operator width (value_in m left) (value_in m right) makes even high
         (among_value (is_left_identity operator width) left is)))
-        refl
+        stepped_value
+
+    -- in place of which there may be a bool
+    abbrev told : TermTree
+    told = truth_or (decided operator (constant_of left) (constant_of right)) (reduced place operator width left right)
+
+    told_value : HasValue told
+    told_value =
+        truth_by HasValue (decided operator (constant_of left) (constant_of right))
+        (reduced place operator width left right)
+        (λ t is. (is_decided operator width (constant_of left) (constant_of right) (value_in m left) (value_in m right)
+        t (constant_value left) (constant_value right) is).value)
+        reduced_value
 
     both_value : (a b : Option Constant) → constant_of left ≡ a → constant_of right ≡ b
-        → HasValue (known_or (between operator width a b) (reduced place operator width left right))
-    both_value None b is also = reduced_value
-    both_value (Some a) None is also = reduced_value
+        → HasValue (known_or (between operator width a b) told)
+    both_value None b is also = told_value
+    both_value (Some a) None is also = told_value
     both_value (Some a) (Some b) is also = by_zero (divides operator && (b.value == 0))
       where
-        by_zero : (stays : Bool)
-            → HasValue (known_or (number_by a b stays) (reduced place operator width left right))
-        by_zero true = reduced_value
+        by_zero : (stays : Bool) → HasValue (known_or (number_by a b stays) told)
+        by_zero true = told_value
         by_zero false = ap₂ (operated operator width) (sym (constant_value left a is))
             (sym (constant_value right b also))
 
@@ -311,7 +222,7 @@ module _ (types : Types) (m : Values) (fits : Fits types m) where
   negation_value width (of_prefix {operator = Negate} has takes even) = refl
   negation_value width (of_binary {place = place} {operator = operator} {width = w} {left = left} {right =
       right} has more makes even) =
-      opposite_by (λ e. value_in m e ≡ denied (operated operator w (value_in m left) (value_in m right)))
+      binary_by (λ e. value_in m e ≡ denied (operated operator w (value_in m left) (value_in m right)))
       (opposite_of operator) place w left right (prefix Not width (binary place operator w left right))
       (λ other is. (opposite operator other is).value w (value_in m left) (value_in m right)) refl
   negation_value width (of_rotation has numeric low high even) = refl
@@ -357,7 +268,8 @@ module _ (types : Types) (words : Words) (m : Values) (holds : Holds types words
       subst (IsWithinKind one.kind) (sym (same_value has)) (value_fits types m holds.fits has) in
       let high : IsWithinKind other.kind (value_in m b) =
       subst (IsWithinKind other.kind) (sym (same_value more)) (value_fits types m holds.fits more) in
-      both_value m place operator width a b makes even low high (constant_of a) (constant_of b) refl refl
+      both_value m place operator width a b holds.fits (simple_suits types words holds.kinds has).has_type
+      (simple_suits types words holds.kinds more).has_type makes even low high (constant_of a) (constant_of b) refl refl
       ∙ ap₂ (operated operator width) (same_value has) (same_value more)
   same_value (of_rotation {width = width} {operand = operand} {amount = amount} has numeric low high even) =
       let e = simple words operand in
@@ -394,6 +306,67 @@ module _ (most : List ℕ) (m : Values) where
   known_fine None whole fine = fine
   known_fine (Some c) whole fine = tt
 
+  told_fine : (o : Option Bool) (e : TermTree) → AreFine most (path_in m e)
+      → AreFine most (path_in m (truth_or o e))
+  told_fine o e fine = truth_by (λ f. AreFine most (path_in m f)) o e (λ t is. tt) fine
+
+  moved_fine : (place : Place) (w : Width) (word : TermTree) (field : Field) → AreFine most (path_in m word)
+      → AreFine most (path_in m (moved place w word field))
+  moved_fine place w word field fine =
+      let shifted = λ (ps : Path) (each : AreFine most ps).
+      fine_both most (ps ++ []) [] (fine_both most ps [] each tt) tt in
+      shifted (path_in m (lifted place w word field))
+      (lifted_by (λ e. AreFine most (path_in m e)) place w word field (λ zero. fine) (shifted (path_in m word) fine))
+
+  narrowed_fine : (place : Place) (mask : Option Constant) (left e : TermTree) → AreFine most (path_in m left)
+      → AreFine most (path_in m e) → AreFine most (path_in m (narrowed place mask left e))
+  narrowed_fine place mask (binary inner operator w word amount) e fine whole =
+      let operands = path_in m word ++ path_in m amount in
+      let marks = marks_of inner operator (value_in m word) (value_in m amount) in
+      let one = fine_front most (path_in m word) (path_in m amount) (fine_front most operands marks fine) in
+      moved_by (λ f. AreFine most (path_in m f)) (field_of mask (amount_of operator w (constant_of amount))) place w
+      word e (λ field is. moved_fine place w word field one) whole
+  narrowed_fine place mask left e fine whole = whole
+
+  step_fine : (place : Place) (operator : BinaryOperator) (w : Width) (o : Option Constant) (step : Step)
+      (word : TermTree) → IsStep operator o step → AreFine most (path_in m word)
+      → AreFine most (path_in m (operation place step.operator w word (number_of step.number)))
+  step_fine place operator w o step word found fine =
+      let operands = path_in m word ++ [] in
+      narrowed_fine place (mask_of step.operator (Some step.number)) word
+      (binary place step.operator w word (number_of step.number)) fine
+      (subst (λ (marks : Path). AreFine most (operands ++ marks))
+      (sym (unmarked operator found.power found.k step found.is place (value_in m word) step.number.value))
+      (fine_both most operands [] (fine_both most (path_in m word) [] fine tt) tt))
+
+  turned_fine : (place : Place) (operator : BinaryOperator) (w : Width) (left right : TermTree)
+      → AreFine most (path_in m left) → AreFine most (path_in m right)
+      → AreFine most (path_in m (binary place operator w left right))
+      → AreFine most (path_in m (turned place operator w left right))
+  turned_fine place operator w left right one other whole =
+      let operands = path_in m right ++ path_in m left in
+      binary_by (λ e. AreFine most (path_in m e)) (turned_by operator (constant_of left)) place w right left
+      (operation place operator w left right)
+      (λ next is. subst (λ (marks : Path). AreFine most (operands ++ marks))
+      (sym ((turned_round operator next (constant_of left) is).unmarked place (value_in m right) (value_in m left)))
+      (fine_both most operands [] (fine_both most (path_in m right) (path_in m left) other one) tt))
+      (narrowed_fine place (mask_of operator (constant_of right)) left (binary place operator w left right) one whole)
+
+  stepped_fine : (place : Place) (operator : BinaryOperator) (w : Width) (left right : TermTree)
+      → AreFine most (path_in m left) → AreFine most (path_in m right)
+      → AreFine most (path_in m (binary place operator w left right))
+      → AreFine most (path_in m (stepped place operator w left right))
+  stepped_fine place operator w left right one other whole =
+      let stays = turned place operator w left right in
+      stepped_by (λ e. AreFine most (path_in m e)) (step_of operator (constant_of right)) place w left
+      (stepped_or (turned_step operator (constant_of left)) place w right stays)
+      (λ step is. step_fine place operator w (constant_of right) step left
+      (is_step operator (constant_of right) step is) one)
+      (stepped_by (λ e. AreFine most (path_in m e)) (turned_step operator (constant_of left)) place w right stays
+      (λ step is. let found = is_turned operator (constant_of left) step is in
+      step_fine place Multiply w (constant_of left) step right found.is other)
+      (turned_fine place operator w left right one other whole))
+
   negation_fine : (width : Width) (e : TermTree) → AreFine most (path_in m e)
       → AreFine most (path_in m (negation_of width e))
   negation_fine width (number value kind) fine = fine
@@ -403,7 +376,7 @@ module _ (most : List ℕ) (m : Values) where
   negation_fine width (prefix Complement w operand) fine = fine
   negation_fine width (prefix Negate w operand) fine = fine
   negation_fine width (binary place operator w left right) fine =
-      opposite_by (λ e. AreFine most (path_in m e)) (opposite_of operator) place w left right
+      binary_by (λ e. AreFine most (path_in m e)) (opposite_of operator) place w left right
       (prefix Not width (binary place operator w left right))
       (λ other is. subst (λ (marks : Path). AreFine most ((path_in m left ++ path_in m right) ++ marks))
       (sym ((opposite operator other is).unmarked place (value_in m left) (value_in m right))) fine)
@@ -449,16 +422,20 @@ module _ (most : List ℕ) (types : Types) (words : Words) (m : Values) (holds :
       let before = fine_front most operands marks fine in
       let one = fine_path has (fine_front most (path_in m left) (path_in m right) before) in
       let other = fine_path more (fine_back most (path_in m left) (path_in m right) before) in
-      known_fine most m (between operator width (constant_of a) (constant_of b)) (reduced place operator width a b)
+      known_fine most m (between operator width (constant_of a) (constant_of b))
+      (truth_or (decided operator (constant_of a) (constant_of b)) (reduced place operator width a b))
+      (told_fine most m (decided operator (constant_of a) (constant_of b)) (reduced place operator width a b)
       (reduced_by (λ e. AreFine most (path_in m e)) (is_among (is_right_identity operator width) (constant_of b))
-      (is_among (is_left_identity operator width) (constant_of a)) a b (binary place operator width a b)
+      (is_among (is_left_identity operator width) (constant_of a)) a b
+      (stepped place operator width a b)
       (λ is. one) (λ is. other)
+      (stepped_fine most m place operator width a b one other
       (fine_both most (path_in m a ++ path_in m b) (marks_of place operator (value_in m a) (value_in m b))
       (fine_both most (path_in m a) (path_in m b) one other)
       (subst (AreFine most)
       (sym (ap₂ (marks_of place operator) (same_value types words m holds has)
       (same_value types words m holds more)))
-      (fine_back most operands marks fine))))
+      (fine_back most operands marks fine))))))
   fine_path (of_rotation {width = width} {operand = operand} {amount = amount} has numeric low high even) fine =
       let e = simple words operand in
       known_fine most m (option_map (λ c. constant (rotated_left width c.value amount) c.kind) (constant_of e))

@@ -1,183 +1,54 @@
 -- A simpler expression suits where the expression suits: it is of the same kind, and public where that one is.
 use Rattle.std.proofs.Common.{◌≡◌, ℕ, ◌<◌, ◌==◌, ◌&&◌, Bool, true, false, if◌then◌else◌, List, [], ◌∷◌, map, Option}
-use Rattle.std.proofs.Common.{None, ◌⊎◌, inl, inr, Some, option_map, refl, sym, ap, ◌∙◌, subst}
+use Rattle.std.proofs.Common.{None, ◌⊎◌, inl, inr, Some, option_map, refl, sym, ap, ◌∙◌, subst, ◌^◌, arith}
 use Rattle.std.proofs.lemmas.Bool.{false≢true}
-use Rattle.std.proofs.lemmas.Option.{none-some, same_Some}
-use Rattle.inline.proofs.Fitting.{value_fits}
 use Rattle.inline.specs.Fitting.{IsWithinKind}
-use Rattle.inline.specs.Flat.{TermTree, number, truth, variable, prefix, binary, rotate, convert, select}
+use Rattle.inline.specs.Flat.{TermTree, number, variable, prefix, binary, rotate, convert, select}
 use Rattle.inline.specs.Flat.{word_as}
-use Rattle.inline.specs.FlatMeaning.{Values, value_in}
 use Rattle.inline.specs.FlatTyping.{Types, HasType, of_number, of_truth, of_variable, of_prefix, of_binary}
 use Rattle.inline.specs.FlatTyping.{of_rotation, of_conversion, of_selection, of_element, Suits, AllSuit, IsResult}
 use Rattle.language.specs.declared.signature.Kind.{Kind}
-use Rattle.language.specs.declared.signature.Kind.TheVariants.{Boolean}
+use Rattle.language.specs.declared.signature.Kind.TheVariants.{Boolean, Uint32}
 use Rattle.language.specs.declared.signature.Label.{Label}
-use Rattle.language.specs.declared.signature.Label.TheVariants.{Public, Secret}
+use Rattle.language.specs.declared.signature.Label.TheVariants.{Public}
 use Rattle.language.specs.declared.tree.BinaryOperator.{BinaryOperator}
+use Rattle.language.specs.declared.tree.BinaryOperator.TheVariants.{BitAnd, Multiply}
 use Rattle.language.specs.declared.tree.PrefixOperator.{PrefixOperator}
 use Rattle.language.specs.declared.tree.PrefixOperator.TheVariants.{Not, Complement, Negate}
 use Rattle.language.specs.declared.operation.Operation.{Operation}
-use Rattle.language.specs.declared.operation.Operation.TheVariants.{Division}
+use Rattle.language.specs.declared.operation.Operation.TheVariants.{Shift}
 use Rattle.language.specs.declared.typing.WordType.{WordType}
 use Rattle.language.specs.ExprTyping.{operation_of, operation_kind}
 use Rattle.language.specs.Grammatical.{IsNumberKind}
 use Rattle.language.specs.Operators.{divides, operated, prefix_value, width_of}
-use Rattle.language.specs.Types.{bits_of, joined, is_secret}
-use Rattle.language.specs.WellTyped.{labelled, MayBeMultiplied, unseen, both_public, Makes, arithmetic}
-use Rattle.language.specs.WellTyped.{multiplication, division, shift, equality, order, logic, Takes}
-use Rattle.word.specs.Operators.{rotated_left, converted, word_of}
+use Rattle.language.specs.Types.{bits_of, joined}
+use Rattle.language.specs.WellTyped.{labelled, Makes}
+use Rattle.language.specs.WellTyped.{shift, Takes}
+use Rattle.word.specs.Operators.{rotated_left, converted}
 use Rattle.word.specs.declared.place.Place.{Place}
-use Rattle.word.specs.declared.profile.Profile.{Profile}
-use Rattle.word.specs.declared.profile.Profile.TheVariants.{P2}
 use Rattle.word.specs.declared.width.Width.{Width}
+use Rattle.constants.specs.declared.fields.Field.{Field}
 use Rattle.constants.specs.declared.known.Constant.{Constant}
 use Rattle.constants.specs.declared.known.WordCopy.{WordCopy}
+use Rattle.constants.specs.declared.powers.Step.{Step}
 use Rattle.constants.specs.private.Known.{Words, known, source_in}
-use Rattle.constants.specs.private.Folding.{constant, constant_of, number_of, known_or, decision}
+use Rattle.constants.specs.private.Folding.{constant, constant_of, known_or, decision}
 use Rattle.constants.specs.private.Folding.{applied, between, chosen, is_among, is_left_identity, is_right_identity}
-use Rattle.constants.specs.private.Folding.{negation_of, opposite_of, reduced, simple}
+use Rattle.constants.specs.private.Fields.{amount_of, field_of, lifted, mask_of, moved}
+use Rattle.constants.specs.private.Folding.{decided, narrowed, negation_of, number_of, operation, opposite_of, reduced}
+use Rattle.constants.specs.private.Folding.{simple, stepped, stepped_or, truth_or, turned, turned_by}
+use Rattle.constants.specs.private.Powers.{step_of, turned_step}
 use Rattle.constants.proofs.Identities.{left_identity_kind, reduced_by, right_identity_kind}
 use Rattle.constants.proofs.KnownLemmas.{AreOfKind, IsSource, copy, read_as, valued}
-use Rattle.constants.proofs.Opposites.{opposite, opposite_by}
-
--- Labels.
-
-joined_public : (l m : Label) → joined l m ≡ Public → (l ≡ Public) × (m ≡ Public)
-joined_public Public m h = (refl, h)
-joined_public Secret m h = absurd (secret_public (ap is_secret h))
-  where
-    secret_public : true ≡ false → ⊥
-    secret_public e = cc
-
-both_joined : (l m : Label) → l ≡ Public → m ≡ Public → joined l m ≡ Public
-both_joined l m one other = ap (λ k. joined k m) one ∙ other
-
--- what is made of lower operands is lower
-record IsLower (profile : Profile) (operation : Operation) (one other whole : WordType) (l m : Label) : Type 0 where
-  label : Label
-  makes : Makes profile operation (labelled one.kind l) (labelled other.kind m) (labelled whole.kind label)
-  lower : whole.label ≡ Public → label ≡ Public
-
-joined_lower : (a b l m : Label) → (a ≡ Public → l ≡ Public) → (b ≡ Public → m ≡ Public) → joined a b ≡ Public
-    → joined l m ≡ Public
-joined_lower a b l m f g h = let parts = joined_public a b h in both_joined l m (f parts.0) (g parts.1)
-
-may_still : {profile : Profile} {a b : Label} (l m : Label) → (a ≡ Public → l ≡ Public) → (b ≡ Public → m ≡ Public)
-    → MayBeMultiplied profile a b → MayBeMultiplied profile l m
-may_still l m f g unseen = unseen
-may_still l m f g both_public =
-    subst (λ k. MayBeMultiplied P2 k m) (sym (f refl))
-    (subst (λ k. MayBeMultiplied P2 Public k) (sym (g refl)) both_public)
-
-lowered : {profile : Profile} {operation : Operation} {one other whole : WordType}
-    → Makes profile operation one other whole
-    → (l m : Label) → (one.label ≡ Public → l ≡ Public) → (other.label ≡ Public → m ≡ Public)
-    → IsLower profile operation one other whole l m
-lowered (arithmetic {l = a} {m = b} numeric) l m f g =
-    record { label = joined l m; makes = arithmetic numeric; lower = joined_lower a b l m f g }
-lowered (multiplication {l = a} {m = b} numeric may) l m f g =
-    record {
-      label = joined l m;
-      makes = multiplication numeric (may_still l m f g may);
-      lower = joined_lower a b l m f g;
-    }
-lowered {profile = profile} (division {kind = kind} numeric) l m f g = record {
-  label = Public;
-  makes = subst (λ k. Makes profile Division (labelled kind k) (labelled kind m) (labelled kind Public))
-      (sym (f refl))
-      (subst (λ k. Makes profile Division (labelled kind Public) (labelled kind k) (labelled kind Public))
-      (sym (g refl)) (division numeric));
-  lower = λ h. refl;
-}
-lowered (shift {l = a} {m = b} numeric) l m f g =
-    record { label = joined l m; makes = shift numeric; lower = joined_lower a b l m f g }
-lowered (equality {l = a} {m = b}) l m f g =
-    record { label = joined l m; makes = equality; lower = joined_lower a b l m f g }
-lowered (order {l = a} {m = b} numeric) l m f g =
-    record { label = joined l m; makes = order numeric; lower = joined_lower a b l m f g }
-lowered (logic {l = a} {m = b}) l m f g =
-    record { label = joined l m; makes = logic; lower = joined_lower a b l m f g }
-
--- operands of what is public
-public_parts : {profile : Profile} {operation : Operation} {one other whole : WordType}
-    → Makes profile operation one other whole
-    → whole.label ≡ Public → (one.label ≡ Public) × (other.label ≡ Public)
-public_parts (arithmetic {l = a} {m = b} numeric) public = joined_public a b public
-public_parts (multiplication {l = a} {m = b} numeric may) public = joined_public a b public
-public_parts (division numeric) public = (refl, refl)
-public_parts (shift {l = a} {m = b} numeric) public = joined_public a b public
-public_parts (equality {l = a} {m = b}) public = joined_public a b public
-public_parts (order {l = a} {m = b} numeric) public = joined_public a b public
-public_parts (logic {l = a} {m = b}) public = joined_public a b public
-
-made_kind : {profile : Profile} {operation : Operation} {one other whole : WordType}
-    → Makes profile operation one other whole → operation_kind operation one.kind ≡ whole.kind
-made_kind (arithmetic numeric) = refl
-made_kind (multiplication numeric may) = refl
-made_kind (division numeric) = refl
-made_kind (shift numeric) = refl
-made_kind equality = refl
-made_kind (order numeric) = refl
-made_kind logic = refl
-
--- Expressions without variables.
-
-abbrev without_variables : Profile → Types
-without_variables profile = record { profile = profile; at = λ x. None }
-
-abbrev nothing_held : Values
-nothing_held x = []
-
-closed_fits : (profile : Profile) (e : TermTree) (word : WordType) → HasType (without_variables profile) e word
-    → IsWithinKind word.kind (value_in nothing_held e)
-closed_fits profile e word has =
-    value_fits (without_variables profile) nothing_held (λ x d there. absurd (none-some d there)) has
+use Rattle.constants.proofs.OneOperand.{decided_kind, truth_by}
+use Rattle.constants.proofs.TwoShifts.{is_narrowed, lifted_by, moved_by}
+use Rattle.constants.proofs.Opposites.{opposite, binary_by}
+use Rattle.constants.proofs.PowerSteps.{IsStep, is_step, is_turned, of_one_kind, step_fits, step_makes, stepped_by}
+use Rattle.constants.proofs.Suiting.{IsOfKind, both_joined, closed_fits, joined_public, lowered, made_kind, number_kind}
+use Rattle.constants.proofs.TurnedRound.{turned_round}
+use Rattle.constants.proofs.Suiting.{number_suits, public_parts, public_typed, retyped, suited_number}
 
 module _ (types : Types) where
-  abbrev pub IsOfKind : Constant → WordType → Type 0
-  IsOfKind c word = (c.kind ≡ word.kind) × IsWithinKind c.kind c.value
-
-  number_suits : (c : Constant) (word : WordType) → IsOfKind c word → Suits types word (number_of c)
-  number_suits c word is = record {
-    word = labelled c.kind Public;
-    has_type = of_number is.1;
-    kind = is.0;
-    label = λ public. refl;
-  }
-
-  -- a number's kind and value
-  pub number_kind : {e : TermTree} {word : WordType} → HasType types e word → (c : Constant) → constant_of e ≡ Some c
-      → IsOfKind c word
-  number_kind (of_number {value = value} {kind = kind} below) c is =
-      subst (λ (d : Constant). IsOfKind d (labelled kind Public)) (same_Some (constant value kind) c is) (refl, below)
-  number_kind (of_truth {value = value}) c is =
-      subst (λ (d : Constant). IsOfKind d (labelled Boolean Public))
-      (same_Some (constant (word_of value) Boolean) c is)
-      (refl, closed_fits types.profile (truth value) (labelled Boolean Public) of_truth)
-  number_kind (of_variable known) c is = absurd (none-some c is)
-  number_kind (of_prefix has takes width) c is = absurd (none-some c is)
-  number_kind (of_binary has more makes width) c is = absurd (none-some c is)
-  number_kind (of_rotation has numeric low high width) c is = absurd (none-some c is)
-  number_kind (of_conversion has numeric) c is = absurd (none-some c is)
-  number_kind (of_selection chooser has more) c is = absurd (none-some c is)
-  number_kind (of_element known has) c is = absurd (none-some c is)
-
-  pub suited_number : {e : TermTree} {word : WordType} → Suits types word e → (c : Constant) → constant_of e ≡ Some c
-      → IsOfKind c word
-  suited_number suits c is = let found = number_kind suits.has_type c is in (found.0 ∙ suits.kind, found.1)
-
-  -- of the wanted kind
-  retyped : {e : TermTree} {word : WordType} (suits : Suits types word e)
-      → HasType types e (labelled word.kind suits.word.label)
-  retyped {e = e} suits = subst (λ k. HasType types e (labelled k suits.word.label)) suits.kind suits.has_type
-
-  -- of the wanted type, where that is public
-  public_typed : {e : TermTree} {kind : Kind} (suits : Suits types (labelled kind Public) e)
-      → HasType types e (labelled kind Public)
-  public_typed {e = e} {kind = kind} suits =
-      subst (λ l. HasType types e (labelled kind l)) (suits.label refl) (retyped suits)
-
   -- `!` of a condition
   negation_type : (width : Width) {e : TermTree} {word : WordType} → HasType types e word
       → HasType types (prefix Not width e) word → HasType types (negation_of width e) word
@@ -189,7 +60,7 @@ module _ (types : Types) where
   negation_type width (of_prefix {operator = Negate} has takes even) stays = stays
   negation_type width (of_binary {place = place} {operator = operator} {width = w} {left = left} {right = right} {one =
       one} {other = other} {whole = whole} has more makes even) stays =
-      opposite_by (λ e. HasType types e whole) (opposite_of operator) place w left right
+      binary_by (λ e. HasType types e whole) (opposite_of operator) place w left right
       (prefix Not width (binary place operator w left right))
       (λ next is. of_binary has more
       (subst (λ (o : Operation). Makes types.profile o one other whole) (sym (opposite operator next is).operation)
@@ -216,16 +87,16 @@ module _ (types : Types) where
   prefix_suits operator width e kind label suits takes even None is =
       record {
         word = labelled kind suits.word.label;
-        has_type = applied_type operator width (retyped suits) (of_prefix (retyped suits) takes even);
+        has_type = applied_type operator width (retyped types suits) (of_prefix (retyped types suits) takes even);
         kind = refl;
         label = suits.label;
       }
   prefix_suits operator width e kind label suits takes even (Some c) is =
-      let found = suited_number suits c is in
+      let found = suited_number types suits c is in
       let below : IsWithinKind kind c.value = subst (λ k. IsWithinKind k c.value) found.0 found.1 in
       let fits = closed_fits types.profile (prefix operator width (number c.value kind)) (labelled kind Public)
       (of_prefix (of_number below) takes even) in
-      number_suits (constant (prefix_value operator width c.value) c.kind) (labelled kind label)
+      number_suits types (constant (prefix_value operator width c.value) c.kind) (labelled kind label)
       (found.0, subst (λ k. IsWithinKind k (prefix_value operator width c.value)) (sym found.0) fits)
 
   rotation_suits : (width : Width) (e : TermTree) (amount : ℕ) (kind : Kind) (label : Label)
@@ -238,16 +109,16 @@ module _ (types : Types) where
   rotation_suits width e amount kind label suits numeric low high even None is =
       record {
         word = labelled kind suits.word.label;
-        has_type = of_rotation (retyped suits) numeric low high even;
+        has_type = of_rotation (retyped types suits) numeric low high even;
         kind = refl;
         label = suits.label;
       }
   rotation_suits width e amount kind label suits numeric low high even (Some c) is =
-      let found = suited_number suits c is in
+      let found = suited_number types suits c is in
       let below : IsWithinKind kind c.value = subst (λ k. IsWithinKind k c.value) found.0 found.1 in
       let fits = closed_fits types.profile (rotate width (number c.value kind) amount) (labelled kind Public)
       (of_rotation (of_number below) numeric low high even) in
-      number_suits (constant (rotated_left width c.value amount) c.kind) (labelled kind label)
+      number_suits types (constant (rotated_left width c.value amount) c.kind) (labelled kind label)
       (found.0, subst (λ k. IsWithinKind k (rotated_left width c.value amount)) (sym found.0) fits)
 
   conversion_suits : (kind other : Kind) (e : TermTree) (label : Label) → Suits types (labelled other label) e
@@ -258,15 +129,91 @@ module _ (types : Types) where
   conversion_suits kind other e label suits numeric None is =
       record {
         word = labelled kind suits.word.label;
-        has_type = of_conversion (retyped suits) numeric;
+        has_type = of_conversion (retyped types suits) numeric;
         kind = refl;
         label = suits.label;
       }
   conversion_suits kind other e label suits numeric (Some c) is =
-      let found = suited_number suits c is in
+      let found = suited_number types suits c is in
       let fits = closed_fits types.profile (convert kind (number c.value c.kind)) (labelled kind Public)
       (of_conversion (of_number found.1) numeric) in
-      number_suits (constant (converted (width_of kind) c.value) kind) (labelled kind label) (refl, fits)
+      number_suits types (constant (converted (width_of kind) c.value) kind) (labelled kind label) (refl, fits)
+
+  -- two shifts, where there was one by a number
+  number_type : (v : ℕ) (kind : Kind) → kind ≡ Uint32 → v < 2 ^ 32
+      → HasType types (number v kind) (labelled Uint32 Public)
+  number_type v kind is below =
+      subst (λ k. HasType types (number v k) (labelled Uint32 Public)) (sym is) (of_number below)
+
+  moved_suits : {word : TermTree} {one other whole : WordType} (place : Place) (w : Width) (field : Field)
+      (wanted : WordType) → Makes types.profile Shift one other whole → HasType types word one
+      → w ≡ width_of one.kind → field.kind ≡ other.kind → field.up < 2 ^ 32 → field.down < 2 ^ 32
+      → whole.kind ≡ wanted.kind → (wanted.label ≡ Public → whole.label ≡ Public)
+      → Suits types wanted (moved place w word field)
+  moved_suits {word = word} place w field wanted (shift {kind = k} {l = l} {m = m} numeric) has even amounts up down
+      kind label =
+      let higher = number_type field.up field.kind amounts up in
+      let first : Suits types (labelled k l) (lifted place w word field) =
+      lifted_by (Suits types (labelled k l)) place w word field
+      (λ zero. record { word = labelled k l; has_type = has; kind = refl; label = λ public. public })
+      (record {
+        word = labelled k (joined l Public);
+        has_type = of_binary has higher (shift numeric) even;
+        kind = refl;
+        label = λ public. both_joined l Public public refl;
+      }) in
+      record {
+        word = labelled k (joined first.word.label Public);
+        has_type = of_binary (retyped types first) (number_type field.down field.kind amounts down) (shift numeric)
+            even;
+        kind = kind;
+        label = λ public. both_joined first.word.label Public (first.label (joined_public l m (label public)).0) refl;
+      }
+
+  narrowed_suits : {left : TermTree} {held : WordType} (place : Place) (operator : BinaryOperator)
+      (right : Option Constant) (e : TermTree) (wanted : WordType) → HasType types left held
+      → (operator ≡ BitAnd → held.kind ≡ wanted.kind) → (wanted.label ≡ Public → held.label ≡ Public)
+      → Suits types wanted e → Suits types wanted (narrowed place (mask_of operator right) left e)
+  narrowed_suits place operator right e wanted (of_binary {operator = down} {width = w} {left = word} {right =
+      amount} {one = one} {other = other} {whole = whole} has more makes even) kind label stays =
+      moved_by (Suits types wanted) (field_of (mask_of operator right) (amount_of down w (constant_of amount))) place w
+      word e
+      (λ field is.
+      let found = is_narrowed operator right down w (constant_of amount) field is in
+      let amounts = found.is.kind ∙ (number_kind types more found.amount found.is_amount).0 in
+      let shifts = subst (λ o. Makes types.profile (operation_of o) one other whole) found.shifts makes in
+      moved_suits place w field wanted shifts has even amounts (omega (arith, found.is.few, found.is.reach))
+      (omega (arith, found.is.few)) (kind found.masks) label)
+      stays
+  narrowed_suits place operator right e wanted (of_number below) kind label stays = stays
+  narrowed_suits place operator right e wanted of_truth kind label stays = stays
+  narrowed_suits place operator right e wanted (of_variable there) kind label stays = stays
+  narrowed_suits place operator right e wanted (of_prefix has takes even) kind label stays = stays
+  narrowed_suits place operator right e wanted (of_rotation has numeric low high even) kind label stays = stays
+  narrowed_suits place operator right e wanted (of_conversion has numeric) kind label stays = stays
+  narrowed_suits place operator right e wanted (of_selection chooser has more) kind label stays = stays
+  narrowed_suits place operator right e wanted (of_element there has) kind label stays = stays
+
+  -- a step by a power of two, in place of an operator whose operands and whole are of one kind
+  step_suits : {word : TermTree} {one whole : WordType} (place : Place) (operator : BinaryOperator) (w : Width)
+      (o : Option Constant) (step : Step) → Suits types one word → IsNumberKind one.kind → one.kind ≡ whole.kind
+      → (whole.label ≡ Public → one.label ≡ Public) → w ≡ width_of one.kind → (found : IsStep operator o step)
+      → IsOfKind types found.power one
+      → Suits types whole (operation place step.operator w word (number_of step.number))
+  step_suits {word = word} {one = one} {whole = whole} place operator w o step suits numeric made label even found
+      of_kind =
+      let held = suits.word.label in
+      let makes = step_makes operator one.kind held found.power found.k step numeric of_kind.0 found.is in
+      let fits = step_fits operator found.power found.k step found.few of_kind.1 found.is in
+      narrowed_suits place step.operator (Some step.number)
+      (binary place step.operator w word (number_of step.number)) whole suits.has_type
+      (λ masks. suits.kind ∙ made) (λ public. suits.label (label public))
+      (record {
+        word = labelled one.kind (joined held Public);
+        has_type = of_binary (retyped types suits) (of_number fits) makes even;
+        kind = made;
+        label = λ public. both_joined held Public (suits.label (label public)) refl;
+      })
 
   -- two operands
   module _ (place : Place) (operator : BinaryOperator) (width : Width) (left right : TermTree)
@@ -279,7 +226,7 @@ module _ (types : Types) where
         let lower = lowered makes left_suits.word.label right_suits.word.label left_suits.label right_suits.label in
         record {
           word = labelled result.kind lower.label;
-          has_type = of_binary (retyped left_suits) (retyped right_suits) lower.makes even;
+          has_type = of_binary (retyped types left_suits) (retyped types right_suits) lower.makes even;
           kind = refl;
           label = lower.lower;
         }
@@ -311,27 +258,102 @@ module _ (types : Types) where
           label = λ public. right_suits.label (public_parts makes public).1;
         }
 
+    stays_operation : Suits types result (operation place operator width left right)
+    stays_operation =
+        narrowed_suits place operator (constant_of right) (binary place operator width left right) result
+        left_suits.has_type
+        (λ masks. left_suits.kind
+        ∙ subst (λ o. operation_kind (operation_of o) one.kind ≡ result.kind) masks (made_kind makes))
+        (λ public. left_suits.label (public_parts makes public).0) stays_binary
+
+    -- turned round
+    turned_binary : (next : BinaryOperator) → turned_by operator (constant_of left) ≡ Some next
+        → Suits types result (binary place next width right left)
+    turned_binary next is =
+        let l = right_suits.word.label in
+        let m = left_suits.word.label in
+        let found = (turned_round operator next (constant_of left) is).takes types.profile one other result makes in
+        record {
+          word = labelled result.kind (joined l m);
+          has_type = of_binary (retyped types right_suits) (retyped types left_suits) (found.makes l m)
+              (even ∙ ap width_of (sym found.kinds));
+          kind = refl;
+          label = λ public.
+              let parts = public_parts makes public in
+              both_joined l m (right_suits.label parts.1) (left_suits.label parts.0);
+        }
+
+    turned_suits : Suits types result (turned place operator width left right)
+    turned_suits =
+        binary_by (Suits types result) (turned_by operator (constant_of left)) place width right left
+        (operation place operator width left right) turned_binary stays_operation
+
+    -- by a power of two on the right
+    right_step : (step : Step) → step_of operator (constant_of right) ≡ Some step
+        → Suits types result (operation place step.operator width left (number_of step.number))
+    right_step step is =
+        let found = is_step operator (constant_of right) step is in
+        let kinds = of_one_kind operator found.power found.k step makes found.is in
+        let power = suited_number types right_suits found.power found.there in
+        step_suits place operator width (constant_of right) step left_suits kinds.numeric kinds.made
+        (λ public. (public_parts makes public).0) even found (power.0 ∙ kinds.operands, power.1)
+
+    -- and on the left
+    left_step : (step : Step) → turned_step operator (constant_of left) ≡ Some step
+        → Suits types result (operation place step.operator width right (number_of step.number))
+    left_step step is =
+        let turned = is_turned operator (constant_of left) step is in
+        let found = turned.is in
+        let kinds = of_one_kind Multiply found.power found.k step
+        (subst (λ o. Makes types.profile (operation_of o) one other result) turned.multiplies makes) found.is in
+        let power = suited_number types left_suits found.power found.there in
+        step_suits place Multiply width (constant_of left) step right_suits
+        (subst IsNumberKind (sym kinds.operands) kinds.numeric) (kinds.operands ∙ kinds.made)
+        (λ public. (public_parts makes public).1) (even ∙ ap width_of (sym kinds.operands)) found
+        (power.0 ∙ sym kinds.operands, power.1)
+
     unfolded : Suits types result (reduced place operator width left right)
     unfolded =
         reduced_by (Suits types result) (is_among (is_right_identity operator width) (constant_of right))
         (is_among (is_left_identity operator width) (constant_of left)) left right
-        (binary place operator width left right) left_alone right_alone stays_binary
+        (stepped place operator width left right) left_alone right_alone
+        (stepped_by (Suits types result) (step_of operator (constant_of right)) place width left
+        (stepped_or (turned_step operator (constant_of left)) place width right
+        (turned place operator width left right)) right_step
+        (stepped_by (Suits types result) (turned_step operator (constant_of left)) place width right
+        (turned place operator width left right) left_step turned_suits))
+
+    -- a bool that the one operand decides
+    abbrev told : TermTree
+    told = truth_or (decided operator (constant_of left) (constant_of right)) (reduced place operator width left right)
+
+    told_suits : Suits types result told
+    told_suits =
+        truth_by (Suits types result) (decided operator (constant_of left) (constant_of right))
+        (reduced place operator width left right)
+        (λ t is. record {
+          word = labelled Boolean Public;
+          has_type = of_truth;
+          kind = decided_kind operator (constant_of left) (constant_of right) t one.kind is ∙ made_kind makes;
+          label = λ public. refl;
+        })
+        unfolded
 
     abbrev number_by : Constant → Constant → Bool → Option Constant
     number_by a b stays = option_map (λ v. constant v (operation_kind (operation_of operator) a.kind)) (if stays
         then None else Some (operated operator width a.value b.value))
 
     binary_suits : (a b : Option Constant) → constant_of left ≡ a → constant_of right ≡ b
-        → Suits types result (known_or (between operator width a b) (reduced place operator width left right))
-    binary_suits None b is also = unfolded
-    binary_suits (Some a) None is also = unfolded
+        → Suits types result (known_or (between operator width a b) told)
+    binary_suits None b is also = told_suits
+    binary_suits (Some a) None is also = told_suits
     binary_suits (Some a) (Some b) is also = by_zero (divides operator && (b.value == 0))
       where
         folds : Suits types result
             (number (operated operator width a.value b.value) (operation_kind (operation_of operator) a.kind))
         folds =
-            let first = suited_number left_suits a is in
-            let second = suited_number right_suits b also in
+            let first = suited_number types left_suits a is in
+            let second = suited_number types right_suits b also in
             let low : IsWithinKind one.kind a.value = subst (λ k. IsWithinKind k a.value) first.0 first.1 in
             let high : IsWithinKind other.kind b.value = subst (λ k. IsWithinKind k b.value) second.0 second.1 in
             let lower = lowered makes Public Public (λ h. refl) (λ h. refl) in
@@ -341,13 +363,13 @@ module _ (types : Types) where
             (labelled result.kind lower.label) (of_binary (of_number low) (of_number high) lower.makes even) in
             let kind : operation_kind (operation_of operator) a.kind ≡ result.kind =
             ap (operation_kind (operation_of operator)) first.0 ∙ made_kind makes in
-            number_suits (constant (operated operator width a.value b.value)
+            number_suits types (constant (operated operator width a.value b.value)
             (operation_kind (operation_of operator) a.kind)) result
             (kind, subst (λ k. IsWithinKind k (operated operator width a.value b.value)) (sym kind) fits)
 
         by_zero : (stays : Bool)
-            → Suits types result (known_or (number_by a b stays) (reduced place operator width left right))
-        by_zero true = unfolded
+            → Suits types result (known_or (number_by a b stays) told)
+        by_zero true = told_suits
         by_zero false = folds
 
   -- a choice
@@ -360,7 +382,7 @@ module _ (types : Types) where
     choice_stays : Suits types chosen_type (select condition accepted otherwise)
     choice_stays = record {
       word = labelled kind (joined chooser.word.label (joined one.word.label other.word.label));
-      has_type = of_selection (retyped chooser) (retyped one) (retyped other);
+      has_type = of_selection (retyped types chooser) (retyped types one) (retyped types other);
       kind = refl;
       label = λ public.
           let outer = joined_public l (joined m n) public in
@@ -417,7 +439,7 @@ module _ (types : Types) where
         → Suits types word (known_or o (variable (source_in words.copies x)))
     variable_suits x word mutable there None is = source_suits x word mutable there (read_as words.copies x)
     variable_suits x word mutable there (Some c) is =
-        number_suits c word (of_kind (valued x c) is word mutable there)
+        number_suits types c word (of_kind (valued x c) is word mutable there)
 
     pub simple_suits : {e : TermTree} {word : WordType} → HasType types e word → Suits types word (simple words e)
     simple_suits (of_number {kind = kind} below) =
@@ -453,7 +475,7 @@ module _ (types : Types) where
     simple_suits (of_element {word = word} there has) =
         record {
           word = word;
-          has_type = of_element there (public_typed (simple_suits has));
+          has_type = of_element there (public_typed types (simple_suits has));
           kind = refl;
           label = λ public. public;
         }
@@ -471,11 +493,11 @@ module _ (types : Types) where
 
     pub still_public : {e : TermTree} {kind : Kind} → HasType types e (labelled kind Public)
         → HasType types (simple words e) (labelled kind Public)
-    still_public has = public_typed (simple_suits has)
+    still_public has = public_typed types (simple_suits has)
 
     pub still_typed : {e : TermTree} {kind : Kind} {label : Label} → HasType types e (labelled kind label)
         → (other : Label) × HasType types (simple words e) (labelled kind other)
-    still_typed has = let simpler = simple_suits has in (simpler.word.label, retyped simpler)
+    still_typed has = let simpler = simple_suits has in (simpler.word.label, retyped types simpler)
 
     pub all_still_suit : (word : WordType) (es : List TermTree) → AllSuit types word es
         → AllSuit types word (map (simple words) es)

@@ -28,8 +28,8 @@ use Rattle.constants.specs.private.Simplification.{single, simplified, simplifie
 use Rattle.constants.proofs.KnownLemmas.{Fact, valued, copy, IsIn, Knows, in_more, known_beside, known_here, still_copy}
 use Rattle.constants.proofs.KnownLemmas.{without_same, IsSuited, AreOfKind, IsBelow}
 use Rattle.constants.proofs.CopyLemmas.{source_alike}
-use Rattle.constants.proofs.TermTypes.{number_kind, suited_number, still_suits, still_public, still_typed}
-use Rattle.constants.proofs.TermTypes.{all_still_suit}
+use Rattle.constants.proofs.Suiting.{number_kind, suited_number}
+use Rattle.constants.proofs.TermTypes.{all_still_suit, still_public, still_suits, still_typed}
 use Rattle.constants.proofs.Turns.{of_all_turns, of_turns_below, kept_below}
 use Rattle.constants.proofs.Unset.{behind_part, within_loop, decided_any, unrolled_any}
 use Rattle.constants.proofs.Decisions.{bounds_of, unrolled_by}

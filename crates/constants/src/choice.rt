@@ -3,7 +3,7 @@
 ghost use Rattle.std.specs.Prelude.{◌≡◌, map, slice_index, slice_set, IfOk};
 ghost use Rattle.branch_removal.specs.Straight.{straight_block, straight_tree};
 ghost use Rattle.inline.specs.Flat.{term_tree};
-ghost use Rattle.constants.specs.private.Choice.{begun, choice_of, chosen, chosen_all, counted, grown, settled, term_size, terms_size};
+ghost use Rattle.constants.specs.private.Choice.{begun, choice_of, chosen, chosen_all, counted, grown, most_nodes_of, settled, term_size, terms_size};
 
 use branch_removal::{Straight, StraightStatement};
 use inline::Term;
@@ -17,6 +17,12 @@ const MOST_ROOM: u64 = 48_000;
 
 /// How many nodes a turn may have.
 const MOST_IN_TURN: u64 = 384;
+
+/// So few turns take little room even where they are long.
+const FEW_TURNS: u32 = 3;
+
+/// How many nodes each of few turns may have.
+const MOST_IN_EACH_OF_FEW: u64 = 4_096;
 
 /// How many nodes there are in setting a counter.
 const COUNTER_NODES: u64 = 2;
@@ -62,6 +68,17 @@ pub fn copies_of(copies: &[u32], counter: u32) -> u32
     ensures { result ≡ slice_index copies.now counter }
 {
     copies.get(counter as usize).copied().unwrap_or(0)
+}
+
+/// How many nodes a turn may have, by how many turns there are.
+fn most_nodes_of(turns: u32) -> u64
+    ensures { result ≡ most_nodes_of turns }
+{
+    if turns <= FEW_TURNS {
+        MOST_IN_EACH_OF_FEW
+    } else {
+        MOST_IN_TURN
+    }
 }
 
 /// The loop of a counter may not become turns.
@@ -113,7 +130,7 @@ impl Choice {
             .nodes
             .saturating_add(COUNTER_NODES)
             .saturating_mul(u64::from(turns));
-        if turns >= 1 && self.nodes <= MOST_IN_TURN && cost <= room {
+        if turns >= 1 && self.nodes <= most_nodes_of(turns) && cost <= room {
             self.room = room - cost;
             self.nodes = before.saturating_add(cost);
         } else {

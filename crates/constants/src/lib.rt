@@ -6,8 +6,10 @@
 
 mod choice;
 mod copies;
+mod fields;
 mod known;
 mod operators;
+mod powers;
 mod simplification;
 mod statements;
 mod terms;

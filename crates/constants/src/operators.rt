@@ -2,7 +2,7 @@
 
 ghost use Rattle.std.specs.Prelude.{◌≡◌};
 ghost use Rattle.language.specs.Operators.{prefix_value, truth_of};
-ghost use Rattle.constants.specs.private.Folding.{folded, is_left_identity, is_right_identity, opposite_of};
+ghost use Rattle.constants.specs.private.Folding.{decided_by_left, decided_by_right, folded, is_left_identity, is_right_identity, opposite_of, turned_of};
 
 use language::{BinaryOperator, PrefixOperator};
 use word::Width;
@@ -60,6 +60,56 @@ pub fn folded(operator: BinaryOperator, width: Width, a: u32, b: u32) -> Option<
         }
     };
     Some(value)
+}
+
+/// What an operator comes to by its left operand alone, whatever the right one is: a bool, where it does.
+pub fn decided_by_left(operator: BinaryOperator, left: u32) -> Option<bool>
+    ensures { result ≡ decided_by_left operator left }
+{
+    match operator {
+        BinaryOperator::Either => is_true(left).then_some(true),
+        BinaryOperator::LessOrEqual => (left == 0).then_some(true),
+        BinaryOperator::Both | BinaryOperator::Greater => (left == 0).then_some(false),
+        BinaryOperator::Equal
+        | BinaryOperator::Unequal
+        | BinaryOperator::Less
+        | BinaryOperator::GreaterOrEqual
+        | BinaryOperator::BitOr
+        | BinaryOperator::BitXor
+        | BinaryOperator::BitAnd
+        | BinaryOperator::ShiftLeft
+        | BinaryOperator::ShiftRight
+        | BinaryOperator::Add
+        | BinaryOperator::Subtract
+        | BinaryOperator::Multiply
+        | BinaryOperator::Divide
+        | BinaryOperator::Remainder => None,
+    }
+}
+
+/// And by its right operand alone.
+pub fn decided_by_right(operator: BinaryOperator, right: u32) -> Option<bool>
+    ensures { result ≡ decided_by_right operator right }
+{
+    match operator {
+        BinaryOperator::Either => is_true(right).then_some(true),
+        BinaryOperator::GreaterOrEqual => (right == 0).then_some(true),
+        BinaryOperator::Both | BinaryOperator::Less => (right == 0).then_some(false),
+        BinaryOperator::Equal
+        | BinaryOperator::Unequal
+        | BinaryOperator::LessOrEqual
+        | BinaryOperator::Greater
+        | BinaryOperator::BitOr
+        | BinaryOperator::BitXor
+        | BinaryOperator::BitAnd
+        | BinaryOperator::ShiftLeft
+        | BinaryOperator::ShiftRight
+        | BinaryOperator::Add
+        | BinaryOperator::Subtract
+        | BinaryOperator::Multiply
+        | BinaryOperator::Divide
+        | BinaryOperator::Remainder => None,
+    }
 }
 
 /// Whether an operator, its left operand of this width, leaves that as it is where this is the right one.
@@ -124,6 +174,32 @@ pub fn opposite_of(operator: BinaryOperator) -> Option<BinaryOperator>
         BinaryOperator::LessOrEqual => Some(BinaryOperator::Greater),
         BinaryOperator::Greater => Some(BinaryOperator::LessOrEqual),
         BinaryOperator::GreaterOrEqual => Some(BinaryOperator::Less),
+        BinaryOperator::Either
+        | BinaryOperator::Both
+        | BinaryOperator::BitOr
+        | BinaryOperator::BitXor
+        | BinaryOperator::BitAnd
+        | BinaryOperator::ShiftLeft
+        | BinaryOperator::ShiftRight
+        | BinaryOperator::Add
+        | BinaryOperator::Subtract
+        | BinaryOperator::Multiply
+        | BinaryOperator::Divide
+        | BinaryOperator::Remainder => None,
+    }
+}
+
+/// The comparison that holds of two operands turned round exactly where another one holds of them.
+pub fn turned_of(operator: BinaryOperator) -> Option<BinaryOperator>
+    ensures { result ≡ turned_of operator }
+{
+    match operator {
+        BinaryOperator::Equal => Some(BinaryOperator::Equal),
+        BinaryOperator::Unequal => Some(BinaryOperator::Unequal),
+        BinaryOperator::Less => Some(BinaryOperator::Greater),
+        BinaryOperator::LessOrEqual => Some(BinaryOperator::GreaterOrEqual),
+        BinaryOperator::Greater => Some(BinaryOperator::Less),
+        BinaryOperator::GreaterOrEqual => Some(BinaryOperator::LessOrEqual),
         BinaryOperator::Either
         | BinaryOperator::Both
         | BinaryOperator::BitOr

@@ -1,17 +1,20 @@
 // Expressions in which what is known is a number.
 
 ghost use Rattle.std.specs.Prelude.{◌≡◌, map, IfOk};
-ghost use Rattle.std.specs.Option.{option_map};
+ghost use Rattle.std.specs.Option.{option_and_then, option_map};
 ghost use Rattle.inline.specs.Flat.{prefix, term_tree};
 ghost use Rattle.language.specs.declared.tree.PrefixOperator.TheVariants.{Not};
 ghost use Rattle.constants.specs.private.Folding as folding;
 ghost use Rattle.constants.specs.private.Known.{words_of};
 ghost use Rattle.constants.specs.private.Folding.{chosen, constant_of, decision, number_of, numbers_of, simple};
 
+use crate::fields::{narrowed, operation};
 use crate::known::{Constant, Known};
 use crate::operators::{
-    folded, is_left_identity, is_right_identity, is_true, opposite_of, prefix_value,
+    decided_by_left, decided_by_right, folded, is_left_identity, is_right_identity, is_true,
+    opposite_of, prefix_value, turned_of,
 };
+use crate::powers::{step_of, turned_step};
 use inline::Term;
 use language::{BinaryOperator, Kind, Place, PrefixOperator};
 use std::alloc::{AllocError, Global};
@@ -134,6 +137,20 @@ fn between(operator: BinaryOperator, width: Width, left: &Term, right: &Term) ->
     })
 }
 
+/// What the left operand of an operator decides alone, where it is a number.
+fn left_decides(operator: BinaryOperator, left: &Term) -> Option<bool>
+    ensures { result ≡ option_and_then (λ c. folding.decided_by_left operator c.value) (constant_of (term_tree left.now)) }
+{
+    decided_by_left(operator, constant_of(left)?.value)
+}
+
+/// And what the right one does.
+fn right_decides(operator: BinaryOperator, right: &Term) -> Option<bool>
+    ensures { result ≡ option_and_then (λ c. folding.decided_by_right operator c.value) (constant_of (term_tree right.now)) }
+{
+    decided_by_right(operator, constant_of(right)?.value)
+}
+
 /// Whether the right operand of an operator is a number that leaves the left one as it is.
 fn leaves_left(operator: BinaryOperator, width: Width, right: &Term) -> bool
     ensures { result ≡ folding.is_among (folding.is_right_identity operator width) (constant_of (term_tree right.now)) }
@@ -154,6 +171,59 @@ fn leaves_right(operator: BinaryOperator, width: Width, left: &Term) -> bool
     }
 }
 
+/// The comparison that an operator with a number on its left is, its operands turned round.
+fn turned_by(operator: BinaryOperator, left: &Term) -> Option<BinaryOperator>
+    ensures { result ≡ folding.turned_by operator (constant_of (term_tree left.now)) }
+{
+    match constant_of(left) {
+        Some(_) => turned_of(operator),
+        None => None,
+    }
+}
+
+/// An operator and its two operands: a comparison with a number on its left is turned round, and where they leave some
+/// bits of a word, two shifts.
+fn turned(
+    alloc: Global,
+    place: Place,
+    operator: BinaryOperator,
+    width: Width,
+    left: Term,
+    right: Term,
+) -> Result<Term, AllocError>
+    ensures { IfOk result (λ term. term_tree term ≡ folding.turned place operator width (term_tree left) (term_tree right)) }
+{
+    match turned_by(operator, &left) {
+        Some(comparison) => operation(alloc, place, comparison, width, right, left),
+        None => narrowed(alloc, place, operator, width, left, right),
+    }
+}
+
+/// An operator and its two operands: where one is a power of two, a shift or a mask of the other, and else what they are
+/// turned round or narrowed.
+fn stepped(
+    alloc: Global,
+    place: Place,
+    operator: BinaryOperator,
+    width: Width,
+    left: Term,
+    right: Term,
+) -> Result<Term, AllocError>
+    ensures { IfOk result (λ term. term_tree term ≡ folding.stepped place operator width (term_tree left) (term_tree right)) }
+{
+    if let Some(step) = step_of(operator, constant_of(&right)) {
+        let number = number_of(step.number);
+        return narrowed(alloc, place, step.operator, width, left, number);
+    }
+    match turned_step(operator, constant_of(&left)) {
+        Some(step) => {
+            let number = number_of(step.number);
+            narrowed(alloc, place, step.operator, width, right, number)
+        }
+        None => turned(alloc, place, operator, width, left, right),
+    }
+}
+
 /// An operator and its two operands: where the one leaves the other as it is, that one alone.
 fn reduced(
     alloc: Global,
@@ -170,9 +240,7 @@ fn reduced(
     } else if leaves_right(operator, width, &left) {
         Ok(right)
     } else {
-        let left = Box::new(alloc, left)?;
-        let right = Box::new(alloc, right)?;
-        Ok(Term::Binary(place, operator, width, left, right))
+        stepped(alloc, place, operator, width, left, right)
     }
 }
 
@@ -189,7 +257,10 @@ fn binary(
 {
     match between(operator, width, &left, &right) {
         Some(known) => Ok(number_of(known)),
-        None => reduced(alloc, place, operator, width, left, right),
+        None => match left_decides(operator, &left).or(right_decides(operator, &right)) {
+            Some(truth) => Ok(Term::Truth(truth)),
+            None => reduced(alloc, place, operator, width, left, right),
+        },
     }
 }
 

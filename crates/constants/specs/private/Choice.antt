@@ -1,7 +1,8 @@
 -- Which loops become their turns: innermost loops first, in the order of the text, each whose turns are short and for
 -- which there is still room. All turns together have room for 32 times as many nodes as the source has, up to a limit
 -- that keeps the building of large sources short. Counted are about the nodes that a turn will have: an index is mostly
--- made of counters and numbers, so a quarter of its nodes counts.
+-- made of counters and numbers, so a quarter of its nodes counts. The turns of a loop that makes only few may be far
+-- longer: they take little more room than the loop did, and what hangs on the counter is known in each of them.
 use Rattle.std.specs.Prelude.{ℕ, ◌+◌, ◌-◌, ◌*◌, ◌/◌, ◌^◌, ◌≤◌, ◌&&◌, List, [], ◌∷◌, min, nat_le, slice_index, slice_set}
 use Rattle.std.specs.Prelude.{if◌then◌else◌}
 use Rattle.branch_removal.specs.Straight.{StraightTree, set, clear, fill, put, take, set_under, put_under, branch}
@@ -31,9 +32,9 @@ abbrev pub terms_size : List TermTree → ℕ
 terms_size [] = 0
 terms_size (e ∷ es) = term_size e + terms_size es
 
--- how many nodes a turn may have
-abbrev pub most_in_turn : ℕ
-most_in_turn = 384
+-- how many nodes a turn may have, by how many turns there are
+abbrev pub most_nodes_of : ℕ → ℕ
+most_nodes_of turns = if nat_le turns 3 then 4096 else 384
 
 -- what is chosen so far: how many turns the loop of each counter may become, at its number; how many nodes there is
 -- room for; and how many there are, with the turns of the loops that are chosen
@@ -55,7 +56,7 @@ abbrev pub settled : ℕ → ℕ → ℕ → ℕ → Chosen → Chosen
 settled before room x own inner =
     let turns = slice_index inner.copies x in
     let cost = counted (counted (inner.nodes + 2) * turns) in
-    if nat_le 1 turns && nat_le inner.nodes most_in_turn && nat_le cost room
+    if nat_le 1 turns && nat_le inner.nodes (most_nodes_of turns) && nat_le cost room
     then record { copies = inner.copies; room = room - cost; nodes = counted (before + cost) }
     else record {
       copies = slice_set inner.copies x 0;

@@ -1,8 +1,11 @@
--- Expressions in which what is known is a number: an operator between numbers is what it comes to, one that leaves its
--- operand as it is is that operand, and a comparison that `!` stands before is the opposite one. A division by 0 stays,
--- since it comes to nothing. A word that is another one's copy is read as that one.
+-- Expressions in which what is known is a number: an operator between numbers is what it comes to, one that a number on
+-- one side decides is that bool, one that leaves its operand as it is is that operand, one by a power of two is a shift
+-- or a mask, a comparison that `!` stands before is the opposite one, one with a number on its left is turned round, and
+-- bits of a word are had by two shifts. A division by 0 stays, since it comes to nothing. A word that is another one's
+-- copy is read as that one.
 use Rattle.std.specs.Prelude.{ℕ, ◌-◌, ◌==◌, ◌&&◌, Bool, true, false, nat_le, Option, None, Some, if◌then◌else◌}
-use Rattle.std.specs.Option.{option_map}
+use Rattle.std.specs.Bool.{then_some}
+use Rattle.std.specs.Option.{option_and_then, option_map, option_or}
 use Rattle.inline.specs.Flat.{TermTree, number, truth, variable, prefix, binary, rotate, convert, select, element}
 use Rattle.language.specs.declared.signature.Kind.{Kind}
 use Rattle.language.specs.declared.signature.Kind.TheVariants.{Boolean}
@@ -20,7 +23,10 @@ use Rattle.word.specs.declared.place.Place.{Place}
 use Rattle.word.specs.declared.width.Width.{Width}
 use Rattle.constants.specs.declared.known.Constant.{Constant}
 use Rattle.constants.specs.declared.terms.Numbers.{Numbers}
+use Rattle.constants.specs.private.Fields.{amount_of, field_of, mask_of, moved_or}
+use Rattle.constants.specs.declared.powers.Step.{Step}
 use Rattle.constants.specs.private.Known.{Words, known, source_in}
+use Rattle.constants.specs.private.Powers.{step_of, turned_step}
 
 -- a number of this value and kind
 abbrev pub constant : ℕ → Kind → Constant
@@ -56,6 +62,21 @@ opposite_of LessOrEqual = Some Greater
 opposite_of Greater = Some LessOrEqual
 opposite_of GreaterOrEqual = Some Less
 opposite_of _ = None
+
+-- the comparison that holds of two operands turned round exactly where another one holds of them
+abbrev pub turned_of : BinaryOperator → Option BinaryOperator
+turned_of Equal = Some Equal
+turned_of Unequal = Some Unequal
+turned_of Less = Some Greater
+turned_of LessOrEqual = Some GreaterOrEqual
+turned_of Greater = Some Less
+turned_of GreaterOrEqual = Some LessOrEqual
+turned_of _ = None
+
+-- that of an operator with a number on its left
+abbrev pub turned_by : BinaryOperator → Option Constant → Option BinaryOperator
+turned_by operator None = None
+turned_by operator (Some c) = turned_of operator
 
 -- two operands with this operator between them, where there is one, else an expression
 abbrev pub binary_or : Option BinaryOperator → Place → Width → TermTree → TermTree → TermTree → TermTree
@@ -96,6 +117,33 @@ between operator width (Some a) (Some b) =
     (folded operator width a.value b.value)
 between operator width _ _ = None
 
+-- what an operator comes to by its left operand alone, whatever the right one is: a bool, where it does
+abbrev pub decided_by_left : BinaryOperator → ℕ → Option Bool
+decided_by_left Either a = then_some (truth_of a) true
+decided_by_left Both a = then_some (a == 0) false
+decided_by_left LessOrEqual a = then_some (a == 0) true
+decided_by_left Greater a = then_some (a == 0) false
+decided_by_left _ a = None
+
+-- and by its right operand
+abbrev pub decided_by_right : BinaryOperator → ℕ → Option Bool
+decided_by_right Either b = then_some (truth_of b) true
+decided_by_right Both b = then_some (b == 0) false
+decided_by_right Less b = then_some (b == 0) false
+decided_by_right GreaterOrEqual b = then_some (b == 0) true
+decided_by_right _ b = None
+
+-- by either, where it is a number
+abbrev pub decided : BinaryOperator → Option Constant → Option Constant → Option Bool
+decided operator left right =
+    option_or (option_and_then (λ c. decided_by_left operator c.value) left)
+    (option_and_then (λ c. decided_by_right operator c.value) right)
+
+-- a bool where it is known, else an expression
+abbrev pub truth_or : Option Bool → TermTree → TermTree
+truth_or None e = e
+truth_or (Some b) e = truth b
+
 -- the right identities of an operator, its left operand of this width: with one of them on the right it leaves what is
 -- on the left as it is
 abbrev pub is_right_identity : BinaryOperator → Width → ℕ → Bool
@@ -128,15 +176,43 @@ abbrev pub is_among : (ℕ → Bool) → Option Constant → Bool
 is_among numbers None = false
 is_among numbers (Some c) = numbers c.value
 
+-- what a mask leaves of a word that is moved down by a number, else an expression
+abbrev pub narrowed : Place → Option Constant → TermTree → TermTree → TermTree
+narrowed place mask (binary inner operator width word amount) e =
+    moved_or (field_of mask (amount_of operator width (constant_of amount))) place width word e
+narrowed place mask _ e = e
+
+-- an operator between two operands, and two shifts in its place where it leaves bits of a word
+abbrev pub operation : Place → BinaryOperator → Width → TermTree → TermTree → TermTree
+operation place operator width left right =
+    narrowed place (mask_of operator (constant_of right)) left (binary place operator width left right)
+
+-- and a comparison turned round that has a number on its left: a 0 on the right takes no instruction
+abbrev pub turned : Place → BinaryOperator → Width → TermTree → TermTree → TermTree
+turned place operator width left right =
+    binary_or (turned_by operator (constant_of left)) place width right left
+    (operation place operator width left right)
+
+-- an operand and a step that makes the same of it, where there is one, else an expression
+abbrev pub stepped_or : Option Step → Place → Width → TermTree → TermTree → TermTree
+stepped_or None place width word e = e
+stepped_or (Some step) place width word e = operation place step.operator width word (number_of step.number)
+
+-- an operator between two operands, and a shift or a mask in its place where one of them is a power of two
+abbrev pub stepped : Place → BinaryOperator → Width → TermTree → TermTree → TermTree
+stepped place operator width left right = stepped_or (step_of operator (constant_of right)) place width left
+    (stepped_or (turned_step operator (constant_of left)) place width right (turned place operator width left right))
+
 -- an operator whose one operand is an identity is the other operand
 abbrev pub reduced : Place → BinaryOperator → Width → TermTree → TermTree → TermTree
 reduced place operator width left right = if is_among (is_right_identity operator width) (constant_of right) then left
     else (if is_among (is_left_identity operator width) (constant_of left) then right
-    else binary place operator width left right)
+    else stepped place operator width left right)
 
 abbrev pub operated_on : Place → BinaryOperator → Width → TermTree → TermTree → TermTree
 operated_on place operator width left right =
-    known_or (between operator width (constant_of left) (constant_of right)) (reduced place operator width left right)
+    known_or (between operator width (constant_of left) (constant_of right))
+    (truth_or (decided operator (constant_of left) (constant_of right)) (reduced place operator width left right))
 
 abbrev pub rotated : Width → TermTree → ℕ → TermTree
 rotated width operand amount =
