@@ -5,17 +5,18 @@ use Rattle.codegen.proofs.Language.{statement_nodes, block_nodes, StraightTree, 
 use Rattle.codegen.proofs.Language.{fill, put, take, set_under, put_under, branch, repeats, StraightBlock, nothing}
 use Rattle.codegen.proofs.Language.{first, FlatVariable, TermTree, array_as, term_nodes, terms_nodes, declared_words}
 use Rattle.codegen.proofs.Language.{Kind}
+use Rattle.codegen.proofs.BranchLengths.{branching_spans}
 use Rattle.codegen.proofs.LoopLengths.{repeat_spans}
 pub use Rattle.codegen.proofs.WordLengths.{assign_length}
 use Rattle.codegen.proofs.WordLengths.{read_length, stored_length, value_length}
 use Rattle.codegen.specs.private.Loops.{any_sets}
 use Rattle.codegen.proofs.Language.{element_bytes, array_words, IsTyped, AreTyped, types_but, types_of, AllSuit}
 use Rattle.codegen.proofs.Language.{HasType, Boolean, WordType, Profile}
-use Rattle.codegen.specs.private.Emitted.{gives_zero, read_register, stored_code, stored_register}
+use Rattle.codegen.specs.private.Emitted.{gives_zero, read_register, stored_register, stored_value}
 use Rattle.codegen.specs.private.Erased.{erase_under_code}
 use Rattle.codegen.specs.private.Emitted.{set_code, set_under_code, taken_code, kept_code, join_code, masks_code}
 use Rattle.codegen.specs.private.Emitted.{unless_unread, element_store_code, clear_code}
-use Rattle.codegen.specs.private.Emitted.{fill_code, statement_code, block_code}
+use Rattle.codegen.specs.private.Emitted.{fill_code, into_element_code, statement_code, block_code}
 use Rattle.branch_removal.specs.Heights.{height_of_all}
 use Rattle.codegen.specs.private.Emitted.{index_code}
 use Rattle.branch_removal.specs.Heights.{height_in, height_in_all, depth_in, depth_in_all}
@@ -26,6 +27,7 @@ use Rattle.codegen.proofs.Machine.{register_of, variable_offset}
 use Rattle.codegen.proofs.Machine.{next_offset, temporaries_offset, kind_at, near_element, height_of, Instr, slots_to}
 use Rattle.codegen.proofs.Machine.{Allocation, InRegister, InSlot, Location, variable_location}
 use Rattle.codegen.specs.private.Placed.{IsPlaced}
+use Rattle.codegen.proofs.StoredValues.{stored_nodes}
 use Rattle.codegen.proofs.Logic.{code_length, fetch_length, height, one_of, load_length, store_length, constant_length}
 use Rattle.codegen.proofs.Logic.{address_length, ends_before_result, typed_within}
 use Rattle.codegen.proofs.Logic.{typed_among}
@@ -68,24 +70,30 @@ element_store_length r kind o = one_of (nat_lt o 2048) _ _ 3 (omega arith) (omeg
 clear_length : (o words : ℕ) → length (clear_code o words) ≤ 16
 clear_length o words = simp length-append (omega (arith, constant_length 6 o, constant_length 7 (4 * words)))
 
+into_element_length : (declared : List FlatVariable) (allocation : Allocation) (free : ℕ) (kind : Kind) (o : ℕ)
+    (e : TermTree) → length (into_element_code declared allocation free kind o e) ≤ 16 * term_nodes e + 3
+into_element_length declared allocation free kind o e =
+    simp length-append (omega (
+      arith,
+      stored_length declared allocation free e,
+      element_store_length (stored_register allocation e) kind o,
+    ))
+
 -- a value into an element, at an index or at the offset that the store holds
 put_length : (declared : List FlatVariable) (allocation : Allocation) (free x : ℕ) (index value : TermTree)
     → length (put_element_code declared allocation free x index value)
     ≤ 32 * (1 + (1 + term_nodes index) + term_nodes value)
 put_length declared allocation free x index value =
+    let kind = kind_at declared x in
+    let other = stored_value allocation kind value in
+    let nodes = stored_nodes allocation kind value in
     code_length (near_element declared allocation x index)
-    (λ o. stored_code declared allocation free value
-    ++ element_store_code (stored_register allocation value) (kind_at declared x) o)
-    (index_code declared allocation free index value
-    ++ put_code (read_register allocation 5 index) (read_register allocation 6 value) (kind_at declared x)
+    (λ o. into_element_code declared allocation free kind o other)
+    (index_code declared allocation free index other
+    ++ put_code (read_register allocation 5 index) (read_register allocation 6 other) kind
     (variable_offset declared x)) _
-    (λ o. simp length-append
-    (omega (
-      arith,
-      stored_length declared allocation free value,
-      element_store_length (stored_register allocation value) (kind_at declared x) o,
-    )))
-    (omega (arith, length-append {A = Instr}, read_length, address_length))
+    (λ o. omega (arith, nodes, into_element_length declared allocation free kind o other))
+    (omega (arith, nodes, length-append {A = Instr}, read_length, address_length))
 
 put_under_length : (declared : List FlatVariable) (allocation : Allocation) (free : ℕ) (control : Location) (x : ℕ)
     (index value : TermTree) → length (put_element_under_code declared allocation free control x index value)
@@ -125,12 +133,13 @@ pub fill_length : (declared : List FlatVariable) (allocation : Allocation) (free
     (es : List TermTree) → length (fill_code declared allocation free kind o es) ≤ 32 * terms_nodes es
 fill_length declared allocation free kind o [] = omega arith
 fill_length declared allocation free kind o (e ∷ es) =
-    let h = height e in
+    let other = stored_value allocation kind e in
     simp length-append (omega (
       arith,
-      h,
-      stored_length declared allocation free e,
-      element_store_length (stored_register allocation e) kind o,
+      height e,
+      stored_nodes allocation kind e,
+      stored_length declared allocation free other,
+      element_store_length (stored_register allocation other) kind o,
       fill_length declared allocation free kind (o + element_bytes kind) es,
     ))
 
@@ -147,13 +156,10 @@ module _ (declared : List FlatVariable) (allocation : Allocation) (controls dept
     statement_length depth (fill x values) =
         omega (arith, fill_length declared allocation free (kind_at declared x) (variable_offset declared x) values)
     statement_length depth (branch condition accepted otherwise) =
-        omega (
-          arith,
-          length-append {A = Instr},
-          read_length,
-          block_length depth accepted,
-          block_length depth otherwise,
-        )
+        let xs = block_code declared allocation controls depths depth accepted in
+        let ys = block_code declared allocation controls depths depth otherwise in
+        let spans = branching_spans declared allocation free condition xs ys in
+        omega (arith, spans.1, block_length depth accepted, block_length depth otherwise)
     statement_length depth (set x value) =
         omega (arith, set_length declared allocation free (variable_location declared allocation x) value)
     statement_length depth (put place x size index value) =
@@ -201,7 +207,11 @@ module _ (declared : List FlatVariable) (allocation : Allocation) (controls dept
       → length (statement_code declared allocation controls depths depth (branch condition accepted otherwise)) < far
       → AreNear (length (block_code declared allocation controls depths depth accepted))
       (length (block_code declared allocation controls depths depth otherwise))
-  arms_near condition accepted otherwise few = omega (arith, length-append {A = Instr}, few)
+  arms_near condition accepted otherwise few =
+      let spans = branching_spans declared allocation (temporaries_offset declared controls depths) condition
+      (block_code declared allocation controls depths depth accepted)
+      (block_code declared allocation controls depths depth otherwise) in
+      omega (arith, spans.0, few)
 
 -- Places.
 

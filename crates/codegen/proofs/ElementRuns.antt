@@ -1,69 +1,33 @@
 -- The code that sets an element of an array, or fills an array with values.
-use Rattle.std.proofs.Common.{◌≡◌, ℕ, ◌+◌, ◌*◌, ◌%◌, ◌^◌, ◌<◌, ◌≤◌, ◌==◌, Bool, true, false, cond, if◌then◌else◌}
-use Rattle.std.proofs.Common.{List, [], ◌∷◌, ◌++◌, length, map, Option, None, Some, slice_get, slice_index, refl, sym}
-use Rattle.std.proofs.Common.{ap, ap₂, ◌∙◌, subst, arith, eq-eqb, ne_eqb, nat_lt, not, ◌&&◌, ◌≢◌, ◌⊎◌, inl, inr}
+use Rattle.std.proofs.Common.{◌≡◌, ℕ, ◌+◌, ◌*◌, ◌%◌, ◌<◌, ◌≤◌, ◌==◌, Bool, true, false, cond, List, [], ◌∷◌, ◌++◌}
+use Rattle.std.proofs.Common.{length, map, Option, None, Some, slice_get, refl, sym, ap, ◌∙◌, subst, arith, eq-eqb}
 use Rattle.std.proofs.Common.{append_assoc, length-append}
 use Rattle.std.proofs.lemmas.Bool.{true≢false}
 use Rattle.std.specs.Prelude.{slice_set}
 use Rattle.std.proofs.Math.Seq.{set-append_seam}
 use Rattle.codegen.proofs.Language.{FlatVariable, with_value, StraightState, with_variable, with_element}
-use Rattle.codegen.proofs.Language.{element_bytes}
-use Rattle.codegen.proofs.Language.{TermTree, array_as, path_in_all, term_nodes, terms_nodes, put_under, types_but}
-use Rattle.codegen.proofs.Language.{Values, value_in, path_in, types_of, AllSuit, indexed, value_at, IsFilled}
-use Rattle.codegen.proofs.Language.{WordType}
-use Rattle.codegen.proofs.Language.{Suits, fill, after, path_at, IsPut, Kind, Boolean, bits_of, Place, Profile}
-use Rattle.codegen.proofs.Logic.{eqb-true, lt-ltb, nat_tests, nil_from_length, register-at, is_free, registers_after}
-use Rattle.codegen.proofs.Logic.{unwritten, IsHome}
-use Rattle.codegen.proofs.Logic.{but_among, suits_among, one_path_all, all_values, lower_fits, Addressed}
-use Rattle.codegen.proofs.Logic.{address_runs, steps_of, kind_known, HomesKept, home_beside, homes_beside, homes_by}
-use Rattle.codegen.proofs.Logic.{homes_moved, homes_then, place_target, works_at, load_bytes, load_plain, Held}
-use Rattle.codegen.proofs.Logic.{HeldAt, free_from, mask_of, merged, merge, put, does, move_runs, then_moves}
-use Rattle.codegen.proofs.Logic.{loading, storing, place_of, place_even, place_before, place_ends, Setting, setting}
-use Rattle.codegen.proofs.Logic.{base_of, Known, by_index, none, Runs, seq, quiet, weaken, gives, cheaper, beside}
-use Rattle.codegen.proofs.Logic.{along, as_code, idle, height, number_or_zero, Ready, Wrote, ready_after, known}
-use Rattle.codegen.proofs.Logic.{near_known, near_address, NearElement, never}
+use Rattle.codegen.proofs.Language.{element_bytes, TermTree, array_as, path_in_all, term_nodes, terms_nodes}
+use Rattle.codegen.proofs.Language.{types_but, Values, value_in, path_in, types_of, AllSuit, indexed, value_at}
+use Rattle.codegen.proofs.Language.{IsFilled, WordType, Suits, fill, after, path_at, IsPut, Kind, Place, Profile}
+use Rattle.codegen.proofs.Logic.{eqb-true, nil_from_length, but_among, suits_among, one_path_all, all_values}
+use Rattle.codegen.proofs.Logic.{steps_of, kind_known, homes_beside, Held, place_of, place_even, place_before}
+use Rattle.codegen.proofs.Logic.{place_ends, Setting, setting, base_of, Known, by_index, none, Runs, seq, quiet}
+use Rattle.codegen.proofs.Logic.{weaken, gives, cheaper, beside, along, as_code, idle, height, Ready, Wrote, known}
+use Rattle.codegen.proofs.Logic.{near_known, NearElement, never}
 use Rattle.branch_removal.specs.Straight as straight
-use Rattle.codegen.proofs.Machine.{store_by, code_by, near_element, put_code, slots_to, load_by, kind_at, Instr}
-use Rattle.codegen.proofs.Machine.{ByteMap, number_at, load_size}
-use Rattle.codegen.proofs.Machine.{sign_extended, sum_of, element_store_code, put_under_code, put_under_near_code}
-use Rattle.codegen.proofs.Machine.{statement_code, variable_offset, control_location, is_unread, Location}
-use Rattle.codegen.proofs.Machine.{fill_code, home_of, lower_part, height_of, store_size, address_of, byte_count}
-use Rattle.codegen.proofs.Machine.{index_code, merge_code, read_code, read_register, height_of_all}
-use Rattle.codegen.proofs.Machine.{stored_code, stored_register}
-use Rattle.codegen.proofs.Machine.{height_of_put, address_code, with_number}
-use Rattle.rv_code.specs.declared.instructions.Instr.TheVariants as instr
-use Rattle.rv_machine.specs.Machine as machine
-use Rattle.codegen.proofs.SetRuns.{chosen_fits}
-use Rattle.codegen.proofs.Slots.{Shown, suits_fits, ready_valued, ready_with, wrote_as, hidden_valued, IsSource}
-use Rattle.codegen.proofs.Slots.{read_runs, read_source, reads, source_apart, Hidden, hidden_then, hidden_by}
-use Rattle.codegen.proofs.Slots.{hidden_kept, hidden_wrote, cut_kind, cut_element, ready_same, ready_put}
-use Rattle.codegen.proofs.Slots.{ready_chosen, IsOffered, offered_put, offered_register, offered_runs, ready_offered}
+use Rattle.codegen.proofs.Machine.{store_by, code_by, near_element, put_code, slots_to, Instr, element_store_code}
+use Rattle.codegen.proofs.Machine.{statement_code, variable_offset, fill_code, height_of, index_code, read_register}
+use Rattle.codegen.proofs.Machine.{height_of_all, stored_register, height_of_put}
+use Rattle.codegen.proofs.Slots.{Shown, suits_fits, wrote_as, hidden_valued, hidden_then, ready_same, ready_put}
+use Rattle.codegen.proofs.Slots.{IsOffered, offered_put, offered_register, offered_runs, ready_offered}
 use Rattle.rv_machine.specs.Registers.{register}
-use Rattle.codegen.proofs.Masks.{fetched_homes, mask_apart, mask_register, mask_runs, mask_small, mask_some}
-
-store_bytes : (kind : Kind) → byte_count (store_size (store_by kind)) ≡ element_bytes kind
-store_bytes Boolean = refl
-store_bytes kind = refl
-
--- the first temporary stays where a value comes into the second
-first_beside : (count : ℕ) → works_at count 1 6 5 ≡ false
-first_beside count = grind (arith, nat_tests)
+use Rattle.codegen.specs.private.Emitted.{into_element_code, put_value_code}
+use Rattle.codegen.specs.private.StoredValues.{stored_value}
+use Rattle.codegen.proofs.StoredValues.{IsCutTo, stored_cut, stored_height, stored_nodes, stored_path}
+use Rattle.codegen.proofs.Elements.{ElementAccess, addressed_at, at_element, element_at, kind_is, near_at, put_at}
+use Rattle.codegen.proofs.Elements.{store_bytes, stores, value_beside, value_source}
 
 -- One element, at a fixed place.
-
--- a register into an element of a fixed place
-element_runs : (z : Setting) (r : ℕ) → (is_free r && (nat_lt r 32 && not (r == 28))) ≡ true → (kind : Kind) (o : ℕ)
-    → o % element_bytes kind ≡ 0 → o + element_bytes kind ≤ z.size
-    → Runs z 3 none (element_store_code r kind o) (Held z) (λ env s t. Wrote z (element_bytes kind) o (s.regs r) s t)
-element_runs z r ok kind o even room =
-    let bytes = store_bytes kind in
-    gives
-    (λ env s t fine held moved. record {
-      held = moved.held;
-      written = moved.bytes ∙ ap (λ n. with_number s.bytes n (z.frame + o) (s.regs r)) bytes;
-      homes = homes_moved z (put (store_by kind) r o ∷ []) env s t refl moved;
-    })
-    (move_runs z (put (store_by kind) r o) ok (ap (λ n. o % n) bytes ∙ even, omega (arith, room, bytes)))
 
 -- what a register reads as into an element of a fixed place
 offered_element : (z : Setting) (r : ℕ) → IsOffered z r → (kind : Kind) (o : ℕ)
@@ -82,31 +46,36 @@ one_at : (z : Setting) (depth : ℕ) → depth ≤ z.depths → (x size : ℕ) (
     → (k : ℕ) (e : TermTree) → k < size → Suits (types_of z.code.profile z.declared) word e
     → base_of z + 4 * slots_to z.allocation.count (height_of e) ≤ z.size
     → Runs z (16 * term_nodes e + 3) (steps_of e)
-    (stored_code z.declared z.allocation (base_of z) e
-    ++ element_store_code (stored_register z.allocation e) word.kind
-    (place_of z.declared x (array_as word mutable size) k))
+    (into_element_code z.declared z.allocation (base_of z) word.kind
+    (place_of z.declared x (array_as word mutable size) k) (stored_value z.allocation word.kind e))
     (Ready z) (Shown z depth (λ env. with_element env x k (value_in env.variables e)))
 one_at z depth within x size word mutable known k e below suits room =
     let d = array_as word mutable size in
     let at = place_of z.declared x d k in
     let before = place_before z x d k known below in
     let n = element_bytes word.kind in
-    let r = stored_register z.allocation e in
-    gives
+    let other = stored_value z.allocation word.kind e in
+    let is_cut = stored_cut z.allocation word.kind suits.has_type in
+    let height = stored_height z.allocation word.kind e in
+    let r = stored_register z.allocation other in
+    along (λ env. sym (stored_path z.allocation word.kind e env.variables))
+    (cheaper (omega (arith, stored_nodes z.allocation word.kind e))
+    (gives
     (λ env s t fine ready done.
     let m = done.middle in
     let v = value_in env.variables e in
+    let w = value_in env.variables other in
     let fits = suits_fits z.code.profile z.declared word e env.variables ready.fits suits in
-    let wrote = wrote_as z n at (register m.regs r) v m t done.first.there done.second in
+    let wrote = wrote_as z n at (register m.regs r) w m t done.first.there done.second in
     record {
-      ready = ready_put z x k v v d known (z.allocated.words x d size known refl) below fits env m t
-          (ready_offered z e env s m ready done.first) wrote (cut_element word.kind size v fits);
-      hidden = hidden_valued z depth within e env n at v s m t (omega (arith, before)) done.first wrote;
+      ready = ready_put z x k v w d known (z.allocated.words x d size known refl) below fits env m t
+          (ready_offered z other env s m ready done.first) wrote (is_cut.cut env.variables fits);
+      hidden = hidden_valued z depth within other env n at w s m t (omega (arith, before)) done.first wrote;
     })
-    (quiet (offered_runs z suits.has_type room)
-    (offered_element z r (offered_register z e) word.kind at (place_even z.declared x d k)
+    (quiet (offered_runs z is_cut.has_type (omega (arith, room, height)))
+    (offered_element z r (offered_register z other) word.kind at (place_even z.declared x d k)
     (place_ends z x d k known below))
-    (λ env s t ready offered. offered.held))
+    (λ env s t ready offered. offered.held))))
 
 -- One element, at an index.
 
@@ -117,165 +86,43 @@ module _ (z : Setting) (depth : ℕ) (place : Place) (x size : ℕ) (index value
   abbrev kind : Kind
   kind = typed.word.kind
 
-  abbrev array : FlatVariable
-  array = array_as typed.word typed.mutable size
+  -- what is put there for the value
+  abbrev put_value : TermTree
+  put_value = stored_value z.allocation kind value
 
-  abbrev offset : ℕ
-  offset = variable_offset z.declared x
+  is_cut : IsCutTo (types_of z.code.profile z.declared) kind value put_value
+  is_cut = stored_cut z.allocation kind typed.suits.has_type
 
-  -- no array has a home
-  away : home_of z.allocation.homes x ≡ None
-  away = z.allocated.words x array size typed.known refl
+  put_room : base_of z + 4 * slots_to z.allocation.count (height_of_put index put_value) ≤ z.size
+  put_room = omega (arith, room, stored_height z.allocation kind value)
 
-  -- where an element lies
-  abbrev element_at : ℕ → ℕ
-  element_at i = place_of z.declared x array i
+  abbrev access : ElementAccess z
+  access = record {
+    depth = depth;
+    within = within;
+    place = place;
+    x = x;
+    size = size;
+    word = typed.word;
+    mutable = typed.mutable;
+    known = typed.known;
+    index = index;
+    index_type = typed.index_type;
+    value = put_value;
+    own = is_cut.word;
+    value_type = is_cut.has_type;
+    room = put_room;
+  }
 
-  abbrev number_of : StraightState → ℕ
-  number_of env = value_in env.variables index
+  abbrev number : StraightState → ℕ
+  number env = value_in env.variables index
 
-  abbrev value_of : StraightState → ℕ
-  value_of env = value_in env.variables value
-
-  -- where they are: at home, or in the registers of the first two temporaries
+  -- where the index and the value are
   abbrev index_register : ℕ
   index_register = read_register z.allocation 5 index
 
   abbrev value_register : ℕ
-  value_register = read_register z.allocation 6 value
-
-  index_source : IsSource z 5 index_register
-  index_source = read_source z index 5 (omega arith) (omega arith)
-
-  value_source : IsSource z 6 value_register
-  value_source = read_source z value 6 (omega arith) (omega arith)
-
-  -- the value is not in the register of the first temporary
-  value_beside : value_register ≢ 5
-  value_beside = source_apart z value_source 5 (omega arith) (λ e. omega (arith, e))
-
-  -- an index and a value are in their registers
-  record Aimed (i : ℕ) (env : StraightState) (s : machine.State) : Type 0 where
-    ready : Ready z env s
-    five : s.regs index_register ≡ i
-    six : s.regs value_register ≡ value_of env
-
-  addressed_at : (i : ℕ) → i < size
-      → Runs z 4 none (address_code 5 index_register kind offset) (Aimed i)
-      (λ env s t. Addressed z 5 offset (element_at i) env s t)
-  addressed_at i below =
-      let h = place_ends z x array i typed.known below in
-      weaken
-      (λ env s fine aimed. (aimed.ready.held, aimed.five, omega (arith, h, z.ends)))
-      (λ env s t fine aimed done. done)
-      (address_runs z 5 index_register (free_from 5 (omega arith) (omega arith))
-      (free_from index_register index_source.low (omega (arith, index_source.high))) (λ e. omega (arith, e))
-      kind offset (λ env. i))
-
-  -- a register into an element
-  stores : (r : ℕ) → r < 32 → r ≢ 0 → (i : ℕ) → i < size
-      → Runs z 1 none (instr.Store (store_by kind) r 5 (lower_part offset) ∷ []) (λ env s. HeldAt z s
-      × (address_of s.regs 5 (lower_part offset) ≡ z.frame + element_at i))
-      (λ env s t. Wrote z (element_bytes kind) (element_at i) (s.regs r) s t)
-  stores r small nonzero i below =
-      let n = store_bytes kind in
-      let h = place_ends z x array i typed.known below in
-      gives
-      (λ env s t fine given done. record {
-        held = done.0;
-        written = done.2 ∙ ap₂ (λ m v. with_number s.bytes m (z.frame + element_at i) v) n
-            (register-at s.regs r nonzero);
-        homes = homes_by z s t done.1;
-      })
-      (storing z 5 (lower_part offset) (element_at i) (omega arith) (lower_fits offset) (store_by kind) r small
-      (ap (λ m. element_at i % m) n ∙ place_even z.declared x array i) (omega (arith, h, n)))
-
-  -- what an element's store leaves, where only registers had changed before
-  put_at : (i w : ℕ) → i < size → w < 2 ^ bits_of kind → (env : StraightState) (s m t : machine.State) → Ready z env s
-      → HeldAt z m → m.bytes ≡ s.bytes → HomesKept z s m → Wrote z (element_bytes kind) (element_at i) w m t
-      → Hidden z depth s t × Ready z (with_element env x i w) t
-  put_at i w below fits env s m t ready held same homes wrote =
-      let b = place_before z x array i typed.known below in (
-        hidden_then z depth s m t (hidden_by z depth s m same)
-            (hidden_wrote z depth (element_bytes kind) (element_at i) w m t (omega (arith, b)) wrote),
-        ready_put z x i w w array typed.known away below fits env m t (ready_with z env s m ready held same homes)
-            wrote (cut_element kind size w fits),
-      )
-
-  -- The index and the value.
-
-  -- the index is in its register
-  record Stacked (env : StraightState) (s : machine.State) : Type 0 where
-    ready : Ready z env s
-    five : s.regs index_register ≡ number_of env
-
-  -- it stays there where the value comes into the second temporary
-  index_stays : works_at z.allocation.count 1 6 index_register ≡ false
-  index_stays = by_source index_source.is
-    where
-      by_source : (index_register ≡ 5) ⊎ IsHome z.allocation.count index_register
-          → works_at z.allocation.count 1 6 index_register ≡ false
-      by_source (inl is) = ap (works_at z.allocation.count 1 6) is ∙ first_beside z.allocation.count
-      by_source (inr home) =
-          let some = z.allocated.some in
-          home_beside z.allocation.count 1 6 index_register home.0 home.1 (λ e. omega (arith, some, home.0, e))
-
-  value_piece : (i : ℕ)
-      → Runs z (16 * term_nodes value) (steps_of value) (read_code z.declared z.allocation (base_of z) 6 1 value)
-      (Known (setting z) ℕ (λ j. j < size) Stacked number_of i) (λ env s t. Aimed i env t × Hidden z depth s t)
-  value_piece i =
-      let some = z.allocated.some in
-      let count = z.allocation.count in
-      weaken {P' = Known (setting z) ℕ (λ j. j < size) Stacked number_of i}
-      (λ env s fine given. given.given.ready)
-      (λ env s t fine given one.
-      let kept = one.kept in
-      let homes : HomesKept z s t =
-      λ r home. one.lower r (home_beside count 1 6 r home.0 home.1 (λ e. omega (arith, some, home.0, e))) in (
-        record {
-          ready = ready_after z env s t given.given.ready one.held kept homes;
-          five = one.lower index_register index_stays ∙ (given.given.five ∙ given.is);
-          six = one.there;
-        },
-        hidden_kept z depth s t within kept,
-      ))
-      (reads z 6 1 (place_target count 1 z.allocated.few (omega (arith, some))) typed.suits.has_type
-      (omega (arith, room)))
-
-  -- The index, and behind its mark what is done at it.
-  at_element : {n : ℕ} {tail : List Instr} (change : StraightState → StraightState)
-      → ((i : ℕ) → i < size
-      → Runs z n none tail (Aimed i) (λ env s t. Hidden z depth s t
-      × (number_of env ≡ i → Ready z (change env) t)))
-      → Runs z (16 * term_nodes index + (16 * term_nodes value + n))
-      (λ env. path_in env.variables index ++ indexed place size (number_of env) ∷ path_in env.variables value)
-      (index_code z.declared z.allocation (base_of z) index value ++ tail) (Ready z) (Shown z depth change)
-  at_element {tail = tail} change act =
-      as_code (append_assoc (read_code z.declared z.allocation (base_of z) 5 0 index)
-      (read_code z.declared z.allocation (base_of z) 6 1 value) tail)
-      (gives
-      (λ env s t fine ready done. record {
-        ready = done.second.ready;
-        hidden = hidden_then z depth s done.middle t (hidden_kept z depth s done.middle within done.first.kept)
-            done.second.hidden;
-      })
-      (seq
-      (read_runs z typed.index_type (omega (arith, room)))
-      (by_index z {P = Stacked} place size number_of
-      (λ i below.
-      gives {R = Shown z depth change}
-      (λ env s t fine given done. record {
-        ready = done.second.1 given.is;
-        hidden = hidden_then z depth s done.middle t done.first.1 done.second.0;
-      })
-      (quiet (value_piece i) (act i below) (λ env s t given done. done.0))))
-      (λ env s t ready done. record {
-        ready = ready_after z env s t ready done.held done.kept done.homes;
-        five = done.there;
-      })))
-
-  kind_is : kind_at z.declared x ≡ kind
-  kind_is = kind_known z.declared x array typed.known
+  value_register = read_register z.allocation 6 put_value
 
   abbrev Puts : List Instr → Type 0
   Puts code =
@@ -283,64 +130,58 @@ module _ (z : Setting) (depth : ℕ) (place : Place) (x size : ℕ) (index value
       (λ env. path_at env (straight.put place x size index value)) code (Ready z)
       (Shown z depth (λ env. after env (straight.put place x size index value)))
 
+  nodes : term_nodes put_value ≤ term_nodes value
+  nodes = stored_nodes z.allocation kind value
+
   -- where the index is in a register
-  put_far : Puts (index_code z.declared z.allocation (base_of z) index value
-      ++ put_code index_register value_register (kind_at z.declared x) offset)
+  put_far : Puts (index_code z.declared z.allocation (base_of z) index put_value
+      ++ put_code index_register value_register kind (variable_offset z.declared x))
   put_far =
-      as_code (ap (λ k. index_code z.declared z.allocation (base_of z) index value
-      ++ put_code index_register value_register k offset) kind_is)
-      (cheaper (omega arith)
-      (at_element (λ env. after env (straight.put place x size index value))
+      along (λ env. ap (λ p. path_in env.variables index ++ indexed place size (number env) ∷ p)
+      (sym (stored_path z.allocation kind value env.variables)))
+      (cheaper (omega (arith, nodes))
+      (at_element z access (λ env. after env (straight.put place x size index value))
       (λ i below.
       gives
       (λ env s t fine aimed done.
       let m = done.middle in
       let one = done.first in
-      let six : m.regs value_register ≡ value_of env =
-      one.others value_register value_beside (λ e. let source = value_source in omega (arith, source.high, e))
-      ∙ aimed.six in
+      let source = value_source z access in
+      let v = value_in env.variables value in
+      let w = value_in env.variables put_value in
+      let six : m.regs value_register ≡ w =
+      one.others value_register (value_beside z access) (λ e. omega (arith, source.high, e)) ∙ aimed.six in
       let fits = suits_fits z.code.profile z.declared typed.word value env.variables aimed.ready.fits typed.suits in
-      let end = put_at i (value_of env) below fits env s m t aimed.ready one.held one.same
+      let end = put_at z access i v w below fits (is_cut.cut env.variables fits) env s m t aimed.ready one.held one.same
       (homes_beside z 5 s m refl one.others)
-      (wrote_as z (element_bytes kind) (element_at i) (m.regs value_register) (value_of env) m t six
-      done.second) in
-      (end.0, λ is. subst (λ j. Ready z (with_element env x j (value_of env)) t) (sym is) end.1))
-      (quiet (addressed_at i below)
-      (stores value_register (omega (arith, value_source.high)) (λ e. let source = value_source in
-      omega (arith, source.low, e)) i below)
+      (wrote_as z (element_bytes kind) (element_at z access i) (m.regs value_register) w m t six done.second) in
+      (end.0, λ is. subst (λ j. Ready z (with_element env x j v) t) (sym is) end.1))
+      (quiet (addressed_at z access i below)
+      (stores z access value_register (let source = value_source z access in omega (arith, source.high))
+      (λ e. let source = value_source z access in omega (arith, source.low, e)) i below)
       (λ env s t aimed done. (done.held, done.address))))))
 
   -- Where the store holds the element's offset the value is read as a first temporary.
 
-  abbrev near_register : ℕ
-  near_register = read_register z.allocation 5 value
-
-  near_source : IsSource z 5 near_register
-  near_source = read_source z value 5 (omega arith) (omega arith)
-
-  abbrev near_stored : ℕ → Kind → List Instr
-  near_stored o k = stored_code z.declared z.allocation (base_of z) value
-      ++ element_store_code (stored_register z.allocation value) k o
+  abbrev near_stored : ℕ → List Instr
+  near_stored o = into_element_code z.declared z.allocation (base_of z) kind o put_value
 
   module _ (o : ℕ) (near : NearElement z.declared x index o) where
-    near_at : element_at near.i ≡ o
-    near_at = ap (λ k. variable_offset z.declared x + element_bytes k * near.i) (sym kind_is) ∙ near.at
-
     -- of the indices that there might be, the number is one
     at_number : (i : ℕ) → i < size → (b : Bool) → (i == near.i) ≡ b
-        → Runs z (16 * term_nodes value + 3) (steps_of value) (near_stored o kind)
-        (Known (setting z) ℕ (λ j. j < size) (Ready z) number_of i)
+        → Runs z (16 * term_nodes value + 3) (steps_of value) (near_stored o)
+        (Known (setting z) ℕ (λ j. j < size) (Ready z) number i)
         (Shown z depth (λ env. after env (straight.put place x size index value)))
     at_number i below true same =
-        let is : element_at i ≡ o = ap element_at (eqb-true i near.i same) ∙ near_at in
+        let is : element_at z access i ≡ o = ap (element_at z access) (eqb-true i near.i same) ∙ near_at z access o near in
         weaken
         (λ env s fine given. given.given)
         (λ env s t fine given done. record {
           ready =
-              subst (λ j. Ready z (with_element env x j (value_of env)) t) (sym given.is) done.ready;
+              subst (λ j. Ready z (with_element env x j (value_in env.variables value)) t) (sym given.is) done.ready;
           hidden = done.hidden;
         })
-        (as_code (ap (λ a. near_stored a kind) (sym is))
+        (as_code (ap near_stored (sym is))
         (one_at z depth within x size typed.word typed.mutable typed.known i value below typed.suits
         (omega (arith, room))))
     at_number i below false other =
@@ -348,295 +189,26 @@ module _ (z : Setting) (depth : ℕ) (place : Place) (x size : ℕ) (index value
         true≢false (sym (eq-eqb i near.i (sym given.is ∙ (known index near.i near.is env.variables).0))
         ∙ other))
 
-    put_near : Puts (near_stored o (kind_at z.declared x))
+    put_near : Puts (near_stored o)
     put_near =
-        as_code (ap (near_stored o) kind_is)
-        (along (λ env. ap (λ p. p ++ indexed place size (number_of env) ∷ path_in env.variables value)
+        along (λ env. ap (λ p. p ++ indexed place size (number env) ∷ path_in env.variables value)
         (known index near.i near.is env.variables).1)
         (cheaper (omega arith)
-        (by_index z place size number_of (λ i below. at_number i below (i == near.i) refl))))
+        (by_index z place size number (λ i below. at_number i below (i == near.i) refl)))
 
   pub put_runs : Puts (statement_code z.declared z.allocation z.controls z.depths depth
       (straight.put place x size index value))
-  put_runs = by_test (near_element z.declared z.allocation x index) refl
+  put_runs =
+      as_code (ap (λ k. put_value_code z.declared z.allocation (base_of z) k x index (stored_value z.allocation k value))
+      (kind_is z access))
+      (by_test (near_element z.declared z.allocation x index) refl)
     where
       by_test : (o : Option ℕ) → near_element z.declared z.allocation x index ≡ o
-          → Puts (code_by o (λ a. near_stored a (kind_at z.declared x))
-          (index_code z.declared z.allocation (base_of z) index value
-          ++ put_code index_register value_register (kind_at z.declared x) offset))
+          → Puts (code_by o near_stored
+          (index_code z.declared z.allocation (base_of z) index put_value
+          ++ put_code index_register value_register kind (variable_offset z.declared x)))
       by_test None e = put_far
       by_test (Some o) e = put_near o (near_known z.declared z.allocation x index o e)
-
-  -- The value is put where the control value is true.
-  module _ (c : ℕ) (among : c < z.controls) (read : is_unread z.allocation c ≡ false) where
-    -- what has been loaded, beside where the element lies
-    record Both (i : ℕ) (env : StraightState) (s t : machine.State) : Type 0 where
-      held : HeldAt z t
-      address : address_of t.regs 5 (lower_part offset) ≡ z.frame + element_at i
-      old : t.regs 7 ≡ slice_index (env.variables x) i
-      new : t.regs value_register ≡ value_of env
-      same : t.bytes ≡ s.bytes
-      homes : HomesKept z s t
-
-    both_piece : (i : ℕ) → i < size
-        → Runs z 5 none (address_code 5 index_register kind offset
-        ++ instr.Load (load_by kind) 7 5 (lower_part offset) ∷ []) (Aimed i) (Both i)
-    both_piece i below =
-        let n = load_bytes kind in
-        let h = place_ends z x array i typed.known below in
-        gives
-        (λ env s t fine aimed done.
-        let m = done.middle in
-        let one = done.first in
-        let two = done.second in
-        let found : number_at m.bytes (byte_count (load_size (load_by kind))) (z.frame + element_at i)
-        ≡ Some (slice_index (env.variables x) i) =
-        ap (λ k. number_at m.bytes k (z.frame + element_at i)) n
-        ∙ (ap (λ (b : ByteMap). number_at b (element_bytes kind) (z.frame + element_at i)) one.same
-        ∙ aimed.ready.variables_there x array i typed.known away below) in
-        record {
-          held = two.0;
-          address = ap (λ (regs : ℕ → ℕ). address_of regs 5 (lower_part offset)) two.1 ∙ one.address;
-          old = ap (λ (regs : ℕ → ℕ). regs 7) two.1 ∙ (load_plain kind _ ∙ ap number_or_zero found);
-          new =
-              ap (λ (regs : ℕ → ℕ). regs value_register) two.1
-              ∙ (unwritten m.regs 7 _ value_register
-              (source_apart z value_source 7 (omega arith) (λ e. omega (arith, e)))
-              ∙ (one.others value_register value_beside (λ e. let source = value_source in
-              omega (arith, source.high, e)) ∙ aimed.six));
-          same = two.2 ∙ one.same;
-          homes = homes_then z s m t (homes_beside z 5 s m refl one.others)
-              (λ r home. ap (λ (regs : ℕ → ℕ). regs r) two.1
-              ∙ unwritten m.regs 7 _ r (λ e. let some = z.allocated.some in omega (arith, some, home.0, e)));
-        })
-        (quiet (addressed_at i below)
-        (loading z 5 (lower_part offset) (element_at i) (omega arith) (lower_fits offset) (load_by kind) 7
-        (omega arith) (omega arith) (ap (λ m. element_at i % m) n ∙ place_even z.declared x array i)
-        (omega (arith, h, n)))
-        (λ env s t aimed done. (done.held, done.address)))
-
-    -- where its mask is
-    abbrev control_at : Location
-    control_at = control_location z.declared z.allocation c
-
-    under_piece : (i : ℕ) → i < size
-        → Runs z 12 none (put_under_code index_register value_register control_at kind offset) (Aimed i)
-        (λ env s t. Hidden z depth s t
-        × (number_of env ≡ i
-        → Ready z (if env.controls c then with_element env x (number_of env) (value_of env) else env) t))
-    under_piece i below =
-        let source = value_source in
-        let k = mask_register z c 29 in
-        let some = mask_some z c 29 (omega arith) in
-        let few : nat_lt value_register 32 ≡ true = lt-ltb value_register 32 (omega (arith, source.high)) in
-        let small : nat_lt k 32 ≡ true = lt-ltb k 32 (mask_small z c 29 (omega arith)) in
-        let v0 : (value_register == 0) ≡ false = ne_eqb value_register 0 (λ e. omega (arith, source.low, e)) in
-        let k0 : (k == 0) ≡ false = ne_eqb k 0 (λ e. omega (arith, some, e)) in
-        let k6 : (k == 6) ≡ false = ne_eqb k 6 (mask_apart z c 29 6 (omega arith) (λ e. omega (arith, e))) in
-        let merges = merge_code 6 6 value_register 7 k in
-        gives
-        (λ env s t fine aimed done.
-        let m3 = done.middle in
-        let m2 = done.first.middle in
-        let m1 = done.first.first.middle in
-        let one = done.first.first.first in
-        let fetched = done.first.first.second in
-        let two = done.first.second in
-        let v = value_of env in
-        let old = slice_index (env.variables x) i in
-        let mask = env.controls c in
-        let w = if mask then v else old in
-        let fits = suits_fits z.code.profile z.declared typed.word value env.variables aimed.ready.fits typed.suits in
-        let long = (aimed.ready.fits x array typed.known).count in
-        let old_fits : old < 2 ^ bits_of kind =
-        (aimed.ready.fits x array typed.known).within i 0 (omega (arith, long, below)) in
-        let seven : m2.regs 7 ≡ old = fetched.others 7 (λ e. omega (arith, e)) ∙ one.old in
-        let new : m2.regs value_register ≡ v =
-        fetched.others value_register (λ e. omega (arith, source.high, e)) ∙ one.new in
-        let mixed : registers_after merges m2.regs 6
-        ≡ merged (m2.regs k) (m2.regs 7) (m2.regs value_register) = simp (v0, k0, k6) in
-        let made : m3.regs 6 ≡ w =
-        ap (λ (regs : ℕ → ℕ). regs 6) two.regs
-        ∙ (mixed ∙ (ap₂ (λ p q. merged p q (m2.regs value_register)) fetched.there seven
-        ∙ (ap (λ q. merged (mask_of mask) old q) new
-        ∙ merge mask old v (cut_kind kind old old_fits) (cut_kind kind v fits)))) in
-        let wrote = wrote_as z (element_bytes kind) (element_at i) (m3.regs 6) w m3 t made done.second in
-        let homes = homes_then z s m1 m2 one.homes
-        (fetched_homes z k 29 (mask_of mask) m1 m2 (inr (omega arith)) fetched) in
-        let end = put_at i w below (chosen_fits mask v old (2 ^ bits_of kind) fits old_fits) env s m3 t aimed.ready
-        two.held (two.bytes ∙ (fetched.same ∙ one.same))
-        (homes_then z s m2 m3 homes (homes_moved z (does merges ∷ []) env m2 m3 (simp (few, small)) two)) wrote in (
-          end.0,
-          λ is. ready_chosen z mask x (number_of env) v env t
-              (subst (λ j. Ready z (with_element env x j (if mask then v else slice_index (env.variables x) j)) t)
-              (sym is) end.1),
-        ))
-        (quiet
-        (then_moves z (does merges ∷ []) (simp (few, small)) (tt, tt)
-        (quiet
-        (both_piece i below)
-        (mask_runs z c 29 among read (omega arith) (omega arith))
-        (λ env s t aimed both. ready_with z env s t aimed.ready both.held both.same both.homes))
-        (λ env s t aimed done. done.second.held))
-        (stores 6 (omega arith) (λ e. omega (arith, e)) i below)
-        (λ env s t aimed done. (
-          done.second.held,
-          ap (λ (regs : ℕ → ℕ). address_of regs 5 (lower_part offset)) done.second.regs
-              ∙ (ap (λ b. sum_of b (sign_extended 12 (lower_part offset)))
-              (done.first.second.others 5 (λ e. omega (arith, e))) ∙ done.first.first.address),
-        )))
-
-    -- where the load and the store hold the element's offset
-    near_under : (i o : ℕ) → i < size → element_at i ≡ o → o < 2048
-        → Runs z (16 * term_nodes value + 10) (steps_of value)
-        (put_under_near_code z.declared z.allocation (base_of z) control_at kind o value) (Ready z)
-        (λ env s t. Hidden z depth s t
-        × Ready z (if env.controls c then with_element env x i (value_of env) else env) t)
-    near_under i o below is near =
-        let n = load_bytes kind in
-        let h = place_ends z x array i typed.known below in
-        let ends = z.ends in
-        let source = near_source in
-        let k = mask_register z c 7 in
-        let some = mask_some z c 7 (omega arith) in
-        let few : nat_lt near_register 32 ≡ true = lt-ltb near_register 32 (omega (arith, source.high)) in
-        let small : nat_lt k 32 ≡ true = lt-ltb k 32 (mask_small z c 7 (omega arith)) in
-        let v0 : (near_register == 0) ≡ false = ne_eqb near_register 0 (λ e. omega (arith, source.low, e)) in
-        let k0 : (k == 0) ≡ false = ne_eqb k 0 (λ e. omega (arith, some, e)) in
-        let k5 : (k == 5) ≡ false = ne_eqb k 5 (mask_apart z c 7 5 (omega arith) (λ e. omega (arith, e))) in
-        let merges = merge_code 5 5 near_register 6 k in
-        let low : o < 4096 = omega (arith, near) in
-        let homes_loaded : (env : StraightState) (m m1 : machine.State)
-        → ((q : ℕ) → q ≢ 6 → m1.regs q ≡ m.regs q) → HomesKept z m m1 =
-        λ env m m1 others r home. others r (λ e. let some = z.allocated.some in omega (arith, some, home.0, e)) in
-        cheaper (omega arith)
-        (gives
-        (λ env s t fine ready done.
-        let m3 = done.middle in
-        let m2 = done.first.middle in
-        let m1 = done.first.first.middle in
-        let m = done.first.first.first.middle in
-        let one = done.first.first.first.first in
-        let load = done.first.first.first.second in
-        let fetched = done.first.first.second in
-        let two = done.first.second in
-        let v = value_of env in
-        let old = slice_index (env.variables x) i in
-        let mask = env.controls c in
-        let w = if mask then v else old in
-        let ready0 = ready_valued z value env s m ready one in
-        let others : (q : ℕ) → q ≢ 6 → m1.regs q ≡ m.regs q =
-        λ q e. ap (λ (regs : ℕ → ℕ). regs q) load.1 ∙ unwritten m.regs 6 _ q e in
-        let there : number_at m.bytes (byte_count (load_size (load_by kind))) (z.frame + o) ≡ Some old =
-        ap₂ (λ b a. number_at m.bytes b (z.frame + a)) n (sym is)
-        ∙ ready0.variables_there x array i typed.known away below in
-        let six : m2.regs 6 ≡ old =
-        fetched.others 6 (λ e. omega (arith, e))
-        ∙ (ap (λ (regs : ℕ → ℕ). regs 6) load.1 ∙ (load_plain kind _ ∙ ap number_or_zero there)) in
-        let five : m2.regs near_register ≡ v =
-        fetched.others near_register (source_apart z near_source 7 (omega arith) (λ e. omega (arith, e)))
-        ∙ (others near_register (source_apart z near_source 6 (omega arith) (λ e. omega (arith, e))) ∙ one.there) in
-        let fits = suits_fits z.code.profile z.declared typed.word value env.variables ready.fits typed.suits in
-        let long = (ready.fits x array typed.known).count in
-        let old_fits : old < 2 ^ bits_of kind =
-        (ready.fits x array typed.known).within i 0 (omega (arith, long, below)) in
-        let mixed : registers_after merges m2.regs 5
-        ≡ merged (m2.regs k) (m2.regs 6) (m2.regs near_register) = simp (v0, k0, k5) in
-        let made : m3.regs 5 ≡ w =
-        ap (λ (regs : ℕ → ℕ). regs 5) two.regs
-        ∙ (mixed ∙ (ap₂ (λ p q. merged p q (m2.regs near_register)) fetched.there six
-        ∙ (ap (λ q. merged (mask_of mask) old q) five
-        ∙ merge mask old v (cut_kind kind old old_fits) (cut_kind kind v fits)))) in
-        let wrote : Wrote z (element_bytes kind) (element_at i) w m3 t =
-        subst (λ a. Wrote z (element_bytes kind) a w m3 t) (sym is)
-        (wrote_as z (element_bytes kind) o (m3.regs 5) w m3 t made done.second) in
-        let homes = homes_then z m m1 m2 (homes_loaded env m m1 others)
-        (fetched_homes z k 7 (mask_of mask) m1 m2 (inl (omega arith)) fetched) in
-        let end = put_at i w below (chosen_fits mask v old (2 ^ bits_of kind) fits old_fits) env m m3 t ready0
-        two.held (two.bytes ∙ (fetched.same ∙ load.2))
-        (homes_then z m m2 m3 homes (homes_moved z (does merges ∷ []) env m2 m3 (simp (few, small)) two)) wrote in (
-          hidden_then z depth s m t (hidden_kept z depth s m within one.kept) end.0,
-          ready_chosen z mask x i v env t end.1,
-        ))
-        (quiet
-        (then_moves z (does merges ∷ []) (simp (few, small)) (tt, tt)
-        (quiet
-        (quiet
-        (read_runs z typed.suits.has_type (omega (arith, room)))
-        (loading z 2 o o (omega arith) low (load_by kind) 6 (omega arith) (omega arith)
-        (ap₂ (λ a b. a % b) (sym is) n ∙ place_even z.declared x array i) (omega (arith, h, n, is)))
-        (λ env s t ready valued. (
-          valued.held,
-          ap (λ b. sum_of b (sign_extended 12 o)) valued.held.base
-              ∙ near_address z.frame o near (omega (arith, h, ends, is)),
-        )))
-        (mask_runs z c 7 among read (omega arith) (omega arith))
-        (λ env s t ready done. ready_with z env done.middle t
-        (ready_valued z value env s done.middle ready done.first) done.second.0 done.second.2
-        (homes_loaded env done.middle t
-        (λ q e. ap (λ (regs : ℕ → ℕ). regs q) done.second.1 ∙ unwritten done.middle.regs 6 _ q e))))
-        (λ env s t ready done. done.second.held))
-        (element_runs z 5 refl kind o (ap (λ a. a % element_bytes kind) (sym is) ∙ place_even z.declared x array i)
-        (omega (arith, h, is)))
-        (λ env s t ready done. done.second.held)))
-
-    abbrev Under : List Instr → Type 0
-    Under code =
-        Runs z (32 * (1 + (1 + term_nodes index) + term_nodes value))
-        (λ env. path_at env (put_under c place x size index value)) code (Ready z)
-        (Shown z depth (λ env. after env (put_under c place x size index value)))
-
-    under_far : Under (index_code z.declared z.allocation (base_of z) index value
-        ++ put_under_code index_register value_register control_at (kind_at z.declared x) offset)
-    under_far =
-        as_code (ap (λ k. index_code z.declared z.allocation (base_of z) index value
-        ++ put_under_code index_register value_register control_at k offset) kind_is)
-        (cheaper (omega arith) (at_element (λ env. after env (put_under c place x size index value)) under_piece))
-
-    module _ (o : ℕ) (near : NearElement z.declared x index o) where
-      under_number : (i : ℕ) → i < size → (b : Bool) → (i == near.i) ≡ b
-          → Runs z (16 * term_nodes value + 10) (steps_of value)
-          (put_under_near_code z.declared z.allocation (base_of z) control_at kind o value)
-          (Known (setting z) ℕ (λ j. j < size) (Ready z) number_of i)
-          (Shown z depth (λ env. after env (put_under c place x size index value)))
-      under_number i below true same =
-          weaken
-          (λ env s fine given. given.given)
-          (λ env s t fine given done. record {
-            ready = subst (λ j. Ready z (if env.controls c then with_element env x j (value_of env) else env) t)
-                (sym given.is) done.1;
-            hidden = done.0;
-          })
-          (near_under i o below (ap element_at (eqb-true i near.i same) ∙ near_at o near) near.near)
-      under_number i below false other =
-          never (λ env s given.
-          true≢false (sym (eq-eqb i near.i (sym given.is ∙ (known index near.i near.is env.variables).0))
-          ∙ other))
-
-      under_near : Under (put_under_near_code z.declared z.allocation (base_of z) control_at
-          (kind_at z.declared x) o value)
-      under_near =
-          as_code
-          (ap (λ k. put_under_near_code z.declared z.allocation (base_of z) control_at k o
-          value) kind_is)
-          (along (λ env. ap (λ p. p ++ indexed place size (number_of env) ∷ path_in env.variables value)
-          (known index near.i near.is env.variables).1)
-          (cheaper (omega arith)
-          (by_index z place size number_of (λ i below. under_number i below (i == near.i) refl))))
-
-    pub put_under_runs : Under (statement_code z.declared z.allocation z.controls z.depths depth
-        (put_under c place x size index value))
-    put_under_runs = by_test (near_element z.declared z.allocation x index) refl
-      where
-        by_test : (o : Option ℕ) → near_element z.declared z.allocation x index ≡ o
-            → Under
-            (code_by o (λ a. put_under_near_code z.declared z.allocation (base_of z)
-            control_at (kind_at z.declared x) a value)
-            (index_code z.declared z.allocation (base_of z) index value
-            ++ put_under_code index_register value_register control_at
-            (kind_at z.declared x) offset))
-        by_test None e = under_far
-        by_test (Some o) e = under_near o (near_known z.declared z.allocation x index o e)
 
 -- All elements, at fixed places.
 
@@ -667,9 +239,9 @@ module _ (z : Setting) (depth : ℕ) (within : depth ≤ z.depths) (x size : ℕ
 
   one_runs : (k : ℕ) (e : TermTree) → k < size → Suits (types_but z.code.profile z.declared x) word e
       → base_of z + 4 * slots_to z.allocation.count (height_of e) ≤ z.size
-      → Runs z (16 * term_nodes e + 3) (steps_of e) (stored_code z.declared z.allocation (base_of z) e
-      ++ element_store_code (stored_register z.allocation e) word.kind (at k)) (Ready z)
-      (Shown z depth (step k e))
+      → Runs z (16 * term_nodes e + 3) (steps_of e)
+      (into_element_code z.declared z.allocation (base_of z) word.kind (at k) (stored_value z.allocation word.kind e))
+      (Ready z) (Shown z depth (step k e))
   one_runs k e below suits room =
       let every = suits_among (types_but z.code.profile z.declared x) (types_of z.code.profile z.declared)
       (but_among z.code.profile z.declared x) word e suits in
@@ -689,8 +261,8 @@ module _ (z : Setting) (depth : ℕ) (within : depth ≤ z.depths) (x size : ℕ
         hidden = hidden_then z depth s done.middle t done.first.hidden done.second.hidden;
       })
       (seq
-      (as_code (ap (λ p. stored_code z.declared z.allocation (base_of z) e
-      ++ element_store_code (stored_register z.allocation e) word.kind p) is)
+      (as_code (ap (λ p. into_element_code z.declared z.allocation (base_of z) word.kind p
+      (stored_value z.allocation word.kind e)) is)
       (one_runs k e (omega (arith, few)) suits.0 (omega (arith, room))))
       (along (λ env. one_path_all (types_but z.code.profile z.declared x) env.variables (step k e env).variables
       (λ y f there seen. unread z.code.profile z.declared x env.variables _ y f there) word es suits.1)

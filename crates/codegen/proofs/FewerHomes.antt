@@ -1,21 +1,27 @@
 -- The code of what does not name some variables is the same where these have no homes.
 use Rattle.std.proofs.Common.{◌≡◌, ℕ, zero, suc, ◌+◌, ◌<◌, ◌≤◌, ◌==◌, ◌||◌, Bool, true, false, List, [], ◌∷◌, ◌++◌}
 use Rattle.std.proofs.Common.{length, Option, None, Some, refl, sym, ap, ap₂, ◌∙◌, arith, eq-eqb, if◌then◌else◌}
+use Rattle.std.proofs.Common.{is_some}
 use Rattle.std.proofs.lemmas.Bool.{or_parts, true≢false}
 use Rattle.codegen.proofs.Language.{branch, clear, fill, first, FlatVariable, nothing, put, put_under, repeats, set}
 use Rattle.codegen.proofs.Language.{element_bytes, set_under, StraightBlock, StraightTree, take, TermTree}
 use Rattle.codegen.proofs.Logic.{none-some}
-use Rattle.codegen.proofs.Machine.{home_count}
-use Rattle.codegen.proofs.Machine.{Allocation, AllReadKept, block_code, control_location, home_of, InRegister, InSlot}
+use Rattle.codegen.proofs.Machine.{branching_code, condition_code, failing, home_count, operands_or, right_code}
+use Rattle.codegen.proofs.Machine.{right_register, test_of, test_or}
+use Rattle.codegen.proofs.Machine.{Allocation, AllReadKept, at_home, block_code, control_location, home_of, InRegister}
+use Rattle.codegen.proofs.Machine.{InSlot}
 use Rattle.codegen.proofs.Machine.{into_code, Location, next_offset, put_element_code, put_element_under_code}
 use Rattle.codegen.proofs.Machine.{read_code, read_register, ReadsKept, set_code, statement_code, temporaries_offset}
 use Rattle.codegen.proofs.Machine.{result_offset}
 use Rattle.codegen.proofs.Machine.{assign_code, fill_code, home_of_term, IsKeptWithin, result_code, taken_code}
 use Rattle.codegen.proofs.Machine.{unless_home, variable_location, variable_offset, kind_at, Instr}
+use Rattle.codegen.specs.private.Compared.{against_zero}
 use Rattle.codegen.specs.private.Fresh.{any_names, homes_but, names, names_in, names_in_any, names_in_result}
+use Rattle.codegen.proofs.StoredValues.{stored_alike}
+use Rattle.codegen.specs.private.Emitted.{into_element_code, stored_value}
 use Rattle.codegen.specs.private.Loops.{any_sets, counting_home, loop_from, repeat_code, short_number}
-use Rattle.expression_code.specs.Allocation.{working_register}
-use Rattle.expression_code.specs.TermCode.{is_at_home, operand}
+use Rattle.expression_code.specs.Allocation.{temporary, working_register}
+use Rattle.expression_code.specs.TermCode.{is_at_home, keeps_words, operand}
 use Rattle.inline.specs.Flat as flat
 use Rattle.language.specs.declared.signature.Kind.{Kind}
 
@@ -137,18 +143,19 @@ module _ (declared : List FlatVariable) (a : Allocation) (left_out : ℕ → Boo
   abbrev own : ℕ → ℕ
   own place = working_register a.count place 29
 
+  term_home_same : (e : TermTree) → Spares (λ y. names_in y e) → home_of_term b e ≡ home_of_term a e
+  term_home_same (flat.variable x) spares = same_home x spares
+  term_home_same (flat.convert kind e) spares =
+      ap (λ h. if keeps_words a kind then h else None) (term_home_same e spares)
+  term_home_same e spares = refl
+
   at_home_same : (e : TermTree) → Spares (λ y. names_in y e) → is_at_home b e ≡ is_at_home a e
-  at_home_same (flat.variable x) spares = rw (same_home x spares) refl
-  at_home_same e spares = refl
+  at_home_same e spares = ap (λ (h : Option ℕ). is_some h) (term_home_same e spares)
 
   operand_same : (free place : ℕ) (e : TermTree) → Spares (λ y. names_in y e)
       → operand b free place e ≡ operand a free place e
-  operand_same free place (flat.variable x) spares = rw (same_home x spares) refl
-  operand_same free place e spares = refl
-
-  term_home_same : (e : TermTree) → Spares (λ y. names_in y e) → home_of_term b e ≡ home_of_term a e
-  term_home_same (flat.variable x) spares = same_home x spares
-  term_home_same e spares = refl
+  operand_same free place e spares =
+      ap (λ (h : Option ℕ). at_home h (temporary a.count free place)) (term_home_same e spares)
 
   pub into_same : (free d place : ℕ) (e : TermTree) → Spares (λ y. names_in y e)
       → into_code declared b free d place e ≡ into_code declared a free d place e
@@ -160,7 +167,12 @@ module _ (declared : List FlatVariable) (a : Allocation) (left_out : ℕ → Boo
   into_same free d place (flat.rotate width e amount) spares =
       rw (at_home_same e spares, operand_same free place e spares, into_same free (own place) place e spares) refl
   into_same free d place (flat.convert kind e) spares =
-      rw (at_home_same e spares, operand_same free place e spares, into_same free (own place) place e spares) refl
+      rw (
+        at_home_same e spares,
+        operand_same free place e spares,
+        into_same free (own place) place e spares,
+        into_same free d place e spares,
+      ) refl
   into_same free d place (flat.element source x size index) spares =
       let one = λ (y : ℕ) (out : left_out y ≡ true). (or_parts (x == y) (names_in y index) (spares y out)).1 in
       rw (at_home_same index one, operand_same free place index one, into_same free (own place) place index one) refl
@@ -217,24 +229,37 @@ module _ (declared : List FlatVariable) (a : Allocation) (left_out : ℕ → Boo
   result_same free None spares = refl
   result_same free (Some value) spares = assign_same free value (result_offset declared) spares
 
+  -- what is put into an element names no more than the expression does
+  stored_spares : (kind : Kind) (e : TermTree) → Spares (λ y. names_in y e)
+      → Spares (λ y. names_in y (stored_value a kind e))
+  stored_spares kind e spares y out =
+      stored_alike (names_in y) (λ conversion operand. refl) a kind e ∙ spares y out
+
+  into_element_same : (free : ℕ) (kind : Kind) (o : ℕ) (e : TermTree) → Spares (λ y. names_in y e)
+      → into_element_code declared b free kind o e ≡ into_element_code declared a free kind o e
+  into_element_same free kind o e spares = rw (read_same free 5 0 e spares, register_same 5 e spares) refl
+
   fill_same : (free : ℕ) (kind : Kind) (o : ℕ) (es : List TermTree) → Spares (λ y. names_in_any y es)
       → fill_code declared b free kind o es ≡ fill_code declared a free kind o es
   fill_same free kind o [] spares = refl
   fill_same free kind o (e ∷ es) spares =
       let one = λ (y : ℕ) (out : left_out y ≡ true). (or_parts (names_in y e) (names_in_any y es) (spares y out)).0 in
       let two = λ (y : ℕ) (out : left_out y ≡ true). (or_parts (names_in y e) (names_in_any y es) (spares y out)).1 in
-      rw (read_same free 5 0 e one, register_same 5 e one, fill_same free kind (o + element_bytes kind) es two) refl
+      ap₂ ◌++◌ (into_element_same free kind o (stored_value a kind e) (stored_spares kind e one))
+      (fill_same free kind (o + element_bytes kind) es two)
 
   put_same : (free x : ℕ) (index value : TermTree) → Spares (λ y. names_in y index) → Spares (λ y. names_in y value)
       → put_element_code declared b free x index value ≡ put_element_code declared a free x index value
   put_same free x index value one two =
+      let other = stored_value a (kind_at declared x) value in
+      let three = stored_spares (kind_at declared x) value two in
       rw (
         read_same free 5 0 index one,
-        read_same free 6 1 value two,
-        read_same free 5 0 value two,
+        read_same free 6 1 other three,
+        read_same free 5 0 other three,
         register_same 5 index one,
-        register_same 6 value two,
-        register_same 5 value two,
+        register_same 6 other three,
+        register_same 5 other three,
       ) refl
 
   put_under_same : (free : ℕ) (control : Location) (x : ℕ) (index value : TermTree) → Spares (λ y. names_in y index)
@@ -255,6 +280,42 @@ module _ (declared : List FlatVariable) (a : Allocation) (left_out : ℕ → Boo
       → taken_code declared b x y p q r within ≡ taken_code declared a x y p q r within
   taken_same x y p q r None = refl
   taken_same x y p q r (Some c) = rw (control_same c) refl
+
+  -- Branches.
+
+  right_same : (free : ℕ) (e : TermTree) → Spares (λ y. names_in y e)
+      → right_code declared b free e ≡ right_code declared a free e
+  right_same free e spares = rw (read_same free 6 1 e spares) refl
+
+  right_register_same : (e : TermTree) → Spares (λ y. names_in y e) → right_register b e ≡ right_register a e
+  right_register_same e spares = rw (register_same 6 e spares) refl
+
+  condition_same : (free : ℕ) (e : TermTree) → Spares (λ y. names_in y e)
+      → condition_code declared b free e ≡ condition_code declared a free e
+  condition_same free (flat.binary place operator width left right) spares =
+      let one = λ (y : ℕ) (out : left_out y ≡ true). (or_parts (names_in y left) (names_in y right) (spares y out)).0 in
+      let two = λ (y : ℕ) (out : left_out y ≡ true). (or_parts (names_in y left) (names_in y right) (spares y out)).1 in
+      ap₂ (operands_or (failing operator))
+      (read_same free 5 0 (flat.binary place operator width left right) spares)
+      (ap₂ (λ (front back : List Instr). front ++ back) (read_same free 5 0 left one) (right_same free right two))
+  condition_same free e spares = read_same free 5 0 e spares
+
+  test_same : (e : TermTree) → Spares (λ y. names_in y e) → test_of b e ≡ test_of a e
+  test_same (flat.binary place operator width left right) spares =
+      let one = λ (y : ℕ) (out : left_out y ≡ true). (or_parts (names_in y left) (names_in y right) (spares y out)).0 in
+      let two = λ (y : ℕ) (out : left_out y ≡ true). (or_parts (names_in y left) (names_in y right) (spares y out)).1 in
+      ap₂ (test_or (failing operator) (against_zero 5)) (register_same 5 left one) (right_register_same right two)
+  test_same e spares = ap against_zero (register_same 5 e spares)
+
+  branching_same : (free : ℕ) (condition : TermTree) (xs ys : List Instr) → Spares (λ y. names_in y condition)
+      → branching_code declared b free condition xs ys ≡ branching_code declared a free condition xs ys
+  branching_same free condition xs ys spares =
+      rw (
+        condition_same free condition spares,
+        test_same condition spares,
+        read_same free 5 0 condition spares,
+        register_same 5 condition spares,
+      ) refl
 
   -- Loops.
 
@@ -316,13 +377,11 @@ module _ (declared : List FlatVariable) (a : Allocation) (left_out : ℕ → Boo
       statement_same depth (branch condition accepted otherwise) spares =
           let parts = λ (y : ℕ) (out : left_out y ≡ true). neither_of_three (names_in y condition)
           (any_names y accepted) (any_names y otherwise) (spares y out) in
-          let one = λ (y : ℕ) (out : left_out y ≡ true). (parts y out).0 in
-          rw (
-            read_same (temporaries_offset declared controls depths) 5 0 condition one,
-            register_same 5 condition one,
-            block_same depth accepted (λ y out. (parts y out).1),
-            block_same depth otherwise (λ y out. (parts y out).2),
-          ) refl
+          let free = temporaries_offset declared controls depths in
+          ap₂ (branching_code declared b free condition) (block_same depth accepted (λ y out. (parts y out).1))
+          (block_same depth otherwise (λ y out. (parts y out).2))
+          ∙ branching_same free condition (block_code declared a controls depths depth accepted)
+          (block_code declared a controls depths depth otherwise) (λ y out. (parts y out).0)
       statement_same depth (repeats x low high body) spares =
           let parts = λ (y : ℕ) (out : left_out y ≡ true). neither_of_four (x == y) (names_in y low)
           (names_in y high) (any_names y body) (spares y out) in

@@ -24,9 +24,10 @@ pub use Rattle.expression_code.proofs.Logic.{variables_home, variables_kept, wea
 pub use Rattle.expression_code.proofs.Logic.{wrote_there, written, code_length, known, near_known, NearElement}
 pub use Rattle.expression_code.proofs.Logic.{at_control, control_stays, controls_kept, Fetched, fetch_length}
 pub use Rattle.expression_code.proofs.Logic.{fetch_runs, HasRoom, Holds, near_address, took}
+pub use Rattle.expression_code.proofs.Homes.{home_there}
 pub use Rattle.expression_code.proofs.Moves.{moves_cost, register-at}
 pub use Rattle.expression_code.proofs.Values.{Leaves}
-pub use Rattle.expression_code.proofs.WorkRegisters.{IsTarget}
+pub use Rattle.expression_code.proofs.WorkRegisters.{home_allowed, IsTarget}
 pub use Rattle.inline.proofs.Fitting.{value_fits}
 pub use Rattle.inline.proofs.FittingBodies.{fits_assigned, one_held}
 pub use Rattle.rv_machine.proofs.ByteLaws.{number_at-suc, number_at-with_number, number_at-zero, number_at_apart}

@@ -1,28 +1,27 @@
--- The code of a loop, and of a branch on what is public.
+-- The code of a loop.
 use Rattle.std.proofs.Common.{◌≡◌, ℕ, suc, ◌+◌, ◌-◌, ◌*◌, ◌%◌, ◌^◌, ◌<◌, ◌≤◌, Bool, true, false, nat_lt, List, []}
 use Rattle.std.proofs.Common.{◌∷◌, ◌++◌, length, Option, None, Some, slice_get, slice_index, refl, sym, ap, ap₂, ◌∙◌}
 use Rattle.std.proofs.Common.{subst, arith, inr, ◌≢◌, ◌==◌, cond, eq-eqb, ne_eqb}
 use Rattle.std.proofs.lemmas.Bool.Decides.{nat_tests}
 use Rattle.std.proofs.lemmas.Nat.{mul-le}
 use Rattle.codegen.proofs.Language.{TermTree, word_as, value_in, path_in, turns, path_of_turns, Path, bounded}
-use Rattle.codegen.proofs.Language.{term_nodes, types_of, HasType, counter_type, StraightBlock, repeats, branch}
-use Rattle.codegen.proofs.Language.{StraightState, counted, after, after_all, path_at, path_along, word_of, WordType}
-use Rattle.codegen.proofs.Machine.{bounds_code, test_code, count_code, loop_code, branch_code, variable_offset}
-use Rattle.codegen.proofs.Machine.{at_home, home_of, InSlot, next_offset, slots_to, assign_code, read_code}
-use Rattle.codegen.proofs.Machine.{read_register, store_code, variable_location, height_of, Instr, Addi, Sltu, Sw}
+use Rattle.codegen.proofs.Language.{term_nodes, types_of, HasType, counter_type, StraightBlock, repeats}
+use Rattle.codegen.proofs.Language.{StraightState, counted, after, after_all, path_at, path_along, word_of}
+use Rattle.codegen.proofs.Machine.{bounds_code, test_code, count_code, loop_code, variable_offset}
+use Rattle.codegen.proofs.Machine.{at_home, home_of, InSlot, next_offset, slots_to, assign_code}
+use Rattle.codegen.proofs.Machine.{store_code, variable_location, height_of, Instr, Addi, Sltu, Sw}
 use Rattle.codegen.proofs.Machine.{ByteMap, number_at, with_number, sum_of}
 use Rattle.rv_code.specs.declared.instructions.Instr.TheVariants as instr
 use Rattle.rv_machine.specs.Machine as machine
 use Rattle.codegen.proofs.Logic.{lt-ltb, value_word, HeldAt, held_regs, take, put, does, moves_run, number_or_zero}
 use Rattle.codegen.proofs.Logic.{Setting, setting, base_of, Known, by_bounds, none, Runs, Still, looping, along_fit}
 use Rattle.codegen.proofs.Logic.{seq, quietly, weaken, gives, cheaper, as_code, beside, Kept, Ready, Wrote}
-use Rattle.codegen.proofs.Logic.{wrote_kept, wrote_there, kept_number, kept_less, kept_then, ready_below, by_mark}
-use Rattle.codegen.proofs.Logic.{branching_at, condition_kind, HomesKept, IsHome, homes_by, homes_moved, homes_then}
+use Rattle.codegen.proofs.Logic.{wrote_kept, wrote_there, kept_number, kept_less, kept_then, ready_below}
+use Rattle.codegen.proofs.Logic.{HomesKept, IsHome, homes_by, homes_moved, homes_then}
 use Rattle.codegen.proofs.Logic.{kept_by, registers_after}
 use Rattle.codegen.proofs.Slots.{Shown, ready_with, ready_behind, word_before, stored, assigned, Hidden, hidden_then}
 use Rattle.codegen.proofs.Slots.{hidden_less, hidden_by, hidden_wrote, hidden_beyond, hidden_number, other_number}
-use Rattle.codegen.proofs.Slots.{ready_homed, ready_set, read_runs, read_source, ready_valued, ready_still}
-use Rattle.codegen.proofs.Slots.{hidden_kept}
+use Rattle.codegen.proofs.Slots.{ready_homed, ready_set}
 
 -- So many turns are left, the next of them for this number: both of the loop's words tell it.
 pub record Counts (z : Setting) (next left i : ℕ) (s : machine.State) : Type 0 where
@@ -413,73 +412,3 @@ module _ (z : Setting) (depth : ℕ) (within : depth < z.depths) where
         })
         (seq (bounds_runs low high has_low has_high room_low room_high) loop_runs
         (λ env s t ready begun. (begun.0, λ o from to. refl)))
-
--- A branch.
-
--- the condition is known
-record Tested (z : Setting) (condition : TermTree) (env : StraightState) (s : machine.State) : Type 0 where
-  ready : Ready z env s
-  there : s.regs (read_register z.allocation 5 condition) ≡ value_in env.variables condition
-
-module _ (z : Setting) (depth : ℕ) (condition : TermTree) (word : WordType) (accepted otherwise : StraightBlock)
-    (m n : ℕ) {xs ys : List Instr}
-    (has : HasType (types_of z.code.profile z.declared) condition word)
-    (room : base_of z + 4 * slots_to z.allocation.count (height_of condition) ≤ z.size)
-    (within : depth ≤ z.depths)
-    (near : 2 * (length xs + length ys) + 8 < 2 ^ 19)
-    (one : Runs z m (λ env. path_along env accepted) xs (Ready z) (Shown z depth (λ env. after_all env accepted)))
-    (two : Runs z n (λ env. path_along env otherwise) ys (Ready z)
-    (Shown z depth (λ env. after_all env otherwise))) where
-  abbrev value : StraightState → ℕ
-  value env = value_in env.variables condition
-
-  first_arm : (env : StraightState) (s t u v : machine.State) → value env ≢ 0 → Tested z condition env s → Still s t
-      → Shown z depth (λ e. after_all e accepted) env t u → Still u v
-      → Shown z depth (λ e. after e (branch condition accepted otherwise)) env s v
-  first_arm env s t u v some tested still done back = record {
-    ready = subst (λ c. Ready z (cond c (after_all env otherwise) (after_all env accepted)) v)
-        (sym (ne_eqb (value env) 0 some)) (ready_still z (after_all env accepted) u v done.ready back);
-    hidden = hidden_then z depth s t v (hidden_by z depth s t still.bytes)
-        (hidden_then z depth t u v done.hidden (hidden_by z depth u v back.bytes));
-  }
-
-  second_arm : (env : StraightState) (s t u : machine.State) → value env ≡ 0 → Tested z condition env s → Still s t
-      → Shown z depth (λ e. after_all e otherwise) env t u
-      → Shown z depth (λ e. after e (branch condition accepted otherwise)) env s u
-  second_arm env s t u none tested still done = record {
-    ready = subst (λ c. Ready z (cond c (after_all env otherwise) (after_all env accepted)) u)
-        (sym (ap (λ x. x == 0) none)) done.ready;
-    hidden = hidden_then z depth s t u (hidden_by z depth s t still.bytes) done.hidden;
-  }
-
-  -- the condition, and then one of both arms
-  pub branch_runs : Runs z (16 * term_nodes condition + (2 + m + n))
-      (λ env. path_at env (branch condition accepted otherwise))
-      (read_code z.declared z.allocation (base_of z) 5 0 condition
-      ++ branch_code (read_register z.allocation 5 condition) xs ys) (Ready z)
-      (Shown z depth (λ env. after env (branch condition accepted otherwise)))
-  branch_runs =
-      let source = read_source z condition 5 (omega arith) (omega arith) in
-      gives
-      (λ env s t fine ready done. record {
-        ready = done.second.ready;
-        hidden = hidden_then z depth s done.middle t (hidden_kept z depth s done.middle within done.first.kept)
-            done.second.hidden;
-      })
-      (seq
-      (read_runs z has room)
-      (by_mark (condition_kind z) {P = Tested z condition} value
-      (λ v.
-      branching_at {z = setting z} (read_register z.allocation 5 condition) (omega (arith, source.high))
-      (λ e. omega (arith, source.low, e)) {P = Known (setting z) ℕ (λ w. Unit {0}) (Tested z condition) value v}
-      {S = Shown z depth (λ env. after env (branch condition accepted otherwise))} value near
-      (λ env s known. known.given.there)
-      (λ env s t some known still. ready_still z env s t known.given.ready still)
-      (λ env s t u w some known still done back. first_arm env s t u w some known.given still done back)
-      (λ env s t none known still. ready_still z env s t known.given.ready still)
-      (λ env s t u none known still done. second_arm env s t u none known.given still done)
-      one two v (λ env s known. known.is)))
-      (λ env s t ready valued. record {
-        ready = ready_valued z condition env s t ready valued;
-        there = valued.there;
-      }))

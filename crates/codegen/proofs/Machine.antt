@@ -4,6 +4,8 @@ pub use Rattle.codegen.specs.Bases.{AreBases, IsInside}
 pub use Rattle.codegen.specs.Followed.{IsFollowed, IsGenerated}
 pub use Rattle.codegen.specs.Loaded.{array_in, arrays_in, code_at, loaded_at, numbers_at, results_in, with_argument}
 pub use Rattle.codegen.specs.Loaded.{with_arguments, with_numbers, word_in}
+pub use Rattle.codegen.specs.private.Compared.{branching_code, condition_code, failing, right_code, right_register}
+pub use Rattle.codegen.specs.private.Compared.{between, operands_code, operands_or, test_of, test_or}
 pub use Rattle.codegen.specs.private.Emitted.{assign_code, block_code, bounds_code, clear_code, count_code}
 pub use Rattle.codegen.specs.private.Emitted.{element_store_code, fill_code}
 pub use Rattle.branch_removal.specs.Heights.{depth_in_all, height_of_all}
@@ -19,7 +21,7 @@ pub use Rattle.codegen.specs.private.Generated.{body_of, entry_code, home_count,
 pub use Rattle.codegen.specs.private.Generated.{program_slots, result_code}
 pub use Rattle.branch_removal.specs.Heights.{program_height, result_height}
 pub use Rattle.codegen.specs.private.Generated.{image_within, most_words, result_slot, step_limit}
-pub use Rattle.codegen.specs.private.Jumps.{AreNear, IsFar, branch_code, far, loop_code}
+pub use Rattle.codegen.specs.private.Jumps.{AreNear, IsFar, branch_code, far, leave, loop_code, unless_code}
 pub use Rattle.codegen.specs.private.Placed.{ArePlacedTerms, HasPlace, HavePlaces}
 pub use Rattle.codegen.specs.private.Room.{HasRoom, IsFitting, frame_of}
 pub use Rattle.expression_code.specs.Layout.{Frame, control_offset, next_offset, result_offset, slots_from}

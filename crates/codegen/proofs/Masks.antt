@@ -7,7 +7,7 @@ use Rattle.std.proofs.lemmas.Bool.{true≢false}
 use Rattle.codegen.proofs.Machine.{control_offset, number_at}
 use Rattle.codegen.proofs.Machine.{at_home, control_location, fetch_code, home_or, InSlot}
 use Rattle.codegen.proofs.Machine.{is_unread, kept_code, read_register, register_of, unless_unread}
-use Rattle.codegen.proofs.Machine.{with_number, home_of, Instr, Sw}
+use Rattle.codegen.proofs.Machine.{with_number, home_of, home_of_term, Instr, Sw}
 use Rattle.codegen.proofs.Language.{StraightState, with_controls}
 use Rattle.codegen.proofs.Language.{TermTree, WordType}
 use Rattle.codegen.proofs.Language.{types_of}
@@ -15,14 +15,13 @@ use Rattle.codegen.proofs.Language.{HasType}
 use Rattle.codegen.proofs.Logic.{none-some, eqb-true, eqb-false}
 use Rattle.codegen.proofs.Logic.{at_control, control_stays, Fetched, fetch_runs, HasRoom, Holds}
 use Rattle.codegen.proofs.Logic.{move_runs, none, slice_get_within, unwritten, weaken}
-use Rattle.inline.specs.FlatTyping.{of_variable}
 use Rattle.codegen.proofs.Logic.{HeldAt, mask_of}
 use Rattle.codegen.proofs.Logic.{apart}
 use Rattle.codegen.proofs.Logic.{Setting, base_of, Kept, Ready, Wrote, wrote_kept}
 use Rattle.codegen.proofs.Logic.{wrote_there, variables_kept}
 use Rattle.codegen.proofs.Logic.{HomesKept, IsHome}
 use Rattle.codegen.proofs.Logic.{homes_moved, kept_number}
-use Rattle.codegen.proofs.Logic.{is_free, idle, put}
+use Rattle.codegen.proofs.Logic.{home_there, is_free, idle, put}
 use Rattle.codegen.proofs.Logic.{Runs, cheaper, kept_less}
 use Rattle.codegen.proofs.Logic.{kept_then}
 use Rattle.rv_machine.specs.Machine as machine
@@ -231,11 +230,11 @@ module _ (z : Setting) where
 -- what is read is not in the register of a control value
 pub read_beside : (z : Setting) (c : ℕ) {e : TermTree} {word : WordType}
     → HasType (types_of z.code.profile z.declared) e word → read_register z.allocation 5 e ≢ mask_register z c 7
-read_beside z c (of_variable {x = x} known) = by_home (home_of z.allocation.homes x) refl
+read_beside z c {e = e} has = by_home (home_of_term z.allocation e) refl
   where
-    by_home : (h : Option ℕ) → home_of z.allocation.homes x ≡ h → home_or h 5 ≢ mask_register z c 7
+    by_home : (h : Option ℕ) → home_of_term z.allocation e ≡ h → home_or h 5 ≢ mask_register z c 7
     by_home None at = λ e. mask_apart z c 7 5 (omega arith) (λ e. omega (arith, e)) (sym e)
     by_home (Some home) at =
-        let below = slice_get_within z.declared x _ known in
-        mask_beside z c 7 x home (omega arith) (λ e. omega (arith, below, e)) at
-read_beside z c has = λ e. mask_apart z c 7 5 (omega arith) (λ e. omega (arith, e)) (sym e)
+        let home_is = home_there z has home at in
+        let below = home_is.declared in
+        mask_beside z c 7 home_is.x home (omega arith) (λ e. omega (arith, below, e)) home_is.at

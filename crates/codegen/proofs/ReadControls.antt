@@ -10,8 +10,8 @@ use Rattle.codegen.proofs.Logic.{eqb-true, eqb-false, nat_tests, option_map}
 use Rattle.codegen.proofs.Machine.{AllReadKept, IsKeptWithin, ReadsKept, is_unread}
 use Rattle.codegen.proofs.WeightLengths.{all_read_length, read_length, used_length}
 use Rattle.codegen.specs.private.Homes.{word_homes}
-use Rattle.codegen.specs.private.Uses.{control_weights_of, controls_read_by, controls_read_by_all, greatest_weight}
-use Rattle.codegen.specs.private.Uses.{used, used_within, weight_inside}
+use Rattle.branch_removal.specs.Uses.{greatest_weight, used, weight_inside}
+use Rattle.codegen.specs.private.Uses.{control_weights_of, controls_read_by, controls_read_by_all, used_within}
 
 -- a control value has some weight
 abbrev Weighs : List ℕ → ℕ → Type 0

@@ -17,63 +17,25 @@ use Rattle.codegen.proofs.Logic.{length-set, get_or-set_same, get_or-set_other, 
 use Rattle.codegen.proofs.Logic.{none-some, same_Some, eqb-true, eqb-false, fits_assigned, one_held}
 use Rattle.codegen.proofs.Logic.{control_stays, controls_kept, Holds}
 use Rattle.codegen.proofs.Logic.{slice_get_within}
-use Rattle.inline.specs.Flat.{variable}
 use Rattle.inline.specs.FlatSize.{words_of}
-use Rattle.inline.specs.FlatTyping.{of_variable}
-use Rattle.codegen.proofs.Logic.{number_at_apart, number_at-with_number, with_number_above, HeldAt, mask_of}
+use Rattle.codegen.proofs.Logic.{number_at_apart, number_at-with_number, HeldAt, mask_of}
 use Rattle.codegen.proofs.Logic.{bytes_by, bytes_of, place_of, place_within, ends_before_result}
 use Rattle.codegen.proofs.Logic.{apart_from, elements_apart, Setting, base_of, Kept, Ready, Wrote, wrote_kept}
-use Rattle.codegen.proofs.Logic.{number_same, variables_kept, Before, After, Steps, Then, Still}
+use Rattle.codegen.proofs.Logic.{variables_kept, Before, After, Steps, Then, Still}
 use Rattle.codegen.proofs.Logic.{steps_of, into_runs, Held, held_regs, HomesKept, IsHome, ValuedIn, home_beside}
 use Rattle.codegen.proofs.Logic.{home_target, homes_by, homes_moved, kept_number, place_before}
 use Rattle.codegen.proofs.Logic.{place_target, variables_home, is_free, idle, lt-ltb, works_at, IsTarget, Leaves, put}
 use Rattle.codegen.proofs.Logic.{then_moves, setting, Runs, gives, cheaper, kept_less, kept_by, ready_below}
-use Rattle.codegen.proofs.Logic.{along, known, move_runs, none, quiet, ready_after, register-at, value_fits}
+use Rattle.codegen.proofs.Logic.{along, home_allowed, home_there, known, move_runs, none, quiet, ready_after}
+use Rattle.codegen.proofs.Logic.{register-at, value_fits}
 use Rattle.expression_code.proofs.Logic.{emptied, put_code}
 use Rattle.expression_code.specs.NumberRows.{number_of}
 use Rattle.rv_code.specs.declared.operations.StoreOperation.{StoreOperation}
 use Rattle.rv_machine.specs.Registers.{register}
 use Rattle.std.proofs.lemmas.Bool.{false≢true}
 use Rattle.rv_machine.specs.Machine as machine
-
--- the words of the loops that are around are as they were
-abbrev pub Hidden : Setting → ℕ → machine.State → machine.State → Type 0
-Hidden z depth s t = (o : ℕ) → next_offset z.declared z.controls 0 ≤ o → o < next_offset z.declared z.controls depth
-    → t.bytes (z.frame + o) ≡ s.bytes (z.frame + o)
-
-pub hidden_then : (z : Setting) (depth : ℕ) (s t u : machine.State) → Hidden z depth s t → Hidden z depth t u
-    → Hidden z depth s u
-hidden_then z depth s t u one other o low high = other o low high ∙ one o low high
-
-pub hidden_less : (z : Setting) (less depth : ℕ) (s t : machine.State) → less ≤ depth → Hidden z depth s t
-    → Hidden z less s t
-hidden_less z less depth s t h hidden o low high = hidden o low (omega (arith, high, h))
-
-pub hidden_by : (z : Setting) (depth : ℕ) (s t : machine.State) → t.bytes ≡ s.bytes → Hidden z depth s t
-hidden_by z depth s t same o low high = ap (λ (b : ByteMap). b (z.frame + o)) same
-
-pub hidden_kept : (z : Setting) (depth : ℕ) (s t : machine.State) → depth ≤ z.depths → Kept z (base_of z) s t
-    → Hidden z depth s t
-hidden_kept z depth s t within kept o low high = kept o (omega (arith, high, within))
-
--- a number that is written below the loops' words
-pub hidden_wrote : (z : Setting) (depth n o w : ℕ) (s t : machine.State) → o + n ≤ next_offset z.declared z.controls 0
-    → Wrote z n o w s t → Hidden z depth s t
-hidden_wrote z depth n o w s t before wrote x low high =
-    ap (λ (b : ByteMap). b (z.frame + x)) wrote.written
-    ∙ with_number_above s.bytes n (z.frame + o) w (z.frame + x) (omega (arith, before, low))
-
--- or behind them
-pub hidden_beyond : (z : Setting) (depth n o w : ℕ) (s t : machine.State)
-    → next_offset z.declared z.controls depth ≤ o → Wrote z n o w s t → Hidden z depth s t
-hidden_beyond z depth n o w s t behind wrote x low high = wrote_kept z n o w s t wrote x (omega (arith, behind, high))
-
--- a loop's word is the number that it was
-pub hidden_number : (z : Setting) (depth : ℕ) (s t : machine.State) → Hidden z depth s t → (o : ℕ)
-    → next_offset z.declared z.controls 0 ≤ o → o + 4 ≤ next_offset z.declared z.controls depth
-    → number_at t.bytes 4 (z.frame + o) ≡ number_at s.bytes 4 (z.frame + o)
-hidden_number z depth s t hidden o low high =
-    number_same z s t 4 o (λ b above below. hidden b (omega (arith, above, low)) (omega (arith, below, high)))
+pub use Rattle.codegen.proofs.HiddenWords.{Hidden, hidden_beyond, hidden_by, hidden_kept, hidden_less, hidden_number}
+pub use Rattle.codegen.proofs.HiddenWords.{hidden_then, hidden_wrote}
 
 -- what is written as a value of its kind is that value again
 pub cut_kind : (kind : Kind) (v : ℕ) → v < 2 ^ bits_of kind → v < 2 ^ 32
@@ -338,19 +300,15 @@ pub record IsSource (z : Setting) (asked r : ℕ) : Type 0 where
   pub high : r < 28
   pub is : (r ≡ asked) ⊎ IsHome z.allocation.count r
 
-home_source : (z : Setting) (asked home x : ℕ) → home_of z.allocation.homes x ≡ Some home → IsSource z asked home
-home_source z asked home x at =
-    let allowed = z.allocated.allowed x home at in
-    record { low = omega (arith, allowed.0); high = allowed.1; is = inr allowed }
-
 pub read_source : (z : Setting) (e : TermTree) (asked : ℕ) → 4 < asked → asked < 28
     → IsSource z asked (read_register z.allocation asked e)
-read_source z (variable x) asked low high = by_home (home_of z.allocation.homes x) refl
+read_source z e asked low high = by_home (home_of_term z.allocation e) refl
   where
-    by_home : (h : Option ℕ) → home_of z.allocation.homes x ≡ h → IsSource z asked (home_or h asked)
+    by_home : (h : Option ℕ) → home_of_term z.allocation e ≡ h → IsSource z asked (home_or h asked)
     by_home None at = record { low = low; high = high; is = inl refl }
-    by_home (Some home) at = home_source z asked home x at
-read_source z e asked low high = record { low = low; high = high; is = inl refl }
+    by_home (Some home) at =
+        let allowed = home_allowed z.declared z.allocation z.allocated e home at in
+        record { low = omega (arith, allowed.0); high = allowed.1; is = inr allowed }
 
 -- none of the first three temporaries but the one that was asked for
 pub source_apart : (z : Setting) {asked r : ℕ} → IsSource z asked r → (q : ℕ) → q < 8 → asked ≢ q → r ≢ q
@@ -409,20 +367,15 @@ module _ (z : Setting) where
       → HasType (types_of z.code.profile z.declared) e word
       → base_of z + 4 * slots_to z.allocation.count (height_of e + place) ≤ z.size
       → Reads e r place (home_of_term z.allocation e)
-  reads_at r place target (of_variable {x = x} {word = word} {mutable = mutable} known) room =
-      by_home (home_of z.allocation.homes x) refl
+  reads_at {e = e} r place target has room = by_home (home_of_term z.allocation e) refl
     where
-      by_home : (h : Option ℕ) → home_of z.allocation.homes x ≡ h → Reads (variable x) r place h
-      by_home None at = reads_into r place target (of_variable {word = word} {mutable = mutable} known) room
+      by_home : (h : Option ℕ) → home_of_term z.allocation e ≡ h → Reads e r place h
+      by_home None at = reads_into r place target has room
       by_home (Some home) at =
-          cheaper {m = 0} (omega arith)
-          (idle (λ env s ready. (
-            ready.held,
-            ready.homes_there x home (word_as word mutable) known at,
-            λ o below. refl,
-            λ q h. refl,
-          )))
-  reads_at r place target has room = reads_into r place target has room
+          let home_is = home_there z has home at in
+          along (λ env. home_is.quiet env.variables)
+          (cheaper {m = 0} (omega arith)
+          (idle (λ env s ready. (ready.held, home_is.there env s ready, λ o below. refl, λ q h. refl))))
 
   pub reads : {e : TermTree} {word : WordType} (r place : ℕ) → IsTarget z.allocation.count place r
       → HasType (types_of z.code.profile z.declared) e word

@@ -1,7 +1,7 @@
 -- The code of a statement that holds others, by the lists of its arms or its body.
 use Rattle.std.proofs.Common.{◌≡◌, ℕ, zero, suc, ◌+◌, ◌*◌, ◌≤◌, ◌<◌, ◌++◌, List, [], ◌∷◌, length, max, drop}
 use Rattle.std.proofs.Common.{Bool, length-append, Result, Ok, Err, IsErrAnd, IfErr}
-use Rattle.std.proofs.Common.{get_or, Vec, Global, refl, sym, ap, ap₂, ◌∙◌, subst, arith, append_assoc}
+use Rattle.std.proofs.Common.{get_or, Vec, Global, refl, sym, ap, ap₂, ◌∙◌, subst, arith}
 use Rattle.std.proofs.lemmas.List.{drop_more}
 use mathlib.Core.Former.{Count}
 use Rattle.codegen.proofs.Language.{statement_nodes, block_nodes, StraightStatement, StraightTree, StraightBlock}
@@ -9,13 +9,14 @@ use Rattle.codegen.proofs.Language.{first}
 use Rattle.codegen.proofs.Language.{branch, repeats, straight_tree, straight_row, straight_block, FlatVariable, Term}
 use Rattle.codegen.proofs.Language.{term_tree}
 use Rattle.branch_removal.specs.declared.straight.StraightStatement as code
+use Rattle.codegen.proofs.BranchLengths.{branching_spans}
 use Rattle.codegen.proofs.LoopLengths.{repeat_spans}
-use Rattle.codegen.proofs.Machine.{statement_code, block_code, branch_code}
+use Rattle.codegen.proofs.Machine.{statement_code, block_code, branching_code}
 use Rattle.codegen.proofs.Machine.{variable_location, next_offset, temporaries_offset, HasPlace}
 use Rattle.codegen.specs.private.Loops.{any_sets, repeat_code}
 use Rattle.codegen.proofs.Machine.{HavePlaces, IsFar}
 use Rattle.codegen.specs.declared.unemitted.Unemitted.{Unemitted}
-use Rattle.codegen.proofs.Machine.{Allocation, read_code, read_register, Instr}
+use Rattle.codegen.proofs.Machine.{Allocation, Instr}
 
 rows : (n : _) (row : code.Row_of-StraightStatement n)
     → straight_row row ≡ straight_block (code.items-the_row-StraightStatement n row)
@@ -66,35 +67,23 @@ module _ {statement : StraightStatement} {condition : Term} (accepted otherwise 
   module _ (declared : List FlatVariable) (allocation : Allocation) (controls depths depth : ℕ) {xs ys : List Instr}
       (x : xs ≡ block_code declared allocation controls depths depth (straight_block ones))
       (y : ys ≡ block_code declared allocation controls depths depth (straight_block others)) where
+    -- the code of the branch, of that of its arms
+    abbrev pub of_arms : List Instr → List Instr → List Instr
+    of_arms xs ys = branching_code declared allocation (temporaries_offset declared controls depths)
+        (term_tree condition) xs ys
+
+    pub branch_is : of_arms xs ys ≡ statement_code declared allocation controls depths depth (straight_tree statement)
+    branch_is =
+        ap₂ of_arms x y
+        ∙ ap (λ (s : StraightTree). statement_code declared allocation controls depths depth s) (sym tree_of_branch)
+
     -- the arms are no longer than the statement
     pub arms_within : length xs + length ys
         ≤ length (statement_code declared allocation controls depths depth (straight_tree statement))
     arms_within =
-        omega (
-          arith,
-          length-append {A = Instr},
-          ap (λ (s : StraightTree). length (statement_code declared allocation controls depths depth s))
-              tree_of_branch,
-          ap (λ (l : List Instr). length l) x,
-          ap (λ (l : List Instr). length l) y,
-        )
-
-    pub branch_made : (register : ℕ) → register ≡ read_register allocation 5 (term_tree condition)
-        → (old middle new : List Instr)
-        → middle ≡ old ++ read_code declared allocation (temporaries_offset declared controls depths) 5 0
-        (term_tree condition)
-        → new ≡ middle ++ branch_code register xs ys
-        → new ≡ old ++ statement_code declared allocation controls depths depth (straight_tree statement)
-    branch_made register is old middle new first' last' =
-        last'
-        ∙ (ap₂ (λ (front back : List Instr). front ++ back) first' (ap (λ r. branch_code r xs ys) is
-        ∙ ap₂ (branch_code (read_register allocation 5 (term_tree condition))) x y)
-        ∙ (append_assoc old (read_code declared allocation (temporaries_offset declared controls depths) 5 0
-        (term_tree condition)) (branch_code (read_register allocation 5 (term_tree condition))
-        (block_code declared allocation controls depths depth (straight_block ones))
-        (block_code declared allocation controls depths depth (straight_block others)))
-        ∙ ap (λ (s : StraightTree). old ++ statement_code declared allocation controls depths depth s)
-        (sym tree_of_branch)))
+        let spans = branching_spans declared allocation (temporaries_offset declared controls depths)
+        (term_tree condition) xs ys in
+        omega (arith, spans.0, ap (λ (l : List Instr). length l) branch_is)
 
 module _ {statement : StraightStatement} {x : ℕ} {low high : Term} (body : Vec StraightStatement Global)
     (is : statement ≡ code.Repeat x low high body)

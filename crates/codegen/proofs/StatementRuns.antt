@@ -9,9 +9,10 @@ use Rattle.codegen.proofs.Language.{Public}
 use Rattle.codegen.proofs.Machine.{AllReadKept, ReadsKept, statement_code, block_code, height_in, height_in_all}
 use Rattle.codegen.proofs.Machine.{depth_in, depth_in_all}
 use Rattle.codegen.proofs.Machine.{far, next_offset, slots_to, Instr, variable_location}
-use Rattle.codegen.proofs.ElementRuns.{put_runs, put_under_runs, fill_runs}
+use Rattle.codegen.proofs.ElementRuns.{put_runs, fill_runs}
+use Rattle.codegen.proofs.ElementUnderRuns.{put_under_runs}
 use Rattle.codegen.proofs.LoopLengths.{repeat_spans}
-use Rattle.codegen.proofs.LoopRuns.{branch_runs}
+use Rattle.codegen.proofs.BranchRuns.{branching_runs}
 use Rattle.codegen.proofs.RepeatRuns.{loops_run}
 use Rattle.codegen.specs.private.Loops.{any_sets}
 use Rattle.codegen.proofs.ClearRuns.{clear_runs}
@@ -47,15 +48,14 @@ module _ (z : Setting) where
     statement_runs depth (put_under c place x size index value) typed read room within few =
         put_under_runs z depth place x size index value typed.1 room (omega (arith, within)) c typed.0 read
     statement_runs depth (branch condition accepted otherwise) typed read room within few =
+        let near = arms_near z.declared z.allocation z.controls z.depths depth condition accepted otherwise few in
         cheaper (omega arith)
-        (branch_runs z depth condition (labelled Boolean Public) accepted otherwise
+        (branching_runs z depth condition (labelled Boolean Public) accepted otherwise
         (32 * block_work z.counts accepted) (32 * block_work z.counts otherwise)
-        typed.0 (omega (arith, room)) (omega (arith, within))
-        (arms_near z.declared z.allocation z.controls z.depths depth condition accepted otherwise few)
-        (block_runs depth accepted typed.1 read.0 (omega (arith, room)) (omega (arith, within))
-        (omega (arith, length-append {A = Instr}, few)))
+        typed.0 (omega (arith, room)) (omega (arith, within)) near
+        (block_runs depth accepted typed.1 read.0 (omega (arith, room)) (omega (arith, within)) (omega (arith, near)))
         (block_runs depth otherwise typed.2 read.1 (omega (arith, room)) (omega (arith, within))
-        (omega (arith, length-append {A = Instr}, few))))
+        (omega (arith, near))))
     statement_runs depth (repeats x low high body) typed read room within few =
         let ys = block_code z.declared z.allocation z.controls z.depths (depth + 1) body in
         let spans = repeat_spans z.declared z.allocation (next_offset z.declared z.controls depth) (base_of z) ys

@@ -4,9 +4,10 @@ use Rattle.std.proofs.Common.{replicate}
 use Rattle.branch_removal.specs.Straight as straight
 use Rattle.codegen.proofs.Language.{StraightBlock, StraightProgram, StraightTree, TermTree, first, nothing}
 use Rattle.codegen.proofs.Logic.{length-replicate, length-set}
-use Rattle.codegen.specs.private.Uses.{control_weights_of, controls_read_by, controls_read_by_all, used, used_by}
-use Rattle.codegen.specs.private.Uses.{used_by_all, used_in, used_in_result, used_in_terms, used_within}
-use Rattle.codegen.specs.private.Uses.{weight_inside, weights_of, word_weights_of}
+use Rattle.branch_removal.specs.Uses.{used, used_by, used_by_all, used_in, used_in_result, used_in_terms}
+use Rattle.branch_removal.specs.Uses.{weight_inside, weights_of}
+use Rattle.codegen.specs.private.Uses.{control_weights_of, controls_read_by, controls_read_by_all, used_within}
+use Rattle.codegen.specs.private.Uses.{word_weights_of}
 use Rattle.inline.specs.Flat as flat
 
 pub used_length : (weight x : ℕ) (weights : List ℕ) → length (used weight x weights) ≡ length weights

@@ -2,6 +2,8 @@
 -- for each statement, and where they have room.
 pub mod Jumps
 pub mod Words
+pub mod StoredValues
+pub mod Compared
 pub mod Loops
 pub mod Erased
 pub mod Emitted

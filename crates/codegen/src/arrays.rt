@@ -1,7 +1,7 @@
 // Instructions for arrays and their elements.
 
 ghost use Rattle.std.specs.Prelude.{◌≡◌, ◌≤◌, ◌<◌, ◌+◌, ◌*◌, ◌++◌, ◌∷◌, [], map, length, IfOk, OnOk};
-ghost use Rattle.codegen.specs.private.Emitted.{store_by, element_store_code, clear_code, fill_code, index_code, put_code, put_element_code, put_under_code, put_under_near_code, put_element_under_code, read_register};
+ghost use Rattle.codegen.specs.private.Emitted.{store_by, element_store_code, clear_code, fill_code, index_code, put_code, put_element_code, put_under_code, put_under_near_code, put_element_under_code, into_element_code, read_register};
 ghost use Rattle.codegen.specs.private.Jumps.{loop_code};
 ghost use Rattle.expression_code.specs.Layout.{temporaries_offset};
 ghost use Rattle.expression_code.specs.Registers.{zero_register, value_register, second_register, third_register};
@@ -15,6 +15,7 @@ ghost use Rattle.inline.specs.Flat.{term_tree};
 use crate::jumping::repeat;
 use crate::masking;
 use crate::reading::{read, stored};
+use crate::stored_values::stored_value;
 use expression_code::emit::{self, address, load_by, near};
 use expression_code::{Layout, Location, fetch};
 use inline::Term;
@@ -88,6 +89,21 @@ pub fn clear(
     clear_word(alloc, code)
 }
 
+/// The value of an expression into an element of a fixed place.
+fn into_element(
+    code: &mut Vec<Instr>,
+    layout: &Layout<'_>,
+    kind: Kind,
+    offset: u32,
+    value: &Term,
+) -> Result<(), AllocError>
+    requires { IsPlaced (length layout.now.declared) layout.now.allocation.count (temporaries_offset layout.now.declared layout.now.controls layout.now.depths) 0 (term_tree value.now) }
+    ensures { OnOk result (code.new.items ≡ code.old.items ++ into_element_code layout.now.declared layout.now.allocation (temporaries_offset layout.now.declared layout.now.controls layout.now.depths) kind offset (term_tree value.now)) }
+{
+    let value = stored(code, layout, value)?;
+    store_element(code, value, kind, offset)
+}
+
 /// Values into the elements of an array, the first at an offset.
 pub fn fill(
     code: &mut Vec<Instr>,
@@ -102,8 +118,8 @@ pub fn fill(
 {
     let mut place = offset;
     for value in values {
-        let value = stored(code, layout, value)?;
-        store_element(code, value, kind, place)?;
+        let value = stored_value(layout, kind, value);
+        into_element(code, layout, kind, place, value)?;
         place += u32::from(kind.element_bytes());
     }
     Ok(())
@@ -158,9 +174,9 @@ pub fn put(
     ensures { OnOk result (code.new.items ≡ code.old.items ++ put_element_code layout.now.declared layout.now.allocation (temporaries_offset layout.now.declared layout.now.controls layout.now.depths) array (term_tree place.now) (term_tree value.now)) }
 {
     let kind = layout.kind(array);
+    let value = stored_value(layout, kind, value);
     if let Some(offset) = layout.near_element(array, place) {
-        let value = stored(code, layout, value)?;
-        return store_element(code, value, kind, offset);
+        return into_element(code, layout, kind, offset, value);
     }
     let (index, value) = index(code, layout, place, value)?;
     put_at(code, index, value, kind, layout.variable(array))

@@ -5,8 +5,7 @@ ghost use Rattle.branch_removal.specs.Straight.{straight_tree, straight_block};
 ghost use Rattle.codegen.specs.private.Reads.{unread_of};
 ghost use Rattle.codegen.specs.private.Uses.{control_weights_of, controls_read_by, controls_read_by_all, used_within};
 
-use crate::uses::{count_use, weight_inside};
-use branch_removal::{Straight, StraightStatement};
+use branch_removal::{Straight, StraightStatement, count_use, weight_inside};
 use std::alloc::{AllocError, Global};
 
 /// Counts the use of an enclosing control value, where there is one.

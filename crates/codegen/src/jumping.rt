@@ -2,7 +2,7 @@
 
 ghost use Rattle.std.specs.Prelude.{◌≡◌, ◌++◌, ◌+◌, ◌*◌, ◌^◌, ◌<◌, ◌≤◌, length, IfErr, OnOk};
 ghost use Rattle.codegen.specs.declared.unemitted.Unemitted.TheVariants.{TooFar};
-ghost use Rattle.codegen.specs.private.Jumps.{skip, over, back, branch_code, loop_code, again_code, AreNear, IsFar};
+ghost use Rattle.codegen.specs.private.Jumps.{skip, over, back, leave, branch_code, unless_code, loop_code, again_code, AreNear, IsFar};
 
 use crate::unemitted::Unemitted;
 use rv_code::{BranchOffset, BranchTest, Instr, JumpOffset, Reg};
@@ -16,6 +16,14 @@ const BRANCH_HALVES: u32 = 1 << 12;
 
 /// So many instructions between jumps are farther than these go.
 const FAR: usize = 262_140;
+
+/// A branch's test of two registers.
+#[derive(Clone, Copy, Debug)]
+pub struct Test {
+    pub test: BranchTest,
+    pub left: Reg,
+    pub right: Reg,
+}
 
 /// Over the next instruction, where a register is not 0.
 fn skip(register: Reg) -> Instr
@@ -78,6 +86,44 @@ pub fn branch(
     code.push(over(otherwise.len()))?;
     code.extend_from_slice(otherwise)?;
     Ok(())
+}
+
+/// How many jumps go over instructions: one, where there are any.
+fn leaving(otherwise: &[Instr]) -> usize
+    ensures { result ≡ length (leave otherwise.now) }
+{
+    if otherwise.is_empty() { 0 } else { 1 }
+}
+
+/// A jump over instructions, where there are any, and then these.
+fn leave(code: &mut Vec<Instr>, otherwise: &[Instr]) -> Result<(), AllocError>
+    requires { 2 * length otherwise.now + 2 < 2 ^ 20 }
+    ensures { OnOk result (code.new.items ≡ code.old.items ++ (leave otherwise.now ++ otherwise.now)) }
+{
+    if !otherwise.is_empty() {
+        let past = over(otherwise.len());
+        code.push(past)?;
+        code.extend_from_slice(otherwise)?;
+    }
+    Ok(())
+}
+
+/// The first instructions unless two registers pass a test, and else the second.
+pub fn unless(
+    code: &mut Vec<Instr>,
+    test: &Test,
+    accepted: &[Instr],
+    otherwise: &[Instr],
+) -> Result<(), AllocError>
+    requires short { length accepted.now < 1000 }
+    requires near { AreNear (length accepted.now) (length otherwise.now) }
+    ensures { OnOk result (code.new.items ≡ code.old.items ++ unless_code test.now accepted.now otherwise.now) }
+{
+    let count = accepted.len() + leaving(otherwise);
+    let behind = BranchOffset::from_halves(2 * count as u32 + 2);
+    code.push(Instr::Branch(test.test, test.left, test.right, behind))?;
+    code.extend_from_slice(accepted)?;
+    leave(code, otherwise)
 }
 
 /// A test, and as long as its value is not 0 the body, and the test again.

@@ -5,6 +5,7 @@
 
 mod arrays;
 mod code;
+mod comparing;
 mod control_uses;
 mod fresh;
 mod generator;
@@ -16,8 +17,8 @@ mod masking;
 mod reading;
 mod settings;
 mod statements;
+mod stored_values;
 mod unemitted;
-mod uses;
 
 pub use code::Code;
 pub use generator::{generate, generate_optimised};

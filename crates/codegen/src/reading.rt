@@ -1,7 +1,7 @@
-// Values of expressions, read where they are: a variable that has a home costs no instruction.
+// Values of expressions, read where they are: one that has a home costs no instruction.
 
 ghost use Rattle.std.specs.Prelude.{◌≡◌, ◌++◌, ◌+◌, ◌*◌, ◌≤◌, length, IfOk, OnOk};
-ghost use Rattle.codegen.specs.private.Emitted.{assign_code, home_of_term, gives_zero, is_zero, read_code, read_register, stored_code, stored_register};
+ghost use Rattle.codegen.specs.private.Emitted.{assign_code, gives_zero, is_zero, read_code, read_register, stored_code, stored_register};
 ghost use Rattle.expression_code.specs.Allocation.{slots_to};
 ghost use Rattle.expression_code.specs.Layout.{temporaries_offset};
 ghost use Rattle.expression_code.specs.TermCode.{IsAmong};
@@ -12,20 +12,6 @@ use expression_code::{Layout, emit, into, number};
 use inline::Term;
 use rv_code::{Instr, Reg};
 use std::alloc::AllocError;
-
-/// The home of an expression, where it is a variable that has one.
-fn home(layout: &Layout<'_>, term: &Term) -> Option<Reg>
-    ensures { result ≡ home_of_term layout.now.allocation (term_tree term.now) }
-{
-    match term {
-        Term::Variable(number) => layout
-            .homes()
-            .get(*number as usize)
-            .copied()
-            .unwrap_or(None),
-        _ => None,
-    }
-}
 
 /// An expression into a register, with its temporaries in the places from this one on, unless it is at home; and the
 /// register where it is then.
@@ -41,7 +27,7 @@ pub fn read(
     ensures code { OnOk result (code.new.items ≡ code.old.items ++ read_code layout.now.declared layout.now.allocation (temporaries_offset layout.now.declared layout.now.controls layout.now.depths) register place (term_tree term.now)) }
     ensures register { IfOk result (λ r. r ≡ read_register layout.now.allocation register (term_tree term.now)) }
 {
-    match home(layout, term) {
+    match layout.home_of_term(term) {
         Some(home) => Ok(home),
         None => {
             into(layout, code, register, place, term)?;

@@ -3,10 +3,10 @@
 ghost use Rattle.std.specs.Prelude.{◌≡◌, ◌++◌, ◌+◌, ◌*◌, ◌<◌, ◌≤◌, map, length, IfErr, OnOk};
 ghost use Rattle.branch_removal.specs.Straight.{straight_tree, straight_block};
 ghost use Rattle.branch_removal.specs.Straight as straight;
-ghost use Rattle.codegen.specs.private.Emitted.{statement_code, block_code};
+ghost use Rattle.codegen.specs.private.Emitted.{branching_code, statement_code, block_code};
 ghost use Rattle.branch_removal.specs.Heights.{height_of_all, height_in, height_in_all, depth_in, depth_in_all};
 ghost use Rattle.expression_code.specs.Layout.{temporaries_offset};
-ghost use Rattle.codegen.specs.private.Jumps.{IsFar};
+ghost use Rattle.codegen.specs.private.Jumps.{AreNear, IsFar};
 ghost use Rattle.codegen.specs.private.Placed.{IsPlaced, HasPlace, HavePlaces};
 ghost use Rattle.branch_removal.specs.Heights.{height_of};
 ghost use Rattle.inline.specs.Flat.{term_tree};
@@ -16,13 +16,17 @@ use crate::loops::Loop;
 use crate::reading::{assign, gives_zero, read};
 use crate::settings::any_sets;
 use crate::unemitted::Unemitted;
-use crate::{arrays, jumping, loops, masking};
+use crate::{arrays, comparing, jumping, loops, masking};
 use branch_removal::StraightStatement;
 use expression_code::{Layout, Location, emit, fetch, into};
 use inline::Term;
 use language::Kind;
 use rv_code::{Instr, Reg};
 use std::alloc::{AllocError, Global};
+
+/// How many instructions an arm that a branch goes over has less than: a branch reaches 2^11 halves ahead, which are
+/// 1,023 instructions, and there may be a jump behind the arm.
+const SHORT_ARM: usize = 1000;
 
 /// How many words an array of so many elements takes.
 fn words(kind: Kind, size: u32) -> u32
@@ -99,6 +103,26 @@ fn set_under(
     }
 }
 
+/// Of two arms one, by a condition, which a branch over a short arm tests where numbers go into instructions.
+fn branch(
+    code: &mut Vec<Instr>,
+    layout: &Layout<'_>,
+    condition: &Term,
+    accepted: &[Instr],
+    otherwise: &[Instr],
+) -> Result<(), AllocError>
+    requires condition { IsPlaced (length layout.now.declared) layout.now.allocation.count (temporaries_offset layout.now.declared layout.now.controls layout.now.depths) 0 (term_tree condition.now) }
+    requires near { AreNear (length accepted.now) (length otherwise.now) }
+    ensures { OnOk result (code.new.items ≡ code.old.items ++ branching_code layout.now.declared layout.now.allocation (temporaries_offset layout.now.declared layout.now.controls layout.now.depths) (term_tree condition.now) accepted.now otherwise.now) }
+{
+    if layout.immediates() && accepted.len() < SHORT_ARM {
+        let test = comparing::condition(code, layout, condition)?;
+        return jumping::unless(code, &test, accepted, otherwise);
+    }
+    let register = read(code, layout, Reg::X5, 0, condition)?;
+    jumping::branch(code, register, accepted, otherwise)
+}
+
 /// A statement that so many loops are around. A jump that does not reach refuses it, or running out of memory.
 #[cycle(statements)]
 fn statement(
@@ -141,8 +165,7 @@ fn statement(
             let mut other = Vec::new(alloc);
             statements(alloc, &mut other, layout, depth, otherwise)?;
             jumping::reach(one.len(), other.len())?;
-            let register = read(code, layout, Reg::X5, 0, condition)?;
-            jumping::branch(code, register, one.as_slice(), other.as_slice())?;
+            branch(code, layout, condition, one.as_slice(), other.as_slice())?;
             Ok(())
         }
         StraightStatement::Repeat(counter, low, high, body) => {

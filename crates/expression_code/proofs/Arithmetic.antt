@@ -72,3 +72,15 @@ chosen c a b = merged (difference_of 0 c) b a
 pub choice : (c a b : ℕ) → c < 2 → a < 2 ^ 32 → b < 2 ^ 32 → chosen c a b ≡ (if c == 0 then b else a)
 choice c a b h p q = ap (λ m. merged m b a) (mask_when c h)
     ∙ (merge (not (c == 0)) b a q p ∙ grind (arith, nat_tests))
+
+-- what a has under the mask of c: a where c is 1, and else 0
+abbrev pub chosen_or_zero : ℕ → ℕ → ℕ
+chosen_or_zero c a = bit_and a (difference_of 0 c)
+
+under_mask : (b : Bool) (a : ℕ) → a < 2 ^ 32 → bit_and a (mask_of b) ≡ (if b then a else 0)
+under_mask true a p = all_ones a p
+under_mask false a p = and_zero_r a
+
+pub choice_or_zero : (c a : ℕ) → c < 2 → a < 2 ^ 32 → chosen_or_zero c a ≡ (if c == 0 then 0 else a)
+choice_or_zero c a h p = ap (bit_and a) (mask_when c h)
+    ∙ (under_mask (not (c == 0)) a p ∙ grind (arith, nat_tests))

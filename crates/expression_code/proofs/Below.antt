@@ -12,7 +12,7 @@ pub use Rattle.expression_code.specs.Layout.{temporaries_offset}
 pub use Rattle.expression_code.specs.Layout.{variable_location, variable_offset}
 pub use Rattle.expression_code.specs.Layout.{offsets_from, slots_from}
 pub use Rattle.expression_code.specs.NumberRows.{held, is_short, known_row, left_row, number_of, number_row}
-pub use Rattle.expression_code.specs.NumberRows.{right_row, turned_operator}
+pub use Rattle.expression_code.specs.NumberRows.{chooses_zero, is_known_zero, right_row, turned_operator}
 pub use Rattle.expression_code.specs.declared.numbers.Finish.{Finish}
 pub use Rattle.expression_code.specs.declared.numbers.NumberRow.{NumberRow}
 pub use Rattle.expression_code.specs.declared.numbers.NumberStep.{NumberStep}
@@ -20,12 +20,12 @@ pub use Rattle.expression_code.specs.TermCode.{address_code, around_code, betwee
 pub use Rattle.expression_code.specs.TermCode.{constant_code, convert_code, copy_code, cut_code, element_code}
 pub use Rattle.expression_code.specs.TermCode.{expr_code, fetch_code, finish_code, into_code, IsAmong}
 pub use Rattle.branch_removal.specs.Heights.{height_of}
-pub use Rattle.expression_code.specs.TermCode.{is_at_home, keep_code, load_by, load_code, lower_part, move_code}
+pub use Rattle.expression_code.specs.TermCode.{home_of_term, is_at_home, keep_code, keeps_words, load_by, load_code}
 pub use Rattle.expression_code.specs.TermCode.{narrow_code, narrowed_in, near_code, near_element, near_offset}
 pub use Rattle.expression_code.specs.TermCode.{number_code, of_truths, operand, operator_code, placed_code}
 pub use Rattle.expression_code.specs.TermCode.{prefix_code, raise_code, rotate_code, row_of, scale_code, Step}
-pub use Rattle.expression_code.specs.TermCode.{step_code, store_code, turned, upper_part}
-pub use Rattle.expression_code.specs.TermCode.{emitted_operator, kind_at, number_step_code, of_bits}
+pub use Rattle.expression_code.specs.TermCode.{lower_part, move_code, step_code, store_code, turned, upper_part}
+pub use Rattle.expression_code.specs.TermCode.{choice_or_zero_code, emitted_operator, kind_at, number_step_code, of_bits}
 pub use Rattle.expression_code.specs.declared.locations.Location.{Location}
 pub use Rattle.expression_code.specs.declared.locations.Location.TheVariants.{InRegister, InSlot}
 pub use Rattle.inline.proofs.Fitting.{value_fits}

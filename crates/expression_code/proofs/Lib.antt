@@ -7,6 +7,7 @@ pub mod WorkRegisters
 pub mod OperatorCode
 pub mod Places
 pub mod Values
+pub mod Homes
 pub mod Scratch
 pub mod Operands
 pub mod TermLengths
@@ -14,6 +15,8 @@ pub mod NumberCode
 pub mod BoolCode
 pub mod Elements
 pub mod WorkedCode
+pub mod OperandRuns
+pub mod ElementValues
 pub mod ExpressionRuns
 pub mod SiteRuns
 pub mod Logic

@@ -9,7 +9,8 @@ pub use Rattle.expression_code.proofs.Below.{plain_append, quiet, quietly, regis
 pub use Rattle.expression_code.proofs.Below.{Then, weaken}
 pub use Rattle.expression_code.proofs.Elements.{Addressed, address_runs, load_bytes, load_plain}
 pub use Rattle.expression_code.proofs.Events.{by_bounds, by_index, condition_kind}
-pub use Rattle.expression_code.proofs.ExpressionRuns.{into_runs, steps_of}
+pub use Rattle.expression_code.proofs.ExpressionRuns.{into_runs}
+pub use Rattle.expression_code.proofs.OperandRuns.{steps_of}
 pub use Rattle.expression_code.proofs.Frame.{After, Before, Held, HeldAt, Runs, Setting, Steps, base_of, frame_runs}
 pub use Rattle.expression_code.proofs.Frame.{frame_there, held_regs, seen_by, setting}
 pub use Rattle.expression_code.proofs.WorkRegisters.{IsHome, free_from, home_beside, home_target, place_target}

@@ -2,7 +2,7 @@
 -- target, which is what the operator means.
 use Rattle.std.proofs.Common.{◌≡◌, ℕ, ◌+◌, ◌-◌, ◌*◌, ◌/◌, ◌%◌, ◌^◌, ◌<◌, ◌==◌, Bool, true, false, cond, not, nat_lt}
 use Rattle.std.proofs.Common.{nat_le, List, [], Option, None, Some, bit_and, bit_or, bit_xor, refl, sym, ap, ◌∙◌}
-use Rattle.std.proofs.Common.{ap₂, arith, subst}
+use Rattle.std.proofs.Common.{ap₂, arith, subst, ◌&&◌}
 use Rattle.std.proofs.Math.Nat.{mod-le, mul-div_cancel, mul-mod_left}
 use Rattle.std.proofs.lemmas.Nat.{and_comm, or_comm, xor_comm, mod_below, mod-pow-add, leading_top, pow_pos}
 use Rattle.std.specs.Int.Count.{count_leading_zeros}
@@ -13,7 +13,7 @@ use Rattle.expression_code.proofs.Below.{finish_code, FlatVariable, held, HasTyp
 use Rattle.expression_code.proofs.Below.{left_row, lt-ltb, ltb-true, marks_of, nat_tests, near_element, near_offset}
 use Rattle.expression_code.proofs.Below.{number_code, number_of, number_row, NumberRow, of_number, of_truth}
 use Rattle.expression_code.proofs.Below.{and_mask, only_computes, operated, path_in, Place, registers_after}
-use Rattle.expression_code.proofs.Below.{right_row, shift_value}
+use Rattle.expression_code.proofs.Below.{chooses_zero, false≢true, is_known_zero, right_row, shift_value}
 use Rattle.expression_code.proofs.Below.{sign_extended, sum_of, TermTree, turned_operator, Types, value_in, Values}
 use Rattle.expression_code.proofs.Below.{variable_offset, Width, word_of}
 use Rattle.expression_code.proofs.OperatorCode.{cut_composed, cut_plain, cut_value, cut_whole, d0, d32, dd, q0, q32}
@@ -157,6 +157,14 @@ left_known a operator e row is = by_test a.immediates (turned_operator operator)
         record { other = other; is = f; numbered = numbered_by other e row (number_of e) refl same }
     by_test true None f same = absurd (none-some row same)
     by_test false p f same = absurd (none-some row same)
+
+-- what the third operand is of a choice between a value and 0
+pub zero_known : (a : Allocation) (e : TermTree) → chooses_zero a e ≡ true → number_of e ≡ Some 0
+zero_known a e is = by_test a.immediates (number_of e) is
+  where
+    by_test : (b : Bool) (m : Option ℕ) → (b && is_known_zero m) ≡ true → m ≡ Some 0
+    by_test true (Some n) same = ap Some (eqb-true n 0 same)
+    by_test b m same = absurd (false≢true same)
 
 -- the index that an expression is, whose element lies at an offset that its access holds
 pub record NearElement (declared : List FlatVariable) (x : ℕ) (index : TermTree) (o : ℕ) : Type 0 where

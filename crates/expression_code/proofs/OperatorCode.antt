@@ -3,8 +3,8 @@
 use Rattle.std.proofs.Common.{◌≡◌, ◌≢◌, ℕ, ◌+◌, ◌-◌, ◌*◌, ◌/◌, ◌%◌, ◌^◌, ◌<◌, ◌≤◌, ◌==◌, ◌||◌, nat_lt, Bool, true}
 use Rattle.std.proofs.Common.{false, cond, List, [], ◌∷◌, ◌++◌, refl, sym, ap, ap₂, ◌∙◌, arith, subst, eq-eqb, ne_eqb}
 use Rattle.std.proofs.lemmas.Nat.{and_mask, mod_below, pow_pos}
-use Rattle.expression_code.proofs.Below.{after_append, between, BinaryOperator, bits, choice_code, constant_code}
-use Rattle.expression_code.proofs.Below.{convert_code, converted, cut_code, eqb-true, false≢true, fun_ext}
+use Rattle.expression_code.proofs.Below.{after_append, between, BinaryOperator, bits, choice_code, choice_or_zero_code}
+use Rattle.expression_code.proofs.Below.{constant_code, convert_code, converted, cut_code, eqb-true, false≢true, fun_ext}
 use Rattle.expression_code.proofs.Below.{immediate_value, Instr, lt-ltb, move_code, multiply_value, narrow_code}
 use Rattle.expression_code.proofs.Below.{narrowed_in, nat_tests, of_truths, only_computes, operated, operator_code}
 use Rattle.expression_code.proofs.Below.{plain_append, prefix_code, prefix_value, PrefixOperator, register_left}
@@ -20,7 +20,7 @@ use Rattle.language.specs.declared.tree.BinaryOperator.TheVariants.{GreaterOrEqu
 use Rattle.language.specs.declared.tree.BinaryOperator.TheVariants.{Subtract, Multiply, Divide, Remainder}
 use Rattle.language.specs.declared.tree.PrefixOperator.TheVariants.{Not, Complement, Negate}
 use Rattle.word.specs.declared.width.Width.TheVariants.{W8, W16, W32}
-use Rattle.expression_code.proofs.Arithmetic.{parts, chosen}
+use Rattle.expression_code.proofs.Arithmetic.{parts, chosen, chosen_or_zero}
 use Rattle.expression_code.proofs.WorkRegisters.{IsFree, ArePair}
 
 -- Numbers, into any register that works.
@@ -284,6 +284,10 @@ module _ {d t : ℕ} (pair : ArePair d t) where
       choice_plain mask wm condition first =
           simp (wd, wt, wm, d32, t32, q32 mask, q32 condition, q32 first, q32 source)
 
+      pub choice_or_zero_plain : {m c : ℕ} → IsFree m → works m ≡ true → IsFree c
+          → only_computes works (choice_or_zero_code d m c r) ≡ true
+      choice_or_zero_plain mask wm condition = simp (wd, wm, d32, q32 mask, q32 condition, q32 source)
+
   module _ {r : ℕ} (source : IsFree r) where
     pub convert_made : (w : Width) (regs : ℕ → ℕ) → regs r < 2 ^ 32
         → registers_after (convert_code d r w) regs d ≡ converted w (regs r)
@@ -312,6 +316,12 @@ module _ {d t : ℕ} (pair : ArePair d t) where
         (registers_after (narrow_code d r w) regs) (mod_below amount (bits w) (narrow w).0)
         (subst (λ v. v < 2 ^ bits w) (sym cut) (mod_below (regs r) (2 ^ bits w) (pow_pos (bits w)))) (n == 0) refl
         ∙ ap (λ v. (v * 2 ^ n + v / 2 ^ (bits w - n)) % 2 ^ bits w) cut)
+
+    -- A choice between a value and 0, with the mask in m.
+    pub choice_or_zero_made : {m c : ℕ} → IsFree m → IsFree c → r ≢ m → (regs : ℕ → ℕ)
+        → registers_after (choice_or_zero_code d m c r) regs d ≡ chosen_or_zero (regs c) (regs r)
+    choice_or_zero_made {m = m} mask condition rm regs =
+        simp (dd, eq-eqb m m refl, ne_eqb r m rm, d0, q0 mask, q0 condition, q0 source)
 
     module _ {l : ℕ} (first : IsFree l) where
       pub operator_made : l ≢ t → (operator : BinaryOperator) (w : Width) → is_plain (row_of operator).step ≡ true

@@ -4,20 +4,19 @@ use Rattle.std.proofs.Common.{◌≡◌, ℕ, ◌+◌, ◌*◌, ◌%◌, ◌<◌
 use Rattle.std.proofs.Common.{length, Option, None, Some, ◌-◌, arith, length-append}
 use Rattle.std.proofs.lemmas.Option.{slice_get_within}
 use Rattle.expression_code.proofs.Below.{address_code, Allocation, around_code, binary, BinaryOperator, bits, code_by}
+use Rattle.expression_code.proofs.Below.{choice_code, choice_or_zero_code, chooses_zero}
 use Rattle.expression_code.proofs.Below.{constant_code, convert, convert_code, copy_code, cut_code, element}
 use Rattle.expression_code.proofs.Below.{element_code, emitted_operator, expr_code, fetch_code, Finish, finish_code}
-use Rattle.expression_code.proofs.Below.{FlatVariable}
-use Rattle.expression_code.proofs.Below.{HasType, height_of, InRegister, InSlot, Instr, into_code, IsAmong}
-use Rattle.expression_code.proofs.Below.{is_at_home, keep_code, Kind, kind_at, left_row, load_code, Location}
-use Rattle.expression_code.proofs.Below.{move_code, narrow_code, narrowed_in, near_code, near_element, number_code}
-use Rattle.expression_code.proofs.Below.{NumberRow, NumberStep, number_step_code, of_binary, of_conversion, of_element}
-use Rattle.expression_code.proofs.Below.{of_number, of_prefix}
-use Rattle.expression_code.proofs.Below.{of_rotation, of_selection, of_truth, of_truths, of_variable, operand}
-use Rattle.expression_code.proofs.Below.{operator_code, placed_code, prefix, prefix_code, PrefixOperator, Profile}
-use Rattle.expression_code.proofs.Below.{raise_code, register_of, right_row, rotate, rotate_code, row_of, scale_code}
-use Rattle.expression_code.proofs.Below.{select, Step, step_code, store_code, temporary, term_nodes, TermTree, Types}
-use Rattle.expression_code.proofs.Below.{types_of, variable, variable_location, variable_offset, Width, WordType}
-use Rattle.expression_code.proofs.Below.{working_register}
+use Rattle.expression_code.proofs.Below.{FlatVariable, HasType, height_of, InRegister, InSlot, Instr, into_code}
+use Rattle.expression_code.proofs.Below.{IsAmong, is_at_home, keep_code, keeps_words, Kind, kind_at, left_row}
+use Rattle.expression_code.proofs.Below.{load_code, Location, move_code, narrow_code, narrowed_in, near_code}
+use Rattle.expression_code.proofs.Below.{near_element, number_code, NumberRow, NumberStep, number_step_code, of_binary}
+use Rattle.expression_code.proofs.Below.{of_conversion, of_element, of_number, of_prefix, of_rotation, of_selection}
+use Rattle.expression_code.proofs.Below.{of_truth, of_truths, of_variable, operand, operator_code, placed_code, prefix}
+use Rattle.expression_code.proofs.Below.{prefix_code, PrefixOperator, Profile, raise_code, register_of, right_row}
+use Rattle.expression_code.proofs.Below.{rotate, rotate_code, row_of, scale_code, select, Step, step_code, store_code}
+use Rattle.expression_code.proofs.Below.{temporary, term_nodes, TermTree, Types, types_of, variable, variable_location}
+use Rattle.expression_code.proofs.Below.{variable_offset, Width, width_of, WordType, working_register}
 use Rattle.language.specs.declared.signature.Kind.TheVariants.{Boolean}
 use Rattle.expression_code.specs.declared.numbers.Finish.TheVariants.{Narrowed}
 use Rattle.expression_code.specs.declared.numbers.NumberStep.TheVariants.{KeepsLow}
@@ -165,7 +164,8 @@ module _ (declared : List FlatVariable) (a : Allocation) (free : ℕ) where
       one_of (is_at_home a e) _ _ n (omega arith)
       (simp length-append (omega (arith, few, keep_length (temporary a.count free place))))
 
-  -- an operator's code of one operand and of two, and that of an element at an index in a register
+  -- the code of an operator of one operand and of two, of a conversion, of a choice, of one between a value and 0, and
+  -- of an element at an index in a register
 
   abbrev pub one_code : ℕ → ℕ → TermTree → Width → NumberRow → List Instr
   one_code d place e width row =
@@ -180,6 +180,34 @@ module _ (declared : List FlatVariable) (a : Allocation) (free : ℕ) where
       ++ fetch_code (operand a free place one) 29 ++ fetch_code (operand a free (place + 1) other) 30
       ++ operator_code d (working_register a.count (place + 1) 30) (register_of (operand a free place one) 29)
       (register_of (operand a free (place + 1) other) 30) (emitted_operator a operator) width
+
+  abbrev pub converted_code : ℕ → ℕ → Kind → TermTree → List Instr
+  converted_code d place kind e =
+      placed_code declared a free place e (into_code declared a free (own place) place e)
+      ++ fetch_code (operand a free place e) 29
+      ++ convert_code d (register_of (operand a free place e) 29) (width_of kind)
+
+  abbrev pub chosen_code : ℕ → ℕ → TermTree → TermTree → TermTree → List Instr
+  chosen_code d place condition accepted otherwise =
+      placed_code declared a free place condition (into_code declared a free (own place) place condition)
+      ++ placed_code declared a free (place + 1) accepted
+      (into_code declared a free (own (place + 1)) (place + 1) accepted)
+      ++ placed_code declared a free (place + 2) otherwise
+      (into_code declared a free (own (place + 2)) (place + 2) otherwise)
+      ++ fetch_code (operand a free place condition) 29 ++ fetch_code (operand a free (place + 1) accepted) 30
+      ++ fetch_code (operand a free (place + 2) otherwise) 31
+      ++ choice_code d (own place) (working_register a.count (place + 1) 30)
+      (register_of (operand a free place condition) 29) (register_of (operand a free (place + 1) accepted) 30)
+      (register_of (operand a free (place + 2) otherwise) 31)
+
+  abbrev pub masked_code : ℕ → ℕ → TermTree → TermTree → List Instr
+  masked_code d place condition accepted =
+      placed_code declared a free place condition (into_code declared a free (own place) place condition)
+      ++ placed_code declared a free (place + 1) accepted
+      (into_code declared a free (own (place + 1)) (place + 1) accepted)
+      ++ fetch_code (operand a free place condition) 29 ++ fetch_code (operand a free (place + 1) accepted) 30
+      ++ choice_or_zero_code d (own place) (register_of (operand a free place condition) 29)
+      (register_of (operand a free (place + 1) accepted) 30)
 
   abbrev pub picked_code : ℕ → ℕ → ℕ → TermTree → List Instr
   picked_code d place x index =
@@ -235,22 +263,24 @@ module _ (declared : List FlatVariable) (a : Allocation) (free : ℕ) where
         rotate_length,
       )
   into_length d place (convert kind e) =
-      omega (
-        arith,
-        length-append {A = Instr},
-        placed_length place e _ _ (into_length (own place) place e),
-        fetch_length,
-        convert_length,
-      )
+      let n = 16 * (1 + term_nodes e) - 3 in
+      let placed = placed_length place e _ _ (into_length (own place) place e) in
+      let few : length (cond (keeps_words a kind) (into_code declared a free d place e)
+      (converted_code d place kind e)) ≤ n =
+      one_of (keeps_words a kind) _ _ n (omega (arith, into_length d place e))
+      (omega (arith, length-append {A = Instr}, placed, fetch_length, convert_length)) in
+      omega (arith, few)
   into_length d place (select condition accepted otherwise) =
-      omega (
-        arith,
-        length-append {A = Instr},
-        placed_length place condition _ _ (into_length (own place) place condition),
-        placed_length (place + 1) accepted _ _ (into_length (own (place + 1)) (place + 1) accepted),
-        placed_length (place + 2) otherwise _ _ (into_length (own (place + 2)) (place + 2) otherwise),
-        fetch_length,
-      )
+      let n = 16 * (1 + term_nodes condition + term_nodes accepted + term_nodes otherwise) - 3 in
+      let first = placed_length place condition _ _ (into_length (own place) place condition) in
+      let second = placed_length (place + 1) accepted _ _ (into_length (own (place + 1)) (place + 1) accepted) in
+      let third = placed_length (place + 2) otherwise _ _ (into_length (own (place + 2)) (place + 2) otherwise) in
+      let few : length (cond (chooses_zero a otherwise) (masked_code d place condition accepted)
+      (chosen_code d place condition accepted otherwise)) ≤ n =
+      one_of (chooses_zero a otherwise) _ _ n
+      (omega (arith, length-append {A = Instr}, first, second, fetch_length))
+      (omega (arith, length-append {A = Instr}, first, second, third, fetch_length)) in
+      omega (arith, few)
   into_length d place (element source x size index) =
       let n = 16 * (1 + term_nodes index) - 3 in
       let placed = placed_length place index _ _ (into_length (own place) place index) in

@@ -1,8 +1,10 @@
 -- The registers that operators work on: those of temporaries, the homes of variables, and the spare ones; and which
 -- of them the code for a place may write.
 use Rattle.std.proofs.Common.{◌≡◌, ◌≢◌, ◌⊎◌, inl, inr, ℕ, ◌+◌, ◌<◌, ◌≤◌, ◌==◌, ◌&&◌, ◌||◌, not, cond, nat_lt, nat_le}
-use Rattle.std.proofs.Common.{Bool, true, false, List, Option, None, Some, refl, sym, ap, ◌∙◌, arith}
-use Rattle.expression_code.proofs.Below.{Allocation, at_home as at_home_of, FlatVariable, home_of, InRegister, InSlot}
+use Rattle.std.proofs.Common.{Bool, true, false, List, Option, None, Some, if◌then◌else◌, refl, sym, ap, ◌∙◌, arith}
+use Rattle.std.proofs.lemmas.Option.{none-some}
+use Rattle.expression_code.proofs.Below.{Allocation, at_home as at_home_of, convert, FlatVariable, home_of_term}
+use Rattle.expression_code.proofs.Below.{InRegister, InSlot, keeps_words, Kind}
 use Rattle.expression_code.proofs.Below.{IsAllocation, Location, nat_tests, operand, register_of, slot_of, temporary}
 use Rattle.expression_code.proofs.Below.{TermTree, true≢false, variable, working_register}
 
@@ -155,19 +157,37 @@ home_target count place d few home = record {
   no_next = λ e. absurd (grind (arith, nat_tests, home.0, home.1, e));
 }
 
+-- a conversion that has a home keeps words, and its operand has the same
+pub converted_home : (a : Allocation) (kind : Kind) (e : TermTree) (home : ℕ)
+    → home_of_term a (convert kind e) ≡ Some home
+    → (keeps_words a kind ≡ true) × (home_of_term a e ≡ Some home)
+converted_home a kind e home at = by_test (keeps_words a kind) refl at
+  where
+    by_test : (b : Bool) → keeps_words a kind ≡ b → (if b then home_of_term a e else None) ≡ Some home
+        → (keeps_words a kind ≡ true) × (home_of_term a e ≡ Some home)
+    by_test true keeps at' = (keeps, at')
+    by_test false keeps at' = absurd (none-some home at')
+
+-- the home of an expression is that of a variable
+pub home_allowed : (declared : List FlatVariable) (a : Allocation) → IsAllocation declared a → (e : TermTree) (home : ℕ)
+    → home_of_term a e ≡ Some home → IsHome a.count home
+home_allowed declared a allocated (variable x) home at = allocated.allowed x home at
+home_allowed declared a allocated (convert kind e) home at =
+    home_allowed declared a allocated e home (converted_home a kind e home at).1
+home_allowed declared a allocated e home at = absurd (none-some home at)
+
 -- Where an expression's value is.
 module _ (declared : List FlatVariable) (a : Allocation) (allocated : IsAllocation declared a) (free place : ℕ) where
   -- what is so of the temporary of a place and of each home is so of where any expression is
   pub at_operand : (P : Location → Type 0) → P (temporary a.count free place)
       → ((home : ℕ) → IsHome a.count home → P (InRegister home)) → (e : TermTree) → P (operand a free place e)
-  at_operand P there at_home (variable x) =
-      by_home (home_of a.homes x) (λ home is. at_home home (allocated.allowed x home is))
+  at_operand P there at_home e =
+      by_home (home_of_term a e) (λ home is. at_home home (home_allowed declared a allocated e home is))
     where
       by_home : (h : Option ℕ) → ((home : ℕ) → h ≡ Some home → P (InRegister home))
           → P (at_home_of h (temporary a.count free place))
       by_home None at = there
       by_home (Some home) at = at home refl
-  at_operand P there at_home e = there
 
   temporary_register : (spare : ℕ) (b : Bool)
       → register_of (cond b (InRegister (5 + place)) (InSlot (slot_of a.count free place))) spare

@@ -85,6 +85,30 @@ module _ (place : Place) where
   widened : code both_home (convert Uint32 a) ≡ instr.Immediate Addi 5 13 0 ∷ []
   widened = refl
 
+  -- where numbers go into instructions, no code is needed for a word that is kept
+  kept_at_home : code with_numbers (convert Uint32 (convert Uint32 a)) ≡ []
+  kept_at_home = refl
+
+  kept_of_sum : code with_numbers (convert Uint32 sum) ≡ instr.Register register.Add 5 13 14 ∷ []
+  kept_of_sum = refl
+
+  kept_in_sum : code with_numbers (binary place Add W32 (convert Uint32 a) (convert Uint32 b))
+      ≡ instr.Register register.Add 5 13 14 ∷ []
+  kept_in_sum = refl
+
+  cut_at_home : code with_numbers (convert Uint8 a) ≡ instr.Immediate Andi 5 13 255 ∷ []
+  cut_at_home = refl
+
+  -- and a choice between a value and 0 needs the mask alone
+  choice_or_zero : code with_numbers (select a b (number 0 Uint32)) ≡ instr.Register register.Sub 5 0 13
+      ∷ instr.Register register.And 5 14 5 ∷ []
+  choice_or_zero = refl
+
+  choice_of_zero : code both_home (select a b (number 0 Uint32)) ≡ instr.Immediate Addi 7 0 0
+      ∷ instr.Register register.Sub 5 0 13 ∷ instr.Register register.Xor 6 14 7 ∷ instr.Register register.And 6 6 5
+      ∷ instr.Register register.Xor 5 7 6 ∷ []
+  choice_of_zero = refl
+
   rotated : code both_home (rotate W32 a 7) ≡ instr.Shift Slli 30 13 7 ∷ instr.Shift Srli 5 13 25
       ∷ instr.Register register.Add 5 30 5 ∷ []
   rotated = refl

@@ -1,6 +1,6 @@
 -- Operators with a number in the instruction: where the other operand is a number that its instruction holds, or one
 -- that shifts make up for, an operator is a row too, of what is made of a register.
-use Rattle.std.specs.Prelude.{ℕ, ◌+◌, ◌-◌, ◌%◌, ◌^◌, ◌==◌, Bool, ◌&&◌, ◌||◌, Option, None, Some, nat_lt}
+use Rattle.std.specs.Prelude.{ℕ, ◌+◌, ◌-◌, ◌%◌, ◌^◌, ◌==◌, Bool, false, ◌&&◌, ◌||◌, Option, None, Some, nat_lt}
 use Rattle.std.specs.Prelude.{if◌then◌else◌}
 use Rattle.std.specs.Int.Count.{count_leading_zeros}
 use Rattle.expression_code.specs.Allocation.{Allocation}
@@ -97,3 +97,13 @@ right_row allocation operator e = if allocation.immediates then known_row (Some 
 abbrev pub left_row : Allocation → BinaryOperator → TermTree → Option NumberRow
 left_row allocation operator e = if allocation.immediates
     then known_row (turned_operator operator) (number_of e) else None
+
+-- whether a word is known, and is 0
+abbrev pub is_known_zero : Option ℕ → Bool
+is_known_zero None = false
+is_known_zero (Some n) = n == 0
+
+-- whether a choice, whose third operand is this expression, is one between a value and 0, where numbers go into
+-- instructions
+abbrev pub chooses_zero : Allocation → TermTree → Bool
+chooses_zero allocation e = allocation.immediates && is_known_zero (number_of e)

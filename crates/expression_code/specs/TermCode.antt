@@ -1,9 +1,9 @@
 -- The instructions that are emitted for slots, numbers, operators and expressions.
-use Rattle.std.specs.Prelude.{ℕ, zero, suc, ◌+◌, ◌-◌, ◌*◌, ◌/◌, ◌%◌, ◌^◌, ◌==◌, ◌<◌, Bool, false, List, [], ◌∷◌, ◌++◌}
-use Rattle.std.specs.Prelude.{nat_lt, Option, None, Some, is_some, if◌then◌else◌}
+use Rattle.std.specs.Prelude.{ℕ, zero, suc, ◌+◌, ◌-◌, ◌*◌, ◌/◌, ◌%◌, ◌^◌, ◌==◌, ◌<◌, ◌&&◌, Bool, true, false, List, []}
+use Rattle.std.specs.Prelude.{◌∷◌, ◌++◌, nat_lt, Option, None, Some, is_some, if◌then◌else◌}
 use Rattle.expression_code.specs.Layout.{variable_offset, variable_location}
 use Rattle.expression_code.specs.Allocation.{register_of, Allocation, home_of, temporary, working_register, at_home}
-use Rattle.expression_code.specs.NumberRows.{number_of, right_row, left_row}
+use Rattle.expression_code.specs.NumberRows.{number_of, right_row, left_row, chooses_zero}
 use Rattle.expression_code.specs.declared.numbers.Finish.{Finish}
 use Rattle.expression_code.specs.declared.numbers.Finish.TheVariants.{Alone, GivesZero, GivesMore, Narrowed}
 use Rattle.expression_code.specs.declared.numbers.NumberRow.{NumberRow}
@@ -233,6 +233,10 @@ abbrev pub choice_code : ℕ → ℕ → ℕ → ℕ → ℕ → ℕ → List In
 choice_code d m t c l r =
     Register Sub m zero_register c ∷ Register Xor t l r ∷ Register And t t m ∷ Register Xor d r t ∷ []
 
+-- of two operands, the second where the first is 1, and else 0; m gets the mask
+abbrev pub choice_or_zero_code : ℕ → ℕ → ℕ → ℕ → List Instr
+choice_or_zero_code d m c l = Register Sub m zero_register c ∷ Register And d l m ∷ []
+
 -- Elements of arrays. An index in a register becomes the address of its element but for the lower part of the array's
 -- offset, which the access adds.
 
@@ -292,16 +296,28 @@ abbrev pub code_by : {T : Type 0} → Option T → (T → List Instr) → List I
 code_by None code otherwise = otherwise
 code_by (Some x) code otherwise = code x
 
--- whether an expression is a variable that has a home: no code is needed for its value
+-- whether a kind is that of whole words
+abbrev pub is_word : Kind → Bool
+is_word Uint32 = true
+is_word kind = false
+
+-- whether a conversion to a kind leaves each value as it is, so that better code has none for it
+abbrev pub keeps_words : Allocation → Kind → Bool
+keeps_words allocation kind = allocation.immediates && is_word kind
+
+-- the home of an expression: that of a variable, also where a conversion keeps its value
+abbrev pub home_of_term : Allocation → TermTree → Option ℕ
+home_of_term allocation (variable x) = home_of allocation.homes x
+home_of_term allocation (convert kind e) = if keeps_words allocation kind then home_of_term allocation e else None
+home_of_term allocation e = None
+
+-- whether an expression has a home: no code is needed for its value
 abbrev pub is_at_home : Allocation → TermTree → Bool
-is_at_home allocation (variable x) = is_some (home_of allocation.homes x)
-is_at_home allocation e = false
+is_at_home allocation e = is_some (home_of_term allocation e)
 
 -- where its value is behind its code: in that home, and else in its place
 abbrev pub operand : Allocation → ℕ → ℕ → TermTree → Location
-operand allocation free place (variable x) =
-    at_home (home_of allocation.homes x) (temporary allocation.count free place)
-operand allocation free place e = temporary allocation.count free place
+operand allocation free place e = at_home (home_of_term allocation e) (temporary allocation.count free place)
 
 -- Over these variables, with registers given out so, and the slots of temporaries from an offset on.
 module _ (declared : List FlatVariable) (allocation : Allocation) (free : ℕ) where
@@ -327,7 +343,7 @@ module _ (declared : List FlatVariable) (allocation : Allocation) (free : ℕ) w
 
   -- An expression into a register, with its operands in the places from this one on. None is fetched before the code
   -- of all of them is through. Where the instruction holds an operand that is a number, the other one is the only
-  -- operand.
+  -- operand, and a choice between a value and 0 has two.
   abbrev pub into_code : ℕ → ℕ → TermTree → List Instr
   into_code d place (number value kind) = constant_code d value
   into_code d place (truth value) = constant_code d (word_of value)
@@ -354,10 +370,17 @@ module _ (declared : List FlatVariable) (allocation : Allocation) (free : ℕ) w
       placed_code place e (into_code (own_register place) place e) ++ fetch_operand place e first_spare
       ++ rotate_code d (operand_register place e first_spare) width amount
   into_code d place (convert kind e) =
+      if keeps_words allocation kind then into_code d place e else
       placed_code place e (into_code (own_register place) place e) ++ fetch_operand place e first_spare
       ++ convert_code d (operand_register place e first_spare) (width_of kind)
   into_code d place (select condition accepted otherwise) =
-      placed_code place condition (into_code (own_register place) place condition)
+      if chooses_zero allocation otherwise
+      then placed_code place condition (into_code (own_register place) place condition)
+      ++ placed_code (place + 1) accepted (into_code (own_register (place + 1)) (place + 1) accepted)
+      ++ fetch_operand place condition first_spare ++ fetch_operand (place + 1) accepted second_spare
+      ++ choice_or_zero_code d (own_register place) (operand_register place condition first_spare)
+      (operand_register (place + 1) accepted second_spare)
+      else placed_code place condition (into_code (own_register place) place condition)
       ++ placed_code (place + 1) accepted (into_code (own_register (place + 1)) (place + 1) accepted)
       ++ placed_code (place + 2) otherwise (into_code (own_register (place + 2)) (place + 2) otherwise)
       ++ fetch_operand place condition first_spare ++ fetch_operand (place + 1) accepted second_spare

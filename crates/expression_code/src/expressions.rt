@@ -4,13 +4,13 @@ ghost use Rattle.std.specs.Prelude.{◌≡◌, ◌++◌, ◌+◌, ◌*◌, ◌�
 ghost use Rattle.expression_code.specs.Layout.{temporaries_offset};
 ghost use Rattle.expression_code.specs.Allocation.{register_of, slots_to, working_register};
 ghost use Rattle.expression_code.specs.Registers.{first_spare, second_spare, third_spare};
-ghost use Rattle.expression_code.specs.TermCode.{into_code, expr_code, operand, fetch_code, IsAmong};
+ghost use Rattle.expression_code.specs.TermCode.{into_code, expr_code, operand, fetch_code, choice_or_zero_code, IsAmong};
 ghost use Rattle.branch_removal.specs.Heights.{height_of};
 ghost use Rattle.inline.specs.Flat.{term_tree};
 
 use crate::layout::Layout;
 use crate::locations::{FIRST_SPARE, SECOND_SPARE, THIRD_SPARE, copy, fetch, keep};
-use crate::numbers::{left_row, right_row};
+use crate::numbers::{chooses_zero, left_row, right_row};
 use crate::operators::{ChoiceOperands, Operands};
 use crate::truths::emitted;
 use crate::{emit, operators};
@@ -87,6 +87,26 @@ fn fetched_choice(
     })
 }
 
+/// A choice between a value and 0, which are in their places, into a register. Both operands are fetched where they lie in
+/// slots.
+fn fetched_or_zero(
+    layout: &Layout<'_>,
+    code: &mut Vec<Instr>,
+    target: Reg,
+    place: u32,
+    condition: &Term,
+    accepted: &Term,
+) -> Result<(), AllocError>
+    requires { temporaries_offset layout.now.declared layout.now.controls layout.now.depths + 4 * slots_to layout.now.allocation.count (place + 1) ≤ 65536 }
+    ensures { let free = temporaries_offset layout.now.declared layout.now.controls layout.now.depths in let a = layout.now.allocation in let c = operand a free place (term_tree condition.now) in let l = operand a free (place + 1) (term_tree accepted.now) in OnOk result (code.new.items ≡ code.old.items ++ fetch_code c first_spare ++ fetch_code l second_spare ++ choice_or_zero_code target (working_register a.count place first_spare) (register_of c first_spare) (register_of l second_spare)) }
+{
+    let second = layout.place_behind(place, 1);
+    let condition = fetched(layout, code, place, condition, FIRST_SPARE)?;
+    let accepted = fetched(layout, code, second, accepted, SECOND_SPARE)?;
+    let mask = layout.working_register(place, FIRST_SPARE);
+    operators::choice_or_zero(code, target, mask, condition, accepted)
+}
+
 /// An expression into a place, and the register of what is there, which is fetched where it lies in a slot.
 #[cycle(expressions)]
 fn evaluated(
@@ -154,6 +174,9 @@ pub fn into(
             operators::rotate(code, target, register, *width, *amount)
         }
         Term::Convert(kind, operand) => {
+            if layout.keeps_words(*kind) {
+                return into(layout, code, target, place, operand);
+            }
             let register = evaluated(layout, code, place, operand)?;
             operators::convert(code, target, register, *kind)
         }
@@ -162,6 +185,9 @@ pub fn into(
             let third = layout.place_behind(place, 2);
             expression(layout, code, place, condition)?;
             expression(layout, code, second, accepted)?;
+            if chooses_zero(layout, otherwise) {
+                return fetched_or_zero(layout, code, target, place, condition, accepted);
+            }
             expression(layout, code, third, otherwise)?;
             let registers = fetched_choice(layout, code, place, condition, accepted, otherwise)?;
             operators::choice(code, target, &registers)
@@ -182,7 +208,7 @@ pub fn into(
     }
 }
 
-/// An expression into a place, where temporaries live in all lower ones. A variable that has a home needs no code.
+/// An expression into a place, where temporaries live in all lower ones. What has a home needs no code.
 #[cycle(expressions)]
 pub fn expression(
     layout: &Layout<'_>,

@@ -4,7 +4,7 @@ ghost use Rattle.std.specs.Prelude.{◌≡◌, ◌≤◌, ◌<◌, ◌+◌, ◌*
 ghost use Rattle.expression_code.specs.Layout.{variable_offset, variable_location, result_offset, control_offset, control_location, word_offset, next_offset, temporaries_offset, offsets_from, slots_from};
 ghost use Rattle.expression_code.specs.Allocation.{is_unread, slots_to, temporary, working_register};
 ghost use Rattle.expression_code.specs.Registers.{value_register};
-ghost use Rattle.expression_code.specs.TermCode.{kind_at, near_offset, near_element, is_at_home, operand};
+ghost use Rattle.expression_code.specs.TermCode.{kind_at, near_offset, near_element, is_word, keeps_words, home_of_term, is_at_home, operand};
 ghost use Rattle.inline.specs.FlatSize.{words_of, declared_words};
 ghost use Rattle.inline.specs.Flat.{declaration_of, term_tree};
 
@@ -234,14 +234,41 @@ impl<'f> Layout<'f> {
         }
     }
 
-    /// Whether an expression is a variable that has a home.
+    /// Whether a conversion to a kind leaves each value as it is, so that it needs no code.
+    pub fn keeps_words(&self, kind: Kind) -> bool
+        ensures { result ≡ keeps_words self.now.allocation kind }
+    {
+        self.allocation.immediates() && is_word(kind)
+    }
+
+    /// The home of an expression: of a variable that has one, also where a conversion keeps its value.
+    pub fn home_of_term(&self, term: &Term) -> Option<Reg>
+        ensures { result ≡ home_of_term self.now.allocation (term_tree term.now) }
+    {
+        match term {
+            Term::Variable(number) => self.allocation.home(*number),
+            Term::Convert(kind, operand) => {
+                if self.keeps_words(*kind) {
+                    self.home_of_term(operand)
+                } else {
+                    None
+                }
+            }
+            Term::Number(_, _)
+            | Term::Truth(_)
+            | Term::Prefix(_, _, _)
+            | Term::Binary(_, _, _, _, _)
+            | Term::Rotate(_, _, _)
+            | Term::Select(_, _, _)
+            | Term::Element(_, _, _, _) => None,
+        }
+    }
+
+    /// Whether an expression has a home.
     pub fn is_at_home(&self, term: &Term) -> bool
         ensures { result ≡ is_at_home self.now.allocation (term_tree term.now) }
     {
-        match term {
-            Term::Variable(number) => self.allocation.home(*number).is_some(),
-            _ => false,
-        }
+        self.home_of_term(term).is_some()
     }
 
     /// Where the value of an expression is behind its code.
@@ -249,11 +276,17 @@ impl<'f> Layout<'f> {
         requires { temporaries_offset self.now.declared self.now.controls self.now.depths + 4 * slots_to self.now.allocation.count place ≤ 65536 }
         ensures { result ≡ operand self.now.allocation (temporaries_offset self.now.declared self.now.controls self.now.depths) place (term_tree term.now) }
     {
-        let place = self.temporary(place);
-        match term {
-            Term::Variable(number) => place.unless_home(self.allocation.home(*number)),
-            _ => place,
-        }
+        self.temporary(place).unless_home(self.home_of_term(term))
+    }
+}
+
+/// Whether a kind is that of whole words.
+fn is_word(kind: Kind) -> bool
+    ensures { result ≡ is_word kind }
+{
+    match kind {
+        Kind::Uint32 => true,
+        Kind::Boolean | Kind::Uint8 | Kind::Uint16 => false,
     }
 }
 

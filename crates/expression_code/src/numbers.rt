@@ -1,7 +1,7 @@
 // Numbers in instructions: of an operator and a number that an instruction holds, what is made of the other operand.
 
 ghost use Rattle.std.specs.Prelude.{◌≡◌};
-ghost use Rattle.expression_code.specs.NumberRows.{number_of, is_short, held, shifted, above_zero, low_bits, masked, number_row, turned_operator, right_row, left_row};
+ghost use Rattle.expression_code.specs.NumberRows.{number_of, is_short, held, shifted, above_zero, low_bits, masked, number_row, turned_operator, right_row, left_row, chooses_zero};
 ghost use Rattle.inline.specs.Flat.{term_tree};
 
 use crate::emit::NEAR;
@@ -198,4 +198,11 @@ pub fn left_row(layout: &Layout<'_>, operator: BinaryOperator, left: &Term) -> O
     } else {
         None
     }
+}
+
+/// Whether a choice, whose third operand is this expression, is one between a value and 0, which takes no register then.
+pub fn chooses_zero(layout: &Layout<'_>, otherwise: &Term) -> bool
+    ensures { result ≡ chooses_zero layout.now.allocation (term_tree otherwise.now) }
+{
+    layout.immediates() && matches!(number(otherwise), Some(0))
 }

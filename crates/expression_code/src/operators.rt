@@ -2,7 +2,7 @@
 
 ghost use Rattle.std.specs.Prelude.{◌≡◌, ◌++◌, ◌∷◌, ◌<◌, [], OnOk};
 ghost use Rattle.expression_code.specs.TermCode as terms;
-ghost use Rattle.expression_code.specs.TermCode.{move_code, cut_code, narrow_code, narrowed_in, convert_code, is_zero_code, is_not_zero_code, negation_code, step_code, finish_code, operator_code, number_step_code, number_code, prefix_code, around_code, rotate_code, choice_code};
+ghost use Rattle.expression_code.specs.TermCode.{move_code, cut_code, narrow_code, narrowed_in, convert_code, is_zero_code, is_not_zero_code, negation_code, step_code, finish_code, operator_code, number_step_code, number_code, prefix_code, around_code, rotate_code, choice_code, choice_or_zero_code};
 ghost use Rattle.language.specs.Operators.{width_of};
 ghost use Rattle.word.specs.Widths.{bits};
 
@@ -332,4 +332,24 @@ pub fn choice(code: &mut Vec<Instr>, target: Reg, c: &ChoiceOperands) -> Result<
     append(code, differing)?;
     append(code, masked)?;
     append(code, chosen)
+}
+
+/// Of two operands, the second where the first is 1, and else 0, into a register. Another one gets the mask.
+pub fn choice_or_zero(
+    code: &mut Vec<Instr>,
+    target: Reg,
+    mask: Reg,
+    condition: Reg,
+    accepted: Reg,
+) -> Result<(), AllocError>
+    ensures { OnOk result (code.new.items ≡ code.old.items ++ choice_or_zero_code target mask condition accepted) }
+{
+    append(
+        code,
+        Instr::Register(Operation::Sub, mask, Reg::X0, condition),
+    )?;
+    append(
+        code,
+        Instr::Register(Operation::And, target, accepted, mask),
+    )
 }

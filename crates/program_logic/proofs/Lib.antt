@@ -6,5 +6,6 @@ pub mod Symbols
 pub mod Computing
 pub mod Marks
 pub mod Jumps
+pub mod Tests
 pub mod Loops
 pub mod Face

@@ -2,3 +2,4 @@ pub mod Placed
 pub mod StraightCode
 pub mod Pieces
 pub mod Jumps
+pub mod Tests

@@ -3,9 +3,11 @@ use Rattle.std.specs.Prelude.{ℕ, ◌+◌, ◌*◌, ◌==◌, Bool, true, false
 use Rattle.std.specs.Prelude.{if◌then◌else◌}
 use Rattle.branch_removal.specs.Straight.{StraightTree, set, clear, fill, put, take, set_under, put_under, branch}
 use Rattle.branch_removal.specs.Straight.{repeats, StraightBlock, nothing, first}
-use Rattle.codegen.specs.private.Jumps.{branch_code, loop_code}
+pub use Rattle.codegen.specs.private.Compared.{branching_code}
+use Rattle.codegen.specs.private.Jumps.{loop_code}
 pub use Rattle.codegen.specs.private.Erased.{erase_code, erase_under_code}
 pub use Rattle.codegen.specs.private.Loops.{any_sets, bounds_code, count_code, repeat_code, sets, test_code}
+pub use Rattle.codegen.specs.private.StoredValues.{cuts, stored_value, uncut}
 pub use Rattle.codegen.specs.private.Words.{assign_code, home_of_term, home_or, put_word_code, read_code}
 pub use Rattle.codegen.specs.private.Words.{gives_zero, is_zero, read_register, stored_code, stored_register}
 pub use Rattle.codegen.specs.private.Words.{unless_home}
@@ -124,11 +126,16 @@ clear_code offset words =
     (Register Sub value_register third_register second_register ∷ [])
     (Store Sw zero_register second_register 0 ∷ Immediate Addi second_register second_register 4 ∷ [])
 
+-- the value of an expression into an element of a fixed place
+abbrev pub into_element_code : List FlatVariable → Allocation → ℕ → Kind → ℕ → TermTree → List Instr
+into_element_code declared allocation free kind offset e =
+    stored_code declared allocation free e ++ element_store_code (stored_register allocation e) kind offset
+
 -- values into the elements from this one on
 abbrev pub fill_code : List FlatVariable → Allocation → ℕ → Kind → ℕ → List TermTree → List Instr
 fill_code declared allocation free kind offset [] = []
 fill_code declared allocation free kind offset (e ∷ es) =
-    stored_code declared allocation free e ++ element_store_code (stored_register allocation e) kind offset
+    into_element_code declared allocation free kind offset (stored_value allocation kind e)
     ++ fill_code declared allocation free kind (offset + element_bytes kind) es
 
 -- an index and a value, the first two temporaries where they are not at home
@@ -143,15 +150,20 @@ put_code index value kind offset =
     address_code value_register index kind offset
     ++ Store (store_by kind) value value_register (lower_part offset) ∷ []
 
--- the value of an expression into the element at an index, of which the store may hold the offset
+-- the value of an expression into the element of a kind at an index, of which the store may hold the offset
+abbrev pub put_value_code : List FlatVariable → Allocation → ℕ → Kind → ℕ → TermTree → TermTree → List Instr
+put_value_code declared allocation free kind x index value =
+    code_by (near_element declared allocation x index)
+    (λ offset. into_element_code declared allocation free kind offset value)
+    (index_code declared allocation free index value
+    ++ put_code (read_register allocation value_register index) (read_register allocation second_register value) kind
+    (variable_offset declared x))
+
+-- the same of what is put into the element for an expression
 abbrev pub put_element_code : List FlatVariable → Allocation → ℕ → ℕ → TermTree → TermTree → List Instr
 put_element_code declared allocation free x index value =
-    code_by (near_element declared allocation x index)
-    (λ offset. stored_code declared allocation free value
-    ++ element_store_code (stored_register allocation value) (kind_at declared x) offset)
-    (index_code declared allocation free index value
-    ++ put_code (read_register allocation value_register index) (read_register allocation second_register value)
-    (kind_at declared x) (variable_offset declared x))
+    put_value_code declared allocation free (kind_at declared x) x index
+    (stored_value allocation (kind_at declared x) value)
 
 -- the value where the control value is true, and else the old one, into the element
 abbrev pub put_under_code : ℕ → ℕ → Location → Kind → ℕ → List Instr
@@ -219,8 +231,7 @@ module _ (declared : List FlatVariable) (allocation : Allocation) (controls dept
     statement_code depth (put_under control place x size index value) =
         put_element_under_code declared allocation free_slots (control_at control) x index value
     statement_code depth (branch condition accepted otherwise) =
-        read_code declared allocation free_slots value_register 0 condition
-        ++ branch_code (read_register allocation value_register condition) (block_code depth accepted)
+        branching_code declared allocation free_slots condition (block_code depth accepted)
         (block_code depth otherwise)
     statement_code depth (repeats x low high body) =
         repeat_code declared allocation (next_offset declared controls depth) free_slots (location x) low high

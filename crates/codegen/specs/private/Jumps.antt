@@ -1,5 +1,6 @@
 -- Instructions that are run by turns or not at all: what stands between jumps, and how long it may be.
 use Rattle.std.specs.Prelude.{◌≡◌, ℕ, ◌+◌, ◌-◌, ◌*◌, ◌^◌, ◌<◌, ◌≤◌, List, [], ◌∷◌, ◌++◌, length}
+use Rattle.codegen.specs.declared.jumping.Test.{Test}
 use Rattle.codegen.specs.declared.unemitted.Unemitted.{Unemitted}
 use Rattle.codegen.specs.declared.unemitted.Unemitted.TheVariants.{TooFar}
 use Rattle.rv_code.specs.declared.instructions.Instr.{Instr}
@@ -23,6 +24,17 @@ back n = Jump zero_register (2 ^ 20 - 2 * n)
 abbrev pub branch_code : ℕ → List Instr → List Instr → List Instr
 branch_code register accepted otherwise =
     skip register ∷ over (length accepted + 1) ∷ (accepted ++ over (length otherwise) ∷ otherwise)
+
+-- over what follows, where there is something
+abbrev pub leave : List Instr → List Instr
+leave [] = []
+leave (i ∷ is) = over (length (i ∷ is)) ∷ []
+
+-- the first list unless two registers pass a test, and else the second
+abbrev pub unless_code : Test → List Instr → List Instr → List Instr
+unless_code test accepted otherwise =
+    Branch test.test test.left test.right (2 * (length accepted + length (leave otherwise)) + 2)
+    ∷ (accepted ++ (leave otherwise ++ otherwise))
 
 -- a test, and as long as its value is not 0 the body, and the test again
 abbrev pub loop_code : List Instr → List Instr → List Instr

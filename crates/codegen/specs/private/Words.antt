@@ -1,22 +1,18 @@
 -- The instructions that are emitted for words: an expression's value is read where it is, and put where it belongs.
 use Rattle.std.specs.Prelude.{ℕ, ◌==◌, ◌&&◌, Bool, false, List, [], ◌++◌, Option, None, Some, if◌then◌else◌}
-use Rattle.expression_code.specs.Allocation.{Allocation, home_of}
+use Rattle.expression_code.specs.Allocation.{Allocation}
 use Rattle.expression_code.specs.NumberRows.{number_of}
 use Rattle.expression_code.specs.Registers.{zero_register, value_register}
+pub use Rattle.expression_code.specs.TermCode.{home_of_term}
 use Rattle.expression_code.specs.TermCode.{into_code, move_code, store_code}
 use Rattle.expression_code.specs.declared.locations.Location.{Location}
 use Rattle.expression_code.specs.declared.locations.Location.TheVariants.{InRegister, InSlot}
 use Rattle.inline.specs.declared.flat.FlatVariable.{FlatVariable}
-use Rattle.inline.specs.Flat.{TermTree, variable}
+use Rattle.inline.specs.Flat.{TermTree}
 use Rattle.rv_code.specs.declared.instructions.Instr.{Instr}
 
--- The value of an expression, read where it is: in its home, where it is a variable that has one, and else in the
--- register that it is brought into.
-
--- the home of an expression
-abbrev pub home_of_term : Allocation → TermTree → Option ℕ
-home_of_term allocation (variable x) = home_of allocation.homes x
-home_of_term allocation e = None
+-- The value of an expression, read where it is: in its home, where it has one, and else in the register that it is
+-- brought into.
 
 -- no code is needed for what is at home
 abbrev pub unless_home : Option ℕ → List Instr → List Instr

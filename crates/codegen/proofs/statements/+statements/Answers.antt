@@ -2,7 +2,7 @@ use Rattle.std.proofs.Common.{rules, ◌≡◌, ◌++◌, length, List, refl, sy
 use Rattle.branch_removal.specs.Straight.{straight_block}
 use Rattle.codegen.proofs.Machine.{Instr, HasPlace, IsFar}
 use Rattle.codegen.proofs.StatementCode.{tree_of_branch, accepted_smaller, otherwise_smaller, arms_within}
-use Rattle.codegen.proofs.StatementCode.{branch_made, tree_of_loop, body_smaller, body_within, loop_is, item_here}
+use Rattle.codegen.proofs.StatementCode.{branch_is, tree_of_loop, body_smaller, body_within, loop_is, item_here}
 use Rattle.codegen.proofs.StatementCode.{smaller_here, placed_here, emitted, for_part, part_here}
 use Rattle.codegen.specs.private.Loops.{any_sets}
 use Rattle.codegen.proofs.statements.+statements.Goals as goal
@@ -45,15 +45,14 @@ statement-statements-requires-in-Repeat t c =
 pub statement-returns-in_ok-branch-in-Branch-clause-code : goal.statement-returns-in_ok-branch-in-Branch-clause-code
 statement-returns-in_ok-branch-in-Branch-clause-code t c =
     let f = c.args.layout.now in
-    branch_made c.in-Branch.accepted c.in-Branch.otherwise c.in-Branch.is c.deref-in-Branch.ensures.value
+    c.in_ok-branch-in-Branch.ensures
+    ∙ ap (λ (l : List Instr). c.args.code.now.items ++ l)
+    (branch_is c.in-Branch.accepted c.in-Branch.otherwise c.in-Branch.is c.deref-in-Branch.ensures.value
     c.deref-in-Branch-2.ensures.value f.declared f.allocation f.controls f.depths c.args.depth
     (c.as_slice.ensures.value
     ∙ emitted c.in_ok-statements-in-Branch.ensures.code c.new-one.ensures.items)
     (c.as_slice-in-Branch.ensures.value
-    ∙ emitted c.in_ok-statements-in-Branch-2.ensures.code c.new-other.ensures.items)
-    c.in_ok-register-in-Branch.register c.in_ok-register-in-Branch.ensures.register
-    c.args.code.now.items c.read.new.code.items c.branch-code.new.code.items (search rules)
-    c.in_ok-branch-in-Branch.ensures
+    ∙ emitted c.in_ok-statements-in-Branch-2.ensures.code c.new-other.ensures.items))
 
 pub statement-returns-in_ok-statements-in-Repeat-clause-code :
     goal.statement-returns-in_ok-statements-in-Repeat-clause-code

@@ -1,0 +1,61 @@
+-- How long the code of a branch is, by that of its arms.
+use Rattle.std.proofs.Common.{ℕ, ◌+◌, ◌*◌, ◌≤◌, ◌&&◌, Bool, true, false, cond, List, [], ◌∷◌, ◌++◌, length, Option}
+use Rattle.std.proofs.Common.{None, Some, arith, length-append}
+use Rattle.codegen.proofs.Language.{FlatVariable, TermTree, term_nodes}
+use Rattle.codegen.proofs.Logic.{one_of}
+use Rattle.codegen.proofs.Machine.{Allocation, Instr, branch_code, branching_code, condition_code, failing, leave}
+use Rattle.codegen.proofs.Machine.{gives_zero, operands_code, operands_or, read_code, read_register, right_code}
+use Rattle.codegen.proofs.Machine.{test_of, unless_code}
+use Rattle.codegen.proofs.WordLengths.{read_length}
+use Rattle.codegen.specs.declared.comparing.Comparison.{Comparison}
+use Rattle.codegen.specs.private.Compared.{is_short_arm}
+use Rattle.inline.specs.Flat.{binary}
+
+-- as long as two arms, and so many instructions more at most
+abbrev pub SpansBoth : List Instr → List Instr → ℕ → List Instr → Type 0
+SpansBoth one other more code =
+    (length one + length other ≤ length code) × (length code ≤ length one + length other + more)
+
+leave_length : (is : List Instr) → length (leave is) ≤ 1
+leave_length [] = omega arith
+leave_length (i ∷ is) = omega arith
+
+module _ (declared : List FlatVariable) (allocation : Allocation) (free : ℕ) where
+  right_length : (e : TermTree) → length (right_code declared allocation free e) ≤ 16 * term_nodes e
+  right_length e =
+      one_of (gives_zero allocation e) _ _ (16 * term_nodes e) (omega arith)
+      (read_length declared allocation free 6 1 e)
+
+  pub condition_length : (e : TermTree) → length (condition_code declared allocation free e) ≤ 16 * term_nodes e
+  condition_length (binary place operator width left right) = by_test (failing operator)
+    where
+      by_test : (c : Option Comparison)
+          → length (operands_or c (read_code declared allocation free 5 0 (binary place operator width left right))
+          (operands_code declared allocation free left right))
+          ≤ 16 * term_nodes (binary place operator width left right)
+      by_test None = read_length declared allocation free 5 0 (binary place operator width left right)
+      by_test (Some c) =
+          omega (
+            arith,
+            length-append {A = Instr},
+            read_length declared allocation free 5 0 left,
+            right_length right,
+          )
+  condition_length e = read_length declared allocation free 5 0 e
+
+  pub branching_spans : (condition : TermTree) (xs ys : List Instr)
+      → SpansBoth xs ys (16 * term_nodes condition + 3) (branching_code declared allocation free condition xs ys)
+  branching_spans condition xs ys = by_test (allocation.immediates && is_short_arm xs)
+    where
+      by_test : (b : Bool)
+          → SpansBoth xs ys (16 * term_nodes condition + 3)
+          (cond b (condition_code declared allocation free condition
+          ++ unless_code (test_of allocation condition) xs ys)
+          (read_code declared allocation free 5 0 condition
+          ++ branch_code (read_register allocation 5 condition) xs ys))
+      by_test true =
+          let e = length-append {A = Instr} in
+          (omega (arith, e), omega (arith, e, leave_length ys, condition_length condition))
+      by_test false =
+          let e = length-append {A = Instr} in
+          (omega (arith, e), omega (arith, e, read_length declared allocation free 5 0 condition))

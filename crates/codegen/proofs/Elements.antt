@@ -1,0 +1,188 @@
+-- Where an element of an array lies, and how its index and a value for it come into registers.
+use Rattle.std.proofs.Common.{◌≡◌, ℕ, ◌+◌, ◌*◌, ◌%◌, ◌^◌, ◌<◌, ◌≤◌, Bool, List, [], ◌∷◌, ◌++◌, None}
+use Rattle.std.proofs.Common.{Some}
+use Rattle.std.proofs.Common.{slice_get, refl, sym, ap, ap₂, ◌∙◌, arith, ◌≢◌, append_assoc}
+use Rattle.codegen.proofs.Language.{FlatVariable, StraightState, with_element, element_bytes, TermTree, array_as}
+use Rattle.codegen.proofs.Language.{term_nodes, value_in, path_in, types_of, indexed, WordType, Kind, Boolean}
+use Rattle.codegen.proofs.Language.{bits_of, Place, HasType, counter_type}
+use Rattle.codegen.proofs.Logic.{register-at, lower_fits, Addressed, address_runs, steps_of}
+use Rattle.codegen.proofs.Logic.{kind_known, HomesKept, homes_by, HeldAt}
+use Rattle.codegen.proofs.Logic.{free_from, storing, place_of, place_even, place_before, place_ends, Setting, setting}
+use Rattle.codegen.proofs.Logic.{base_of, Known, by_index, none, Runs, seq, quiet, weaken, gives, as_code, Ready}
+use Rattle.codegen.proofs.Logic.{Wrote, ready_after, NearElement}
+use Rattle.codegen.proofs.Machine.{store_by, slots_to, kind_at, Instr, variable_offset, home_of, lower_part}
+use Rattle.codegen.proofs.Machine.{store_size, address_of, byte_count, index_code, read_code, read_register}
+use Rattle.codegen.proofs.Machine.{height_of_put, address_code, with_number}
+use Rattle.rv_code.specs.declared.instructions.Instr.TheVariants as instr
+use Rattle.rv_machine.specs.Machine as machine
+use Rattle.codegen.proofs.PairRuns.{FirstRead, second_runs}
+use Rattle.codegen.proofs.Slots.{Shown, ready_with, IsSource, read_runs, read_source, source_apart, Hidden}
+use Rattle.codegen.proofs.Slots.{hidden_then, hidden_by, hidden_kept, hidden_wrote, ready_put}
+
+pub store_bytes : (kind : Kind) → byte_count (store_size (store_by kind)) ≡ element_bytes kind
+store_bytes Boolean = refl
+store_bytes kind = refl
+
+-- One element, at an index.
+
+-- an array's element at an index, and a value that is read for it, where so many loops are around
+pub record ElementAccess (z : Setting) : Type 0 where
+  pub depth : ℕ
+  pub within : depth ≤ z.depths
+  pub place : Place
+  pub x : ℕ
+  pub size : ℕ
+  pub word : WordType
+  pub mutable : Bool
+  pub known : slice_get z.declared x ≡ Some (array_as word mutable size)
+  pub index : TermTree
+  pub index_type : HasType (types_of z.code.profile z.declared) index counter_type
+  pub value : TermTree
+  pub own : WordType
+  pub value_type : HasType (types_of z.code.profile z.declared) value own
+  pub room : base_of z + 4 * slots_to z.allocation.count (height_of_put index value) ≤ z.size
+
+module _ (z : Setting) (access : ElementAccess z) where
+  abbrev pub kind : Kind
+  kind = access.word.kind
+
+  abbrev pub array : FlatVariable
+  array = array_as access.word access.mutable access.size
+
+  abbrev pub offset : ℕ
+  offset = variable_offset z.declared access.x
+
+  -- no array has a home
+  pub away : home_of z.allocation.homes access.x ≡ None
+  away = z.allocated.words access.x array access.size access.known refl
+
+  -- where an element lies
+  abbrev pub element_at : ℕ → ℕ
+  element_at i = place_of z.declared access.x array i
+
+  abbrev pub number_of : StraightState → ℕ
+  number_of env = value_in env.variables access.index
+
+  abbrev pub value_of : StraightState → ℕ
+  value_of env = value_in env.variables access.value
+
+  -- where they are: at home, or in the registers of the first two temporaries
+  abbrev pub index_register : ℕ
+  index_register = read_register z.allocation 5 access.index
+
+  abbrev pub value_register : ℕ
+  value_register = read_register z.allocation 6 access.value
+
+  pub index_source : IsSource z 5 index_register
+  index_source = read_source z access.index 5 (omega arith) (omega arith)
+
+  pub value_source : IsSource z 6 value_register
+  value_source = read_source z access.value 6 (omega arith) (omega arith)
+
+  -- the value is not in the register of the first temporary
+  pub value_beside : value_register ≢ 5
+  value_beside = source_apart z value_source 5 (omega arith) (λ e. omega (arith, e))
+
+  -- an index and a value are in their registers
+  pub record Aimed (i : ℕ) (env : StraightState) (s : machine.State) : Type 0 where
+    pub ready : Ready z env s
+    pub five : s.regs index_register ≡ i
+    pub six : s.regs value_register ≡ value_of env
+
+  pub addressed_at : (i : ℕ) → i < access.size
+      → Runs z 4 none (address_code 5 index_register kind offset) (Aimed i)
+      (λ env s t. Addressed z 5 offset (element_at i) env s t)
+  addressed_at i below =
+      let h = place_ends z access.x array i access.known below in
+      weaken
+      (λ env s fine aimed. (aimed.ready.held, aimed.five, omega (arith, h, z.ends)))
+      (λ env s t fine aimed done. done)
+      (address_runs z 5 index_register (free_from 5 (omega arith) (omega arith))
+      (free_from index_register index_source.low (omega (arith, index_source.high))) (λ e. omega (arith, e))
+      kind offset (λ env. i))
+
+  -- a register into an element
+  pub stores : (r : ℕ) → r < 32 → r ≢ 0 → (i : ℕ) → i < access.size
+      → Runs z 1 none (instr.Store (store_by kind) r 5 (lower_part offset) ∷ []) (λ env s. HeldAt z s
+      × (address_of s.regs 5 (lower_part offset) ≡ z.frame + element_at i))
+      (λ env s t. Wrote z (element_bytes kind) (element_at i) (s.regs r) s t)
+  stores r small nonzero i below =
+      let n = store_bytes kind in
+      let h = place_ends z access.x array i access.known below in
+      gives
+      (λ env s t fine given done. record {
+        held = done.0;
+        written = done.2 ∙ ap₂ (λ m v. with_number s.bytes m (z.frame + element_at i) v) n
+            (register-at s.regs r nonzero);
+        homes = homes_by z s t done.1;
+      })
+      (storing z 5 (lower_part offset) (element_at i) (omega arith) (lower_fits offset) (store_by kind) r small
+      (ap (λ m. element_at i % m) n ∙ place_even z.declared access.x array i) (omega (arith, h, n)))
+
+  -- what an element's store leaves, where only registers had changed before
+  pub put_at : (i v w : ℕ) → i < access.size → v < 2 ^ bits_of kind → w % 256 ^ element_bytes kind ≡ v
+      → (env : StraightState) (s m t : machine.State) → Ready z env s → HeldAt z m → m.bytes ≡ s.bytes
+      → HomesKept z s m → Wrote z (element_bytes kind) (element_at i) w m t
+      → Hidden z access.depth s t × Ready z (with_element env access.x i v) t
+  put_at i v w below fits cut env s m t ready held same homes wrote =
+      let b = place_before z access.x array i access.known below in (
+        hidden_then z access.depth s m t (hidden_by z access.depth s m same)
+            (hidden_wrote z access.depth (element_bytes kind) (element_at i) w m t (omega (arith, b)) wrote),
+        ready_put z access.x i v w array access.known away below fits env m t
+            (ready_with z env s m ready held same homes) wrote cut,
+      )
+
+  -- The index and the value.
+
+  value_piece : (i : ℕ)
+      → Runs z (16 * term_nodes access.value) (steps_of access.value) (read_code z.declared z.allocation (base_of z) 6 1 access.value)
+      (Known (setting z) ℕ (λ j. j < access.size) (FirstRead z access.index) number_of i)
+      (λ env s t. Aimed i env t × Hidden z access.depth s t)
+  value_piece i =
+      weaken {P' = Known (setting z) ℕ (λ j. j < access.size) (FirstRead z access.index) number_of i}
+      (λ env s fine given. given.given)
+      (λ env s t fine given both. (
+        record { ready = both.ready; five = both.first_there ∙ given.is; six = both.second_there },
+        hidden_kept z access.depth s t access.within both.kept,
+      ))
+      (second_runs z access.index access.value access.value_type (omega (arith, access.room)))
+
+  -- The index, and behind its mark what is done at it.
+  pub at_element : {n : ℕ} {tail : List Instr} (change : StraightState → StraightState)
+      → ((i : ℕ) → i < access.size
+      → Runs z n none tail (Aimed i) (λ env s t. Hidden z access.depth s t
+      × (number_of env ≡ i → Ready z (change env) t)))
+      → Runs z (16 * term_nodes access.index + (16 * term_nodes access.value + n))
+      (λ env. path_in env.variables access.index ++ indexed access.place access.size (number_of env) ∷ path_in env.variables access.value)
+      (index_code z.declared z.allocation (base_of z) access.index access.value ++ tail) (Ready z) (Shown z access.depth change)
+  at_element {tail = tail} change act =
+      as_code (append_assoc (read_code z.declared z.allocation (base_of z) 5 0 access.index)
+      (read_code z.declared z.allocation (base_of z) 6 1 access.value) tail)
+      (gives
+      (λ env s t fine ready done. record {
+        ready = done.second.ready;
+        hidden = hidden_then z access.depth s done.middle t (hidden_kept z access.depth s done.middle access.within done.first.kept)
+            done.second.hidden;
+      })
+      (seq
+      (read_runs z access.index_type (omega (arith, access.room)))
+      (by_index z {P = FirstRead z access.index} access.place access.size number_of
+      (λ i below.
+      gives {R = Shown z access.depth change}
+      (λ env s t fine given done. record {
+        ready = done.second.1 given.is;
+        hidden = hidden_then z access.depth s done.middle t done.first.1 done.second.0;
+      })
+      (quiet (value_piece i) (act i below) (λ env s t given done. done.0))))
+      (λ env s t ready done. record {
+        ready = ready_after z env s t ready done.held done.kept done.homes;
+        there = done.there;
+      })))
+
+  pub kind_is : kind_at z.declared access.x ≡ kind
+  kind_is = kind_known z.declared access.x array access.known
+
+  -- where an access whose instruction holds the element's offset finds it
+  module _ (o : ℕ) (near : NearElement z.declared access.x access.index o) where
+    pub near_at : element_at near.i ≡ o
+    near_at = ap (λ k. variable_offset z.declared access.x + element_bytes k * near.i) (sym kind_is) ∙ near.at

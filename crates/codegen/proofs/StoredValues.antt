@@ -1,0 +1,98 @@
+-- What is put into an element for an expression: it is read as that expression is, and its store makes the same of it.
+use Rattle.std.proofs.Common.{◌≡◌, ℕ, ◌+◌, ◌%◌, ◌^◌, ◌<◌, ◌≤◌, Bool, true, false, if◌then◌else◌, refl, sym, arith}
+use Rattle.std.proofs.lemmas.Bool.{false≢true}
+use Rattle.codegen.proofs.Language.{bits_of, element_bytes, HasType, Kind, labelled, path_in, term_nodes, TermTree}
+use Rattle.codegen.proofs.Language.{Types, value_in, Values, WordType}
+use Rattle.codegen.proofs.Machine.{Allocation, height_of}
+use Rattle.codegen.proofs.Slots.{cut_element}
+use Rattle.codegen.specs.private.StoredValues.{cuts, stored_value, uncut}
+use Rattle.inline.specs.Flat.{convert}
+use Rattle.inline.specs.FlatTyping.{of_conversion}
+use Rattle.language.specs.Operators.{width_of}
+use Rattle.language.specs.declared.signature.Kind.TheVariants.{Uint8, Uint16}
+use Rattle.word.specs.Operators.{converted}
+
+-- What an expression has in common with its conversions.
+
+uncut_alike : {A : Type 0} (f : TermTree → A) → ((kind : Kind) (e : TermTree) → f (convert kind e) ≡ f e)
+    → (element : Kind) (e : TermTree) → f (uncut element e) ≡ f e
+uncut_alike f same element (convert kind e) = by_test (cuts element kind)
+  where
+    by_test : (b : Bool) → f (if b then e else convert kind e) ≡ f (convert kind e)
+    by_test true = sym (same kind e)
+    by_test false = refl
+uncut_alike f same element e = refl
+
+pub stored_alike : {A : Type 0} (f : TermTree → A) → ((kind : Kind) (e : TermTree) → f (convert kind e) ≡ f e)
+    → (a : Allocation) (element : Kind) (e : TermTree) → f (stored_value a element e) ≡ f e
+stored_alike f same a element e = by_test a.immediates
+  where
+    by_test : (b : Bool) → f (if b then uncut element e else e) ≡ f e
+    by_test true = uncut_alike f same element e
+    by_test false = refl
+
+pub stored_height : (a : Allocation) (element : Kind) (e : TermTree) → height_of (stored_value a element e) ≡ height_of e
+stored_height a element e = stored_alike height_of (λ kind operand. refl) a element e
+
+pub stored_path : (a : Allocation) (element : Kind) (e : TermTree) (m : Values)
+    → path_in m (stored_value a element e) ≡ path_in m e
+stored_path a element e m = stored_alike (path_in m) (λ kind operand. refl) a element e
+
+-- And it has no more nodes.
+
+uncut_nodes : (element : Kind) (e : TermTree) → term_nodes (uncut element e) ≤ term_nodes e
+uncut_nodes element (convert kind e) = by_test (cuts element kind)
+  where
+    by_test : (b : Bool) → term_nodes (if b then e else convert kind e) ≤ 1 + term_nodes e
+    by_test true = omega arith
+    by_test false = omega arith
+uncut_nodes element e = omega arith
+
+pub stored_nodes : (a : Allocation) (element : Kind) (e : TermTree) → term_nodes (stored_value a element e) ≤ term_nodes e
+stored_nodes a element e = by_test a.immediates
+  where
+    by_test : (b : Bool) → term_nodes (if b then uncut element e else e) ≤ term_nodes e
+    by_test true = uncut_nodes element e
+    by_test false = omega arith
+
+-- an expression with a type, of whose value an element's store makes that of another
+pub record IsCutTo (types : Types) (element : Kind) (other e : TermTree) : Type 0 where
+  pub word : WordType
+  pub has_type : HasType types e word
+  pub cut : (m : Values) → value_in m other < 2 ^ bits_of element
+      → value_in m e % 256 ^ element_bytes element ≡ value_in m other
+
+itself : {types : Types} {e : TermTree} {word : WordType} (element : Kind) → HasType types e word
+    → IsCutTo types element e e
+itself {e = e} {word = word} element has =
+    record { word = word; has_type = has; cut = λ m fits. cut_element element 0 (value_in m e) fits }
+
+-- the store cuts a value as the conversion does
+cut_alike : (element kind : Kind) → cuts element kind ≡ true → (v : ℕ)
+    → v % 256 ^ element_bytes element ≡ converted (width_of kind) v
+cut_alike Uint8 Uint8 is v = omega arith
+cut_alike Uint16 Uint16 is v = omega arith
+cut_alike element kind is v = absurd (false≢true is)
+
+uncut_cut : {types : Types} {e : TermTree} {word : WordType} (element : Kind) → HasType types e word
+    → IsCutTo types element e (uncut element e)
+uncut_cut {types = types} element (of_conversion {kind = kind} {other = other} {operand = e} {label = label} has number) =
+    by_test (cuts element kind) refl
+  where
+    by_test : (b : Bool) → cuts element kind ≡ b
+        → IsCutTo types element (convert kind e) (if b then e else convert kind e)
+    by_test true is = record {
+      word = labelled other label;
+      has_type = has;
+      cut = λ m fits. cut_alike element kind is (value_in m e);
+    }
+    by_test false is = itself element (of_conversion {kind = kind} {label = label} has number)
+uncut_cut element has = itself element has
+
+pub stored_cut : {types : Types} {e : TermTree} {word : WordType} (a : Allocation) (element : Kind)
+    → HasType types e word → IsCutTo types element e (stored_value a element e)
+stored_cut {types = types} {e = e} a element has = by_test a.immediates
+  where
+    by_test : (b : Bool) → IsCutTo types element e (if b then uncut element e else e)
+    by_test true = uncut_cut element has
+    by_test false = itself element has
