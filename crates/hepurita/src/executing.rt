@@ -14,10 +14,13 @@ use crate::results::{ResultSpace, outcome, result_space};
 use image::Image;
 use language::{Args, Outcome};
 use rv_machine::recording::Recorder;
-use rv_machine::{PagedMemory, Stop, run};
+use rv_machine::{PagedMemory, Running, Stop, run};
 use std::alloc::Global;
 
 /// What is answered where the machine stops so.
+// It is compiled in line: a call would take the memory's address, and then what the turns before it work on does not stay in
+// registers.
+#[inline(always)]
 pub fn answer(
     image: &Image,
     space: ResultSpace,
@@ -60,13 +63,12 @@ pub fn execute<R: Recorder>(
     }
     let code = code(alloc, image)?;
     let space = result_space(alloc, image)?;
-    let mut loaded = load(alloc, image, args)?;
-    let stop = run(
-        &mut loaded.hart,
-        &code,
-        &mut loaded.memory,
-        recorder,
-        loaded.turns_left,
-    );
-    answer(image, space, stop, &loaded.memory)
+    let loaded = load(alloc, image, args)?;
+    let Running {
+        mut hart,
+        mut memory,
+        turns_left,
+    } = loaded;
+    let stop = run(&mut hart, &code, &mut memory, recorder, turns_left);
+    answer(image, space, stop, &memory)
 }
