@@ -1,6 +1,6 @@
 /* siphash24: made by factc function.
    Arrays are aligned by their elements, lie outside the stack below the caller, and no two that are not const overlap.
-   Neither time nor addresses hang on what is secret, for an observer of profile 1. */
+   Neither the time it takes nor the addresses it accesses depend on secrets, for an observer of profile 1. */
 #ifndef FACT_siphash24_H
 #define FACT_siphash24_H
 #include <stdbool.h>

@@ -2,8 +2,8 @@
 
 import re
 
-# What `explain CODE` prints: the code, its name, its rule, and the sources that violate it and that are mended, where there are any.
-HEAD = re.compile(r"^(\w+): ([^\n]+)\n\n(\S.*?)(?:\n\nViolates it:\n\n(.*)\n\nMended:\n\n(.*))?\n$", re.DOTALL)
+# What `explain CODE` prints: the code, its name, its rule, and the sources that violate it and that are corrected, where there are any.
+HEAD = re.compile(r"^(\w+): ([^\n]+)\n\n(\S.*?)(?:\n\nRefused:\n\n(.*)\n\nAccepted:\n\n(.*))?\n$", re.DOTALL)
 
 
 def marked(source, line, column):

@@ -6,7 +6,7 @@ pub(crate) enum Word {
     Path(&'static str, &'static str),
     /// The code of an error or the name of a stop, required, by its place.
     Code(&'static str, &'static str),
-    /// A number, required, behind its name.
+    /// A number, required, after its name.
     Number(&'static str, &'static str),
     /// The observer's profile.
     Profile,
@@ -28,21 +28,21 @@ pub(crate) struct CommandRow {
 /// What arguments of a run are.
 const ARGUMENTS: &str =
     "One for each parameter: a number (decimal, or hexadecimal after 0x), for a bool 0 or 1, for an array its \
-                         numbers joined by `,`";
+                         numbers separated by `,` without spaces";
 
 /// What `--explain` does where a source is refused.
 const EXPLAIN: &str =
-    "Where the source is refused, shows the line of the place too, and says what the rule is, what usually violates \
+    "If the source is refused, also shows the line of the error, and says what the rule is, what usually violates \
                        it and what to do";
 
 /// The same of a command that takes arguments.
 const EXPLAIN_FIRST: &str =
-    "Where the source is refused, shows the line of the place too, and says what the rule is, what usually violates \
-                             it and what to do; it stands before FILE";
+    "If the source is refused, also shows the line of the error, and says what the rule is, what usually violates \
+                             it and what to do; must come before FILE";
 
 /// What `--progress` does.
 const PROGRESS: &str =
-    "Prints a line to standard error behind each 134217728 steps after which the run goes on; it stands before IMAGE";
+    "Prints a line to standard error after each 134217728 steps, as long as the run goes on; must come before IMAGE";
 
 /// All commands, in the order of the help.
 pub(crate) static COMMANDS: [CommandRow; 15] = [
@@ -71,7 +71,7 @@ pub(crate) static COMMANDS: [CommandRow; 15] = [
     },
     CommandRow {
         name: "function",
-        about: "Compiles a source to a function that C calls: one file for an assembler, and one with its C header",
+        about: "Compiles a source to a function that C can call: an assembly file and a C header",
         words: &[
             Word::Path(
                 "FILE",
@@ -93,7 +93,7 @@ pub(crate) static COMMANDS: [CommandRow; 15] = [
     CommandRow {
         name: "stat",
         about: "Says what an accepted source or an image costs: the size of its code and of its frame, and how many \
-                instructions a run executes at most; of a source its nodes and its work too",
+                instructions a run executes at most; for a source its nodes and its work too",
         words: &[
             Word::Path("FILE", "The source, or the image"),
             Word::Profile,
@@ -101,7 +101,7 @@ pub(crate) static COMMANDS: [CommandRow; 15] = [
     },
     CommandRow {
         name: "eval",
-        about: "Works out what an accepted source means on arguments, without an image",
+        about: "Evaluates an accepted source on arguments, without an image",
         words: &[
             Word::Path("FILE", "The source"),
             Word::Flag("explain", EXPLAIN_FIRST),
@@ -112,7 +112,7 @@ pub(crate) static COMMANDS: [CommandRow; 15] = [
         name: "run",
         about: "Runs an image on arguments and prints its outcome",
         words: &[
-            Word::Path("IMAGE", "An image that `build` wrote"),
+            Word::Path("IMAGE", "An image that `build` or `wrap` wrote"),
             Word::Flag("progress", PROGRESS),
             Word::Arguments(ARGUMENTS),
         ],
@@ -121,24 +121,24 @@ pub(crate) static COMMANDS: [CommandRow; 15] = [
         name: "leak",
         about: "Runs an image on arguments and lists what an observer sees, and how the run stops",
         words: &[
-            Word::Path("IMAGE", "An image that `build` wrote"),
+            Word::Path("IMAGE", "An image that `build` or `wrap` wrote"),
             Word::Arguments(ARGUMENTS),
         ],
     },
     CommandRow {
         name: "pair",
-        about: "Runs an image twice and says whether an observer sees the same, or where not",
+        about: "Runs an image twice and says whether an observer sees the same in both runs, or where they begin to differ",
         words: &[
-            Word::Path("IMAGE", "An image that `build` wrote"),
+            Word::Path("IMAGE", "An image that `build` or `wrap` wrote"),
             Word::Flag(
                 "explain",
-                "Where the runs differ, shows the last instruction that both come to before that, the registers that it reads in \
-                 each run, and what each run shows then; it stands before IMAGE",
+                "If the runs differ, shows the last instruction that both reach before that, the registers that it reads in each \
+                 run, and what each run shows then; must come before IMAGE",
             ),
             Word::Flag(
                 "progress",
-                "Prints a line to standard error behind each 134217728 steps of both runs after which both go on; it stands \
-                 before IMAGE",
+                "Prints a line to standard error after each 134217728 steps of both runs, as long as both go on; must come before \
+                 IMAGE",
             ),
             Word::Arguments(
                 "Those of the first run, one for each parameter and as for `run`, then those of the second",
@@ -147,13 +147,13 @@ pub(crate) static COMMANDS: [CommandRow; 15] = [
     },
     CommandRow {
         name: "certify",
-        about: "Runs an image once for all values of its secrets, and says whether an observer sees the same of all, or \
+        about: "Runs an image once for all values of its secrets, and says whether an observer sees the same for all, or \
                 where runs may begin to differ",
         words: &[
             Word::Path("IMAGE", "An image that `build` or `wrap` wrote"),
             Word::Flag(
                 "shifts",
-                "Counts the amounts of shifts by a register as seen, for cores that shift bit by bit; it stands before IMAGE",
+                "Counts the amounts of shifts by a register as visible, for cores that shift bit by bit; must come before IMAGE",
             ),
             Word::Flag("progress", PROGRESS),
             Word::Arguments(
@@ -163,23 +163,24 @@ pub(crate) static COMMANDS: [CommandRow; 15] = [
     },
     CommandRow {
         name: "picture",
-        about: "Prints a page of HTML with a picture of what an observer sees of an image: steps to the right, addresses upwards",
+        about: "Prints an HTML page with a picture of what an observer sees of one run or of two: steps to the right, \
+                addresses upwards",
         words: &[
             Word::Path("IMAGE", "An image that `build` or `wrap` wrote"),
             Word::Arguments(
-                "As for `certify`, for a picture of one run, with 0 for each `?`; or as for `pair`, for a picture of two runs over \
-                 each other",
+                "As for `certify`, for a picture of one run, with 0 for each `?`; or as for `pair`, for a picture of two runs, \
+                 one over the other",
             ),
         ],
     },
     CommandRow {
         name: "list",
         about: "Lists the code of an image: each word with its address and its instruction",
-        words: &[Word::Path("IMAGE", "An image that `build` wrote")],
+        words: &[Word::Path("IMAGE", "An image that `build` or `wrap` wrote")],
     },
     CommandRow {
         name: "wrap",
-        about: "Makes an image of code that another compiler made, to run, list and certify it",
+        about: "Makes an image from code that another compiler made, to run, list and certify it",
         words: &[
             Word::Path(
                 "FILE",
@@ -187,15 +188,15 @@ pub(crate) static COMMANDS: [CommandRow; 15] = [
             ),
             Word::Path(
                 "CODE",
-                "The code's words, little-endian, as `objcopy -O binary` leaves them",
+                "The code's words, little-endian, as `objcopy -O binary` writes them",
             ),
             Word::Path(
                 "IMAGE",
-                "Where to write the image; where anything is refused it stays as it was",
+                "Where to write the image; it stays as it was if anything is refused",
             ),
             Word::Number(
                 "frame",
-                "How many bytes the frame has: parameters and result lie at its beginning, as `build` lays them",
+                "The size of the frame in bytes; parameters and result are at its start, laid out as `build` does it",
             ),
             Word::Number("steps", "How many instructions a run executes at most"),
             Word::Profile,
@@ -206,19 +207,19 @@ pub(crate) static COMMANDS: [CommandRow; 15] = [
         about: "Runs several images side by side on one memory, and lists what an observer sees of each",
         words: &[Word::Path(
             "FILE",
-            "Lines `hart IMAGE ARG..`, one for each image, then `turns K N` for N turns of hart K, from 0, and \
-             `round N` for N times one turn of each",
+            "Lines `hart IMAGE ARG..`, one for each image, then `turns K N` for N turns of hart K, counted from 0, \
+             and `round N` for N times one turn of each",
         )],
     },
     CommandRow {
         name: "vectors",
-        about: "Tries vectors on a source: whether it gives what each of them asks for, and whether an observer sees the same \
-                for all secrets",
+        about: "Tries test vectors on a source: whether it gives the outcome of each, and whether an observer sees the same for \
+                all secrets",
         words: &[
             Word::Path("FILE", "The source"),
             Word::Path(
                 "VECTORS",
-                "Lines `NAME: ARG .. = OUTCOME ..`: the arguments as for `run`, and behind `=` the result and then each `mut` \
+                "Lines `NAME: ARG .. = OUTCOME ..`: the arguments as for `run`, and after `=` the result and then each `mut` \
                  array; bytes may be written `hex:00ff..`",
             ),
             Word::Profile,
@@ -227,10 +228,10 @@ pub(crate) static COMMANDS: [CommandRow; 15] = [
     CommandRow {
         name: "explain",
         about: "Explains the code of an error, or the name of a stop: the rule, a source that violates it, and the same source \
-                mended",
+                corrected",
         words: &[Word::Code(
             "CODE",
-            "The code, as it stands behind `refused: `, or the name behind `stop `",
+            "The code that comes after `refused: `, or the name after `stop `",
         )],
     },
 ];

@@ -10,7 +10,7 @@ pub fn factc<'a>(alloc: Global) -> Result<Command<'a>, AllocError> {
     let mut factc = Command::new(alloc, "factc")
         .version("0.1.0")
         .about(
-            "Compiles a core of FaCT, the language for code whose timing keeps secrets, to RISC-V (RV32IM), \
+            "Compiles a core of FaCT, a language for code whose timing does not depend on secrets, to RISC-V (RV32IM), \
              runs what it compiled, and shows what an observer sees of the run",
         )
         .subcommand_required(true);
@@ -49,7 +49,7 @@ fn path<'a>(alloc: Global, name: &'static str, help: &'static str) -> Arg<'a> {
         .help(help)
 }
 
-/// A number that is to be given behind its name.
+/// A number that is to be given after its name.
 fn number<'a>(alloc: Global, name: &'static str, help: &'static str) -> Arg<'a> {
     Arg::new(alloc, name)
         .long(name)
@@ -82,7 +82,7 @@ fn optimisation<'a>(alloc: Global) -> Arg<'a> {
     flag(
         alloc,
         "optimise",
-        "Optimised code: fewer steps in most routines, the same guarantees",
+        "Makes optimised code: fewer steps in most routines, the same guarantees",
     )
     .short('O')
 }

@@ -60,7 +60,7 @@ comment_lines f =
     codes "/* " ++ f.name ++ codes ": made by factc function.\n"
     ++ codes
     "   Arrays are aligned by their elements, lie outside the stack below the caller, and no two that are not const overlap.\n"
-    ++ codes "   Neither time nor addresses hang on what is secret, for an observer of profile "
+    ++ codes "   Neither the time it takes nor the addresses it accesses depend on secrets, for an observer of profile "
     ++ profile_text f.image.profile ++ codes ". */\n"
 
 abbrev pub guard_lines : List ℕ → List ℕ

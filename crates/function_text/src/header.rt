@@ -124,7 +124,7 @@ fn push_comment(text: &mut String, function: &Function<'_>) -> Result<(), AllocE
         "   Arrays are aligned by their elements, lie outside the stack below the caller, and no two that are not const overlap.\n",
     )?;
     text.push_str(
-        "   Neither time nor addresses hang on what is secret, for an observer of profile ",
+        "   Neither the time it takes nor the addresses it accesses depend on secrets, for an observer of profile ",
     )?;
     text.push_str(profile_text(function.image.profile()))?;
     text.push_str(". */\n")

@@ -13,7 +13,7 @@ const ROWS: [Explanation; 18] = [
         rule: "An image begins with the four bytes `FACI`, and this file does not. Often a source was given in\n\
                place of the image.",
         violates: "",
-        mended: "",
+        corrected: "",
     },
     Explanation {
         code: "B2",
@@ -21,7 +21,7 @@ const ROWS: [Explanation; 18] = [
         rule: "Images have version 1 of the format, and this file states another one. It was damaged, or\n\
                another program made it.",
         violates: "",
-        mended: "",
+        corrected: "",
     },
     Explanation {
         code: "B3",
@@ -29,7 +29,7 @@ const ROWS: [Explanation; 18] = [
         rule: "An image states for which observer its code was made, 1 or 2, and this file states something\n\
                else. It was damaged, or another program made it.",
         violates: "",
-        mended: "",
+        corrected: "",
     },
     Explanation {
         code: "B4",
@@ -37,17 +37,17 @@ const ROWS: [Explanation; 18] = [
         rule: "The file ends before the image does: a copy is incomplete, or a write failed. Build or copy it\n\
                again.",
         violates: "",
-        mended: "",
+        corrected: "",
     },
     Explanation {
         code: "B5",
         name: "field out of range",
         rule: "A field of the image has a value that is not allowed, for example an unknown type, a slot that\n\
-               overlaps the one before it or lies outside the frame, or 0 for `max_steps`. The byte that is\n\
-               named is the field's first. `build` and `wrap` never write such a file: it was damaged, or\n\
-               another program made it.",
+               overlaps the one before it or lies outside the frame, or 0 for `max_steps`. The byte that the error\n\
+               names is the field's first. `build` and `wrap` never write such a file: it was damaged, or another\n\
+               program made it.",
         violates: "",
-        mended: "",
+        corrected: "",
     },
     Explanation {
         code: "B6",
@@ -55,26 +55,26 @@ const ROWS: [Explanation; 18] = [
         rule: "There are bytes after the last code word of the image. It was damaged, or something was appended\n\
                to it.",
         violates: "",
-        mended: "",
+        corrected: "",
     },
     Explanation {
         code: "A1",
         name: "argument count",
-        rule: "There is one argument for each parameter of the export, and for `pair` two, first those of the\n\
-               one run and then those of the other. An array is one argument: its numbers, joined by `,`\n\
-               without blanks.",
+        rule: "There must be one argument for each parameter of the export; for `pair` two, first those of the one\n\
+               run and then those of the other. An array is one argument: its numbers, separated by `,` without\n\
+               spaces.",
         violates: "",
-        mended: "",
+        corrected: "",
     },
     Explanation {
         code: "A2",
         name: "shape",
         rule: "The argument is not a number, or does not have as many numbers as the parameter has elements. A\n\
                number is decimal digits, or hexadecimal digits after `0x`; a bool is 0 or 1; the numbers of an\n\
-               array are joined by `,` without blanks. `?` is an argument of `certify` alone, for a secret\n\
+               array are separated by `,` without spaces. Only `certify` and `picture` take `?`, for a secret\n\
                parameter.",
         violates: "",
-        mended: "",
+        corrected: "",
     },
     Explanation {
         code: "A3",
@@ -82,30 +82,30 @@ const ROWS: [Explanation; 18] = [
         rule: "A number is above the greatest value of its type: 1 for a bool, 255 for a `uint8`, 65535 for a\n\
                `uint16`, 4294967295 for a `uint32`.",
         violates: "",
-        mended: "",
+        corrected: "",
     },
     Explanation {
         code: "H1",
         name: "line form",
-        rule: "A line of a file of harts is `hart PATH ARG ..`, `turns K N` or `round N`. One blank stands\n\
-               between two fields, and none at the ends of the line; K and N are decimal; all `hart` lines come\n\
-               before the other ones. An empty line and a carriage return are errors too.",
+        rule: "A line of a file of harts is `hart PATH ARG ..`, `turns K N` or `round N`. There is one space\n\
+               between two fields, and none at either end of the line; K and N are decimal; all `hart` lines come\n\
+               before the others. An empty line and a carriage return are errors too.",
         violates: "",
-        mended: "",
+        corrected: "",
     },
     Explanation {
         code: "H2",
         name: "hart count",
         rule: "A file of harts names at least one hart and at most 8.",
         violates: "",
-        mended: "",
+        corrected: "",
     },
     Explanation {
         code: "H3",
         name: "no such hart",
-        rule: "The line gives turns to a hart that there is not. The `hart` lines are numbered from 0.",
+        rule: "The line gives turns to a hart that does not exist. The `hart` lines are numbered from 0.",
         violates: "",
-        mended: "",
+        corrected: "",
     },
     Explanation {
         code: "H4",
@@ -113,24 +113,24 @@ const ROWS: [Explanation; 18] = [
         rule: "With this line there are more than 1048576 turns. `round N` counts as N turns of each hart,\n\
                whether it has stopped or not.",
         violates: "",
-        mended: "",
+        corrected: "",
     },
     Explanation {
         code: "V1",
         name: "line form",
         rule: "A line of a file of vectors is `NAME: ARG .. = OUTCOME ..`: the name ends at the first `:`, and the\n\
-               arguments end at the first `=` behind it. A line that begins with `#` is a comment, and an empty\n\
-               one says nothing.",
+               arguments end at the first `=` after it. A line that begins with `#` is a comment, and an empty line\n\
+               is skipped.",
         violates: "",
-        mended: "",
+        corrected: "",
     },
     Explanation {
         code: "C1",
         name: "code length",
         rule: "The file of code is empty, its length is not a multiple of 4 bytes, or it has more than 192064\n\
-               words. It holds the bare code, as `objcopy -O binary` writes it, and not an object file.",
+               words. It must hold the bare code, as `objcopy -O binary` writes it, and not an object file.",
         violates: "",
-        mended: "",
+        corrected: "",
     },
     Explanation {
         code: "C2",
@@ -139,23 +139,23 @@ const ROWS: [Explanation; 18] = [
                slots of all parameters and of the result. Code that a C compiler made needs room for its stack\n\
                too.",
         violates: "",
-        mended: "",
+        corrected: "",
     },
     Explanation {
         code: "C3",
         name: "steps",
-        rule: "`--steps` is how many steps a run makes at most: 1 to 137438953536.",
+        rule: "`--steps` is the greatest number of steps that a run may make: 1 to 137438953536.",
         violates: "",
-        mended: "",
+        corrected: "",
     },
     Explanation {
         code: "F1",
         name: "name",
-        rule: "The name of the export becomes the name of a function in C and in the assembler's text, and it\n\
-               cannot have this one: it is a keyword or a type of C or C++, a register as `x5` or `a0`, or a\n\
-               name that C reserves, as one that begins with `__`. Give the export another name.",
+        rule: "The name of the export becomes the name of a function in C and in the assembly file, and it cannot\n\
+               be this one: it is a keyword or a type of C or C++, a register such as `x5` or `a0`, or a name that\n\
+               C reserves, such as one that begins with `__`. Give the export another name.",
         violates: "export secret uint32 a0(secret uint32 x) { return x + 1; }",
-        mended: "export secret uint32 add_one(secret uint32 x) { return x + 1; }",
+        corrected: "export secret uint32 add_one(secret uint32 x) { return x + 1; }",
     },
 ];
 

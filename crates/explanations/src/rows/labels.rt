@@ -10,19 +10,19 @@ const ROWS: [Explanation; 7] = [
     Explanation {
         code: "L1",
         name: "secret to public",
-        rule: "A secret value stands where a public one is expected. What is public may be seen, so nothing\n\
-               that is computed from a secret becomes public. Declare the variable, the parameter or the result\n\
-               `secret`. Nothing in the language makes a secret public: the caller alone decides what becomes\n\
-               of a secret result.",
+        rule: "A secret value is used where a public one is expected. What is public may be seen, so nothing that\n\
+               is computed from a secret becomes public. Declare the variable, the parameter or the result\n\
+               `secret`. Nothing in the language makes a secret public: the caller alone decides what happens to a\n\
+               secret result.",
         violates: "export public uint32 f(secret uint32 x) { return x; }",
-        mended: "export secret uint32 f(secret uint32 x) { return x; }",
+        corrected: "export secret uint32 f(secret uint32 x) { return x; }",
     },
     Explanation {
         code: "L2",
         name: "public assigned under secret control",
-        rule: "In the arms of an `if` on a secret nothing public is assigned to, and nothing public is declared\n\
-               with `mut`: whether it has changed would tell what the condition was. Declare it `secret`, or\n\
-               assign to it outside of the `if`.",
+        rule: "In the arms of an `if` on a secret, nothing public may be assigned to or declared with `mut`:\n\
+               whether it has changed would tell what the condition was. Declare the variable `secret`, or assign\n\
+               to it outside the `if`.",
         violates: "\
 export public bool f(secret bool s) {
     public mut bool seen = false;
@@ -31,7 +31,7 @@ export public bool f(secret bool s) {
     }
     return seen;
 }",
-        mended: "\
+        corrected: "\
 export secret bool f(secret bool s) {
     secret mut bool seen = false;
     if (s) {
@@ -43,13 +43,13 @@ export secret bool f(secret bool s) {
     Explanation {
         code: "L3",
         name: "secret index",
-        rule: "An index is public, since an observer sees the address of each access. To take the element at a\n\
+        rule: "An index must be public, since an observer sees the address of each access. To take the element at a\n\
                secret index, go through all elements with a counter and keep the right one by `select` or `if`.",
         violates: "\
 export secret uint32 f(secret uint32 place, secret uint32[8] table) {
     return table[place];
 }",
-        mended: "\
+        corrected: "\
 export secret uint32 f(secret uint32 place, secret uint32[8] table) {
     secret mut uint32 found = 0;
     for (uint32 i from 0 to 8) {
@@ -61,8 +61,8 @@ export secret uint32 f(secret uint32 place, secret uint32[8] table) {
     Explanation {
         code: "L4",
         name: "secret bound",
-        rule: "The bounds of a loop are public, since an observer sees how many iterations it has. Loop up to\n\
-               the greatest number that there may be, and put what is done into an `if` on the secret.",
+        rule: "The bounds of a loop must be public, since an observer sees how many iterations it has. Loop up to\n\
+               the greatest value that the bound may have, and put the body into an `if` on the secret.",
         violates: "\
 export secret uint32 f(secret uint32 n, secret uint8[16] bytes) {
     secret mut uint32 sum = 0;
@@ -71,7 +71,7 @@ export secret uint32 f(secret uint32 n, secret uint8[16] bytes) {
     }
     return sum;
 }",
-        mended: "\
+        corrected: "\
 export secret uint32 f(secret uint32 n, secret uint8[16] bytes) {
     secret mut uint32 sum = 0;
     for (uint32 i from 0 to 16) {
@@ -85,17 +85,17 @@ export secret uint32 f(secret uint32 n, secret uint8[16] bytes) {
     Explanation {
         code: "L5",
         name: "secret division operand",
-        rule: "Both operands of `/` and `%` are public, since the time of a division depends on them and an\n\
-               observer sees it. Divide a secret by a power of 2 with `>>` and `&`.",
+        rule: "Both operands of `/` and `%` must be public, since the time of a division depends on them and an\n\
+               observer sees it. To divide a secret by a power of 2, use `>>` and `&`.",
         violates: "export secret uint32 f(secret uint32 x) { return x / 8 + x % 8; }",
-        mended: "export secret uint32 f(secret uint32 x) { return (x >> 3) + (x & 7); }",
+        corrected: "export secret uint32 f(secret uint32 x) { return (x >> 3) + (x & 7); }",
     },
     Explanation {
         code: "L6",
         name: "call assigns public under secret control",
-        rule: "In the arms of an `if` on a secret no procedure is called that may assign to something public:\n\
-               one with a public `mut` array parameter, one that declares something public with `mut`, and one\n\
-               that calls such a procedure. Make these secret, or call it outside of the `if`.",
+        rule: "In the arms of an `if` on a secret, no procedure may be called that may assign to something public:\n\
+               one with a public `mut` array parameter, one that declares something public with `mut`, or one that\n\
+               calls such a procedure. Make these secret, or call it outside the `if`.",
         violates: "\
 void count(public mut uint32[1] total) {
     total[0] = total[0] + 1;
@@ -106,7 +106,7 @@ export void f(secret bool s, public mut uint32[1] total) {
         count(total);
     }
 }",
-        mended: "\
+        corrected: "\
 void count(secret mut uint32[1] total) {
     total[0] = total[0] + 1;
 }
@@ -120,11 +120,11 @@ export void f(secret bool s, secret mut uint32[1] total) {
     Explanation {
         code: "L7",
         name: "secret multiplication operand",
-        rule: "In profile 2 both operands of `*` are public: it is for processors on which the time of a\n\
-               multiplication depends on them. Multiply a secret by a constant with shifts and sums, or compile\n\
-               for profile 1 if the processor multiplies in constant time.",
+        rule: "In profile 2, which is for processors on which the time of a multiplication depends on its operands,\n\
+               both operands of `*` must be public. Multiply a secret by a constant with shifts and additions, or\n\
+               compile for profile 1 if the processor multiplies in constant time.",
         violates: "export secret uint32 f(secret uint32 x) { return x * 5; }",
-        mended: "export secret uint32 f(secret uint32 x) { return (x << 2) + x; }",
+        corrected: "export secret uint32 f(secret uint32 x) { return (x << 2) + x; }",
     },
 ];
 

@@ -11,9 +11,9 @@ const ROWS: [Explanation; 6] = [
         code: "S1",
         name: "inlined size",
         rule: "With a copy of the called body in place of each call, the export has more than 6000 nodes (its\n\
-               numbers, names, operators and statements), or more than 64 bodies are open at once. A body\n\
-               counts once for each call in the source, and once for all iterations of a loop: call from a loop\n\
-               what is done often.",
+               numbers, names, operators and statements), or more than 64 bodies are open at once. A body counts\n\
+               once for each call in the source, and once for all iterations of a loop: to call something often,\n\
+               call it in a loop.",
         violates: "\
 void a() { }
 void b() { a(); a(); a(); a(); a(); a(); a(); a(); }
@@ -21,7 +21,7 @@ void c() { b(); b(); b(); b(); b(); b(); b(); b(); }
 void d() { c(); c(); c(); c(); c(); c(); c(); c(); }
 void e() { d(); d(); d(); d(); d(); d(); d(); d(); }
 export void f() { e(); e(); }",
-        mended: "\
+        corrected: "\
 void a() { }
 void b() { for (uint32 i from 0 to 8) { a(); } }
 void c() { for (uint32 i from 0 to 8) { b(); } }
@@ -32,17 +32,17 @@ export void f() { e(); e(); }",
     Explanation {
         code: "S2",
         name: "declared bytes",
-        rule: "The export and all that it calls declare more than 32768 bytes: 4 for each word, counter and\n\
-               word parameter, and for an array of theirs or an array parameter of the export its elements,\n\
+        rule: "The export and all that it calls declare more than 32768 bytes: 4 for each word, counter and word\n\
+               parameter, and for each array that they declare or that is a parameter of the export, its elements,\n\
                rounded up to a multiple of 4. What a called procedure declares counts again for each call. Use\n\
-               smaller elements, or declare an array once and give it to the procedures as an argument.",
+               smaller elements, or declare an array once and pass it to the procedures as an argument.",
         violates: "\
 export void f() {
     secret uint32[4096] a;
     secret uint32[4096] b;
     secret bool c = true;
 }",
-        mended: "\
+        corrected: "\
 export void f() {
     secret uint32[4096] a;
     secret uint8[4096] b;
@@ -52,24 +52,24 @@ export void f() {
     Explanation {
         code: "I1",
         name: "index out of range",
-        rule: "Nothing is checked when a program runs, so it has to be seen from the source that each index is\n\
-               below the array's length, also in an arm that a run does not take. For each public number the\n\
-               compiler knows the least and the greatest value that it can have; the greatest of this index is\n\
-               too large. A variable with `mut`, an element and a parameter of the export can have any value.\n\
-               Limit the index by `&` or `%`, or put the access into an `if` on a public condition that has the\n\
-               index, a name without `mut`, on the left of `<`.",
+        rule: "Nothing is checked when a program runs, so the source must show that each index is below the array's\n\
+               length, even in an arm that a run does not take. For each public number the compiler knows the least\n\
+               and the greatest value that it can have; the greatest of this index is too large. A `mut` variable,\n\
+               an element and a parameter of the export can have any value. Limit the index with `&` or `%`, or put\n\
+               the access into an `if` on a public condition that has the index, a name without `mut`, on the left\n\
+               of `<`.",
         violates: "export public uint32 f(public uint32 i, public uint32[8] a) { return a[i]; }",
-        mended: "export public uint32 f(public uint32 i, public uint32[8] a) { return a[i & 7]; }",
+        corrected: "export public uint32 f(public uint32 i, public uint32[8] a) { return a[i & 7]; }",
     },
     Explanation {
         code: "I2",
         name: "divisor may be 0",
-        rule: "Nothing is checked when a program runs, so it has to be seen from the source that a divisor is\n\
-               not 0, also in an arm that a run does not take. The least value that the compiler knows of this\n\
-               one is 0. Divide in the `else` arm of an `if` on a public condition `d < 1`, or by something\n\
-               that is at least 1, as `(d & 7) + 1`.",
+        rule: "Nothing is checked when a program runs, so the source must show that a divisor is not 0, even in an\n\
+               arm that a run does not take. The least value that the compiler knows for this one is 0. Divide in\n\
+               the `else` arm of an `if` on a public condition `d < 1`, or by something that is at least 1, such as\n\
+               `(d & 7) + 1`.",
         violates: "export public uint32 f(public uint32 x, public uint32 d) { return x / d; }",
-        mended: "\
+        corrected: "\
 export public uint32 f(public uint32 x, public uint32 d) {
     public mut uint32 y = 0;
     if (d < 1) {
@@ -82,9 +82,9 @@ export public uint32 f(public uint32 x, public uint32 d) {
     Explanation {
         code: "S3",
         name: "work",
-        rule: "The work says how long a run can take, and at most 4294967296 is allowed: about the number of\n\
+        rule: "The work, which says how long a run can take, may be at most 4294967296. It is about the number of\n\
                nodes, where the body of a loop counts for each iteration that its bounds allow and once more. A\n\
-               bound that can have any value allows 4294967295 iterations. Limit the bound first.",
+               bound that can have any value allows 4294967295 iterations: limit it first.",
         violates: "\
 export secret uint32 f(public uint32 n, secret uint32 x) {
     secret mut uint32 y = x;
@@ -93,7 +93,7 @@ export secret uint32 f(public uint32 n, secret uint32 x) {
     }
     return y;
 }",
-        mended: "\
+        corrected: "\
 export secret uint32 f(public uint32 n, secret uint32 x) {
     secret mut uint32 y = x;
     for (uint32 i from 0 to n & 1023) {
@@ -105,10 +105,10 @@ export secret uint32 f(public uint32 n, secret uint32 x) {
     Explanation {
         code: "M1",
         name: "memory",
-        rule: "The system refused memory that was asked for. This says nothing about what was given. Repeat the\n\
-               command with more memory.",
+        rule: "The system refused memory that was asked for. This does not say whether the input is right or wrong.\n\
+               Run the command again with more memory.",
         violates: "",
-        mended: "",
+        corrected: "",
     },
 ];
 

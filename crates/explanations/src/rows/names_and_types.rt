@@ -20,7 +20,7 @@ export secret uint32 f(secret bool c) {
     }
     return y;
 }",
-        mended: "\
+        corrected: "\
 export secret uint32 f(secret bool c) {
     secret mut uint32 y = 0;
     if (c) {
@@ -40,7 +40,7 @@ export secret uint32 f(secret uint32 x) {
     secret uint32 x = 1;
     return x;
 }",
-        mended: "\
+        corrected: "\
 export secret uint32 f(secret uint32 x) {
     secret uint32 y = x + 1;
     return y;
@@ -49,9 +49,8 @@ export secret uint32 f(secret uint32 x) {
     Explanation {
         code: "N3",
         name: "procedure not declared earlier",
-        rule: "Only a procedure that stands before the calling one in the source can be called: not the calling\n\
-               one itself, no later one and no variable. So there is no recursion. Move the called procedure\n\
-               up.",
+        rule: "A procedure can call only those that stand before it in the source: not itself, no later one and no\n\
+               variable. So there is no recursion. Move the called procedure up.",
         violates: "\
 export void f() {
     g();
@@ -59,7 +58,7 @@ export void f() {
 
 void g() {
 }",
-        mended: "\
+        corrected: "\
 void g() {
 }
 
@@ -70,13 +69,13 @@ export void f() {
     Explanation {
         code: "N4",
         name: "not exactly one export",
-        rule: "One procedure of a source has `export`: it is the one that is compiled, with all that it calls.\n\
-               Where none has it, the error is at 1:1; where several have it, it is at the second.",
+        rule: "Exactly one procedure of a source has `export`: it is the one that is compiled, with all that it\n\
+               calls. If none has it, the error is at 1:1; if several have it, it is at the second.",
         violates: "\
 secret uint32 f(secret uint32 x) {
     return x + 1;
 }",
-        mended: "\
+        corrected: "\
 export secret uint32 f(secret uint32 x) {
     return x + 1;
 }",
@@ -84,30 +83,30 @@ export secret uint32 f(secret uint32 x) {
     Explanation {
         code: "T1",
         name: "widths differ",
-        rule: "Two numbers of different width meet: the operands of an operator, the last two of `select`, or a\n\
-               value and the type that is expected of it. An index, a bound of a loop and the right operand of\n\
-               a shift are `uint32`. Nothing is converted by itself, and a number without a suffix is a\n\
-               `uint32`. Convert one side, as `uint32(x)`, or give the number a suffix, as `1u8`.",
+        rule: "Two numbers of different widths meet: the operands of an operator, the last two of `select`, or a\n\
+               value and the type that is expected of it. An index, a bound of a loop and the right operand of a\n\
+               shift are `uint32`. Nothing is converted implicitly, and a number without a suffix is a `uint32`.\n\
+               Convert one side, as in `uint32(x)`, or give the number a suffix, as in `1u8`.",
         violates: "export secret uint32 f(secret uint8 x) { return x + 1; }",
-        mended: "export secret uint32 f(secret uint8 x) { return uint32(x) + 1; }",
+        corrected: "export secret uint32 f(secret uint8 x) { return uint32(x) + 1; }",
     },
     Explanation {
         code: "T2",
         name: "wrong kind",
-        rule: "A value of another kind is expected: a bool for a number or a number for a bool, a word for an\n\
-               array or an array for a word, or something for the result of a procedure that has none. A\n\
-               condition is a bool, so `x != 0` and not `x`, and `uint32(b)` is 0 or 1 for a bool `b`. An array\n\
-               stands before `[`, or alone as an argument.",
+        rule: "The value is of the wrong kind: a bool instead of a number or a number instead of a bool, a word\n\
+               instead of an array or an array instead of a word, or the result of a procedure that has none. A\n\
+               condition is a bool: write `x != 0` and not `x`. For a bool `b`, `uint32(b)` is 0 or 1. The name of\n\
+               an array stands before `[`, or alone as an argument.",
         violates: "export secret uint32 f(secret uint32 x, secret bool c) { return x + c; }",
-        mended: "export secret uint32 f(secret uint32 x, secret bool c) { return x + uint32(c); }",
+        corrected: "export secret uint32 f(secret uint32 x, secret bool c) { return x + uint32(c); }",
     },
     Explanation {
         code: "T3",
         name: "literal out of range",
         rule: "A number is too large for its suffix, or the amount of `<<<` is 0 or not below the width of its\n\
-               operand. `u8` takes a number up to 255 and `u16` one up to 65535.",
+               operand. With `u8` a number is at most 255, with `u16` at most 65535.",
         violates: "export secret uint16 f(secret uint16 x) { return x + 300u8; }",
-        mended: "export secret uint16 f(secret uint16 x) { return x + 300u16; }",
+        corrected: "export secret uint16 f(secret uint16 x) { return x + 300u16; }",
     },
     Explanation {
         code: "T4",
@@ -122,7 +121,7 @@ export secret uint32 f(secret uint32 x) {
     secret uint32 z = add(x);
     return z;
 }",
-        mended: "\
+        corrected: "\
 secret uint32 add(secret uint32 x, secret uint32 y) {
     return x + y;
 }
@@ -135,9 +134,9 @@ export secret uint32 f(secret uint32 x) {
     Explanation {
         code: "T5",
         name: "array shape or label",
-        rule: "An array that is given as an argument has the elements, the length and the label of the\n\
-               parameter. `public` for `secret` is refused too, since both names stand for one array. Declare\n\
-               both alike, or copy the elements in a loop into an array of the parameter's type.",
+        rule: "An array that is given as an argument must have the element type, the length and the label of the\n\
+               parameter. `public` for `secret` is refused too, since both names stand for one array. Declare both\n\
+               alike, or copy the elements in a loop into an array of the parameter's type.",
         violates: "\
 void clear(secret mut uint32[2] a) {
     a[0] = 0;
@@ -147,7 +146,7 @@ void clear(secret mut uint32[2] a) {
 export void f(public mut uint32[2] a) {
     clear(a);
 }",
-        mended: "\
+        corrected: "\
 void clear(secret mut uint32[2] a) {
     a[0] = 0;
     a[1] = 0;
@@ -160,15 +159,15 @@ export void f(secret mut uint32[2] a) {
     Explanation {
         code: "T6",
         name: "not mutable",
-        rule: "Only what was declared with `mut` can be assigned to, and only such an array be given for a\n\
-               `mut` parameter. A parameter that is a word and the counter of a loop never can: copy them into\n\
-               a variable with `mut`.",
+        rule: "Only what was declared with `mut` can be assigned to, and only such an array can be given for a\n\
+               `mut` parameter. A word parameter and the counter of a loop can never be assigned to: copy them into\n\
+               a `mut` variable.",
         violates: "\
 export secret uint32 f(secret uint32 x) {
     x = x + 1;
     return x;
 }",
-        mended: "\
+        corrected: "\
 export secret uint32 f(secret uint32 x) {
     secret mut uint32 y = x;
     y = y + 1;
@@ -179,13 +178,13 @@ export secret uint32 f(secret uint32 x) {
         code: "T7",
         name: "return",
         rule: "A procedure with a result type ends with a `return`, and a `void` procedure has none. A `return`\n\
-               is the last thing in a body: to choose between values, assign them to a variable in the arms of\n\
-               an `if`, and return that.",
+               comes last in a body: to choose between values, assign them to a variable in the arms of an `if`,\n\
+               and return that.",
         violates: "\
 export secret uint32 f(secret uint32 x) {
     secret uint32 y = x + 1;
 }",
-        mended: "\
+        corrected: "\
 export secret uint32 f(secret uint32 x) {
     secret uint32 y = x + 1;
     return y;
@@ -194,8 +193,8 @@ export secret uint32 f(secret uint32 x) {
     Explanation {
         code: "T8",
         name: "array passed twice",
-        rule: "One array is given for two parameters of a call, and one of them is `mut`. Two names would then\n\
-               stand for one array that changes. Copy it into another array before the call.",
+        rule: "One array is given for two parameters of a call, and at least one of them is `mut`. Two names would\n\
+               then stand for one array that changes. Copy it into another array before the call.",
         violates: "\
 void add(secret uint32[2] a, secret mut uint32[2] sum) {
     sum[0] = sum[0] + a[0];
@@ -205,7 +204,7 @@ void add(secret uint32[2] a, secret mut uint32[2] sum) {
 export void twice(secret mut uint32[2] a) {
     add(a, a);
 }",
-        mended: "\
+        corrected: "\
 void add(secret uint32[2] a, secret mut uint32[2] sum) {
     sum[0] = sum[0] + a[0];
     sum[1] = sum[1] + a[1];
@@ -226,7 +225,7 @@ export secret uint32 f(secret uint32 x) {
     secret uint32[3] a = { x, 1 };
     return a[0];
 }",
-        mended: "\
+        corrected: "\
 export secret uint32 f(secret uint32 x) {
     secret uint32[3] a = { x, 1, 0 };
     return a[0];

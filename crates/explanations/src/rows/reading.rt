@@ -10,31 +10,31 @@ const ROWS: [Explanation; 5] = [
     Explanation {
         code: "X1",
         name: "unknown character",
-        rule: "No token begins with this byte, and it does not stand in a comment. It may be a character of C\n\
-               that the language does not have, as `?`, `.` or a quote, a letter with an accent, or a byte\n\
-               order mark at 1:1, which an editor does not show. Write what the language has in its place, and\n\
-               save the file as UTF-8 without a byte order mark.",
+        rule: "No token begins with this byte, and it is not in a comment. It may be a character of C that the\n\
+               language does not have, such as `?`, `.` or a quote, an accented letter, or a byte order mark at\n\
+               1:1, which an editor does not show. Write what the language has in its place, and save the file as\n\
+               UTF-8 without a byte order mark.",
         violates: "export secret uint32 f(secret bool c) { return c ? 1 : 2; }",
-        mended: "export secret uint32 f(secret bool c) { return select(c, 1, 2); }",
+        corrected: "export secret uint32 f(secret bool c) { return select(c, 1, 2); }",
     },
     Explanation {
         code: "X2",
         name: "bad number",
-        rule: "A word that begins with a digit is a decimal number, or a hexadecimal one after `0x`, below\n\
-               4294967296, with at most one of the suffixes `u8`, `u16`, `u32` behind it. There is no `_` in a\n\
-               number, no binary form, no `0X`, and none of C's suffixes, as `U` and `L`. Leading zeros mean\n\
+        rule: "A token that begins with a digit is a decimal number, or a hexadecimal one after `0x`, below\n\
+               4294967296, with at most one of the suffixes `u8`, `u16` and `u32` after it. There is no `_` in a\n\
+               number, no binary form, no `0X`, and none of C's suffixes such as `U` and `L`. Leading zeros change\n\
                nothing: `010` is 10.",
         violates: "export secret uint32 f(secret uint32 x) { return x + 1_000; }",
-        mended: "export secret uint32 f(secret uint32 x) { return x + 1000; }",
+        corrected: "export secret uint32 f(secret uint32 x) { return x + 1000; }",
     },
     Explanation {
         code: "X3",
         name: "unexpected token",
-        rule: "No program begins with the tokens up to this one, or the source ends too early. Usual causes: a\n\
-               call inside an expression or a `return`, since a call is a statement or the whole right side of\n\
-               a declaration or an assignment; a second comparison, or an operator after the amount of `<<<`,\n\
-               without brackets; an arm of an `if` or the body of a loop without braces; a `return` that is not\n\
-               last; a missing `;` before this token; a keyword as a name.",
+        rule: "No program begins with the tokens up to this one, or the source ends too early. Usual causes: a call\n\
+               inside an expression or a `return`, since a call is a statement or the whole right side of a\n\
+               declaration or an assignment; a second comparison, or an operator after the amount of `<<<`, without\n\
+               parentheses; an arm of an `if` or the body of a loop without braces; a `return` that is not last; a\n\
+               missing `;` before this token; a keyword used as a name.",
         violates: "\
 secret uint32 twice(secret uint32 x) {
     return x + x;
@@ -43,7 +43,7 @@ secret uint32 twice(secret uint32 x) {
 export secret uint32 f(secret uint32 x) {
     return twice(x);
 }",
-        mended: "\
+        corrected: "\
 secret uint32 twice(secret uint32 x) {
     return x + x;
 }
@@ -56,10 +56,9 @@ export secret uint32 f(secret uint32 x) {
     Explanation {
         code: "X4",
         name: "nesting",
-        rule: "Brackets, operators and `else` are nested too deeply. Each of them counts one for all that\n\
-               follows, until the bracket around it is closed or a `,` or `;` comes, and the limit is 64.\n\
-               Divide a long expression by declarations, and a long chain of `else if` into several\n\
-               conditionals.",
+        rule: "Brackets, operators and `else` are nested too deeply: the limit is 64. Each of them adds one to the\n\
+               depth of all that follows, until the bracket around it is closed or a `,` or `;` comes. Split a long\n\
+               expression into declarations, and a long chain of `else if` into several conditionals.",
         violates: "\
 export public uint32 f() {
     return ((((((((((((((((((((((((((((((((
@@ -68,7 +67,7 @@ export public uint32 f() {
            ))))))))))))))))))))))))))))))))
            ))))))))))))))))))))))))))))))));
 }",
-        mended: "\
+        corrected: "\
 export public uint32 f() {
     return 1;
 }",
@@ -77,9 +76,9 @@ export public uint32 f() {
         code: "X5",
         name: "text too long",
         rule: "A source has at most 262144 bytes. A generated table is the usual cause: compute it, or let the\n\
-               caller give it as a public array.",
+               caller pass it as a public array.",
         violates: "",
-        mended: "",
+        corrected: "",
     },
 ];
 

@@ -10,36 +10,36 @@ const ROWS: [Explanation; 9] = [
     Explanation {
         code: "E1",
         name: "no meaning",
-        rule: "While a source was evaluated an index was not below the length of its array, or a divisor was 0.\n\
-               Only the library answers this, for programs that were not checked: a source that `eval` accepts\n\
-               has no such index or divisor (I1, I2).",
+        rule: "While a source was evaluated, an index was not below the length of its array, or a divisor was 0.\n\
+               Only the library reports this, for programs that were not checked: a source that `eval` accepts has\n\
+               no such index or divisor (I1, I2).",
         violates: "",
-        mended: "",
+        corrected: "",
     },
     Explanation {
         code: "E2",
         name: "budget",
-        rule: "More nodes of a source were evaluated than the budget allows, or more than 64 bodies were open\n\
-               at once. Only the library answers this: the budget of `eval` is enough for each source that it\n\
-               accepts (S1, S3).",
+        rule: "More nodes of a source were evaluated than the budget allows, or more than 64 bodies were open at\n\
+               once. Only the library reports this: the budget of `eval` is enough for each source that it accepts\n\
+               (S1, S3).",
         violates: "",
-        mended: "",
+        corrected: "",
     },
     Explanation {
         code: "Ecall",
         name: "end by ECALL",
-        rule: "The code has ended as it should, by the instruction ECALL. The slots of the result and of the\n\
-               `mut` arrays hold the outcome.",
+        rule: "The code ended as it should, with the instruction ECALL. The slots of the result and of the `mut`\n\
+               arrays hold the outcome.",
         violates: "",
-        mended: "",
+        corrected: "",
     },
     Explanation {
         code: "Break",
         name: "end by EBREAK",
-        rule: "The code has come to the instruction EBREAK. C compilers write it where the C code has undefined\n\
+        rule: "The code reached the instruction EBREAK. C compilers write it where the C code has undefined\n\
                behaviour. `build` writes none.",
         violates: "",
-        mended: "",
+        corrected: "",
     },
     Explanation {
         code: "Illegal",
@@ -47,16 +47,16 @@ const ROWS: [Explanation; 9] = [
         rule: "The word at the program counter is not an instruction of RV32IM. Compile for this set alone\n\
                (`-march=rv32im`): compressed instructions, atomics and floating point are not in it.",
         violates: "",
-        mended: "",
+        corrected: "",
     },
     Explanation {
         code: "AccessFault",
         name: "access outside of code or data",
-        rule: "There is no code at the program counter, or a load or a store goes to a byte outside of the\n\
-               frame. In code that a C compiler made, the stack has usually run out of the frame, or an address\n\
-               is that of a table or a variable outside of functions, which have no place in an image.",
+        rule: "There is no code at the program counter, or a load or a store goes to a byte outside the frame. In\n\
+               code that a C compiler made, the stack has usually outgrown the frame, or an address is that of a\n\
+               table or a variable outside functions, which have no place in an image.",
         violates: "",
-        mended: "",
+        corrected: "",
     },
     Explanation {
         code: "Misaligned",
@@ -64,23 +64,23 @@ const ROWS: [Explanation; 9] = [
         rule: "The address of a load or store is not a multiple of its size, or the target of a jump is not a\n\
                multiple of 4. In code that a C compiler made, compare the layout of the frame with the slots.",
         violates: "",
-        mended: "",
+        corrected: "",
     },
     Explanation {
         code: "Budget",
         name: "out of steps",
-        rule: "The run has made as many steps as the image allows (`max_steps`) and has not ended. Give `wrap`\n\
-               a greater `--steps`, or look for a loop without end. What `build` compiled always ends in time.",
+        rule: "The run has made as many steps as the image allows (`max_steps`) and has not ended. Give `wrap` a\n\
+               greater `--steps`, or look for an endless loop. What `build` compiled always ends in time.",
         violates: "",
-        mended: "",
+        corrected: "",
     },
     Explanation {
         code: "RecorderRefused",
         name: "trace out of memory",
-        rule: "There was no memory to keep what the next instruction shows, and the run ended before it. Only\n\
-               calls of the library with a recorder that keeps the trace answer this.",
+        rule: "There was no memory to record what the next instruction shows, and the run ended before it. Only\n\
+               calls of the library with a recorder that keeps the trace report this.",
         violates: "",
-        mended: "",
+        corrected: "",
     },
 ];
 

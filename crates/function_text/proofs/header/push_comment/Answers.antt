@@ -19,7 +19,7 @@ returns c =
     codes
     "   Arrays are aligned by their elements, lie outside the stack below the caller, and no two that are not const overlap.\n" in
     let t4 = string_bytes c.push_str-5.new.self in
-    let p4 = codes "   Neither time nor addresses hang on what is secret, for an observer of profile " in
+    let p4 = codes "   Neither the time it takes nor the addresses it accesses depend on secrets, for an observer of profile " in
     let t5 = string_bytes c.push_str-6.new.self in
     let p5 = profile_text c.args.function.now.image.profile in
     let t6 = string_bytes c.push_str-7.new.self in

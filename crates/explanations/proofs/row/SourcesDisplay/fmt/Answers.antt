@@ -7,11 +7,11 @@ use Rattle.explanations.proofs.row.SourcesDisplay.fmt.Goals as goal
 pub returns-clause-writes : goal.returns-clause-writes
 returns-clause-writes g c plain ok =
     let violates = c.args.self.now.violates.now in
-    let mended = c.args.self.now.mended.now in
+    let corrected = c.args.self.now.corrected.now in
     let some : nat_eq (length violates) 0 ≡ false = sym c.is_empty.ensures ∙ c.if-is_empty.false in
     subst
     (λ empty. HasWritten {W = g.row.W.Denot} g.W.Write.write_str_gives c.args.f.now
-    (if empty then [] else codes "\n\nViolates it:\n\n" ++ (violates ++ (codes "\n\nMended:\n\n" ++ mended)))
+    (if empty then [] else codes "\n\nRefused:\n\n" ++ (violates ++ (codes "\n\nAccepted:\n\n" ++ corrected)))
     c.write.new.self)
     (sym some)
     (c.write.ensures.writes plain ok)
