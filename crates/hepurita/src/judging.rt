@@ -28,7 +28,7 @@ pub(crate) fn flat_of(
 }
 
 /// An accepted text's program, and of its export the parameters, and the type of the result where there is one.
-#[derive(Debug, Drop)]
+#[derive(Drop)]
 pub struct Accepted<'a> {
     pub program: Program<'a>,
     pub params: Vec<Param>,

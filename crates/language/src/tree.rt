@@ -100,7 +100,7 @@ impl BinaryOperator {
 }
 
 /// An expression. Each has the place of its head token.
-#[derive(Debug, Drop)]
+#[derive(Drop)]
 pub enum Expr<'a> {
     /// A number and the kind that its suffix names, `Uint32` without one.
     Number(Place, u32, Kind),
@@ -119,7 +119,7 @@ pub enum Expr<'a> {
 }
 
 /// A call of a procedure.
-#[derive(Debug, Drop)]
+#[derive(Drop)]
 pub struct Call<'a> {
     /// The place of the procedure's name.
     pub place: Place,
@@ -128,14 +128,14 @@ pub struct Call<'a> {
 }
 
 /// What a declaration or an assignment gives its target.
-#[derive(Debug, Drop)]
+#[derive(Drop)]
 pub enum RightSide<'a> {
     Call(Call<'a>),
     Value(Expr<'a>),
 }
 
 /// A declaration of a word, with its first value.
-#[derive(Debug, Drop)]
+#[derive(Drop)]
 pub struct Declaration<'a> {
     pub label: Label,
     /// Whether it may be assigned to.
@@ -148,7 +148,7 @@ pub struct Declaration<'a> {
 }
 
 /// A declaration of an array.
-#[derive(Debug, Drop)]
+#[derive(Drop)]
 pub struct ArrayDeclaration<'a> {
     pub label: Label,
     /// Whether its elements may be assigned to.
@@ -164,7 +164,7 @@ pub struct ArrayDeclaration<'a> {
 }
 
 /// An assignment to a name.
-#[derive(Debug, Drop)]
+#[derive(Drop)]
 pub struct Assignment<'a> {
     /// The place of `=`.
     pub place: Place,
@@ -175,7 +175,7 @@ pub struct Assignment<'a> {
 }
 
 /// An assignment to an element.
-#[derive(Debug, Drop)]
+#[derive(Drop)]
 pub struct ElementAssignment<'a> {
     /// The place of `=`.
     pub place: Place,
@@ -189,7 +189,7 @@ pub struct ElementAssignment<'a> {
 }
 
 /// The counter of a loop.
-#[derive(Clone, Copy, Debug)]
+#[derive(Clone, Copy)]
 pub struct Counter<'a> {
     /// The place of its name.
     pub place: Place,
@@ -197,7 +197,7 @@ pub struct Counter<'a> {
 }
 
 /// A statement.
-#[derive(Debug, Drop)]
+#[derive(Drop)]
 pub enum Statement<'a> {
     Declare(Declaration<'a>),
     DeclareArray(ArrayDeclaration<'a>),
@@ -212,7 +212,7 @@ pub enum Statement<'a> {
 }
 
 /// A parameter of a procedure.
-#[derive(Clone, Copy, Debug)]
+#[derive(Clone, Copy)]
 pub struct Parameter<'a> {
     pub label: Label,
     pub kind: Kind,
@@ -242,7 +242,7 @@ impl Parameter<'_> {
 }
 
 /// The `return` of a procedure.
-#[derive(Debug, Drop)]
+#[derive(Drop)]
 pub struct Return<'a> {
     /// The place of the word `return`.
     pub place: Place,
@@ -250,7 +250,7 @@ pub struct Return<'a> {
 }
 
 /// A procedure.
-#[derive(Debug, Drop)]
+#[derive(Drop)]
 pub struct Procedure<'a> {
     /// The place of the word `export`, where it stands.
     pub export: Option<Place>,
@@ -282,7 +282,7 @@ impl Procedure<'_> {
 }
 
 /// A program: the tree of a text, its procedures in their order. Each is as the grammar has it.
-#[derive(Debug, Drop)]
+#[derive(Drop)]
 pub struct Program<'a> {
     procedures: Vec<Procedure<'a>>,
 }
