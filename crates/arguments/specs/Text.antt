@@ -1,6 +1,8 @@
 -- How faults of arguments are printed.
 use Rattle.std.specs.Prelude.{ℕ, List, [], ◌++◌, Option, Some, None, codes}
 use Rattle.std.specs.Fmt.{decimal}
+use Rattle.language.specs.Rules.{refusal_text}
+use Rattle.language.specs.declared.rule.Rule.TheVariants.{OutOfMemory}
 use Rattle.arguments.specs.declared.fault.ArgumentFault.{ArgumentFault}
 use Rattle.arguments.specs.declared.texts.ReadError.{ReadError}
 use Rattle.arguments.specs.declared.texts.ReadError.TheVariants as errors
@@ -16,4 +18,4 @@ fault_text fault = code_of fault.rule ++ argument_text fault.index ++ codes ": "
 
 abbrev pub read_error_text : ReadError → List ℕ
 read_error_text (errors.Argument fault) = fault_text fault
-read_error_text errors.Memory = codes "M1: memory"
+read_error_text errors.Memory = refusal_text OutOfMemory None

@@ -9,7 +9,7 @@ ghost use Rattle.arguments.specs.declared.texts.ReadError.TheVariants.{Memory};
 use crate::bounds::{first_fault_by, greatest};
 use crate::numerals::number;
 use crate::{ArgumentFault, ArgumentRule};
-use language::{Arg, Args, Form, Numbers, Param};
+use language::{Arg, Args, Form, Numbers, Param, Refusal};
 use std::alloc::{AllocError, AllocFailed, Global};
 use std::fmt;
 
@@ -48,7 +48,7 @@ impl fmt::Display for ReadError {
     fn fmt<W: fmt::Write>(&self, f: &mut fmt::Formatter<W>) -> fmt::Result {
         match self {
             ReadError::Argument(fault) => write!(f, "{fault}"),
-            ReadError::Memory => f.write_str("M1: memory"),
+            ReadError::Memory => write!(f, "{}", Refusal::memory()),
         }
     }
 }

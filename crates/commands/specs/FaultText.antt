@@ -1,5 +1,5 @@
 -- The line and the exit status of each fault.
-use Rattle.std.specs.Prelude.{ℕ, List, ◌++◌, codes}
+use Rattle.std.specs.Prelude.{ℕ, List, ◌++◌, None, codes}
 use Rattle.std.specs.Fmt.{decimal}
 use Rattle.std.specs.String.{string_bytes}
 use Rattle.arguments.specs.Text as arguments
@@ -45,7 +45,7 @@ abbrev pub harts_fault_text : HartsFault → List ℕ
 harts_fault_text (harts.Schedule rule at) = rules.code_of rule ++ codes " at turn " ++ decimal at ++ codes ": "
     ++ rules.name_of rule
 harts_fault_text (harts.Argument hart rule index) = arguments.fault_text (record { rule = rule; index = index })
-harts_fault_text harts.Memory = codes "M1: memory"
+harts_fault_text harts.Memory = refusal_text OutOfMemory None
 
 -- a run that stopped otherwise than by ECALL, by its stop; else as what is refused
 abbrev pub run_line : RunFault → List ℕ

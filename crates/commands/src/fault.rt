@@ -127,7 +127,7 @@ impl fmt::Display for Fault<'_> {
                 };
                 write!(f, "refused: {fault}")
             }
-            Fault::Harts(HartsFault::Memory) => f.write_str("refused: M1: memory"),
+            Fault::Harts(HartsFault::Memory) => write!(f, "refused: {}", Refusal::memory()),
             Fault::Vectors(fault) => write!(f, "refused: {fault}"),
             Fault::Code(rule) => write!(f, "refused: {rule}"),
             Fault::Name(place) => {

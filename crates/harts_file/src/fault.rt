@@ -2,6 +2,7 @@ ghost use Rattle.std.specs.Prelude.{◌≡◌};
 ghost use Rattle.harts_file.specs.declared.fault.PlanFault.TheVariants.{Memory};
 
 use harts::HartsRule;
+use language::Refusal;
 use std::alloc::{AllocError, AllocFailed};
 use std::fmt;
 
@@ -44,7 +45,7 @@ impl fmt::Display for PlanFault {
                 let name = rule.name();
                 write!(f, "{code} at line {line}: {name}")
             }
-            PlanFault::Memory => f.write_str("M1: memory"),
+            PlanFault::Memory => write!(f, "{}", Refusal::memory()),
         }
     }
 }

@@ -1,11 +1,13 @@
 -- How faults of a run are printed.
-use Rattle.std.specs.Prelude.{ℕ, List, codes}
+use Rattle.std.specs.Prelude.{ℕ, List, None, codes}
 use Rattle.arguments.specs.Text.{fault_text}
 use Rattle.rv_machine.specs.Stops.{stop_name}
 use Rattle.hepurita.specs.declared.fault.RunFault.{RunFault}
 use Rattle.hepurita.specs.declared.fault.RunFault.TheVariants.{Argument, Memory, Stopped}
+use Rattle.language.specs.Rules.{refusal_text}
+use Rattle.language.specs.declared.rule.Rule.TheVariants.{OutOfMemory}
 
 abbrev pub run_fault_text : RunFault → List ℕ
 run_fault_text (Argument rule index) = fault_text (record { rule = rule; index = index })
-run_fault_text Memory = codes "M1: memory"
+run_fault_text Memory = refusal_text OutOfMemory None
 run_fault_text (Stopped stop) = stop_name stop

@@ -4,6 +4,7 @@ ghost use Rattle.std.specs.Prelude.{◌≡◌};
 ghost use Rattle.hepurita.specs.declared.fault.RunFault.TheVariants.{Argument, Memory};
 
 use arguments::{ArgumentFault, ArgumentRule};
+use language::Refusal;
 use rv_machine::Stop;
 use std::alloc::{AllocError, AllocFailed};
 use std::fmt;
@@ -62,7 +63,7 @@ impl fmt::Display for RunFault {
                 let fault = ArgumentFault { rule, index };
                 write!(f, "{fault}")
             }
-            RunFault::Memory => f.write_str("M1: memory"),
+            RunFault::Memory => write!(f, "{}", Refusal::memory()),
             RunFault::Stopped(stop) => write!(f, "{stop}"),
         }
     }

@@ -1,6 +1,7 @@
 ghost use Rattle.std.specs.Prelude.{◌≡◌};
 ghost use Rattle.image.specs.RuleNames.{code_of, name_of};
 
+use language::Refusal;
 use std::alloc::{AllocError, AllocFailed};
 use std::error::Error;
 use std::fmt;
@@ -107,7 +108,7 @@ impl fmt::Display for ImageFault {
                 let name = rule.name();
                 write!(f, "{rule} at byte {offset}: {name}")
             }
-            ImageFault::Memory => f.write_str("M1: memory"),
+            ImageFault::Memory => write!(f, "{}", Refusal::memory()),
         }
     }
 }

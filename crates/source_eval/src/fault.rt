@@ -2,7 +2,7 @@ ghost use Rattle.std.specs.Prelude.{◌≡◌};
 ghost use Rattle.source_eval.specs.declared.fault.EvalFault.TheVariants.{Memory};
 
 use arguments::ArgumentFault;
-use language::Place;
+use language::{Place, Refusal};
 use std::alloc::{AllocError, AllocFailed};
 use std::fmt;
 
@@ -47,7 +47,7 @@ impl fmt::Display for EvalFault {
             EvalFault::Argument(fault) => write!(f, "{fault}"),
             EvalFault::NoMeaning(_) => f.write_str("E1: no meaning"),
             EvalFault::Budget => f.write_str("E2: budget"),
-            EvalFault::Memory => f.write_str("M1: memory"),
+            EvalFault::Memory => write!(f, "{}", Refusal::memory()),
         }
     }
 }

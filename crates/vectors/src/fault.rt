@@ -3,6 +3,7 @@
 ghost use Rattle.std.specs.Prelude.{◌≡◌};
 ghost use Rattle.vectors.specs.declared.fault.VectorsFault.TheVariants.{Memory};
 
+use language::Refusal;
 use std::alloc::{AllocError, AllocFailed};
 use std::fmt;
 
@@ -41,7 +42,7 @@ impl fmt::Display for VectorsFault {
     fn fmt<W: fmt::Write>(&self, f: &mut fmt::Formatter<W>) -> fmt::Result {
         match *self {
             VectorsFault::Line { line } => write!(f, "V1 at line {line}: line form"),
-            VectorsFault::Memory => f.write_str("M1: memory"),
+            VectorsFault::Memory => write!(f, "{}", Refusal::memory()),
         }
     }
 }
