@@ -1,6 +1,7 @@
 -- Names gathered from a call's arguments tell whether one more argument clashes with those before it.
 use Rattle.std.proofs.Common.{◌≡◌, ◌<◌, ◌≤◌, ◌+◌, ℕ, zero, suc, Bool, true, false, ◌&&◌, ◌||◌, cond, None, Some}
-use Rattle.std.proofs.Common.{is_some, List, [], ◌∷◌, ◌++◌, map, take, drop, length, refl, ap, ap₂, sym, ◌∙◌, arith}
+use Rattle.std.proofs.Common.{Option, is_some, List, [], ◌∷◌, ◌++◌, map, take, drop, length, refl, ap, ap₂, sym}
+use Rattle.std.proofs.Common.{◌∙◌, arith}
 use Rattle.std.proofs.Math.ListN.{get_or, get_or-map}
 use Rattle.std.proofs.lemmas.List.{drop_all, drop_more, length-map, take_more}
 use Rattle.std.proofs.lemmas.List.Folds.{list_any-append}
@@ -14,6 +15,7 @@ use Rattle.language.specs.declared.tree.Parameter.{Parameter}
 use Rattle.language.specs.declared.typing.ValueType.{ValueType}
 use Rattle.language.specs.Tree.{ExprTree, ParameterTree, expr_tree, parameter_tree}
 use Rattle.language.specs.Typing.{Passed, array_name, clash, clashes, is_mutable, passed, same_name}
+use Rattle.labels.specs.Arrays.{was_given, with_array, with_changed}
 
 abbrev pub Names : Type 0
 Names = List (List ℕ × Bool)
@@ -228,7 +230,7 @@ item_below ps ts es i h same same' =
     )
 
 -- one more argument that is an array
-pub array_more : (p : Parameter) (t : ValueType) (ps : List Parameter) (ts : List ValueType) (es : List Expr)
+array_more : (p : Parameter) (t : ValueType) (ps : List Parameter) (ts : List ValueType) (es : List Expr)
     (e : Expr) (i : ℕ) (given changed given' changed' : Names) (one : List ℕ) (mutable clashed clash' final : Bool)
     →
     i < length ps → length ts ≡ length ps → length es ≡ length ps → e ≡ get_or es i e
@@ -273,7 +275,7 @@ other_beside p t ps ts es e i given changed clashed final h same same' here so_f
       clash = none_clash (all_passed ps ts es) i q clashed final below at is so_far.clash;
     }
 
-pub other_more : (t : ValueType) (ps : List Parameter) (ts : List ValueType) (es : List Expr) (e : Expr) (i : ℕ)
+other_more : (t : ValueType) (ps : List Parameter) (ts : List ValueType) (es : List Expr) (e : Expr) (i : ℕ)
     (given changed : Names) (clashed final : Bool) →
     i < length ps → length ts ≡ length ps → length es ≡ length ps → e ≡ get_or es i e
     → SoFar (all_passed ps ts es) i given changed clashed final →
@@ -281,6 +283,25 @@ pub other_more : (t : ValueType) (ps : List Parameter) (ts : List ValueType) (es
 other_more t [] ts es e i given changed clashed final h same same' here so_far is = absurd (omega arith)
 other_more t (p ∷ ps) ts es e i given changed clashed final h same same' here so_far is =
     other_beside p t (p ∷ ps) ts es e i given changed clashed final h same same' here so_far is
+
+-- one more argument
+pub argument_more : (p : Parameter) (t : ValueType) (ps : List Parameter) (ts : List ValueType) (es : List Expr)
+    (e : Expr) (i : ℕ) (given changed given' changed' : Names) (one : Option (List ℕ))
+    (mutable clashed clash' final : Bool) →
+    i < length ps → length ts ≡ length ps → length es ≡ length ps → e ≡ get_or es i e
+    → SoFar (all_passed ps ts es) i given changed clashed final →
+    one ≡ array_name (get_or ts i t) (expr_tree e) → mutable ≡ is_mutable (get_or ps i p).form →
+    given' ≡ with_array given one → changed' ≡ with_changed changed mutable one →
+    clash' ≡ was_given given changed mutable one →
+    SoFar (all_passed ps ts es) (i + 1) given' changed' (clashed || clash') final
+argument_more p t ps ts es e i given changed given' changed' (Some one) mutable clashed clash' final h same same' here
+    so_far is m g k new =
+    array_more p t ps ts es e i given changed given' changed' one mutable clashed clash' final h same same' here so_far is
+    m g k new
+argument_more p t ps ts es e i given changed given' changed' None mutable clashed clash' final h same same' here
+    so_far is m g k new =
+    rw (g, k, new, or-false clashed)
+    (other_more t ps ts es e i given changed clashed final h same same' here so_far is)
 
 -- no argument is left
 pub clash_last : (ps : List Parameter) (ts : List ValueType) (es : List Expr) (i : ℕ) (clashed final : Bool)

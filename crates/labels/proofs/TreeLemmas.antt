@@ -1,7 +1,7 @@
 -- The trees of conditionals and loops, by the lists of their statements; and their names are gone after them.
 use Rattle.std.proofs.lemmas.List.Sums.{fold-append}
-use Rattle.std.proofs.Common.{◌≡◌, ℕ, Bool, Option, Result, Ok, Err, OnOk, fold, true, false, ◌||◌, List, [], ◌∷◌}
-use Rattle.std.proofs.Common.{◌++◌, Vec, Global, length, is_some, cond, refl, sym, ap, ap₂, ◌∙◌}
+use Rattle.std.proofs.Common.{◌≡◌, ℕ, Bool, Option, Result, Ok, Err, OnOk, fold, true, false, List, [], ◌∷◌}
+use Rattle.std.proofs.Common.{◌++◌, Vec, Global, length, is_some, cond, refl, sym, ap, ◌∙◌}
 use Rattle.std.proofs.lemmas.List.{append_assoc, append-nil}
 use Rattle.std.proofs.Math.Seq.{take-append_seam}
 use Rattle.word.specs.declared.place.Place.{Place}
@@ -19,9 +19,9 @@ use Rattle.language.specs.declared.typing.Violation.{Violation}
 use Rattle.language.specs.declared.typing.ValueType.{ValueType}
 use Rattle.language.specs.ExprTyping.{expr_violations, type_of}
 use Rattle.language.specs.Types.{Scope, at, declared, found, of_one, of_two, when}
-use Rattle.language.specs.Typing.{block_assigns, block_violations, bounds_rules, condition_rules, control_under}
+use Rattle.language.specs.Typing.{block_violations, bounds_rules, condition_rules, control_under}
 use Rattle.language.specs.Typing.{counter_as, declared_array, declared_as, parameter_as, scope_after, scope_after_all}
-use Rattle.language.specs.Typing.{statement_assigns, statement_violations, with_parameters}
+use Rattle.language.specs.Typing.{statement_violations, with_parameters}
 use Rattle.scopes.specs.Shortened.{shortened}
 use Rattle.language.specs.Sooner.{sooner}
 

@@ -1,2 +1,4 @@
 pub mod Written
 pub mod Exports
+pub mod Inside
+pub mod Arrays

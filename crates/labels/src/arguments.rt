@@ -1,7 +1,7 @@
-ghost use Rattle.std.specs.Prelude.{◌≡◌, ◌++◌, [], fold, length, map};
+ghost use Rattle.std.specs.Prelude.{◌≡◌, ◌++◌, ◌&&◌, [], fold, length, map};
 ghost use Rattle.language.specs.Tree.{expr_tree, parameter_tree};
 ghost use Rattle.language.specs.Types.{are_met, at};
-ghost use Rattle.language.specs.Typing.{all_passed_rules, argument_variable, is_immutable, parameter_value, passed, passed_rules};
+ghost use Rattle.language.specs.Typing.{all_passed_rules, argument_variable, is_immutable, is_mutable, parameter_value, passed, passed_rules};
 ghost use Rattle.language.specs.Sooner.{sooner};
 
 use crate::values::note_argument;
@@ -46,6 +46,13 @@ fn is_immutable(variable: Option<VariableType>) -> bool
     }
 }
 
+/// Whether a parameter may change its argument, and that is an array that may not be assigned to.
+fn is_fixed<'a>(names: &Scope<'a>, parameter: &Parameter<'a>, argument: &Expr<'a>) -> bool
+    ensures { result ≡ (is_mutable parameter.now.form && is_immutable (argument_variable names.now (expr_tree argument.now))) }
+{
+    parameter.form.is_mutable() && is_immutable(argument_variable(names, argument))
+}
+
 /// Notes what an argument violates beside its parameter, and says whether it violates nothing.
 fn note_passed<'a>(
     names: &Scope<'a>,
@@ -59,7 +66,7 @@ fn note_passed<'a>(
     ensures first { first.new.seen ≡ fold sooner first.old.seen (at place (passed_rules names.now (record { parameter = parameter_tree parameter.now; given = given; argument = expr_tree argument.now }))) }
 {
     let fits = note_argument(first, place, parameter_value(parameter), given);
-    let fixed = parameter.form.is_mutable() && is_immutable(argument_variable(names, argument));
+    let fixed = is_fixed(names, parameter, argument);
     first.note_if(fixed, place, Rule::NotMutable);
     fits && !fixed
 }

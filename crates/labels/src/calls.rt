@@ -1,8 +1,8 @@
 ghost use Rattle.std.specs.Prelude.{◌≡◌, ◌&&◌, None, Some, fold, length, map, IfOk, OnOk, if◌then◌else◌};
 ghost use Rattle.std.specs.Option.{option_map};
 ghost use Rattle.language.specs.Tree.{call_tree, expr_tree, parameter_tree, procedure_tree};
-ghost use Rattle.language.specs.Types.{are_met, at, is_secret, when};
-ghost use Rattle.language.specs.Typing.{arguments_rules, call_type, call_violations, called_one, result_value};
+ghost use Rattle.language.specs.Types.{are_met, at, callee, found, is_secret, when};
+ghost use Rattle.language.specs.Typing.{arguments_rules, call_type, call_violations, called_one, known_call_rules, known_call_type, result_value};
 ghost use Rattle.language.specs.declared.rule.Rule.TheVariants.{CallAssignsPublicUnderSecretControl};
 ghost use Rattle.language.specs.Sooner.{sooner};
 
@@ -56,8 +56,13 @@ fn called<'p, 'a>(
 ) -> Option<(Callee, &'p Procedure<'a>)>
     ensures { option_map (λ known. (known.0, procedure_tree known.1.now)) result ≡ called_one (map procedure_tree earlier.now) what }
 {
-    let callee = what?;
-    Some((callee, earlier.get(callee.number)?))
+    let Some(callee) = what else {
+        return None;
+    };
+    let Some(procedure) = earlier.get(callee.number) else {
+        return None;
+    };
+    Some((callee, procedure))
 }
 
 /// Notes a call under secret control that may assign to something public, and says whether it is none.
@@ -81,6 +86,32 @@ fn given(met: bool, wanted: Option<WordType>) -> Option<ValueType>
     }
 }
 
+/// Notes what a call violates whose arguments are well typed, and gives its type where it is too.
+fn known_call<'a>(
+    alloc: Global,
+    names: &Scope<'a>,
+    first: &mut First,
+    earlier: &[Procedure<'a>],
+    control: Label,
+    call: &Call<'a>,
+    types: &[ValueType],
+) -> Result<Option<ValueType>, AllocError>
+    requires { length types.now ≡ length call.now.arguments.items }
+    ensures typed { IfOk result (λ type. type ≡ known_call_type names.now control (map expr_tree call.now.arguments.items)
+        (called_one (map procedure_tree earlier.now) (callee (found names.now call.now.name.now))) types.now) }
+    ensures first { OnOk result (first.new.seen ≡ fold sooner first.old.seen (at call.now.place (known_call_rules names.now control (map expr_tree call.now.arguments.items)
+        (called_one (map procedure_tree earlier.now) (callee (found names.now call.now.name.now))) types.now))) }
+{
+    let Some((callee, procedure)) = called(earlier, names.callee(call.name)) else {
+        first.note_if(true, call.place, Rule::ProcedureNotDeclaredEarlier);
+        return Ok(None);
+    };
+    let parameters = procedure.parameters.as_slice();
+    let met = note_arguments(alloc, names, first, parameters, types, call)?;
+    let allowed = note_call_control(first, call.place, control, callee);
+    Ok(given(met && allowed, procedure.result))
+}
+
 /// Notes what a call violates, and gives its type where it is well typed.
 pub fn call<'a>(
     alloc: Global,
@@ -93,16 +124,16 @@ pub fn call<'a>(
     ensures typed { IfOk result (λ type. type ≡ call_type (map procedure_tree earlier.now) names.now control (call_tree call.now)) }
     ensures first { OnOk result (first.new.seen ≡ fold sooner first.old.seen (call_violations (map procedure_tree earlier.now) names.now control (call_tree call.now))) }
 {
-    let arguments = call.arguments.as_slice();
-    let Some(types) = expressions(alloc, names, first, arguments)? else {
-        return Ok(None);
-    };
-    let Some((callee, procedure)) = called(earlier, names.callee(call.name)) else {
-        first.note_if(true, call.place, Rule::ProcedureNotDeclaredEarlier);
-        return Ok(None);
-    };
-    let parameters = procedure.parameters.as_slice();
-    let met = note_arguments(alloc, names, first, parameters, types.as_slice(), call)?;
-    let allowed = note_call_control(first, call.place, control, callee);
-    Ok(given(met && allowed, procedure.result))
+    match expressions(alloc, names, first, call.arguments.as_slice())? {
+        Some(types) => known_call(
+            alloc,
+            names,
+            first,
+            earlier,
+            control,
+            call,
+            types.as_slice(),
+        ),
+        None => Ok(None),
+    }
 }

@@ -5,6 +5,7 @@ ghost use Rattle.language.specs.Tree.{expr_tree, parameter_tree};
 ghost use Rattle.language.specs.Typing.{array_name, clashes, passed};
 ghost use Rattle.language.specs.declared.typing.ArrayType.{ArrayType};
 ghost use Rattle.language.specs.declared.typing.ValueType.TheVariants.{Array};
+ghost use Rattle.labels.specs.Arrays.{was_given, with_array, with_changed};
 
 use language::{Expr, Parameter, ValueType};
 use names::Names;
@@ -54,6 +55,44 @@ impl<'a> Arrays<'a> {
         }
         Ok(changed || (mutable && given))
     }
+
+    /// One more argument, which is an array or none. Answers the same of an array.
+    fn take(
+        &mut self,
+        mutable: bool,
+        given: ValueType,
+        argument: &Expr<'a>,
+    ) -> Result<bool, AllocError>
+        ensures clash { IfOk result (λ clash. clash ≡ was_given self.old.given self.old.changed mutable (array_name given (expr_tree argument.now))) }
+        ensures given { OnOk result (self.new.given ≡ with_array self.old.given (array_name given (expr_tree argument.now))) }
+        ensures changed { OnOk result (self.new.changed ≡ with_changed self.old.changed mutable (array_name given (expr_tree argument.now))) }
+    {
+        match array_name(given, argument) {
+            Some(name) => self.give(name, mutable),
+            None => Ok(false),
+        }
+    }
+}
+
+/// Whether one of these arrays, which are the first, is given twice and may be changed.
+fn any_clash<'a>(
+    arrays: &mut Arrays<'a>,
+    parameters: &[Parameter<'a>],
+    types: &[ValueType],
+    arguments: &[Expr<'a>],
+) -> Result<bool, AllocError>
+    requires given { arrays.old.given ≡ [] }
+    requires changed { arrays.old.changed ≡ [] }
+    requires types { length types.now ≡ length parameters.now }
+    requires arguments { length arguments.now ≡ length parameters.now }
+    ensures { IfOk result (λ clash. clash ≡ clashes [] (passed (map parameter_tree parameters.now) types.now (map expr_tree arguments.now))) }
+{
+    let mut clash = false;
+    for (index, parameter) in parameters.iter().enumerate() {
+        let mutable = parameter.form.is_mutable();
+        clash |= arrays.take(mutable, types[index], &arguments[index])?;
+    }
+    Ok(clash)
 }
 
 /// Whether one array is given twice and may be changed.
@@ -71,11 +110,5 @@ pub fn arrays_clash<'a>(
         given: Names::new(alloc),
         changed: Names::new(alloc),
     };
-    let mut clash = false;
-    for (index, parameter) in parameters.iter().enumerate() {
-        if let Some(name) = array_name(types[index], &arguments[index]) {
-            clash |= arrays.give(name, parameter.form.is_mutable())?;
-        }
-    }
-    Ok(clash)
+    any_clash(&mut arrays, parameters, types, arguments)
 }

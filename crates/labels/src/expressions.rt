@@ -1,4 +1,4 @@
-ghost use Rattle.std.specs.Prelude.{◌≡◌, fold, length, map, IfOk, IfSome, OnOk};
+ghost use Rattle.std.specs.Prelude.{◌≡◌, ◌++◌, ◌∷◌, [], is_some, fold, length, map, IfOk, IfSome, OnOk};
 ghost use Rattle.std.specs.Option.{option_map};
 ghost use Rattle.language.specs.ExprTyping.{expr_violations, exprs_violations, name_rules, name_type, type_of, types_of};
 ghost use Rattle.language.specs.Tree.{expr_tree};
@@ -71,6 +71,20 @@ pub fn expression<'a>(names: &Scope<'a>, first: &mut First, expr: &Expr<'a>) -> 
     }
 }
 
+/// Adds one more type to those found, and says whether there is one.
+fn keep(types: &mut Vec<ValueType>, one: Option<ValueType>) -> Result<bool, AllocError>
+    ensures kept { IfOk result (λ kept. kept ≡ is_some one) }
+    ensures types { OnOk result (IfSome one (λ type. types.new.items ≡ types.old.items ++ type ∷ [])) }
+{
+    match one {
+        Some(one) => {
+            types.push(one)?;
+            Ok(true)
+        }
+        None => Ok(false),
+    }
+}
+
 /// Notes what expressions violate, and gives their types where all are well typed.
 pub fn expressions<'a>(
     alloc: Global,
@@ -85,10 +99,8 @@ pub fn expressions<'a>(
     let mut types = Vec::new(alloc);
     let mut typed = true;
     for expr in exprs {
-        match expression(names, first, expr) {
-            Some(one) => types.push(one)?,
-            None => typed = false,
-        }
+        let one = expression(names, first, expr);
+        typed &= keep(&mut types, one)?;
     }
     if typed { Ok(Some(types)) } else { Ok(None) }
 }

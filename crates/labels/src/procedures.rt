@@ -2,8 +2,9 @@ ghost use Rattle.std.specs.Prelude.{◌≡◌, [], fold, length, map, OnOk};
 ghost use Rattle.std.specs.Option.{option_map};
 ghost use Rattle.language.specs.Tree.{parameter_tree, procedure_tree, return_tree};
 ghost use Rattle.language.specs.Types.{at, of_one};
-ghost use Rattle.language.specs.Typing.{parameter_violations, procedure_rules, procedure_violations, return_rules, return_violations, with_parameters, with_procedure};
+ghost use Rattle.language.specs.Typing.{parameter_violations, procedure_rules, procedure_violations, return_rules, return_violations, scope_after_all, with_parameters, with_procedure};
 ghost use Rattle.language.specs.Sooner.{sooner};
+ghost use Rattle.labels.specs.Inside.{inside_violations};
 
 use crate::arguments::parameter_value;
 use crate::expressions::expression;
@@ -75,6 +76,24 @@ fn note_procedure(first: &mut First, taken: bool, procedure: &Procedure<'_>)
     first.note_if(lacking, procedure.place, Rule::ReturnMismatch);
 }
 
+/// What a procedure declares after its name, and what it violates there.
+fn inside<'a>(
+    alloc: Global,
+    names: &mut Scope<'a>,
+    first: &mut First,
+    earlier: &[Procedure<'a>],
+    procedure: &Procedure<'a>,
+) -> Result<(), AllocError>
+    ensures names { OnOk result (names.new ≡ scope_after_all (with_parameters names.old (procedure_tree procedure.now).parameters) (procedure_tree procedure.now).body) }
+    ensures first { OnOk result (first.new.seen ≡ fold sooner first.old.seen (inside_violations (map procedure_tree earlier.now) names.old (procedure_tree procedure.now))) }
+{
+    parameters(names, first, procedure.parameters.as_slice())?;
+    let body = procedure.body.as_slice();
+    statements(alloc, names, first, earlier, Label::Public, body)?;
+    returned(names, first, procedure.result, &procedure.returned);
+    Ok(())
+}
+
 /// A procedure after the earlier ones: its name is in scope from here on, and what it declares is its
 /// own.
 pub fn procedure<'a>(
@@ -94,10 +113,7 @@ pub fn procedure<'a>(
     let taken = names.declare(procedure.name, Declared::Procedure(callee))?;
     let outside = names.len();
     note_procedure(first, taken, procedure);
-    parameters(names, first, procedure.parameters.as_slice())?;
-    let body = procedure.body.as_slice();
-    statements(alloc, names, first, earlier, Label::Public, body)?;
-    returned(names, first, procedure.result, &procedure.returned);
+    inside(alloc, names, first, earlier, procedure)?;
     names.truncate(outside);
     Ok(())
 }

@@ -1,8 +1,7 @@
-use Rattle.std.proofs.Common.{map, length, ap, ap₂, ◌∙◌}
+use Rattle.std.proofs.Common.{length, ap, ap₂, ◌∙◌}
 use Rattle.language.specs.declared.typing.Declared.TheVariants.{Procedure}
-use Rattle.language.specs.Tree.{block_tree, parameter_tree}
+use Rattle.language.specs.Tree.{procedure_tree}
 use Rattle.language.specs.Types.{declared}
-use Rattle.language.specs.Typing.{scope_after_all}
 use Rattle.scopes.specs.Shortened.{shortened}
 use Rattle.labels.proofs.TreeLemmas.{scope_before_body}
 use Rattle.labels.proofs.procedures.procedure.Goals as goal
@@ -10,11 +9,9 @@ use Rattle.labels.proofs.procedures.procedure.Goals as goal
 pub returns-clause-names : goal.returns-clause-names
 returns-clause-names c =
     c.truncate.ensures
-    ∙ ap₂ shortened c.len-outside.ensures (c.in_ok-statements.ensures.names
-    ∙ ap (λ scope. scope_after_all scope (block_tree c.as_slice-body.result.now))
-    c.in_ok-parameters.ensures.names)
-    ∙ scope_before_body c.declare.new.self (map parameter_tree c.as_slice.result.now)
-    (block_tree c.as_slice-body.result.now)
+    ∙ ap₂ shortened c.len-outside.ensures c.in_ok-inside.ensures.names
+    ∙ scope_before_body c.declare.new.self (procedure_tree c.args.procedure.now).parameters
+    (procedure_tree c.args.procedure.now).body
     ∙ c.in_ok-taken.ensures.ok
     ∙ ap (λ assigns. declared c.args.names.now c.args.procedure.now.name.now
     (Procedure (record { number = length c.args.earlier.now; assigns_public = assigns })))

@@ -1,7 +1,7 @@
 use Rattle.std.proofs.Common.{[]}
 use Rattle.language.specs.Typing.{clashes}
 use Rattle.labels.proofs.ClashLemmas.{SoFar, all_passed}
-use Rattle.labels.proofs.clashes.arrays_clash.Given as goal
+use Rattle.labels.proofs.clashes.any_clash.Given as goal
 
 -- the names are those of the arguments so far, and what is left clashes with them as it should
 abbrev pub invariant-loop-index : goal.invariant-loop-index

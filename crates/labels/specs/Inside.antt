@@ -1,0 +1,14 @@
+-- What a procedure violates after its name.
+use Rattle.std.specs.Prelude.{List, ◌++◌}
+use Rattle.language.specs.declared.signature.Label.TheVariants.{Public}
+use Rattle.language.specs.declared.typing.Violation.{Violation}
+use Rattle.language.specs.Tree.{ProcedureTree}
+use Rattle.language.specs.Types.{Scope}
+use Rattle.language.specs.Typing.{block_violations, parameter_violations, return_violations, scope_after_all}
+use Rattle.language.specs.Typing.{with_parameters}
+
+-- at its parameters, in its body and at its `return`, in the scope that has its name
+abbrev pub inside_violations : List ProcedureTree → Scope → ProcedureTree → List Violation
+inside_violations earlier scope p =
+    parameter_violations scope p.parameters ++ block_violations earlier (with_parameters scope p.parameters) Public p.body
+    ++ return_violations (scope_after_all (with_parameters scope p.parameters) p.body) p.result p.returned
