@@ -9,7 +9,7 @@ use crate::operations::{
 use crate::{BranchOffset, FenceBits, Immediate12, JumpOffset, Reg, ShiftAmount, UpperImmediate};
 
 /// An instruction.
-#[derive(Clone, Copy, Debug, PartialEq, Eq)]
+#[derive(Clone, Copy)]
 pub enum Instr {
     /// rd gets a value made of the upper immediate.
     Upper(UpperOperation, Reg, UpperImmediate),
