@@ -17,7 +17,7 @@ use rv_code::{
 use word::Width;
 
 /// What an instruction does, before memory has its say.
-#[derive(Clone, Copy, Debug, PartialEq, Eq)]
+#[derive(Clone, Copy)]
 pub enum Effect {
     /// The register gets this value.
     Computes(Reg, u32),

@@ -51,6 +51,17 @@ impl PagedMemory {
         Ok(())
     }
 
+    // Puts a page without a byte first, where there is no page.
+    fn add_first(alloc: Global, pages: &mut Vec<FlatMemory>) -> Result<(), AllocError>
+        ensures first { OnOk result (1 ≤ vec_len pages.new) }
+        ensures bytes { OnOk result ((a : ℕ) → bytes_in pages.new.items a ≡ bytes_in pages.old.items a) }
+    {
+        if pages.is_empty() {
+            pages.push(FlatMemory::new(alloc, 0, 0)?)?;
+        }
+        Ok(())
+    }
+
     /// Zero bytes at the addresses of these ranges.
     pub fn new(alloc: Global, ranges: &[AddressRange]) -> Result<PagedMemory, AllocError>
         requires { All (λ range. range.end ≤ 2 ^ 32) ranges.now }
@@ -60,9 +71,7 @@ impl PagedMemory {
         for &range in ranges {
             PagedMemory::add_pages(alloc, &mut pages, range)?;
         }
-        if pages.is_empty() {
-            pages.push(FlatMemory::new(alloc, 0, 0)?)?;
-        }
+        PagedMemory::add_first(alloc, &mut pages)?;
         Ok(PagedMemory { pages })
     }
 

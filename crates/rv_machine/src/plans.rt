@@ -21,7 +21,7 @@ use rv_code::{LoadOperation, Reg, StoreOperation};
 use word::Profile;
 
 /// What a turn changes, where the recorder takes what it shows.
-#[derive(Clone, Copy, Debug, PartialEq, Eq)]
+#[derive(Clone, Copy)]
 pub enum Change {
     /// The register gets this value, and the hart goes on to the next instruction.
     Writes(Reg, u32),
@@ -37,7 +37,7 @@ pub enum Change {
 }
 
 /// What a turn shows besides its program counter, and what it changes.
-#[derive(Clone, Copy, Debug, PartialEq, Eq)]
+#[derive(Clone, Copy)]
 pub struct Plan {
     pub event: Option<Event>,
     pub change: Change,
