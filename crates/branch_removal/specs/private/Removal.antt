@@ -12,7 +12,8 @@ use Rattle.language.specs.declared.signature.Label.{Label}
 use Rattle.language.specs.declared.signature.Label.TheVariants.{Public, Secret}
 use Rattle.word.specs.declared.place.Place.{Place}
 
-abbrev single : StraightTree → StraightBlock
+-- the block of one statement
+abbrev pub single : StraightTree → StraightBlock
 single statement = first statement nothing
 
 -- an assignment under the enclosing control value, where there is one

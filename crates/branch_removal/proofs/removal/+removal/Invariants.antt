@@ -20,7 +20,16 @@ invariant-push_removed_all-loop-statement l =
 -- Each call is for a part of what it is called in; the code that is made grows.
 
 abbrev pub decreases-push_removed : goal.decreases-push_removed
-decreases-push_removed l = 2 * tree_nodes (flat_tree l.statement.now)
+decreases-push_removed l = 4 * tree_nodes (flat_tree l.statement.now)
 
 abbrev pub decreases-push_removed_all : goal.decreases-push_removed_all
-decreases-push_removed_all l = 2 * body_nodes (flat_block l.body.now) + 1
+decreases-push_removed_all l = 4 * body_nodes (flat_block l.body.now) + 1
+
+abbrev pub decreases-part : goal.decreases-part
+decreases-part l = 4 * body_nodes (flat_block l.body.now) + 2
+
+abbrev pub decreases-push_secret : goal.decreases-push_secret
+decreases-push_secret l = 4 * (body_nodes (flat_block l.accepted.now) + body_nodes (flat_block l.otherwise.now)) + 3
+
+abbrev pub decreases-push_public : goal.decreases-push_public
+decreases-push_public l = 4 * (body_nodes (flat_block l.accepted.now) + body_nodes (flat_block l.otherwise.now)) + 3
