@@ -3,6 +3,7 @@
 ghost use Rattle.std.specs.Prelude.{◌≡◌, map, IfOk, IfErr, OnOk};
 ghost use Rattle.std.specs.Option.{option_map};
 ghost use Rattle.language.specs.Meaning.{argument_held, array_named, begun, copied_out, gone_back, words_left};
+ghost use Rattle.language.specs.State.{empty};
 ghost use Rattle.language.specs.Tree.{expr_tree, parameter_tree};
 ghost use Rattle.source_eval.specs.Views.{held, value_of, word_of};
 ghost use Rattle.source_eval.specs.declared.fault.EvalFault.TheVariants.{Memory};
@@ -61,6 +62,31 @@ fn words_left(form: Form, words: &[Word]) -> &[Word]
     }
 }
 
+/// Gives the names of a called body, which hold nothing, what they hold at first.
+fn begin<'a>(
+    inner: &mut Variables<'a>,
+    caller: &Variables<'a>,
+    parameters: &[Parameter<'a>],
+    arguments: &[Expr<'a>],
+    words: &[Word],
+) -> Result<(), EvalFault>
+    requires { held inner.old ≡ empty }
+    ensures ok { OnOk result (held inner.new ≡ begun (held caller.now) (map parameter_tree parameters.now) (map expr_tree arguments.now) (map word_of words.now)) }
+    ensures memory { IfErr result (λ fault. fault ≡ Memory) }
+{
+    let mut left = words;
+    for (index, parameter) in parameters.iter().enumerate() {
+        let Some(argument) = arguments.get(index) else {
+            return Ok(());
+        };
+        if let Some(value) = argument_held(caller, parameter.form, argument, left)? {
+            inner.set_first(parameter.name, value)?;
+        }
+        left = words_left(parameter.form, left);
+    }
+    Ok(())
+}
+
 /// What the names of a called body hold at first: the words that were evaluated, and copies of arrays.
 pub fn begun<'a>(
     alloc: Global,
@@ -73,16 +99,7 @@ pub fn begun<'a>(
     ensures memory { IfErr result (λ fault. fault ≡ Memory) }
 {
     let mut inner = Variables::new(alloc);
-    let mut left = words;
-    for (index, parameter) in parameters.iter().enumerate() {
-        let Some(argument) = arguments.get(index) else {
-            return Ok(inner);
-        };
-        if let Some(value) = argument_held(caller, parameter.form, argument, left)? {
-            inner.set_first(parameter.name, value)?;
-        }
-        left = words_left(parameter.form, left);
-    }
+    begin(&mut inner, caller, parameters, arguments, words)?;
     Ok(inner)
 }
 

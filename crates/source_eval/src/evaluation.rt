@@ -1,13 +1,15 @@
 // The program.
 
-ghost use Rattle.std.specs.Prelude.{◌≡◌, ◌≢◌, Err, Some, map, IfOk, IfErr};
+ghost use Rattle.std.specs.Prelude.{◌≡◌, ◌≢◌, Err, Some, map, IfOk, IfErr, OnOk};
 ghost use Rattle.std.specs.Option.{option_map};
 ghost use Rattle.language.specs.Evaluation.{export_run};
 ghost use Rattle.language.specs.Limits.{most_bodies};
 ghost use Rattle.language.specs.Meaning.{argument_value, final_arrays, holding};
+ghost use Rattle.language.specs.Signature.{param_of};
+ghost use Rattle.language.specs.State.{empty};
 ghost use Rattle.language.specs.Tree.{parameter_tree, procedure_tree, program_tree};
 ghost use Rattle.arguments.specs.Faults.{fault_of};
-ghost use Rattle.source_eval.specs.Answer.{answer, params_of};
+ghost use Rattle.source_eval.specs.Answer.{answer, judged_answer, params_of};
 ghost use Rattle.source_eval.specs.Metering.{Ended, Stopped};
 ghost use Rattle.source_eval.specs.Views.{held, value_of, word_of};
 ghost use Rattle.source_eval.specs.declared.fault.EvalFault.TheVariants.{Memory};
@@ -36,6 +38,27 @@ fn argument_value(alloc: Global, kind: Kind, arg: &Arg) -> Result<Value, EvalFau
     }
 }
 
+/// Gives the names of the export, which hold nothing, what they hold at first.
+fn hold<'a>(
+    alloc: Global,
+    variables: &mut Variables<'a>,
+    parameters: &[Parameter<'a>],
+    args: &[Arg],
+) -> Result<(), EvalFault>
+    requires { held variables.old ≡ empty }
+    ensures ok { OnOk result (held variables.new ≡ holding (map parameter_tree parameters.now) args.now) }
+    ensures memory { IfErr result (λ fault. fault ≡ Memory) }
+{
+    for (index, parameter) in parameters.iter().enumerate() {
+        let Some(arg) = args.get(index) else {
+            return Ok(());
+        };
+        let value = argument_value(alloc, parameter.kind, arg)?;
+        variables.set_first(parameter.name, value)?;
+    }
+    Ok(())
+}
+
 /// What the names of the export hold at first.
 fn holding<'a>(
     alloc: Global,
@@ -46,13 +69,7 @@ fn holding<'a>(
     ensures memory { IfErr result (λ fault. fault ≡ Memory) }
 {
     let mut variables = Variables::new(alloc);
-    for (index, parameter) in parameters.iter().enumerate() {
-        let Some(arg) = args.get(index) else {
-            return Ok(variables);
-        };
-        let value = argument_value(alloc, parameter.kind, arg)?;
-        variables.set_first(parameter.name, value)?;
-    }
+    hold(alloc, &mut variables, parameters, args)?;
     Ok(variables)
 }
 
@@ -102,6 +119,24 @@ fn run_export<'a>(
     Ok(Outcome::new(number(returned), arrays))
 }
 
+/// What an export gives on arguments behind the earlier procedures, as `eval`.
+fn eval_export<'a>(
+    alloc: Global,
+    earlier: &[Procedure<'a>],
+    export: &Procedure<'a>,
+    args: &Args,
+    budget: u64,
+) -> Result<Outcome, EvalFault>
+    ensures answer { result ≢ Err Memory → result ≡ judged_answer (fault_of (map param_of (procedure_tree export.now).parameters) args.now) (export_run (map procedure_tree earlier.now) (procedure_tree export.now) args.now) budget }
+    ensures judged { (fault : ArgumentFault) → fault_of (map param_of (procedure_tree export.now).parameters) args.now ≡ Some fault → result ≡ Err (EvalFault.Argument fault) }
+{
+    if let Some(fault) = first_fault_of(&export.parameters, args) {
+        return Err(EvalFault::Argument(fault));
+    }
+    let mut left = budget;
+    run_export(alloc, earlier, &mut left, export, args.as_slice())
+}
+
 /// What a program gives on arguments: the source's own meaning, with real branches. Else the first fault of the
 /// arguments; else that more nodes are evaluated than the budget, or more than 64 bodies open, before the run ends
 /// or meets its fault; else the fault that it meets.
@@ -115,15 +150,11 @@ pub fn eval(
     // Whatever memory does.
     ensures judged { (fault : ArgumentFault) → fault_of (params_of (program_tree program.now)) args.now ≡ Some fault → result ≡ Err (EvalFault.Argument fault) }
 {
-    let Some((earlier, export)) = program.exported() else {
-        return match first_fault_of(&[], args) {
-            Some(fault) => Err(EvalFault::Argument(fault)),
-            None => Ok(Outcome::new(None, Vec::new(alloc))),
-        };
-    };
-    if let Some(fault) = first_fault_of(&export.parameters, args) {
-        return Err(EvalFault::Argument(fault));
+    if let Some((earlier, export)) = program.exported() {
+        return eval_export(alloc, earlier, export, args, budget);
     }
-    let mut left = budget;
-    run_export(alloc, earlier, &mut left, export, args.as_slice())
+    match first_fault_of(&[], args) {
+        Some(fault) => Err(EvalFault::Argument(fault)),
+        None => Ok(Outcome::new(None, Vec::new(alloc))),
+    }
 }

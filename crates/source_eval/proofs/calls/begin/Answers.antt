@@ -2,8 +2,8 @@ use Rattle.std.proofs.Common.{ap, map, sym, ◌∙◌}
 use Rattle.std.specs.Option.{option_map}
 use Rattle.source_eval.specs.Views.{held, value_of, word_of}
 use Rattle.source_eval.proofs.BeginningLemmas.{begun_all, begun_early, begun_more, begun_same}
-use Rattle.source_eval.proofs.calls.begun.Goals as goal
-use Rattle.source_eval.proofs.calls.begun.Goals.{in-Some-2+in_ok-set_first, in_default-2}
+use Rattle.source_eval.proofs.calls.begin.Goals as goal
+use Rattle.source_eval.proofs.calls.begin.Goals.{in-Some-2+in_ok-set_first, in_default-2}
 
 pub returns-in_default-clause-ok : goal.returns-in_default-clause-ok
 returns-in_default-clause-ok c =

@@ -3,7 +3,7 @@ use Rattle.language.specs.Meaning.{begun}
 use Rattle.language.specs.Tree.{expr_tree, parameter_tree}
 use Rattle.source_eval.specs.Views.{held, word_of}
 use Rattle.source_eval.proofs.BeginningLemmas.{over}
-use Rattle.source_eval.proofs.calls.begun.Given as goal
+use Rattle.source_eval.proofs.calls.begin.Given as goal
 
 -- what is held, over what the parameters left hold, is what all hold
 abbrev pub invariant-loop-index : goal.invariant-loop-index

@@ -3,7 +3,7 @@ use Rattle.language.specs.Meaning.{holding}
 use Rattle.language.specs.Tree.{parameter_tree}
 use Rattle.source_eval.specs.Views.{held}
 use Rattle.source_eval.proofs.BeginningLemmas.{over}
-use Rattle.source_eval.proofs.evaluation.holding.Given as goal
+use Rattle.source_eval.proofs.evaluation.hold.Given as goal
 
 -- what is held, over what the parameters left hold, is what all hold
 abbrev pub invariant-loop-index : goal.invariant-loop-index

@@ -1,6 +1,6 @@
 use Rattle.source_eval.specs.Views.{held, value_of}
 use Rattle.source_eval.proofs.BeginningLemmas.{holding_all, holding_early, holding_more}
-use Rattle.source_eval.proofs.evaluation.holding.Goals as goal
+use Rattle.source_eval.proofs.evaluation.hold.Goals as goal
 
 pub returns-in_default-clause-ok : goal.returns-in_default-clause-ok
 returns-in_default-clause-ok c =
