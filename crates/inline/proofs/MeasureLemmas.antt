@@ -65,16 +65,19 @@ limits_counted place n w b =
     (same_test most_bodies (counted b) b (omega arith) (omega arith)))
     (same_test most_declared_bytes (4 * counted w) (4 * w) (omega arith) (omega arith))
 
+-- the size of the export, by what counts the earlier procedures
+pub size_exact : (counts extents : Extents) → AreCountsTo most_counted counts extents → (p : ProcedureTree)
+    (words : ℕ) (size : Size) → words ≡ counted (parameter_words p.parameters) → size ≡ procedure_size counts words p
+    → size ≡ procedure_size extents (parameter_words p.parameters) p
+size_exact counts extents same p words size taken is =
+    procedure_alike counts extents p size words (parameter_words p.parameters) same taken is
+
 -- what is said of the size of the export is said of the export
-module _ (counts extents : Extents) (same : AreCountsTo most_counted counts extents) (p : ProcedureTree) (words : ℕ)
-    (size : Size)
-    (taken : words ≡ counted (parameter_words p.parameters)) (is : size ≡ procedure_size counts words p) where
+module _ (extents : Extents) (p : ProcedureTree) (size : Size)
+    (exact : size ≡ procedure_size extents (parameter_words p.parameters) p) where
   abbrev own : List Violation
   own = passed_limits p.place (nodes_of extents p) (parameter_words p.parameters + block_words extents p.body)
       (bodies_of extents p)
-
-  exact : size ≡ procedure_size extents (parameter_words p.parameters) p
-  exact = procedure_alike counts extents p size words (parameter_words p.parameters) same taken is
 
   limits : passed_limits p.place size.nodes size.words size.bodies ≡ own
   limits = ap (λ (s : Size). passed_limits p.place s.nodes s.words s.bodies) exact

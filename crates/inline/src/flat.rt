@@ -67,7 +67,7 @@ impl FlatVariable {
 
 /// An expression over numbered variables. Where the width of an operand decides what a node means, the
 /// node has it: the left operand's. A node that may meet a fault has its place.
-#[derive(Debug, Drop)]
+#[derive(Drop)]
 pub enum Term {
     Number(u32, Kind),
     Truth(bool),
@@ -85,7 +85,7 @@ pub enum Term {
 }
 
 /// A statement over numbered variables.
-#[derive(Debug, Drop)]
+#[derive(Drop)]
 pub enum FlatStatement {
     /// A variable of this number and type begins, `mut` or not, with its first value.
     Declare(u32, WordType, bool, Term),

@@ -13,6 +13,7 @@ mod numbering;
 mod program;
 mod sizes;
 mod statements;
+mod typed;
 
 pub use flat::{FlatStatement, FlatVariable, Term};
 pub use inlining::inline;

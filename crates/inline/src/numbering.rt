@@ -9,6 +9,7 @@ ghost use Rattle.language.specs.Tree.{expr_tree, parameter_tree, return_tree, wr
 ghost use Rattle.language.specs.Types.{joined};
 ghost use Rattle.language.specs.WellTyped.{labelled};
 
+use crate::typed::{binary, element, prefix, rotate, select};
 use crate::{FlatStatement, FlatVariable, Term};
 use language::{ArrayDeclaration, Expr, Kind, Label, Param, Parameter, Return, WordType};
 use names::Names;
@@ -127,7 +128,7 @@ impl<'a> Numbering<'a> {
     }
 
     /// The label of an expression: secret where one of its operands is.
-    pub(crate) fn label(&self, expr: &Expr<'_>) -> Label
+    pub(crate) fn label(&self, expr: &Expr<'a>) -> Label
         ensures { result ≡ numbered.label_in self.now.names (expr_tree expr.now) }
     {
         match expr {
@@ -147,7 +148,7 @@ impl<'a> Numbering<'a> {
     }
 
     /// An expression with numbers in place of names, and its kind.
-    fn typed(&self, expr: &Expr<'_>) -> Result<(Term, Kind), AllocError>
+    fn typed(&self, expr: &Expr<'a>) -> Result<(Term, Kind), AllocError>
         ensures term { IfOk result (λ whole. term_tree whole.0 ≡ numbered.term self.now.names (expr_tree expr.now)) }
         ensures kind { IfOk result (λ whole. whole.1 ≡ numbered.kind_in self.now.names (expr_tree expr.now)) }
     {
@@ -162,55 +163,39 @@ impl<'a> Numbering<'a> {
                 } = self.numbered(text);
                 Ok((Term::Variable(number), declaration.word.kind))
             }
-            Expr::Prefix(_, operator, operand) => {
-                let (term, kind) = self.typed(operand)?;
-                let operand = Box::new(alloc, term)?;
-                Ok((Term::Prefix(*operator, kind.width(), operand), kind))
-            }
+            Expr::Prefix(_, operator, operand) => prefix(alloc, *operator, self.typed(operand)?),
             Expr::Binary(place, operator, left, right) => {
-                let (term, kind) = self.typed(left)?;
-                let left = Box::new(alloc, term)?;
-                let right = Box::new(alloc, self.typed(right)?.0)?;
-                let whole = Term::Binary(*place, *operator, kind.width(), left, right);
-                Ok((whole, operator.result_kind(kind)))
+                let left = self.typed(left)?;
+                let (right, _) = self.typed(right)?;
+                binary(alloc, *place, *operator, left, right)
             }
-            Expr::Rotate(_, operand, amount) => {
-                let (term, kind) = self.typed(operand)?;
-                let operand = Box::new(alloc, term)?;
-                Ok((Term::Rotate(kind.width(), operand, *amount), kind))
-            }
+            Expr::Rotate(_, operand, amount) => rotate(alloc, self.typed(operand)?, *amount),
             Expr::Convert(_, kind, operand) => {
-                let operand = Box::new(alloc, self.typed(operand)?.0)?;
-                Ok((Term::Convert(*kind, operand), *kind))
+                let (operand, _) = self.typed(operand)?;
+                Ok((Term::Convert(*kind, Box::new(alloc, operand)?), *kind))
             }
             Expr::Select(_, condition, accepted, otherwise) => {
-                let condition = Box::new(alloc, self.typed(condition)?.0)?;
-                let (term, kind) = self.typed(accepted)?;
-                let accepted = Box::new(alloc, term)?;
-                let otherwise = Box::new(alloc, self.typed(otherwise)?.0)?;
-                Ok((Term::Select(condition, accepted, otherwise), kind))
+                let (condition, _) = self.typed(condition)?;
+                let accepted = self.typed(accepted)?;
+                let (otherwise, _) = self.typed(otherwise)?;
+                select(alloc, condition, accepted, otherwise)
             }
             Expr::Element(place, _, text, index) => {
-                let Numbered {
-                    number,
-                    declaration,
-                } = self.numbered(text);
-                let index = Box::new(alloc, self.typed(index)?.0)?;
-                let whole = Term::Element(*place, number, declaration.numbers(), index);
-                Ok((whole, declaration.word.kind))
+                let (index, _) = self.typed(index)?;
+                element(alloc, *place, self.numbered(text), index)
             }
         }
     }
 
     /// An expression with numbers in place of names.
-    pub(crate) fn term(&self, expr: &Expr<'_>) -> Result<Term, AllocError>
+    pub(crate) fn term(&self, expr: &Expr<'a>) -> Result<Term, AllocError>
         ensures { IfOk result (λ whole. term_tree whole ≡ numbered.term self.now.names (expr_tree expr.now)) }
     {
         Ok(self.typed(expr)?.0)
     }
 
     /// Expressions with numbers in place of names.
-    fn terms(&self, exprs: &[Expr<'_>]) -> Result<Vec<Term>, AllocError>
+    fn terms(&self, exprs: &[Expr<'a>]) -> Result<Vec<Term>, AllocError>
         ensures { IfOk result (λ terms. map term_tree terms.items ≡ map (numbered.term self.now.names) (map expr_tree exprs.now)) }
     {
         let mut terms = Vec::new(self.alloc);
@@ -245,7 +230,7 @@ impl<'a> Numbering<'a> {
     }
 
     /// A result in the names where `return` stands.
-    pub fn value(&self, returned: &Option<Return<'_>>) -> Result<Option<Term>, AllocError>
+    pub fn value(&self, returned: &Option<Return<'a>>) -> Result<Option<Term>, AllocError>
         ensures { IfOk result (λ value. option_map term_tree value ≡ numbered.value_of self.now.names (option_map return_tree returned.now)) }
     {
         match returned {

@@ -9,7 +9,7 @@ use std::marker::Model;
 
 /// The export as one body with numbered variables. Its parameters are the first variables. It is well typed, and within
 /// the limits on size.
-#[derive(Debug, Drop)]
+#[derive(Drop)]
 pub struct Flat {
     profile: Profile,
     place: Place,

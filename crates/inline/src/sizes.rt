@@ -1,25 +1,26 @@
 // The limits on a program's size. Each procedure is measured once, by what is known of the earlier ones.
 
-ghost use Rattle.std.specs.Prelude.{◌≡◌, ◌≤◌, [], length, map, IfOk, IfErr, Some};
+ghost use Rattle.std.specs.Prelude.{◌≡◌, ◌≤◌, ◌+◌, [], length, map, max, IfOk, IfErr, OnOk, Some};
 ghost use Rattle.inline.specs.Counts.{AreCountsTo};
-ghost use Rattle.inline.specs.Measured.{block_size, call_size, counted, extents_in, most_counted, passed_limits, procedure_size, right_size, statement_size};
+ghost use Rattle.std.specs.Option.{option_map};
+ghost use Rattle.inline.specs.Measured.{block_size, call_size, counted, counted_size, extents_in, most_counted, passed_limits, procedure_size, right_size, statement_size};
 ghost use Rattle.language.specs.FirstViolation.{IsFirst, IsRefusedFor};
 ghost use Rattle.language.specs.Limits.{most_nodes};
-ghost use Rattle.language.specs.Size.{extents_of, nodes_of, parameter_words, passed_words, size_violations};
-ghost use Rattle.language.specs.Tree.{block_tree, call_tree, parameter_tree, procedure_tree, right_tree, statement_tree};
+ghost use Rattle.language.specs.Size.{array_words, extents_of, nodes_in, nodes_in_all, nodes_of, parameter_words, passed_words, return_nodes, right_bodies, right_nodes, right_words, size_violations};
+ghost use Rattle.language.specs.Tree.{block_tree, call_tree, expr_tree, parameter_tree, procedure_tree, return_tree, right_tree, statement_tree, written};
 ghost use Rattle.language.specs.WantOfMemory.{IsWantOfMemory};
 
 use crate::measured::{Measured, Size};
 use crate::nodes::{nodes_in, nodes_in_all, nodes_passed};
 use language::{
-    Call, Form, MOST_BODIES, MOST_DECLARED_BYTES, MOST_NODES, Parameter, Place, Procedure, Refusal,
-    RightSide, Rule, Statement,
+    ArrayDeclaration, Call, ElementAssignment, Expr, Form, MOST_BODIES, MOST_DECLARED_BYTES,
+    MOST_NODES, Parameter, Place, Procedure, Refusal, Return, RightSide, Rule, Statement,
 };
 use names::Names;
 use std::alloc::{AllocError, Global};
 
 /// How large a call is: itself, its word arguments and the called body.
-fn size_of_call(earlier: &Names<'_, Measured<'_, '_>>, call: &Call<'_>) -> Size
+fn size_of_call<'s, 'a>(earlier: &Names<'a, Measured<'s, 'a>>, call: &Call<'a>) -> Size
     ensures { result ≡ call_size (extents_in earlier.now) (call_tree call.now) }
 {
     match earlier.find(call.name) {
@@ -32,7 +33,7 @@ fn size_of_call(earlier: &Names<'_, Measured<'_, '_>>, call: &Call<'_>) -> Size
 }
 
 /// How large a right side is.
-fn size_of_right(earlier: &Names<'_, Measured<'_, '_>>, right: &RightSide<'_>) -> Size
+fn size_of_right<'s, 'a>(earlier: &Names<'a, Measured<'s, 'a>>, right: &RightSide<'a>) -> Size
     ensures { result ≡ right_size (extents_in earlier.now) (right_tree right.now) }
 {
     match right {
@@ -41,38 +42,76 @@ fn size_of_right(earlier: &Names<'_, Measured<'_, '_>>, right: &RightSide<'_>) -
     }
 }
 
+/// How large a declaration of an array is.
+fn size_of_array(array: &ArrayDeclaration<'_>) -> Size
+    ensures { result ≡ counted_size (1 + nodes_in_all (written (option_map (λ values. map expr_tree values.items) array.now.values))) (array_words array.now.kind array.now.length) 0 }
+{
+    let values = match &array.values {
+        Some(values) => nodes_in_all(values),
+        None => 0,
+    };
+    Size::of(
+        values.saturating_add(1),
+        array.kind.array_words(array.length),
+    )
+}
+
+/// How large an assignment to an element is.
+fn size_of_element<'s, 'a>(
+    earlier: &Names<'a, Measured<'s, 'a>>,
+    assignment: &ElementAssignment<'a>,
+) -> Size
+    ensures { result ≡ counted_size (1 + (1 + nodes_in (expr_tree assignment.now.index)) + right_nodes (extents_in earlier.now) (right_tree assignment.now.value))
+        (right_words (extents_in earlier.now) (right_tree assignment.now.value)) (right_bodies (extents_in earlier.now) (right_tree assignment.now.value)) }
+{
+    let index = nodes_in(&assignment.index);
+    size_of_right(earlier, &assignment.value).with(index.saturating_add(2), 0)
+}
+
+/// How large a conditional is, whose arms are so large.
+fn size_of_branch(condition: &Expr<'_>, accepted: Size, otherwise: Size) -> Size
+    ensures { result ≡ counted_size (1 + nodes_in (expr_tree condition.now) + accepted.nodes + otherwise.nodes) (accepted.words + otherwise.words) (max accepted.bodies otherwise.bodies) }
+{
+    let condition = nodes_in(condition).saturating_add(1);
+    accepted.and(otherwise).with(condition, 0)
+}
+
+/// How large a loop is, whose body is so large.
+fn size_of_loop(low: &Expr<'_>, high: &Expr<'_>, body: Size) -> Size
+    ensures { result ≡ counted_size (1 + nodes_in (expr_tree low.now) + nodes_in (expr_tree high.now) + body.nodes) (1 + body.words) body.bodies }
+{
+    let bounds = nodes_in(low).saturating_add(nodes_in(high));
+    body.with(bounds.saturating_add(1), 1)
+}
+
 /// How large a statement is.
 #[cycle(sizes)]
-fn size_of_statement(earlier: &Names<'_, Measured<'_, '_>>, statement: &Statement<'_>) -> Size
+fn size_of_statement<'s, 'a>(
+    earlier: &Names<'a, Measured<'s, 'a>>,
+    statement: &Statement<'a>,
+) -> Size
     ensures { result ≡ statement_size (extents_in earlier.now) (statement_tree statement.now) }
 {
     match statement {
         Statement::Declare(it) => size_of_right(earlier, &it.value).with(1, 1),
-        Statement::DeclareArray(it) => {
-            let values = match &it.values {
-                Some(values) => nodes_in_all(values),
-                None => 0,
-            };
-            Size::of(values.saturating_add(1), it.kind.array_words(it.length))
-        }
+        Statement::DeclareArray(it) => size_of_array(it),
         Statement::Assign(it) => size_of_right(earlier, &it.value).with(1, 0),
-        Statement::AssignElement(it) => {
-            size_of_right(earlier, &it.value).with(nodes_in(&it.index).saturating_add(2), 0)
-        }
+        Statement::AssignElement(it) => size_of_element(earlier, it),
         Statement::Call(call) => size_of_call(earlier, call),
-        Statement::If(_, condition, accepted, otherwise) => size_of_block(earlier, accepted)
-            .and(size_of_block(earlier, otherwise))
-            .with(nodes_in(condition).saturating_add(1), 0),
+        Statement::If(_, condition, accepted, otherwise) => {
+            let accepted = size_of_block(earlier, accepted);
+            let otherwise = size_of_block(earlier, otherwise);
+            size_of_branch(condition, accepted, otherwise)
+        }
         Statement::For(_, _, low, high, body) => {
-            let bounds = nodes_in(low).saturating_add(nodes_in(high));
-            size_of_block(earlier, body).with(bounds.saturating_add(1), 1)
+            size_of_loop(low, high, size_of_block(earlier, body))
         }
     }
 }
 
 /// How large some statements are.
 #[cycle(sizes)]
-fn size_of_block(earlier: &Names<'_, Measured<'_, '_>>, block: &[Statement<'_>]) -> Size
+fn size_of_block<'s, 'a>(earlier: &Names<'a, Measured<'s, 'a>>, block: &[Statement<'a>]) -> Size
     ensures { result ≡ block_size (extents_in earlier.now) (block_tree block.now) }
 {
     let mut size = Size::of(0, 0);
@@ -82,14 +121,25 @@ fn size_of_block(earlier: &Names<'_, Measured<'_, '_>>, block: &[Statement<'_>])
     size
 }
 
-/// How large a procedure is whose parameters take so many words.
-fn size_of(earlier: &Names<'_, Measured<'_, '_>>, procedure: &Procedure<'_>, words: u32) -> Size
-    ensures { result ≡ procedure_size (extents_in earlier.now) words (procedure_tree procedure.now) }
+/// How many nodes a `return` is, where it stands.
+fn nodes_of_return(returned: &Option<Return<'_>>) -> u32
+    ensures { result ≡ counted (return_nodes (option_map return_tree returned.now)) }
 {
-    let returned = match &procedure.returned {
+    match returned {
         Some(returned) => nodes_in(&returned.value).saturating_add(1),
         None => 0,
-    };
+    }
+}
+
+/// How large a procedure is whose parameters take so many words.
+fn size_of<'s, 'a>(
+    earlier: &Names<'a, Measured<'s, 'a>>,
+    procedure: &Procedure<'a>,
+    words: u32,
+) -> Size
+    ensures { result ≡ procedure_size (extents_in earlier.now) words (procedure_tree procedure.now) }
+{
+    let returned = nodes_of_return(&procedure.returned);
     let inside = size_of_block(earlier, &procedure.body).with(returned, words);
     Size {
         bodies: inside.bodies.saturating_add(1),
@@ -121,6 +171,23 @@ fn passed_words(parameters: &[Parameter<'_>]) -> u32
     sum
 }
 
+/// Puts the first procedures into a table that is empty, each with its size.
+fn measure_all<'s, 'a>(
+    table: &mut Names<'a, Measured<'s, 'a>>,
+    procedures: &'s [Procedure<'a>],
+) -> Result<(), AllocError>
+    requires { table.old ≡ [] }
+    ensures counts { OnOk result (AreCountsTo most_counted (extents_in table.new) (extents_of (map procedure_tree procedures.now))) }
+    ensures memory { IfErr result (λ _. 1 ≤ length procedures.now) }
+{
+    for procedure in procedures {
+        let parameters = procedure.parameters.as_slice();
+        let size = size_of(table, procedure, passed_words(parameters));
+        let _taken = table.declare(procedure.name, Measured { parameters, size })?;
+    }
+    Ok(())
+}
+
 /// How large procedures are where they are called, by their names.
 fn measured_all<'s, 'a>(
     alloc: Global,
@@ -130,12 +197,22 @@ fn measured_all<'s, 'a>(
     ensures memory { IfErr result (λ _. 1 ≤ length procedures.now) }
 {
     let mut table = Names::new(alloc);
-    for procedure in procedures {
-        let parameters = procedure.parameters.as_slice();
-        let size = size_of(&table, procedure, passed_words(parameters));
-        let _taken = table.declare(procedure.name, Measured { parameters, size })?;
-    }
+    measure_all(&mut table, procedures)?;
     Ok(table)
+}
+
+/// How large the export is behind the procedures that it may call.
+fn size_of_export<'a>(
+    alloc: Global,
+    earlier: &[Procedure<'a>],
+    export: &Procedure<'a>,
+) -> Result<Size, AllocError>
+    ensures size { IfOk result (λ size. size ≡ procedure_size (extents_of (map procedure_tree earlier.now)) (parameter_words (procedure_tree export.now).parameters) (procedure_tree export.now)) }
+    ensures memory { IfErr result (λ _. 1 ≤ length earlier.now) }
+{
+    let known = measured_all(alloc, earlier)?;
+    let words = parameter_words(&export.parameters);
+    Ok(size_of(&known, export, words))
 }
 
 /// How many nodes there are, where a procedure of this size, whose name stands at this place, passes no limit; else the
@@ -158,17 +235,15 @@ fn limited(size: Size, place: Place) -> Result<u32, Refusal>
 
 /// How many nodes the export has with every call replaced by the called body, where it passes no limit; else the
 /// first that it passes. Where no procedure is earlier no memory is asked for.
-pub fn measure(
+pub fn measure<'a>(
     alloc: Global,
-    earlier: &[Procedure<'_>],
-    export: &Procedure<'_>,
+    earlier: &[Procedure<'a>],
+    export: &Procedure<'a>,
 ) -> Result<u32, Refusal>
     ensures nodes { IfOk result (λ nodes. nodes ≡ nodes_of (extents_of (map procedure_tree earlier.now)) (procedure_tree export.now)) }
     ensures within { IfOk result (λ _. length (size_violations (map procedure_tree earlier.now) (procedure_tree export.now)) ≡ 0) }
     ensures refused { IfErr result (λ refusal. IsRefusedFor (size_violations (map procedure_tree earlier.now) (procedure_tree export.now)) refusal.rule refusal.place) }
     ensures memory { earlier.now ≡ [] → IfErr result (λ refusal. IsWantOfMemory refusal.rule refusal.place → ⊥) }
 {
-    let known = measured_all(alloc, earlier)?;
-    let size = size_of(&known, export, parameter_words(&export.parameters));
-    limited(size, export.place)
+    limited(size_of_export(alloc, earlier, export)?, export.place)
 }

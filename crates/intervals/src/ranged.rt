@@ -6,7 +6,7 @@ use std::marker::Model;
 
 /// A body with what is counted for it, its work within the limit. It is safe: no run meets a fault, or makes more turns in
 /// a loop than are counted for it.
-#[derive(Debug, Drop)]
+#[derive(Drop)]
 pub struct Ranged<'f> {
     flat: &'f Flat,
     turns: Vec<u32>,

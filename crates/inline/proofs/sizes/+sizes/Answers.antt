@@ -5,8 +5,8 @@ use Rattle.inline.proofs.sizes.+sizes.Goals as goal
 pub size_of_statement-returns-in-If : goal.size_of_statement-returns-in-If
 size_of_statement-returns-in-If t c =
     let whole = conditional_whole c.args.statement.now _ c.in-If.condition c.in-If.accepted c.in-If.otherwise
-    c.deref-in-If.result.now c.deref-in-If-2.result.now
-    c.in-If.is c.deref-in-If.ensures.value c.deref-in-If-2.ensures.value in
+    c.deref.result.now c.deref-in-If.result.now
+    c.in-If.is c.deref.ensures.value c.deref-in-If.ensures.value in
     rw whole (search rules)
 
 pub size_of_statement-returns-in-For : goal.size_of_statement-returns-in-For

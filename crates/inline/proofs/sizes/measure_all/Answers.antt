@@ -7,10 +7,10 @@ use Rattle.inline.specs.Measured.{counted, extent_of_measured, extents_in, most_
 use Rattle.language.specs.Known.{nothing_known}
 use Rattle.language.specs.Size.{extent_of, extents_of, passed_words}
 use Rattle.language.specs.Tree.{parameter_tree, procedure_tree}
-use Rattle.inline.proofs.sizes.measured_all.Goals as goal
+use Rattle.inline.proofs.sizes.measure_all.Goals as goal
 
 pub loop-procedure-init : goal.loop-procedure-init
-loop-procedure-init c = (nothing_known, (λ text. ap (λ table. extents_in table text) c.new-table.ensures), refl)
+loop-procedure-init c = (nothing_known, (λ text. ap (λ table. extents_in table text) c.requires), refl)
 
 pub loop-procedure-preserved : goal.loop-procedure-preserved
 loop-procedure-preserved c =

@@ -4,7 +4,7 @@ use Rattle.inline.specs.Counts.{extent_to}
 use Rattle.inline.specs.Measured.{extent_of_measured, most_counted}
 use Rattle.language.specs.Size.{extent_of, extents_of}
 use Rattle.language.specs.Tree.{procedure_tree}
-use Rattle.inline.proofs.sizes.measured_all.Given as goal
+use Rattle.inline.proofs.sizes.measure_all.Given as goal
 
 -- the table counts what is known so far
 abbrev pub invariant-loop-procedure : goal.invariant-loop-procedure
