@@ -7,7 +7,7 @@ use Rattle.inline.specs.Flat.{TermTree, term_tree, number, counter_type}
 use Rattle.inline.specs.FlatMeaning.{turns}
 use Rattle.branch_removal.specs.declared.straight.StraightStatement.{StraightStatement}
 use Rattle.branch_removal.specs.declared.straight.StraightStatement as code
-use Rattle.branch_removal.specs.Straight.{StraightTree, StraightBlock, nothing, first, chain, set, repeats}
+use Rattle.branch_removal.specs.Straight.{StraightBlock, nothing, first, chain, set, repeats}
 use Rattle.branch_removal.specs.Straight.{straight_tree, straight_block}
 use Rattle.branch_removal.proofs.StatementTrees.{tree_of_branch, tree_of_loop, chain-assoc, chain-nothing}
 use Rattle.constants.specs.private.Folding.{simple, constant_of, numbers_of}
@@ -16,17 +16,6 @@ use Rattle.constants.specs.private.Simplification.{single, knowing, simplified, 
 use Rattle.constants.specs.private.Simplification.{branch_known, loop_code, loop_known, turns_code, turns_known}
 use Rattle.constants.specs.private.Simplification.{unrolled, knowing_all, code_of_turns, at_turn}
 use Rattle.constants.specs.declared.terms.Numbers.{Numbers}
-
--- a statement whose code is one statement
-pub code_of_one : (copies : List ℕ) (declared : List FlatVariable) (statement shape : StraightStatement)
-    (words : Words) (tree : StraightTree)
-    → statement ≡ shape
-    → simplified copies declared words (straight_tree shape) ≡ first tree nothing
-    → (old new : StraightBlock) (made : StraightTree) → new ≡ chain old (first made nothing) → made ≡ tree
-    → new ≡ chain old (simplified copies declared words (straight_tree statement))
-code_of_one copies declared statement shape words tree is code old new made items same =
-    items ∙ (ap (λ t. chain old (first t nothing)) same
-    ∙ ap (chain old) (sym (ap (λ s. simplified copies declared words (straight_tree s)) is ∙ code)))
 
 -- Branches.
 

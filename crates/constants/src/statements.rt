@@ -1,10 +1,11 @@
 // Statements in which what is known is a number, each put behind what there is. A loop becomes its turns where it may.
 
 ghost use Rattle.std.specs.Prelude.{◌≡◌, IfOk, OnOk};
-ghost use Rattle.branch_removal.specs.Straight.{chain, straight_block, straight_tree};
+ghost use Rattle.branch_removal.specs.Straight.{chain, put, put_under, set, straight_block, straight_tree};
 ghost use Rattle.inline.specs.Flat.{term_tree};
+ghost use Rattle.constants.specs.private.Folding.{simple};
 ghost use Rattle.constants.specs.private.Known.{forgotten_all, words_of};
-ghost use Rattle.constants.specs.private.Simplification.{branch_code, branch_known, knowing, knowing_all, loop_code, loop_known, simplified, simplified_all, single, turns_code, turns_known};
+ghost use Rattle.constants.specs.private.Simplification.{branch_code, branch_known, knowing, knowing_all, loop_code, loop_known, set_to, simplified, simplified_all, single, turns_code, turns_known};
 
 use crate::choice::copies_of;
 use crate::copies::learn;
@@ -14,6 +15,7 @@ use branch_removal::{StraightStatement, branch_of, loop_of};
 use inline::{FlatVariable, Term};
 use language::Kind;
 use std::alloc::{AllocError, Global};
+use word::Place;
 
 /// How statements are made simpler.
 #[derive(Drop)]
@@ -24,10 +26,9 @@ pub struct Pass<'p> {
     pub declared: &'p [FlatVariable],
 }
 
-/// The counter of a loop and its bounds.
+/// The bounds of a loop, simple.
 #[derive(Drop)]
 struct Bounds {
-    counter: u32,
     low: Term,
     high: Term,
 }
@@ -38,6 +39,67 @@ fn push(code: &mut Vec<StraightStatement>, statement: StraightStatement) -> Resu
 {
     code.push(statement)?;
     Ok(())
+}
+
+/// A variable is set to a value, which is learnt.
+fn set_simple(
+    pass: &Pass<'_>,
+    known: &mut Known,
+    code: &mut Vec<StraightStatement>,
+    variable: u32,
+    value: &Term,
+) -> Result<(), AllocError>
+    ensures code { OnOk result (straight_block code.new.items ≡ chain (straight_block code.old.items) (single (set variable (simple (words_of known.old) (term_tree value.now))))) }
+    ensures known { OnOk result (words_of known.new ≡ set_to pass.now.declared.now (words_of known.old) variable (simple (words_of known.old) (term_tree value.now))) }
+{
+    let value = simple(pass.alloc, known, value)?;
+    learn(pass.declared, known, variable, &value)?;
+    push(code, StraightStatement::Set(variable, value))
+}
+
+/// An element is set to a value, where this is known of the variables.
+fn put_simple(
+    alloc: Global,
+    known: &Known,
+    place: Place,
+    array: u32,
+    size: u32,
+    index: &Term,
+    value: &Term,
+) -> Result<StraightStatement, AllocError>
+    ensures { IfOk result (λ one. straight_tree one ≡ put place array size (simple (words_of known.now) (term_tree index.now)) (simple (words_of known.now) (term_tree value.now))) }
+{
+    let index = simple(alloc, known, index)?;
+    let value = simple(alloc, known, value)?;
+    Ok(StraightStatement::Put(place, array, size, index, value))
+}
+
+/// The same under a control value.
+fn put_under_simple(
+    alloc: Global,
+    known: &Known,
+    control: u32,
+    place: Place,
+    array: u32,
+    size: u32,
+    index: &Term,
+    value: &Term,
+) -> Result<StraightStatement, AllocError>
+    ensures { IfOk result (λ one. straight_tree one ≡ put_under control place array size (simple (words_of known.now) (term_tree index.now)) (simple (words_of known.now) (term_tree value.now))) }
+{
+    let index = simple(alloc, known, index)?;
+    let value = simple(alloc, known, value)?;
+    Ok(StraightStatement::PutUnder(control, place, array, size, index, value))
+}
+
+/// The bounds of a loop, where this is known of the variables.
+fn bounds_of(alloc: Global, known: &Known, low: &Term, high: &Term) -> Result<Bounds, AllocError>
+    ensures low { IfOk result (λ bounds. term_tree bounds.low ≡ simple (words_of known.now) (term_tree low.now)) }
+    ensures high { IfOk result (λ bounds. term_tree bounds.high ≡ simple (words_of known.now) (term_tree high.now)) }
+{
+    let low = simple(alloc, known, low)?;
+    let high = simple(alloc, known, high)?;
+    Ok(Bounds { low, high })
 }
 
 /// A statement. What is known after it is noted.
@@ -52,32 +114,24 @@ fn statement(
     ensures known { OnOk result (words_of known.new ≡ knowing pass.now.copies.now pass.now.declared.now (words_of known.old) (straight_tree statement.now)) }
 {
     match statement {
-        StraightStatement::Set(variable, value) => {
-            let value = simple(pass.alloc, known, value)?;
-            learn(pass.declared, known, *variable, &value)?;
-            push(code, StraightStatement::Set(*variable, value))?;
-        }
+        StraightStatement::Set(variable, value) => set_simple(pass, known, code, *variable, value),
         StraightStatement::Clear(array, size) => {
             known.note(*array, None);
-            push(code, StraightStatement::Clear(*array, *size))?;
+            push(code, StraightStatement::Clear(*array, *size))
         }
         StraightStatement::Fill(array, values) => {
             let values = all_simple(pass.alloc, known, values)?;
             known.note(*array, None);
-            push(code, StraightStatement::Fill(*array, values))?;
+            push(code, StraightStatement::Fill(*array, values))
         }
         StraightStatement::Put(place, array, size, index, value) => {
-            let index = simple(pass.alloc, known, index)?;
-            let value = simple(pass.alloc, known, value)?;
+            let one = put_simple(pass.alloc, known, *place, *array, *size, index, value)?;
             known.note(*array, None);
-            push(
-                code,
-                StraightStatement::Put(*place, *array, *size, index, value),
-            )?;
+            push(code, one)
         }
         StraightStatement::Take(control, within, condition) => {
             let condition = simple(pass.alloc, known, condition)?;
-            push(code, StraightStatement::Take(*control, *within, condition))?;
+            push(code, StraightStatement::Take(*control, *within, condition))
         }
         StraightStatement::SetUnder(control, variable, value) => {
             let value = simple(pass.alloc, known, value)?;
@@ -85,31 +139,24 @@ fn statement(
             push(
                 code,
                 StraightStatement::SetUnder(*control, *variable, value),
-            )?;
+            )
         }
         StraightStatement::PutUnder(control, place, array, size, index, value) => {
-            let index = simple(pass.alloc, known, index)?;
-            let value = simple(pass.alloc, known, value)?;
+            let one = put_under_simple(
+                pass.alloc, known, *control, *place, *array, *size, index, value,
+            )?;
             known.note(*array, None);
-            let put = StraightStatement::PutUnder(*control, *place, *array, *size, index, value);
-            push(code, put)?;
+            push(code, one)
         }
         StraightStatement::Branch(condition, accepted, otherwise) => {
             let condition = simple(pass.alloc, known, condition)?;
-            branch(pass, known, code, condition, accepted, otherwise)?;
+            branch(pass, known, code, condition, accepted, otherwise)
         }
         StraightStatement::Repeat(counter, low, high, body) => {
-            let low = simple(pass.alloc, known, low)?;
-            let high = simple(pass.alloc, known, high)?;
-            let bounds = Bounds {
-                counter: *counter,
-                low,
-                high,
-            };
-            repeat(pass, known, code, bounds, body)?;
+            let bounds = bounds_of(pass.alloc, known, low, high)?;
+            repeat(pass, known, code, *counter, bounds, body)
         }
     }
-    Ok(())
 }
 
 /// A branch, its condition simple: where that is a number, the one arm that it decides for.
@@ -142,19 +189,20 @@ fn repeat(
     pass: &Pass<'_>,
     known: &mut Known,
     code: &mut Vec<StraightStatement>,
+    counter: u32,
     bounds: Bounds,
     body: &[StraightStatement],
 ) -> Result<(), AllocError>
-    ensures code { OnOk result (straight_block code.new.items ≡ chain (straight_block code.old.items) (loop_code pass.now.copies.now pass.now.declared.now (words_of known.old) bounds.counter (term_tree bounds.low) (term_tree bounds.high) (straight_block body.now))) }
-    ensures known { OnOk result (words_of known.new ≡ loop_known pass.now.copies.now pass.now.declared.now (words_of known.old) bounds.counter (term_tree bounds.low) (term_tree bounds.high) (straight_block body.now)) }
+    ensures code { OnOk result (straight_block code.new.items ≡ chain (straight_block code.old.items) (loop_code pass.now.copies.now pass.now.declared.now (words_of known.old) counter (term_tree bounds.low) (term_tree bounds.high) (straight_block body.now))) }
+    ensures known { OnOk result (words_of known.new ≡ loop_known pass.now.copies.now pass.now.declared.now (words_of known.old) counter (term_tree bounds.low) (term_tree bounds.high) (straight_block body.now)) }
 {
-    let most = copies_of(pass.copies, bounds.counter);
+    let most = copies_of(pass.copies, counter);
     match numbers_of(most, &bounds.low, &bounds.high) {
-        Some(numbers) => turns(pass, known, code, bounds.counter, numbers, body),
+        Some(numbers) => turns(pass, known, code, counter, numbers, body),
         None => {
-            known.begin_loop(bounds.counter, body);
+            known.begin_loop(counter, body);
             let turn = part(pass, known, body)?;
-            push(code, loop_of(bounds.counter, bounds.low, bounds.high, turn))
+            push(code, loop_of(counter, bounds.low, bounds.high, turn))
         }
     }
 }

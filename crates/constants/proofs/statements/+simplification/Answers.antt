@@ -1,14 +1,11 @@
-use Rattle.std.proofs.Common.{◌+◌, ◌*◌, ◌<◌, drop, map, rules, refl, ap, ap₂, sym, ◌∙◌, arith}
+use Rattle.std.proofs.Common.{◌≡◌, ◌+◌, ◌*◌, ◌<◌, drop, rules, refl, ap, sym, subst, ◌∙◌, arith, OnOk}
 use Rattle.std.proofs.lemmas.List.{at_drop_all}
 use Rattle.branch_removal.specs.Bounds.{block_nodes, statement_nodes}
-use Rattle.branch_removal.specs.Straight.{set, fill, put, take, set_under, put_under, chain, straight_block}
-use Rattle.branch_removal.specs.Straight.{straight_tree}
-use Rattle.inline.specs.Flat.{term_tree}
+use Rattle.branch_removal.specs.Straight.{chain, set, straight_block, straight_tree}
 use Rattle.constants.specs.private.Known.{words_of}
-use Rattle.constants.specs.private.Folding.{simple}
 use Rattle.constants.specs.private.Simplification.{knowing_all, simplified_all, single}
 use Rattle.branch_removal.proofs.StatementTrees.{arms_smaller, body_smaller, chain-nothing, item_here, smaller_here}
-use Rattle.constants.proofs.StatementCode.{code_of_one, code_of_branch, known_of_branch, code_of_loop, known_of_loop}
+use Rattle.constants.proofs.StatementCode.{code_of_branch, known_of_branch, code_of_loop, known_of_loop}
 use Rattle.constants.proofs.StatementCode.{passed, turn_passed, turn_learnt, no_turns_left, none_left_known}
 use Rattle.constants.proofs.statements.+simplification.Goals as goal
 
@@ -28,93 +25,44 @@ statement-repeat-requires t c =
     omega (arith, body_smaller c.in-Repeat.body c.in-Repeat.is c.deref-in-Repeat.ensures.value) in
     search (rules, smaller)
 
-pub statement-returns-in_ok-push-in-Set-clause-code : goal.statement-returns-in_ok-push-in-Set-clause-code
-statement-returns-in_ok-push-in-Set-clause-code t c =
-    code_of_one c.args.pass.now.copies.now c.args.pass.now.declared.now c.args.statement.now _
-    (words_of c.args.known.now) _ c.in-Set.is refl
-    (straight_block c.args.code.now.items) _ _ c.in_ok-push-in-Set.ensures
-    (ap (set c.in-Set.variable) c.in_ok-value-in-Set.ensures)
-
-pub statement-returns-in_ok-push-in-Clear-clause-code : goal.statement-returns-in_ok-push-in-Clear-clause-code
-statement-returns-in_ok-push-in-Clear-clause-code t c =
-    code_of_one c.args.pass.now.copies.now c.args.pass.now.declared.now c.args.statement.now _
-    (words_of c.args.known.now) _ c.in-Clear.is refl
-    (straight_block c.args.code.now.items) _ _ c.in_ok-push-in-Clear.ensures refl
-
-pub statement-returns-in_ok-push-in-Fill-clause-code : goal.statement-returns-in_ok-push-in-Fill-clause-code
-statement-returns-in_ok-push-in-Fill-clause-code t c =
-    code_of_one c.args.pass.now.copies.now c.args.pass.now.declared.now c.args.statement.now _
-    (words_of c.args.known.now) _ c.in-Fill.is refl
-    (straight_block c.args.code.now.items) _ _ c.in_ok-push-in-Fill.ensures
-    (ap (fill c.in-Fill.array) (c.in_ok-values-in-Fill.ensures
-    ∙ ap (λ vs. map (simple (words_of c.args.known.now)) (map term_tree vs)) c.deref.ensures.value))
-
-pub statement-returns-in_ok-push-in-Put-clause-code : goal.statement-returns-in_ok-push-in-Put-clause-code
-statement-returns-in_ok-push-in-Put-clause-code t c =
-    code_of_one c.args.pass.now.copies.now c.args.pass.now.declared.now c.args.statement.now _
-    (words_of c.args.known.now) _ c.in-Put.is refl
-    (straight_block c.args.code.now.items) _ _ c.in_ok-push-in-Put.ensures
-    (ap₂ (put c.in-Put.place c.in-Put.array c.in-Put.size) c.in_ok-index-in-Put.ensures c.in_ok-value-in-Put.ensures)
-
-pub statement-returns-in_ok-push-in-Take-clause-code : goal.statement-returns-in_ok-push-in-Take-clause-code
-statement-returns-in_ok-push-in-Take-clause-code t c =
-    code_of_one c.args.pass.now.copies.now c.args.pass.now.declared.now c.args.statement.now _
-    (words_of c.args.known.now) _ c.in-Take.is refl
-    (straight_block c.args.code.now.items) _ _ c.in_ok-push-in-Take.ensures
-    (ap (take c.in-Take.control c.in-Take.within) c.in_ok-condition-in-Take.ensures)
-
-pub statement-returns-in_ok-push-in-SetUnder-clause-code : goal.statement-returns-in_ok-push-in-SetUnder-clause-code
-statement-returns-in_ok-push-in-SetUnder-clause-code t c =
-    code_of_one c.args.pass.now.copies.now c.args.pass.now.declared.now c.args.statement.now _
-    (words_of c.args.known.now) _ c.in-SetUnder.is refl
-    (straight_block c.args.code.now.items) _ _ c.in_ok-push-in-SetUnder.ensures
-    (ap (set_under c.in-SetUnder.control c.in-SetUnder.variable) c.in_ok-value-in-SetUnder.ensures)
-
-pub statement-returns-in_ok-push-in-PutUnder-clause-code : goal.statement-returns-in_ok-push-in-PutUnder-clause-code
-statement-returns-in_ok-push-in-PutUnder-clause-code t c =
-    code_of_one c.args.pass.now.copies.now c.args.pass.now.declared.now c.args.statement.now _
-    (words_of c.args.known.now) _ c.in-PutUnder.is refl
-    (straight_block c.args.code.now.items) _ _ c.in_ok-push-in-PutUnder.ensures
-    (ap₂ (put_under c.in-PutUnder.control c.in-PutUnder.place c.in-PutUnder.array c.in-PutUnder.size)
-    c.in_ok-index-in-PutUnder.ensures c.in_ok-value-in-PutUnder.ensures)
-
-pub statement-returns-in_ok-branch-in-Branch-clause-code : goal.statement-returns-in_ok-branch-in-Branch-clause-code
-statement-returns-in_ok-branch-in-Branch-clause-code t c =
-    c.in_ok-branch-in-Branch.ensures.code
-    ∙ ap (chain (straight_block c.args.code.now.items))
+pub statement-returns-in_ok-condition-in-Branch-clause-code :
+    goal.statement-returns-in_ok-condition-in-Branch-clause-code
+statement-returns-in_ok-condition-in-Branch-clause-code t c =
+    subst (λ b. OnOk c.branch-pass.result (straight_block c.branch-pass.new.code.items
+    ≡ chain (straight_block c.args.code.now.items) b))
     (sym (code_of_branch c.in-Branch.accepted c.in-Branch.otherwise c.in-Branch.is c.deref-in-Branch.ensures.value
     c.deref-in-Branch-2.ensures.value c.args.pass.now.copies.now c.args.pass.now.declared.now
-    (words_of c.args.known.now)
-    c.in_ok-condition-in-Branch.condition
-    c.in_ok-condition-in-Branch.ensures))
+    (words_of c.args.known.now) c.in_ok-condition-in-Branch.condition c.in_ok-condition-in-Branch.ensures))
+    c.branch-pass.ensures.code
 
-pub statement-returns-in_ok-branch-in-Branch-clause-known : goal.statement-returns-in_ok-branch-in-Branch-clause-known
-statement-returns-in_ok-branch-in-Branch-clause-known t c =
-    c.in_ok-branch-in-Branch.ensures.known
-    ∙ sym (known_of_branch c.in-Branch.accepted c.in-Branch.otherwise c.in-Branch.is c.deref-in-Branch.ensures.value
+pub statement-returns-in_ok-condition-in-Branch-clause-known :
+    goal.statement-returns-in_ok-condition-in-Branch-clause-known
+statement-returns-in_ok-condition-in-Branch-clause-known t c =
+    subst (λ w. OnOk c.branch-pass.result (words_of c.branch-pass.new.known ≡ w))
+    (sym (known_of_branch c.in-Branch.accepted c.in-Branch.otherwise c.in-Branch.is c.deref-in-Branch.ensures.value
     c.deref-in-Branch-2.ensures.value c.args.pass.now.copies.now c.args.pass.now.declared.now
-    (words_of c.args.known.now)
-    c.in_ok-condition-in-Branch.condition
-    c.in_ok-condition-in-Branch.ensures)
+    (words_of c.args.known.now) c.in_ok-condition-in-Branch.condition c.in_ok-condition-in-Branch.ensures))
+    c.branch-pass.ensures.known
 
-pub statement-returns-in_ok-repeat-in-Repeat-clause-code : goal.statement-returns-in_ok-repeat-in-Repeat-clause-code
-statement-returns-in_ok-repeat-in-Repeat-clause-code t c =
-    c.in_ok-repeat-in-Repeat.ensures.code
-    ∙ ap (chain (straight_block c.args.code.now.items))
+pub statement-returns-in_ok-bounds-in-Repeat-clause-code : goal.statement-returns-in_ok-bounds-in-Repeat-clause-code
+statement-returns-in_ok-bounds-in-Repeat-clause-code t c =
+    subst (λ b. OnOk c.repeat.result (straight_block c.repeat.new.code.items
+    ≡ chain (straight_block c.args.code.now.items) b))
     (sym (code_of_loop c.in-Repeat.body c.in-Repeat.is c.deref-in-Repeat.ensures.value c.args.pass.now.copies.now
-    c.args.pass.now.declared.now
-    (words_of c.args.known.now)
-    c.in_ok-low-in-Repeat.low c.in_ok-high-in-Repeat.high c.in_ok-low-in-Repeat.ensures
-    c.in_ok-high-in-Repeat.ensures))
+    c.args.pass.now.declared.now (words_of c.args.known.now) c.in_ok-bounds-in-Repeat.bounds.low
+    c.in_ok-bounds-in-Repeat.bounds.high c.in_ok-bounds-in-Repeat.ensures.low
+    c.in_ok-bounds-in-Repeat.ensures.high))
+    c.repeat.ensures.code
 
-pub statement-returns-in_ok-repeat-in-Repeat-clause-known : goal.statement-returns-in_ok-repeat-in-Repeat-clause-known
-statement-returns-in_ok-repeat-in-Repeat-clause-known t c =
-    c.in_ok-repeat-in-Repeat.ensures.known
-    ∙ sym (known_of_loop c.in-Repeat.body c.in-Repeat.is c.deref-in-Repeat.ensures.value c.args.pass.now.copies.now
-    c.args.pass.now.declared.now
-    (words_of c.args.known.now)
-    c.in_ok-low-in-Repeat.low c.in_ok-high-in-Repeat.high c.in_ok-low-in-Repeat.ensures
-    c.in_ok-high-in-Repeat.ensures)
+pub statement-returns-in_ok-bounds-in-Repeat-clause-known :
+    goal.statement-returns-in_ok-bounds-in-Repeat-clause-known
+statement-returns-in_ok-bounds-in-Repeat-clause-known t c =
+    subst (λ w. OnOk c.repeat.result (words_of c.repeat.new.known ≡ w))
+    (sym (known_of_loop c.in-Repeat.body c.in-Repeat.is c.deref-in-Repeat.ensures.value c.args.pass.now.copies.now
+    c.args.pass.now.declared.now (words_of c.args.known.now) c.in_ok-bounds-in-Repeat.bounds.low
+    c.in_ok-bounds-in-Repeat.bounds.high c.in_ok-bounds-in-Repeat.ensures.low
+    c.in_ok-bounds-in-Repeat.ensures.high))
+    c.repeat.ensures.known
 
 pub statements-statement-requires : goal.statements-statement-requires
 statements-statement-requires t c =
