@@ -32,7 +32,7 @@ nodes_of_right earlier r = right_nodes (extents_by earlier) r
 -- a called body has fewer nodes than its call
 pub body_smaller : (earlier before : List Procedure) (callee : Procedure) (c : CallTree) (body : List Statement)
     → Some (map procedure_tree before, procedure_tree callee) ≡ named [] (map procedure_tree earlier) c.name
-    → body ≡ callee.body.items → 8 * nodes_of_block before body + 7 < 8 * nodes_of_call earlier c
+    → body ≡ callee.body.items → 8 * nodes_of_block before body + 8 < 8 * nodes_of_call earlier c + 1
 body_smaller earlier before callee c body is list =
     let p = procedure_tree callee in
     let known : extents_by earlier c.name ≡ Some (extent_of (extents_by before) p) =

@@ -145,18 +145,17 @@ numbered_branch known names between old new e ones others label value flat_ones 
 -- a loop of a flat body
 pub numbered_turns : (known : Callables) (names inner : Numbers) (old new : List FlatVariable) (text : List ℕ)
     (d : FlatVariable) (body : BlockTree) (x : ℕ) (lo hi : ExprTree) (low high : Term)
-    (start : List FlatStatement) (turn : Vec FlatStatement Global) →
-    x ≡ length old → inner ≡ naming names text (length old) d → new ≡ old ++ d ∷ [] → start ≡ []
-    → flat_block turn.items ≡ chain (flat_block start) (block known inner (length new) body) →
+    (turn : Vec FlatStatement Global) →
+    x ≡ length old → inner ≡ naming names text (length old) d → new ≡ old ++ d ∷ []
+    → flat_block turn.items ≡ block known inner (length new) body →
     term_tree low ≡ term names lo → term_tree high ≡ term names hi →
     single (flat_tree (Loop x low high turn)) ≡ single
     (flat.loop (length old) (term names lo) (term names hi)
     (block known (naming names text (length old) d) (length old + 1) body))
-numbered_turns known names inner old new text d body x lo hi low high start turn number begins more empty inside l h =
+numbered_turns known names inner old new text d body x lo hi low high turn number begins more inside l h =
     let next = next_number old new (d ∷ []) more in
     let turns : flat_block turn.items ≡ block known (naming names text (length old) d) (length old + 1) body =
-    inside ∙ ap (λ ss. chain (flat_block ss) (block known inner (length new) body)) empty
-    ∙ ap₂ (λ ns n. block known ns n body) begins next in
+    inside ∙ ap₂ (λ ns n. block known ns n body) begins next in
     ap single (flat_loop_tree x low high turn
     ∙ ap₂ (λ k t. flat.loop k t (term_tree high) (flat_block turn.items)) number l
     ∙ ap₂ (flat.loop (length old) (term names lo)) h turns)

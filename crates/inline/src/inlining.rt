@@ -32,8 +32,7 @@ fn flat_with<'a>(
     let mut declared = Vec::new(alloc);
     let parameters = numbering.parameters(&export.parameters, &mut declared)?;
     let mut body = Vec::new(alloc);
-    numbering.block(earlier, &export.body, &mut declared, &mut body)?;
-    let value = numbering.value(&export.returned)?;
+    let value = numbering.inside(earlier, export, &mut declared, &mut body)?;
     Ok(Flat::new(
         profile,
         export.place,

@@ -230,7 +230,7 @@ impl<'a> Numbering<'a> {
     }
 
     /// A result in the names where `return` stands.
-    pub fn value(&self, returned: &Option<Return<'a>>) -> Result<Option<Term>, AllocError>
+    pub(crate) fn value(&self, returned: &Option<Return<'a>>) -> Result<Option<Term>, AllocError>
         ensures { IfOk result (λ value. option_map term_tree value ≡ numbered.value_of self.now.names (option_map return_tree returned.now)) }
     {
         match returned {

@@ -8,7 +8,7 @@ ghost use Rattle.inline.specs.Flat.{chain, counter_type, flat_block, term_tree, 
 ghost use Rattle.inline.specs.Numbering as numbered;
 ghost use Rattle.inline.specs.Callees.{called_by};
 ghost use Rattle.inline.specs.Numbering.{naming, single};
-ghost use Rattle.language.specs.Tree.{block_tree, call_tree, declaration, expr_tree, right_tree, statement_tree};
+ghost use Rattle.language.specs.Tree.{block_tree, call_tree, declaration, expr_tree, return_tree, right_tree, statement_tree};
 ghost use Rattle.language.specs.Tree as source;
 
 use crate::calls::push;
@@ -60,12 +60,28 @@ impl<'a> Numbering<'a> {
             });
         };
         let mut own = self.pass(&callee.parameters, &call.arguments, declared, flat)?;
-        own.block(before, &callee.body, declared, flat)?;
-        let value = own.value(&callee.returned)?;
+        let value = own.inside(before, callee, declared, flat)?;
         Ok(Given {
             word: callee.result,
             value,
         })
+    }
+
+    /// The body of a procedure that stands in its own names, and its result.
+    #[cycle(numbering)]
+    pub fn inside(
+        &mut self,
+        earlier: &[Procedure<'a>],
+        procedure: &Procedure<'a>,
+        declared: &mut Vec<FlatVariable>,
+        flat: &mut Vec<FlatStatement>,
+    ) -> Result<Option<Term>, AllocError>
+        ensures value { IfOk result (λ value. option_map term_tree value ≡ numbered.value_of (numbered.names_after_all (called_by earlier.now) self.old.names (length declared.old.items) (block_tree procedure.now.body.items)) (option_map return_tree procedure.now.returned)) }
+        ensures block { OnOk result (flat_block flat.new.items ≡ chain (flat_block flat.old.items) (numbered.block (called_by earlier.now) self.old.names (length declared.old.items) (block_tree procedure.now.body.items))) }
+        ensures declared { OnOk result (declared.new.items ≡ declared.old.items ++ numbered.declared_in_all (called_by earlier.now) (block_tree procedure.now.body.items)) }
+    {
+        self.block(earlier, &procedure.body, declared, flat)?;
+        self.value(&procedure.returned)
     }
 
     /// What is assigned, and what stands before it is known.
@@ -231,7 +247,7 @@ impl<'a> Numbering<'a> {
         )
     }
 
-    /// The statements of an arm, whose names are gone where it ends.
+    /// The statements of an arm, or of a loop, whose names are gone where it ends.
     #[cycle(numbering)]
     fn arm(
         &mut self,
@@ -270,8 +286,7 @@ impl<'a> Numbering<'a> {
         let high = self.term(high)?;
         let names = self.names.len();
         let number = self.declare(counted.name, counter(), declared)?;
-        let mut turn = Vec::new(self.alloc);
-        self.block(earlier, body, declared, &mut turn)?;
+        let turn = self.arm(earlier, body, declared)?;
         self.names.truncate(names);
         push(flat, FlatStatement::Loop(number, low, high, turn))
     }
@@ -306,7 +321,7 @@ impl<'a> Numbering<'a> {
 
     /// Statements with numbers in place of names.
     #[cycle(numbering)]
-    pub fn block(
+    fn block(
         &mut self,
         earlier: &[Procedure<'a>],
         block: &[Statement<'a>],

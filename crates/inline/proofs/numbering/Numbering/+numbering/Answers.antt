@@ -1,11 +1,13 @@
-use Rattle.std.proofs.Common.{rules, Some, ◌≡◌, ◌+◌, ◌++◌, ◌∷◌, ap, ap₂, drop, length, map, subst, sym, take, ◌∙◌}
+use Rattle.std.proofs.Common.{rules, arith, IfOk, Some, ◌≡◌, ◌<◌, ◌+◌, ◌*◌, ◌++◌, ◌∷◌, ap, ap₂, drop, length, map, refl}
+use Rattle.std.proofs.Common.{subst, sym, take, ◌∙◌}
 use Rattle.std.proofs.lemmas.List.{at_drop_all, drop_more}
 use Rattle.std.specs.Option.{option_map}
 use Rattle.std.specs.Result.{OnOk}
 use Rattle.inline.proofs.BlockLemmas.{behind_both, chain_nothing, ok_along, ok_any, ok_behind}
 use Rattle.inline.proofs.CallLemmas.{called_block, called_declared, called_result, called_value, none_block}
 use Rattle.inline.proofs.CallLemmas.{none_declared, none_result, none_value, numbered_element}
-use Rattle.inline.proofs.Measures.{body_smaller, conditional_smaller, loop_smaller, rest_smaller}
+use Rattle.inline.proofs.Measures.{body_smaller, conditional_smaller, loop_smaller, nodes_of_block}
+use Rattle.inline.proofs.Measures.{rest_smaller}
 use Rattle.inline.proofs.NumberingLemmas.{conditional_whole, loop_whole, more_declared, more_names, names_before}
 use Rattle.inline.proofs.NumberingLemmas.{names_before_loop, next_number, numbered_branch, numbered_dropped}
 use Rattle.inline.proofs.NumberingLemmas.{numbered_turns, one_more}
@@ -17,8 +19,8 @@ use Rattle.inline.specs.Flat.{chain, flat_block, numbers_in, term_tree}
 use Rattle.inline.specs.Flat as flat
 use Rattle.inline.specs.Numbering.{block, call_block, call_result, call_value, call_variables, names_after_all}
 use Rattle.inline.specs.Numbering.{naming, declared_in, declared_in_all, element_block, single, statement, term}
-use Rattle.inline.specs.Numbering.{value_given}
-use Rattle.language.specs.Tree.{block_tree, call_tree, expr_tree, right_tree, statement_tree}
+use Rattle.inline.specs.Numbering.{value_given, value_of}
+use Rattle.language.specs.Tree.{block_tree, call_tree, expr_tree, nothing, return_tree, right_tree, statement_tree}
 use Rattle.language.specs.WellTyped.{labelled}
 
 pub arm-returns-clause-names : goal.arm-returns-clause-names
@@ -83,10 +85,9 @@ turns-returns-clause-block t c =
     c.args.declared.now.items c.declare.new.declared.items c.args.counted.now.name.now _
     (block_tree c.args.body.now)
     c.in_ok-number.number (expr_tree c.args.low.now) (expr_tree c.args.high.now) c.in_ok-low.low c.in_ok-high.high
-    c.new-turn.result.items c.block.new.flat
+    c.in_ok-turn.turn
     c.in_ok-number.ensures.number c.in_ok-number.ensures.names c.in_ok-number.ensures.declared
-    c.new-turn.ensures.items
-    c.in_ok-block.ensures.block c.in_ok-low.ensures c.in_ok-high.ensures
+    c.in_ok-turn.ensures.block c.in_ok-low.ensures c.in_ok-high.ensures
     ∙ ap (λ (d : FlatVariable). single
     (flat.loop (length c.args.declared.now.items) (term c.args.self.now.names (expr_tree c.args.low.now))
     (term c.args.self.now.names (expr_tree c.args.high.now))
@@ -100,11 +101,9 @@ turns-returns-clause-names t c =
     let known = called_by c.args.earlier.now in
     ok_any c.push.result
     (c.truncate.ensures
-    ∙ ap₂ take c.len-names.ensures (c.in_ok-block.ensures.names
-    ∙ ap (λ ns. names_after_all known ns (length c.declare.new.declared.items) (block_tree c.args.body.now))
-    c.in_ok-number.ensures.names)
-    ∙ names_before_loop known c.args.self.now.names (length c.args.declared.now.items)
-    (length c.declare.new.declared.items) c.args.counted.now.name.now _ (block_tree c.args.body.now))
+    ∙ ap₂ take c.len-names.ensures (c.in_ok-turn.ensures.names ∙ c.in_ok-number.ensures.names)
+    ∙ names_before_loop known c.args.self.now.names (length c.args.declared.now.items) 0
+    c.args.counted.now.name.now _ nothing)
 
 pub statement-branch-self-requires : goal.statement-branch-self-requires
 statement-branch-self-requires t c =
@@ -181,12 +180,41 @@ call-returns-in_default-clause-declared t c =
     none_declared c.args.earlier.now c.args.call.now.name.now (map expr_tree c.args.call.now.arguments.items)
     c.args.declared.now.items c.in_default.ensures
 
-pub call-block-requires : goal.call-block-requires
-call-block-requires t c =
+pub call-inside-requires : goal.call-inside-requires
+call-inside-requires t c =
     let smaller = body_smaller c.args.earlier.now c.in-Some.before.now c.in-Some.callee.now
-    (call_tree c.args.call.now)
-    c.deref-3.result.now c.in-Some.ensures c.deref-3.ensures.value in
+    (call_tree c.args.call.now) c.in-Some.callee.now.body.items c.in-Some.ensures refl in
     search (rules, smaller)
+
+pub inside-block-requires : goal.inside-block-requires
+inside-block-requires t c =
+    let same = ap (nodes_of_block c.args.earlier.now) c.deref.ensures.value in
+    let smaller : 8 * nodes_of_block c.args.earlier.now c.deref.result.now + 7
+    < 8 * nodes_of_block c.args.earlier.now c.args.procedure.now.body.items + 8 = omega (arith, same) in
+    search (rules, smaller)
+
+pub inside-returns-clause-value : goal.inside-returns-clause-value
+inside-returns-clause-value t c =
+    let known = called_by c.args.earlier.now in
+    subst (λ names. IfOk c.value.result (λ value. option_map term_tree value
+    ≡ value_of names (option_map return_tree c.args.procedure.now.returned)))
+    (c.in_ok-block.ensures.names
+    ∙ ap (λ ss. names_after_all known c.args.self.now.names (length c.args.declared.now.items) (block_tree ss))
+    c.deref.ensures.value)
+    c.value.ensures
+
+pub inside-returns-clause-block : goal.inside-returns-clause-block
+inside-returns-clause-block t c =
+    ok_any c.value.result (c.in_ok-block.ensures.block
+    ∙ ap (λ ss. chain (flat_block c.args.flat.now.items)
+    (block (called_by c.args.earlier.now) c.args.self.now.names (length c.args.declared.now.items) (block_tree ss)))
+    c.deref.ensures.value)
+
+pub inside-returns-clause-declared : goal.inside-returns-clause-declared
+inside-returns-clause-declared t c =
+    ok_any c.value.result (c.in_ok-block.ensures.declared
+    ∙ ap (λ ss. c.args.declared.now.items ++ declared_in_all (called_by c.args.earlier.now) (block_tree ss))
+    c.deref.ensures.value)
 
 pub call-returns-clause-word : goal.call-returns-clause-word
 call-returns-clause-word t c = called_result c.args.earlier.now c.in-Some.before.now c.in-Some.callee.now
@@ -201,39 +229,39 @@ call-returns-clause-value t c =
     c.deref-2.ensures.value
     (called_value c.args.earlier.now c.in-Some.before.now c.in-Some.callee.now c.args.call.now.name.now
     c.in-Some.ensures
-    names c.deref.result.now (map expr_tree c.deref-2.result.now) c.deref.ensures.value c.deref-3.result.now
-    c.deref-3.ensures.value
+    names c.deref.result.now (map expr_tree c.deref-2.result.now) c.deref.ensures.value c.in-Some.callee.now.body.items
+    refl
     old c.pass.new.declared.items c.in_ok-own.ensures.declared c.in_ok-own.own.names c.in_ok-own.ensures.own
-    c.block.new.self.names (option_map term_tree c.in_ok-value.value) c.in_ok-block.ensures.names
-    c.in_ok-value.ensures)
+    _ (option_map term_tree c.in_ok-value.value) refl
+    c.in_ok-value.ensures.value)
 
 pub call-returns-clause-block : goal.call-returns-clause-block
 call-returns-clause-block t c =
     let names = c.args.self.now.names in
     let old = c.args.declared.now.items in
-    subst (λ xs. flat_block c.block.new.flat.items ≡ chain (flat_block c.args.flat.now.items)
+    subst (λ xs. flat_block c.inside.new.flat.items ≡ chain (flat_block c.args.flat.now.items)
     (call_block (called_by c.args.earlier.now c.args.call.now.name.now) names (length old) (map expr_tree xs)))
     c.deref-2.ensures.value
     (called_block c.args.earlier.now c.in-Some.before.now c.in-Some.callee.now c.args.call.now.name.now
     c.in-Some.ensures
-    names c.deref.result.now (map expr_tree c.deref-2.result.now) c.deref.ensures.value c.deref-3.result.now
-    c.deref-3.ensures.value
+    names c.deref.result.now (map expr_tree c.deref-2.result.now) c.deref.ensures.value c.in-Some.callee.now.body.items
+    refl
     old c.pass.new.declared.items c.in_ok-own.ensures.declared c.in_ok-own.own.names c.in_ok-own.ensures.own
-    (flat_block c.args.flat.now.items) (flat_block c.pass.new.flat.items) (flat_block c.block.new.flat.items)
-    c.in_ok-own.ensures.block c.in_ok-block.ensures.block)
+    (flat_block c.args.flat.now.items) (flat_block c.pass.new.flat.items) (flat_block c.inside.new.flat.items)
+    c.in_ok-own.ensures.block c.in_ok-value.ensures.block)
 
 pub call-returns-clause-declared : goal.call-returns-clause-declared
 call-returns-clause-declared t c =
     let names = c.args.self.now.names in
     let old = c.args.declared.now.items in
-    subst (λ xs. c.block.new.declared.items ≡ old ++ call_variables
+    subst (λ xs. c.inside.new.declared.items ≡ old ++ call_variables
     (called_by c.args.earlier.now c.args.call.now.name.now) (map expr_tree xs)) c.deref-2.ensures.value
     (called_declared c.args.earlier.now c.in-Some.before.now c.in-Some.callee.now c.args.call.now.name.now
     c.in-Some.ensures
-    names c.deref.result.now (map expr_tree c.deref-2.result.now) c.deref.ensures.value c.deref-3.result.now
-    c.deref-3.ensures.value
+    names c.deref.result.now (map expr_tree c.deref-2.result.now) c.deref.ensures.value c.in-Some.callee.now.body.items
+    refl
     old c.pass.new.declared.items c.in_ok-own.ensures.declared c.in_ok-own.own.names c.in_ok-own.ensures.own
-    c.block.new.declared.items c.in_ok-block.ensures.declared)
+    c.inside.new.declared.items c.in_ok-value.ensures.declared)
 
 pub call_alone-returns-in_ok-push-2-clause-block : goal.call_alone-returns-in_ok-push-2-clause-block
 call_alone-returns-in_ok-push-2-clause-block t c =

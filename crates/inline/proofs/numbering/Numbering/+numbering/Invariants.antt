@@ -44,10 +44,13 @@ abbrev pub decreases-call_alone : goal.decreases-call_alone
 decreases-call_alone l = 8 * nodes_of_call l.earlier.now (call_tree l.call.now) + 5
 
 abbrev pub decreases-call : goal.decreases-call
-decreases-call l = 8 * nodes_of_call l.earlier.now (call_tree l.call.now)
+decreases-call l = 8 * nodes_of_call l.earlier.now (call_tree l.call.now) + 1
+
+abbrev pub decreases-inside : goal.decreases-inside
+decreases-inside l = 8 * nodes_of_block l.earlier.now l.procedure.now.body.items + 8
 
 abbrev pub decreases-right : goal.decreases-right
-decreases-right l = 8 * nodes_of_right l.earlier.now (right_tree l.right.now) + 1
+decreases-right l = 8 * nodes_of_right l.earlier.now (right_tree l.right.now) + 2
 
 abbrev pub decreases-branch : goal.decreases-branch
 decreases-branch l = 8 * (1 + nodes_in (expr_tree l.condition.now) + nodes_of_block l.earlier.now l.accepted.now
