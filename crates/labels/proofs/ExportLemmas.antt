@@ -155,6 +155,13 @@ module _ (profile : Profile) (items slice : List Procedure) (same : slice ≡ it
       ∙ ap (λ (l : List Procedure). fold sooner None
       (violations profile (record { procedures = map procedure_tree l }))) same
 
+  pub seen_same : (seen : Option Violation)
+      → seen ≡ fold sooner None (violations profile (record { procedures = map procedure_tree slice }))
+      → seen ≡ fold sooner None (violations profile (record { procedures = trees }))
+  seen_same seen h =
+      h ∙ ap (λ (l : List Procedure). fold sooner None
+      (violations profile (record { procedures = map procedure_tree l }))) same
+
   indexed : (index : Option ℕ) → index ≡ export_index (exported [] (map procedure_tree slice))
       → export_index (exported [] trees) ≡ index
   indexed index h = sym (h ∙ ap (λ (l : List Procedure). export_index (exported [] (map procedure_tree l))) same)

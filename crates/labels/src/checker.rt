@@ -73,6 +73,22 @@ fn note_exports(procedures: &[Procedure<'_>], first: &mut First) -> Option<usize
     export
 }
 
+/// Notes what each procedure violates in the scope of those before it.
+fn note_each<'a>(
+    alloc: Global,
+    names: &mut Scope<'a>,
+    first: &mut First,
+    procedures: &[Procedure<'a>],
+) -> Result<(), AllocError>
+    ensures first { OnOk result (first.new.seen ≡ fold sooner first.old.seen (procedures_violations [] names.old (map procedure_tree procedures.now))) }
+    ensures memory { procedures.now ≡ [] → IsOk result }
+{
+    for (index, it) in procedures.iter().enumerate() {
+        procedure(alloc, names, first, &procedures[..index], it)?;
+    }
+    Ok(())
+}
+
 /// Notes what the procedures violate, where this is the observer.
 fn note_procedures(
     alloc: Global,
@@ -84,10 +100,33 @@ fn note_procedures(
     ensures memory { procedures.now ≡ [] → IsOk result }
 {
     let mut names = Scope::new(alloc, profile);
-    for (index, it) in procedures.iter().enumerate() {
-        procedure(alloc, &mut names, first, &procedures[..index], it)?;
-    }
-    Ok(())
+    note_each(alloc, &mut names, first, procedures)
+}
+
+/// What is found of procedures: how many stand before the first exported one, and their first violation.
+#[derive(Clone, Copy)]
+struct Findings {
+    export: Option<usize>,
+    violation: Option<Violation>,
+}
+
+/// What is found of these procedures, where this is the observer.
+fn judged(
+    alloc: Global,
+    procedures: &[Procedure<'_>],
+    profile: Profile,
+) -> Result<Findings, AllocError>
+    ensures export { IfOk result (λ found. found.export ≡ export_index (exported [] (map procedure_tree procedures.now))) }
+    ensures violation { IfOk result (λ found. found.violation ≡ fold sooner None (violations profile (record { procedures = map procedure_tree procedures.now }))) }
+    ensures memory { procedures.now ≡ [] → IsOk result }
+{
+    let mut first = First { seen: None };
+    let export = note_exports(procedures, &mut first);
+    note_procedures(alloc, procedures, &mut first, profile)?;
+    Ok(Findings {
+        export,
+        violation: first.seen,
+    })
 }
 
 /// The program, where it is well typed for an observer; else its first violation. Memory is asked for
@@ -103,14 +142,11 @@ pub fn check_as<'p, 'a>(
     ensures empty { program.now ≡ [] → IfErr result (λ refusal. (refusal.rule ≡ NotExactlyOneExport) × (refusal.place ≡ Some origin)) }
     ensures refused { IfErr result (λ refusal. IsRefusedFor (violations profile (program_tree program.now)) refusal.rule refusal.place) }
 {
-    let mut first = First { seen: None };
-    let procedures = program.procedures();
-    let export = note_exports(procedures, &mut first);
-    note_procedures(alloc, procedures, &mut first, profile)?;
-    if let Some(violation) = first.seen {
+    let found = judged(alloc, program.procedures(), profile)?;
+    if let Some(violation) = found.violation {
         return Err(Refusal::at(violation.rule, violation.place));
     }
-    match export {
+    match found.export {
         Some(export) => Ok(Checked {
             program,
             profile,

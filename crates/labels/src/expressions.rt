@@ -22,7 +22,7 @@ fn value_of(variable: Option<VariableType>) -> Option<ValueType>
 }
 
 /// Notes a name that is no variable's, and gives the type of the variable.
-pub fn name(names: &Scope<'_>, first: &mut First, place: Place, text: &str) -> Option<ValueType>
+pub fn name<'a>(names: &Scope<'a>, first: &mut First, place: Place, text: &str) -> Option<ValueType>
     ensures typed { result ≡ name_type names.now text.now }
     ensures first { first.new.seen ≡ fold sooner first.old.seen (at place (name_rules names.now text.now)) }
 {

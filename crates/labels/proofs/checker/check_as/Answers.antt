@@ -1,31 +1,29 @@
 use Rattle.std.proofs.Common.{inr, sym, ◌∙◌}
 use Rattle.language.specs.Tree.{program_tree}
 use Rattle.language.specs.Typing.{violations}
-use Rattle.labels.proofs.ExportLemmas.{index_of, one_exported, seen_over}
+use Rattle.labels.proofs.ExportLemmas.{index_of, one_exported, seen_same}
 use Rattle.language.proofs.SoonerLemmas.{found_first, found_none}
 use Rattle.labels.proofs.checker.check_as.Goals as goal
 
 pub unreachable-requires : goal.unreachable-requires
 unreachable-requires c =
     let items = c.args.program.now in
-    let slice = c.procedures-procedures.result.now in
-    let seen = seen_over c.args.profile items slice c.procedures-procedures.ensures.procedures
-    c.note_exports-export.new.first.seen c.note_procedures.new.first.seen c.note_exports-export.ensures.first
-    c.in_ok-note_procedures.ensures.first in
-    one_exported c.args.profile items slice c.procedures-procedures.ensures.procedures c.note_exports-export.result
-    c.note_exports-export.ensures.export c.in-None.is
+    let slice = c.procedures.result.now in
+    let same = c.procedures.ensures.procedures in
+    let seen = seen_same c.args.profile items slice same c.in_ok-found.found.violation
+    c.in_ok-found.ensures.violation in
+    one_exported c.args.profile items slice same c.in_ok-found.found.export c.in_ok-found.ensures.export c.in-None.is
     (found_none (violations c.args.profile (program_tree c.args.program.now)) (sym seen ∙ c.in_default.is))
 
 pub invariant_of-result : goal.invariant_of-result
 invariant_of-result c =
     let items = c.args.program.now in
-    let slice = c.procedures-procedures.result.now in
-    let seen = seen_over c.args.profile items slice c.procedures-procedures.ensures.procedures
-    c.note_exports-export.new.first.seen c.note_procedures.new.first.seen c.note_exports-export.ensures.first
-    c.in_ok-note_procedures.ensures.first in
-    let index = index_of c.args.profile items slice c.procedures-procedures.ensures.procedures
-    c.note_exports-export.result c.in-Some-export.export c.note_exports-export.ensures.export
-    c.in-Some-export.is in
+    let slice = c.procedures.result.now in
+    let same = c.procedures.ensures.procedures in
+    let seen = seen_same c.args.profile items slice same c.in_ok-found.found.violation
+    c.in_ok-found.ensures.violation in
+    let index = index_of c.args.profile items slice same c.in_ok-found.found.export c.in-Some-export.export
+    c.in_ok-found.ensures.export c.in-Some-export.is in
     record {
       well_typed = found_none (violations c.args.profile (program_tree c.args.program.now)) (sym seen
           ∙ c.in_default.is);
@@ -36,10 +34,9 @@ invariant_of-result c =
 pub returns-in-Some-clause-refused : goal.returns-in-Some-clause-refused
 returns-in-Some-clause-refused c =
     let items = c.args.program.now in
-    let slice = c.procedures-procedures.result.now in
-    let seen = seen_over c.args.profile items slice c.procedures-procedures.ensures.procedures
-    c.note_exports-export.new.first.seen c.note_procedures.new.first.seen c.note_exports-export.ensures.first
-    c.in_ok-note_procedures.ensures.first in
+    let slice = c.procedures.result.now in
+    let seen = seen_same c.args.profile items slice c.procedures.ensures.procedures c.in_ok-found.found.violation
+    c.in_ok-found.ensures.violation in
     inr (
       c.in-Some.violation,
       found_first (violations c.args.profile (program_tree c.args.program.now))
