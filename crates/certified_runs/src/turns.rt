@@ -16,7 +16,7 @@ use crate::known_parts::KnownParts;
 use rv_machine::{CodeRegion, Hart, Memory, Observation, Stop, entry_count, step_unrecorded};
 
 /// How a turn of what is known ends.
-#[derive(Clone, Copy, Debug, PartialEq, Eq)]
+#[derive(Clone, Copy)]
 pub(crate) enum TurnEnd {
     /// It shows so many entries and goes on.
     LeadsOn(u64),

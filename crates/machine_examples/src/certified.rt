@@ -6,6 +6,7 @@ use certified_runs::{CertifiedEnd, KnownParts, Shifts, certify};
 use rv_machine::hart::Hart;
 use rv_machine::{CodeRegion, FlatMemory, Running, Size, Stop};
 use std::alloc::{AllocError, Global};
+use std::process::Abort;
 use std::test::Fail;
 use word::Profile;
 
@@ -39,6 +40,34 @@ fn end_of(
     let mut known = KnownParts::new(FlatMemory::new(alloc, DATA, 4)?, shifts);
     known.set_bytes(DATA, Size::Word, false);
     Ok(certify(&code, &mut run, &mut known))
+}
+
+// The run that comes to this word ended as expected.
+fn is_end(rt: &(impl Abort + AllocGlobal), word: u32, end: CertifiedEnd, expected: CertifiedEnd) {
+    assert_eq!(rt; end, expected, "{word:08x}");
+}
+
+// The run of these words in profile 1, where amounts of shifts are hidden, ends as expected.
+fn ends(
+    rt: &(impl Abort + AllocGlobal),
+    words: &[u32],
+    budget: u64,
+    expected: CertifiedEnd,
+) -> Result<(), AllocError>
+    requires few_words { length words.now ≤ 100 }
+    requires few_turns { budget ≤ 100 }
+{
+    let end = end_of(rt.alloc(), words, Profile::P1, Shifts::Hidden, budget)?;
+    assert_eq!(rt; end, expected);
+    Ok(())
+}
+
+fn same(stop: Stop, entries: u64) -> CertifiedEnd {
+    CertifiedEnd::Same { stop, entries }
+}
+
+fn may_differ(entry: u64, pc: u32) -> CertifiedEnd {
+    CertifiedEnd::MayDiffer { entry, pc }
 }
 
 const SAME: CertifiedEnd = CertifiedEnd::Same {
@@ -84,9 +113,9 @@ fn goes_by_what_is_known(rt: HostRuntime) -> Result<(), Fail> {
     for (word, one, two) in READERS {
         let words = [LOAD, word, ECALL];
         let first = end_of(rt.alloc(), &words, Profile::P1, Shifts::Hidden, 10)?;
-        assert_eq!(rt; first, one, "{word:08x}");
+        is_end(&rt, word, first, one);
         let second = end_of(rt.alloc(), &words, Profile::P2, Shifts::Hidden, 10)?;
-        assert_eq!(rt; second, two, "{word:08x}");
+        is_end(&rt, word, second, two);
     }
     Ok(())
 }
@@ -113,9 +142,9 @@ fn goes_by_amounts_where_they_are_seen(rt: HostRuntime) -> Result<(), Fail> {
     for (word, hidden, seen) in SHIFTS {
         let words = [LOAD, word, ECALL];
         let without = end_of(rt.alloc(), &words, Profile::P1, Shifts::Hidden, 10)?;
-        assert_eq!(rt; without, hidden, "{word:08x}");
+        is_end(&rt, word, without, hidden);
         let with = end_of(rt.alloc(), &words, Profile::P1, Shifts::Seen, 10)?;
-        assert_eq!(rt; with, seen, "{word:08x}");
+        is_end(&rt, word, with, seen);
     }
     Ok(())
 }
@@ -134,85 +163,20 @@ const BRANCH: u32 = 0x0002_9463;
 
 #[test]
 fn knows_what_was_stored(rt: HostRuntime) -> Result<(), Fail> {
-    let known = end_of(
-        rt.alloc(),
-        &[CLEAR, LOAD, BRANCH, ECALL],
-        Profile::P1,
-        Shifts::Hidden,
-        10,
-    )?;
-    assert_eq!(rt;
-        known,
-        CertifiedEnd::Same {
-            stop: Stop::Ecall,
-            entries: 6
-        }
-    );
-    let partly = end_of(
-        rt.alloc(),
-        &[CLEAR_BYTE, LOAD, BRANCH, ECALL],
-        Profile::P1,
-        Shifts::Hidden,
-        10,
-    )?;
-    assert_eq!(rt;
-        partly,
-        CertifiedEnd::MayDiffer {
-            entry: 5,
-            pc: 0x1_0008
-        }
-    );
-    let again = end_of(
-        rt.alloc(),
-        &[LOAD, CLEAR, STORE, LOAD, BRANCH, ECALL],
-        Profile::P1,
-        Shifts::Hidden,
-        10,
-    )?;
-    assert_eq!(rt;
-        again,
-        CertifiedEnd::MayDiffer {
-            entry: 9,
-            pc: 0x1_0010
-        }
-    );
+    ends(&rt, &[CLEAR, LOAD, BRANCH, ECALL], 10, same(Stop::Ecall, 6))?;
+    let partly = may_differ(5, 0x1_0008);
+    ends(&rt, &[CLEAR_BYTE, LOAD, BRANCH, ECALL], 10, partly)?;
+    let again = may_differ(9, 0x1_0010);
+    ends(&rt, &[LOAD, CLEAR, STORE, LOAD, BRANCH, ECALL], 10, again)?;
     Ok(())
 }
 
 #[test]
 fn stops_as_the_machine_does(rt: HostRuntime) -> Result<(), Fail> {
-    let spent = end_of(rt.alloc(), &[LOAD, BRANCH], Profile::P1, Shifts::Hidden, 1)?;
-    assert_eq!(rt;
-        spent,
-        CertifiedEnd::Same {
-            stop: Stop::Budget,
-            entries: 2
-        }
-    );
-    let none = end_of(rt.alloc(), &[LOAD], Profile::P1, Shifts::Hidden, 0)?;
-    assert_eq!(rt;
-        none,
-        CertifiedEnd::Same {
-            stop: Stop::Budget,
-            entries: 0
-        }
-    );
+    ends(&rt, &[LOAD, BRANCH], 1, same(Stop::Budget, 2))?;
+    ends(&rt, &[LOAD], 0, same(Stop::Budget, 0))?;
     // the code has ended, and the turn there shows nothing
-    let past = end_of(rt.alloc(), &[LOAD], Profile::P1, Shifts::Hidden, 10)?;
-    assert_eq!(rt;
-        past,
-        CertifiedEnd::Same {
-            stop: Stop::AccessFault,
-            entries: 2
-        }
-    );
-    let illegal = end_of(rt.alloc(), &[LOAD, 0], Profile::P1, Shifts::Hidden, 10)?;
-    assert_eq!(rt;
-        illegal,
-        CertifiedEnd::Same {
-            stop: Stop::Illegal,
-            entries: 3
-        }
-    );
+    ends(&rt, &[LOAD], 10, same(Stop::AccessFault, 2))?;
+    ends(&rt, &[LOAD, 0], 10, same(Stop::Illegal, 3))?;
     Ok(())
 }

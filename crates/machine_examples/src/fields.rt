@@ -5,55 +5,62 @@ ghost use Rattle.std.specs.Prelude.{◌≡◌, ◌∷◌, []};
 use rv_code::{BranchOffset, FenceBits, Immediate12, JumpOffset, Reg, ShiftAmount, UpperImmediate};
 
 #[test]
-fn makes_fields_in_range_alone(rt: HostRuntime) {
-    assert_eq!(rt; Reg::new(31).map(Reg::number), Some(31));
-    assert_eq!(rt; Reg::new(32), None);
-    for value in [-2048, -1, 0, 2047] {
-        assert_eq!(rt;
-            Immediate12::new(value).map(Immediate12::value),
-            Some(value)
-        );
+fn makes_immediates_in_range_alone(rt: HostRuntime) {
+    for (value, field) in [(-2048, 0x800), (-1, 0xfff), (0, 0), (2047, 0x7ff)] {
+        let immediate = Immediate12::new(value).expect(&rt, "an immediate");
+        assert_eq!(rt; immediate.value(), value);
+        assert_eq!(rt; immediate.field(), field);
     }
-    assert_eq!(rt; Immediate12::new(-1).map(Immediate12::field), Some(0xfff));
-    assert_eq!(rt; Immediate12::new(-2049), None);
-    assert_eq!(rt; Immediate12::new(2048), None);
-    assert_eq!(rt;
-        UpperImmediate::new(0xfffff).map(UpperImmediate::field),
-        Some(0xfffff)
-    );
-    assert_eq!(rt; UpperImmediate::new(0x100000), None);
+    for value in [-2049, 2048] {
+        assert!(rt; Immediate12::new(value).is_none(), "{value}");
+    }
 }
 
 #[test]
-fn makes_offsets_in_range_alone(rt: HostRuntime) {
-    for value in [-4096, -2, 0, 2, 4094] {
-        assert_eq!(rt;
-            BranchOffset::new(value).map(BranchOffset::value),
-            Some(value)
-        );
+fn makes_branch_offsets_in_range_alone(rt: HostRuntime) {
+    for (value, halves) in [(-4096, 0x800), (-2, 0xfff), (0, 0), (2, 1), (4094, 0x7ff)] {
+        let offset = BranchOffset::new(value).expect(&rt, "an offset");
+        assert_eq!(rt; offset.value(), value);
+        assert_eq!(rt; offset.halves(), halves);
     }
     for value in [-4098, -4097, -1, 1, 4095, 4096] {
-        assert_eq!(rt; BranchOffset::new(value), None);
+        assert!(rt; BranchOffset::new(value).is_none(), "{value}");
     }
-    assert_eq!(rt;
-        BranchOffset::new(-2).map(BranchOffset::halves),
-        Some(0xfff)
-    );
-    for value in [-1_048_576, -2, 0, 2, 1_048_574] {
-        assert_eq!(rt; JumpOffset::new(value).map(JumpOffset::value), Some(value));
+}
+
+#[test]
+fn makes_jump_offsets_in_range_alone(rt: HostRuntime) {
+    for (value, halves) in [
+        (-1_048_576, 0x80000),
+        (-2, 0xfffff),
+        (0, 0),
+        (2, 1),
+        (1_048_574, 0x7ffff),
+    ] {
+        let offset = JumpOffset::new(value).expect(&rt, "an offset");
+        assert_eq!(rt; offset.value(), value);
+        assert_eq!(rt; offset.halves(), halves);
     }
     for value in [-1_048_578, -1, 1, 1_048_575, 1_048_576] {
-        assert_eq!(rt; JumpOffset::new(value), None);
+        assert!(rt; JumpOffset::new(value).is_none(), "{value}");
     }
-    assert_eq!(rt; JumpOffset::new(-2).map(JumpOffset::halves), Some(0xfffff));
 }
 
 #[test]
 fn makes_small_fields_in_range_alone(rt: HostRuntime) {
-    assert_eq!(rt; ShiftAmount::new(31).map(ShiftAmount::amount), Some(31));
-    assert_eq!(rt; ShiftAmount::new(32), None);
-    assert_eq!(rt; FenceBits::new(15).map(FenceBits::bits), Some(15));
-    assert_eq!(rt; FenceBits::new(16), None);
+    assert_eq!(rt; Reg::new(31).expect(&rt, "a register").number(), 31);
+    assert!(rt; Reg::new(32).is_none());
+    assert_eq!(rt; ShiftAmount::new(31).expect(&rt, "an amount").amount(), 31);
+    assert!(rt; ShiftAmount::new(32).is_none());
+    assert_eq!(rt; FenceBits::new(15).expect(&rt, "bits").bits(), 15);
+    assert!(rt; FenceBits::new(16).is_none());
+}
+
+#[test]
+fn makes_upper_immediates_in_range_alone(rt: HostRuntime) {
+    let upper = UpperImmediate::new(0xfffff).expect(&rt, "an immediate");
+    assert_eq!(rt; upper.field(), 0xfffff);
+    assert!(rt; UpperImmediate::new(0x100000).is_none());
 }
 
 // What a contract sees of the named registers.

@@ -8,6 +8,7 @@ use rv_machine::{
     CodeRegion, Event, FlatMemory, Observation, Pairing, Running, Size, compare, first_difference,
 };
 use std::alloc::{AllocError, Global};
+use std::process::Abort;
 use std::test::Fail;
 use word::Profile;
 
@@ -57,20 +58,23 @@ fn run_from(alloc: Global, x2: u32, budget: u64) -> Result<Running<FlatMemory>, 
     })
 }
 
-// How the runs from these words compare, in profile 1, that have these numbers in x2.
-fn pairing(
-    alloc: Global,
+// The runs from these words compare so, in profile 1, that have these numbers in x2.
+fn pairs(
+    rt: &(impl Abort + AllocGlobal),
     words: &[u32],
     numbers: (u32, u32),
     budget: u64,
-) -> Result<Pairing, AllocError>
+    expected: Pairing,
+) -> Result<(), AllocError>
     requires few_words { length words.now ≤ 100 }
     requires few_turns { budget ≤ 100 }
 {
-    pairing_as(alloc, words, numbers, budget, Profile::P1)
+    let found = pairing_as(rt.alloc(), words, numbers, budget, Profile::P1)?;
+    assert_eq!(rt; found, expected);
+    Ok(())
 }
 
-// The same in this profile.
+// How the runs from these words compare, in this profile, that have these numbers in x2.
 fn pairing_as(
     alloc: Global,
     words: &[u32],
@@ -91,14 +95,11 @@ fn pairing_as(
 #[test]
 fn compares_runs_that_load(rt: HostRuntime) -> Result<(), Fail> {
     let words = [0x0001_2283, 0x0000_0073];
-    let same = pairing(rt.alloc(), &words, (DATA, DATA), 10)?;
-    assert_eq!(rt; same, Pairing::Same);
+    pairs(&rt, &words, (DATA, DATA), 10, Pairing::Same)?;
     // one of them loads, the other stops there
-    let apart = pairing(rt.alloc(), &words, (DATA, 0), 10)?;
-    assert_eq!(rt; apart, Pairing::Differ(1));
+    pairs(&rt, &words, (DATA, 0), 10, Pairing::Differ(1))?;
     // both stop there
-    let neither = pairing(rt.alloc(), &words, (0, 4), 10)?;
-    assert_eq!(rt; neither, Pairing::Same);
+    pairs(&rt, &words, (0, 4), 10, Pairing::Same)?;
     Ok(())
 }
 
@@ -107,15 +108,11 @@ fn compares_runs_that_load(rt: HostRuntime) -> Result<(), Fail> {
 fn compares_runs_of_which_one_ends(rt: HostRuntime) -> Result<(), Fail> {
     let words = [0x0010_0093, 0x0001_0067, 0x0000_006f];
     // the second one goes where no code is, and shows nothing more
-    let second = pairing(rt.alloc(), &words, (CODE + 8, 0), 10)?;
-    assert_eq!(rt; second, Pairing::Differ(2));
-    let first = pairing(rt.alloc(), &words, (0, CODE + 8), 10)?;
-    assert_eq!(rt; first, Pairing::Differ(2));
+    pairs(&rt, &words, (CODE + 8, 0), 10, Pairing::Differ(2))?;
+    pairs(&rt, &words, (0, CODE + 8), 10, Pairing::Differ(2))?;
     // the budget is used up before
-    let short = pairing(rt.alloc(), &words, (0, CODE + 8), 2)?;
-    assert_eq!(rt; short, Pairing::Same);
-    let none = pairing(rt.alloc(), &words, (0, CODE + 8), 0)?;
-    assert_eq!(rt; none, Pairing::Same);
+    pairs(&rt, &words, (0, CODE + 8), 2, Pairing::Same)?;
+    pairs(&rt, &words, (0, CODE + 8), 0, Pairing::Same)?;
     Ok(())
 }
 
@@ -135,17 +132,20 @@ fn compares_runs_that_multiply(rt: HostRuntime) -> Result<(), Fail> {
 // jal x0, 0
 #[test]
 fn compares_runs_that_use_up_their_budget(rt: HostRuntime) -> Result<(), Fail> {
-    let endless = pairing(rt.alloc(), &[0x0000_006f], (0, DATA), 100)?;
-    assert_eq!(rt; endless, Pairing::Same);
+    pairs(&rt, &[0x0000_006f], (0, DATA), 100, Pairing::Same)?;
+    Ok(())
+}
+
+fn prints(rt: &(impl Abort + AllocGlobal), pairing: Pairing, text: &str) -> Result<(), AllocError> {
+    let printed = format!(in rt.alloc(); "{pairing}")?;
+    assert_eq!(rt; printed.as_str(), text);
     Ok(())
 }
 
 #[test]
 fn prints_the_place(rt: HostRuntime) -> Result<(), Fail> {
-    let same = format!(in rt.alloc(); "{}", Pairing::Same)?;
-    assert_eq!(rt; same.as_str(), "same");
-    let apart = format!(in rt.alloc(); "{}", Pairing::Differ(3))?;
-    assert_eq!(rt; apart.as_str(), "differ at 3");
+    prints(&rt, Pairing::Same, "same")?;
+    prints(&rt, Pairing::Differ(3), "differ at 3")?;
     entries_tell_observations_apart();
     one_first_difference();
     Ok(())

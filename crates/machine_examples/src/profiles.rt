@@ -5,6 +5,7 @@ use rv_code::Reg;
 use rv_machine::hart::Hart;
 use rv_machine::{CodeRegion, Event, FlatMemory, ListRecorder, Observation, Stop, run};
 use std::alloc::{AllocError, Global};
+use std::process::Abort;
 use std::test::Fail;
 use word::Profile;
 
@@ -47,34 +48,38 @@ fn shown(product: Option<Event>) -> [Observation; 4] {
     ]
 }
 
+// The run of this code ends by its ECALL, leaves this word in x5, and shows this of its product.
+fn multiplies(
+    rt: &(impl Abort + AllocGlobal),
+    code: &CodeRegion,
+    value: u32,
+    product: Option<Event>,
+) -> Result<(), AllocError> {
+    let run = run_of(rt.alloc(), code)?;
+    assert_eq!(rt; run.stop, Stop::Ecall);
+    assert_eq!(rt; run.hart.reg(Reg::X5), value);
+    assert_eq!(rt; run.recorder.list(), shown(product).as_slice());
+    Ok(())
+}
+
 #[test]
 fn shows_the_operands_in_profile_2(rt: HostRuntime) -> Result<(), Fail> {
     let code = CodeRegion::new_as(rt.alloc(), CODE, &PRODUCT, Profile::P2)?;
-    let run = run_of(rt.alloc(), &code)?;
-    assert_eq!(rt; run.stop, Stop::Ecall);
-    assert_eq!(rt; run.hart.reg(Reg::X5), 27);
-    let expected = shown(Some(Event::Mul(9, 3)));
-    assert_eq!(rt; run.recorder.list(), expected.as_slice());
+    multiplies(&rt, &code, 27, Some(Event::Mul(9, 3)))?;
     Ok(())
 }
 
 #[test]
 fn shows_no_operands_in_profile_1(rt: HostRuntime) -> Result<(), Fail> {
     let code = CodeRegion::new_as(rt.alloc(), CODE, &PRODUCT, Profile::P1)?;
-    let run = run_of(rt.alloc(), &code)?;
-    assert_eq!(rt; run.stop, Stop::Ecall);
-    assert_eq!(rt; run.hart.reg(Reg::X5), 27);
-    assert_eq!(rt; run.recorder.list(), shown(None).as_slice());
+    multiplies(&rt, &code, 27, None)?;
     Ok(())
 }
 
 #[test]
 fn is_of_profile_1_where_none_is_named(rt: HostRuntime) -> Result<(), Fail> {
     let code = CodeRegion::new(rt.alloc(), CODE, &PRODUCT)?;
-    let run = run_of(rt.alloc(), &code)?;
-    assert_eq!(rt; run.stop, Stop::Ecall);
-    assert_eq!(rt; run.hart.reg(Reg::X5), 27);
-    assert_eq!(rt; run.recorder.list(), shown(None).as_slice());
+    multiplies(&rt, &code, 27, None)?;
     Ok(())
 }
 
@@ -100,11 +105,7 @@ fn shows_the_operands_as_the_registers_have_them(rt: HostRuntime) -> Result<(), 
     for (word, value) in MULTIPLICATIONS {
         let words = [MINUS_ONE, PRODUCT[1], word, PRODUCT[3]];
         let code = CodeRegion::new_as(rt.alloc(), CODE, &words, Profile::P2)?;
-        let run = run_of(rt.alloc(), &code)?;
-        assert_eq!(rt; run.stop, Stop::Ecall);
-        assert_eq!(rt; run.hart.reg(Reg::X5), value, "{word:08x}");
-        let expected = shown(Some(Event::Mul(0xffff_ffff, 3)));
-        assert_eq!(rt; run.recorder.list(), expected.as_slice());
+        multiplies(&rt, &code, value, Some(Event::Mul(0xffff_ffff, 3)))?;
     }
     Ok(())
 }

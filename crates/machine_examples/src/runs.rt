@@ -49,6 +49,21 @@ fn ends(rt: &(impl Abort + AllocGlobal), run: &Seen, stop: Stop, shown: &[Observ
     assert_eq!(rt; run.recorder.list(), shown);
 }
 
+/// The run of these words with no data, of so many turns at most, stops so, and shows this.
+fn ends_at(
+    rt: &(impl Abort + AllocGlobal),
+    words: &[u32],
+    budget: u64,
+    stop: Stop,
+    shown: &[Observation],
+) -> Result<(), AllocError>
+    requires { length words.now ≤ 100 }
+{
+    let run = run_of(rt.alloc(), words, 0, budget)?;
+    ends(rt, &run, stop, shown);
+    Ok(())
+}
+
 fn at(pc: u32) -> Observation {
     Observation { pc, event: None }
 }
@@ -83,36 +98,30 @@ fn faults_outside_its_data(rt: HostRuntime) -> Result<(), Fail> {
 
 #[test]
 fn stops_at_a_word_that_is_no_instruction(rt: HostRuntime) -> Result<(), Fail> {
-    let run = run_of(rt.alloc(), &[0x0000_0000], 0, 10)?;
-    ends(&rt, &run, Stop::Illegal, &[at(CODE)]);
+    ends_at(&rt, &[0x0000_0000], 10, Stop::Illegal, &[at(CODE)])?;
     Ok(())
 }
 
 #[test]
 fn breaks(rt: HostRuntime) -> Result<(), Fail> {
-    let run = run_of(rt.alloc(), &[0x0010_0073], 0, 10)?;
-    ends(&rt, &run, Stop::Break, &[at(CODE)]);
+    ends_at(&rt, &[0x0010_0073], 10, Stop::Break, &[at(CODE)])?;
     Ok(())
 }
 
 // addi x1, x0, 1; ecall
 #[test]
 fn makes_as_many_turns_as_allowed(rt: HostRuntime) -> Result<(), Fail> {
-    let none = run_of(rt.alloc(), &[0x0010_0093, 0x0000_0073], 0, 0)?;
-    ends(&rt, &none, Stop::Budget, &[]);
-    let one = run_of(rt.alloc(), &[0x0010_0093, 0x0000_0073], 0, 1)?;
-    ends(&rt, &one, Stop::Budget, &[at(CODE)]);
-    let both = run_of(rt.alloc(), &[0x0010_0093, 0x0000_0073], 0, 2)?;
-    ends(&rt, &both, Stop::Ecall, &[at(CODE), at(CODE + 4)]);
+    let words = [0x0010_0093, 0x0000_0073];
+    ends_at(&rt, &words, 0, Stop::Budget, &[])?;
+    ends_at(&rt, &words, 1, Stop::Budget, &[at(CODE)])?;
+    ends_at(&rt, &words, 2, Stop::Ecall, &[at(CODE), at(CODE + 4)])?;
     Ok(())
 }
 
 #[test]
 fn shows_nothing_where_there_is_no_word(rt: HostRuntime) -> Result<(), Fail> {
-    let empty = run_of(rt.alloc(), &[], 0, 10)?;
-    ends(&rt, &empty, Stop::AccessFault, &[]);
-    let past = run_of(rt.alloc(), &[0x0010_0093], 0, 10)?;
-    ends(&rt, &past, Stop::AccessFault, &[at(CODE)]);
+    ends_at(&rt, &[], 10, Stop::AccessFault, &[])?;
+    ends_at(&rt, &[0x0010_0093], 10, Stop::AccessFault, &[at(CODE)])?;
     Ok(())
 }
 
@@ -237,8 +246,8 @@ fn divides_the_least_by_minus_one(rt: HostRuntime) -> Result<(), Fail> {
 // jal x0, 0
 #[test]
 fn goes_round_until_the_budget_is_spent(rt: HostRuntime) -> Result<(), Fail> {
-    let run = run_of(rt.alloc(), &[0x0000_006f], 0, 3)?;
-    ends(&rt, &run, Stop::Budget, &[at(CODE), at(CODE), at(CODE)]);
+    let shown = [at(CODE), at(CODE), at(CODE)];
+    ends_at(&rt, &[0x0000_006f], 3, Stop::Budget, &shown)?;
     Ok(())
 }
 

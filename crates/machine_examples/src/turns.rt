@@ -8,6 +8,7 @@ use rv_machine::{
     CodeRegion, Event, FlatMemory, ListRecorder, NullRecorder, Observation, Size, Stop, run, step,
 };
 use std::alloc::{AllocError, Global};
+use std::process::Abort;
 use std::test::Fail;
 
 const CODE: u32 = 0x0001_0000;
@@ -50,6 +51,45 @@ fn shown(pc: u32, event: Event) -> Observation {
         pc,
         event: Some(event),
     }
+}
+
+// The turn of this word, with these numbers in x6 and x7, goes on to this address, and leaves a word in a
+// register.
+fn gives(
+    rt: &(impl Abort + AllocGlobal),
+    word: u32,
+    numbers: (u32, u32),
+    left: (Reg, u32),
+    pc: u32,
+) -> Result<(), AllocError> {
+    let (a, b) = numbers;
+    let (register, value) = left;
+    let turned = turn_of(rt.alloc(), word, a, b)?;
+    assert_eq!(rt; turned.stop, None);
+    assert_eq!(rt;
+        turned.hart.reg(register),
+        value,
+        "{word:08x} {a:08x} {b:08x}"
+    );
+    assert_eq!(rt; turned.hart.pc(), pc);
+    Ok(())
+}
+
+// The turn of this word, with these numbers in x6 and x7, stops so or goes on to this address, and shows its
+// own address alone.
+fn leads(
+    rt: &(impl Abort + AllocGlobal),
+    word: u32,
+    numbers: (u32, u32),
+    stop: Option<Stop>,
+    pc: u32,
+) -> Result<(), AllocError> {
+    let (a, b) = numbers;
+    let turned = turn_of(rt.alloc(), word, a, b)?;
+    assert_eq!(rt; turned.stop, stop);
+    assert_eq!(rt; turned.hart.pc(), pc, "{word:08x} {a:08x} {b:08x}");
+    assert_eq!(rt; turned.recorder.list(), [at(CODE)].as_slice());
+    Ok(())
 }
 
 // Words of the form `OP x5, x6, x7`, numbers in x6 and x7, and what x5 gets.
@@ -118,14 +158,7 @@ const REGISTER_OPERATIONS: [(u32, u32, u32, u32); 45] = [
 #[test]
 fn computes_from_two_registers(rt: HostRuntime) -> Result<(), Fail> {
     for (word, a, b, expected) in REGISTER_OPERATIONS {
-        let turned = turn_of(rt.alloc(), word, a, b)?;
-        assert_eq!(rt; turned.stop, None);
-        assert_eq!(rt;
-            turned.hart.reg(Reg::X5),
-            expected,
-            "{word:08x} {a:08x} {b:08x}"
-        );
-        assert_eq!(rt; turned.hart.pc(), CODE + 4);
+        gives(&rt, word, (a, b), (Reg::X5, expected), CODE + 4)?;
     }
     Ok(())
 }
@@ -156,9 +189,7 @@ const IMMEDIATE_OPERATIONS: [(u32, u32, u32); 10] = [
 #[test]
 fn computes_from_a_register_and_an_immediate(rt: HostRuntime) -> Result<(), Fail> {
     for (word, a, expected) in IMMEDIATE_OPERATIONS {
-        let turned = turn_of(rt.alloc(), word, a, 0)?;
-        assert_eq!(rt; turned.stop, None);
-        assert_eq!(rt; turned.hart.reg(Reg::X5), expected, "{word:08x} {a:08x}");
+        gives(&rt, word, (a, 0), (Reg::X5, expected), CODE + 4)?;
     }
     Ok(())
 }
@@ -194,10 +225,7 @@ const BRANCHES: [(u32, u32, u32, u32); 8] = [
 #[test]
 fn branches_where_the_test_holds(rt: HostRuntime) -> Result<(), Fail> {
     for (word, a, b, target) in BRANCHES {
-        let turned = turn_of(rt.alloc(), word, a, b)?;
-        assert_eq!(rt; turned.stop, None);
-        assert_eq!(rt; turned.hart.pc(), target, "{word:08x} {a:08x} {b:08x}");
-        assert_eq!(rt; turned.recorder.list(), [at(CODE)].as_slice());
+        leads(&rt, word, (a, b), None, target)?;
     }
     Ok(())
 }
@@ -205,58 +233,45 @@ fn branches_where_the_test_holds(rt: HostRuntime) -> Result<(), Fail> {
 // beq x0, x0, -4
 #[test]
 fn branches_back(rt: HostRuntime) -> Result<(), Fail> {
-    let turned = turn_of(rt.alloc(), 0xfe00_0ee3, 0, 0)?;
-    assert_eq!(rt; turned.stop, None);
-    assert_eq!(rt; turned.hart.pc(), CODE - 4);
+    leads(&rt, 0xfe00_0ee3, (0, 0), None, CODE - 4)?;
     Ok(())
 }
 
 // jal x1, 8; jalr x6, 5(x6) with 65544 in x6
 #[test]
 fn links_the_next_address(rt: HostRuntime) -> Result<(), Fail> {
-    let jumped = turn_of(rt.alloc(), 0x0080_00ef, 0, 0)?;
-    assert_eq!(rt; jumped.stop, None);
-    assert_eq!(rt; jumped.hart.pc(), CODE + 8);
-    assert_eq!(rt; jumped.hart.reg(Reg::from_bits(1)), CODE + 4);
-    let returned = turn_of(rt.alloc(), 0x0053_0367, CODE + 8, 0)?;
-    assert_eq!(rt; returned.stop, None);
-    assert_eq!(rt; returned.hart.pc(), CODE + 12);
-    assert_eq!(rt; returned.hart.reg(Reg::X6), CODE + 4);
+    let link = (Reg::from_bits(1), CODE + 4);
+    gives(&rt, 0x0080_00ef, (0, 0), link, CODE + 8)?;
+    gives(
+        &rt,
+        0x0053_0367,
+        (CODE + 8, 0),
+        (Reg::X6, CODE + 4),
+        CODE + 12,
+    )?;
     Ok(())
 }
 
 // jalr x0, 2(x0); blt x6, x7, 2, taken and not taken; bne x6, x6, 2
 #[test]
 fn stops_at_a_misaligned_target(rt: HostRuntime) -> Result<(), Fail> {
-    let jumped = turn_of(rt.alloc(), 0x0020_0067, 0, 0)?;
-    assert_eq!(rt; jumped.stop, Some(Stop::Misaligned));
-    assert_eq!(rt; jumped.recorder.list(), [at(CODE)].as_slice());
-    assert_eq!(rt; jumped.hart.pc(), CODE);
-    let taken = turn_of(rt.alloc(), 0x0073_4163, 1, 2)?;
-    assert_eq!(rt; taken.stop, Some(Stop::Misaligned));
-    assert_eq!(rt; taken.recorder.list(), [at(CODE)].as_slice());
-    let passed = turn_of(rt.alloc(), 0x0073_4163, 2, 1)?;
-    assert_eq!(rt; passed.stop, None);
-    assert_eq!(rt; passed.hart.pc(), CODE + 4);
+    leads(&rt, 0x0020_0067, (0, 0), Some(Stop::Misaligned), CODE)?;
+    leads(&rt, 0x0073_4163, (1, 2), Some(Stop::Misaligned), CODE)?;
+    leads(&rt, 0x0073_4163, (2, 1), None, CODE + 4)?;
     Ok(())
 }
 
 // lh x5, 1(x2)
 #[test]
 fn stops_at_a_misaligned_half(rt: HostRuntime) -> Result<(), Fail> {
-    let turned = turn_of(rt.alloc(), 0x0011_1283, 0, 0)?;
-    assert_eq!(rt; turned.stop, Some(Stop::Misaligned));
-    assert_eq!(rt; turned.recorder.list(), [at(CODE)].as_slice());
+    leads(&rt, 0x0011_1283, (0, 0), Some(Stop::Misaligned), CODE)?;
     Ok(())
 }
 
 // fence 0, 15, 15, x0, x0
 #[test]
 fn does_nothing_at_a_fence(rt: HostRuntime) -> Result<(), Fail> {
-    let turned = turn_of(rt.alloc(), 0x0ff0_000f, 7, 0)?;
-    assert_eq!(rt; turned.stop, None);
-    assert_eq!(rt; turned.hart.pc(), CODE + 4);
-    assert_eq!(rt; turned.hart.reg(Reg::X6), 7);
-    assert_eq!(rt; turned.recorder.list(), [at(CODE)].as_slice());
+    gives(&rt, 0x0ff0_000f, (7, 0), (Reg::X6, 7), CODE + 4)?;
+    leads(&rt, 0x0ff0_000f, (7, 0), None, CODE + 4)?;
     Ok(())
 }
