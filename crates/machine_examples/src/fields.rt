@@ -47,12 +47,20 @@ fn makes_jump_offsets_in_range_alone(rt: HostRuntime) {
 }
 
 #[test]
-fn makes_small_fields_in_range_alone(rt: HostRuntime) {
+fn makes_registers_in_range_alone(rt: HostRuntime) {
     assert_eq!(rt; Reg::new(31).expect(&rt, "a register").number(), 31);
     assert!(rt; Reg::new(32).is_none());
+}
+
+#[test]
+fn makes_amounts_in_range_alone(rt: HostRuntime) {
     assert_eq!(rt; ShiftAmount::new(31).expect(&rt, "an amount").amount(), 31);
     assert!(rt; ShiftAmount::new(32).is_none());
-    assert_eq!(rt; FenceBits::new(15).expect(&rt, "bits").bits(), 15);
+}
+
+#[test]
+fn makes_fence_bits_in_range_alone(rt: HostRuntime) {
+    assert_eq!(rt; FenceBits::new(15).expect(&rt, "four bits").bits(), 15);
     assert!(rt; FenceBits::new(16).is_none());
 }
 

@@ -53,6 +53,17 @@ fn shown(pc: u32, event: Event) -> Observation {
     }
 }
 
+// The turn stopped so, and left the program counter at this address.
+fn is_at(rt: &(impl Abort + AllocGlobal), turned: &Turned, stop: Option<Stop>, pc: u32) {
+    assert_eq!(rt; turned.stop, stop);
+    assert_eq!(rt; turned.hart.pc(), pc);
+}
+
+// The turn showed this.
+fn has_shown(rt: &(impl Abort + AllocGlobal), turned: &Turned, seen: Observation) {
+    assert_eq!(rt; turned.recorder.list(), [seen].as_slice());
+}
+
 // The turn of this word, with these numbers in x6 and x7, goes on to this address, and leaves a word in a
 // register.
 fn gives(
@@ -62,21 +73,14 @@ fn gives(
     left: (Reg, u32),
     pc: u32,
 ) -> Result<(), AllocError> {
-    let (a, b) = numbers;
-    let (register, value) = left;
-    let turned = turn_of(rt.alloc(), word, a, b)?;
-    assert_eq!(rt; turned.stop, None);
-    assert_eq!(rt;
-        turned.hart.reg(register),
-        value,
-        "{word:08x} {a:08x} {b:08x}"
-    );
-    assert_eq!(rt; turned.hart.pc(), pc);
+    let turned = turn_of(rt.alloc(), word, numbers.0, numbers.1)?;
+    is_at(rt, &turned, None, pc);
+    assert_eq!(rt; turned.hart.reg(left.0), left.1, "{word:08x}");
     Ok(())
 }
 
-// The turn of this word, with these numbers in x6 and x7, stops so or goes on to this address, and shows its
-// own address alone.
+// The turn of this word, with these numbers in x6 and x7, stops so or goes on to this address, and shows
+// its own address alone.
 fn leads(
     rt: &(impl Abort + AllocGlobal),
     word: u32,
@@ -84,11 +88,21 @@ fn leads(
     stop: Option<Stop>,
     pc: u32,
 ) -> Result<(), AllocError> {
-    let (a, b) = numbers;
-    let turned = turn_of(rt.alloc(), word, a, b)?;
-    assert_eq!(rt; turned.stop, stop);
-    assert_eq!(rt; turned.hart.pc(), pc, "{word:08x} {a:08x} {b:08x}");
-    assert_eq!(rt; turned.recorder.list(), [at(CODE)].as_slice());
+    let turned = turn_of(rt.alloc(), word, numbers.0, numbers.1)?;
+    is_at(rt, &turned, stop, pc);
+    has_shown(rt, &turned, at(CODE));
+    Ok(())
+}
+
+// The turn of this word, with these numbers in x6 and x7, shows this.
+fn shows(
+    rt: &(impl Abort + AllocGlobal),
+    word: u32,
+    numbers: (u32, u32),
+    seen: Observation,
+) -> Result<(), AllocError> {
+    let turned = turn_of(rt.alloc(), word, numbers.0, numbers.1)?;
+    has_shown(rt, &turned, seen);
     Ok(())
 }
 
@@ -197,12 +211,9 @@ fn computes_from_a_register_and_an_immediate(rt: HostRuntime) -> Result<(), Fail
 // divu x5, x6, x7 and mul x5, x6, x7
 #[test]
 fn shows_the_operands_of_divisions_alone(rt: HostRuntime) -> Result<(), Fail> {
-    let divided = turn_of(rt.alloc(), 0x0273_52b3, 9, 0)?;
-    assert_eq!(rt; divided.hart.reg(Reg::X5), 4_294_967_295);
-    let expected = [shown(CODE, Event::Div(9, 0))];
-    assert_eq!(rt; divided.recorder.list(), expected.as_slice());
-    let multiplied = turn_of(rt.alloc(), 0x0273_02b3, 9, 0)?;
-    assert_eq!(rt; multiplied.recorder.list(), [at(CODE)].as_slice());
+    gives(&rt, 0x0273_52b3, (9, 0), (Reg::X5, 4_294_967_295), CODE + 4)?;
+    shows(&rt, 0x0273_52b3, (9, 0), shown(CODE, Event::Div(9, 0)))?;
+    shows(&rt, 0x0273_02b3, (9, 0), at(CODE))?;
     Ok(())
 }
 
