@@ -4,7 +4,7 @@ ghost use Rattle.std.specs.Prelude.{◌≡◌};
 ghost use Rattle.pictures.specs.Marks.{difference, joined};
 
 /// Which of two runs.
-#[derive(Clone, Copy, Debug, PartialEq, Eq)]
+#[derive(Clone, Copy)]
 pub enum Side {
     One,
     Other,
@@ -12,7 +12,7 @@ pub enum Side {
 
 /// What either run does in some step of a cell's column at an address of its row, and whether some of it is a difference:
 /// of the one run, or of the other.
-#[derive(Clone, Copy, Debug, PartialEq, Eq)]
+#[derive(Clone, Copy)]
 pub struct Cell {
     /// An instruction is executed there, or one that shows its operands.
     pub fetched: bool,
@@ -77,7 +77,7 @@ impl Cell {
 }
 
 /// What is put into the cell of a step at an address.
-#[derive(Clone, Copy, Debug, PartialEq, Eq)]
+#[derive(Clone, Copy)]
 pub struct Mark {
     pub step: u64,
     pub address: u32,
@@ -92,7 +92,7 @@ pub struct Area {
 }
 
 /// The axes: how many steps the longer run makes, and which addresses code and frame have.
-#[derive(Clone, Copy, Debug, PartialEq, Eq)]
+#[derive(Clone, Copy)]
 pub struct Axes {
     pub steps: u64,
     pub code: Area,

@@ -11,7 +11,7 @@ use crate::grid::{COLUMNS, Grid, ROWS, share};
 use std::alloc::{AllocError, Global};
 
 /// How many steps the runs make, and whether they are two runs, or one in both places.
-#[derive(Clone, Copy, Debug, PartialEq, Eq)]
+#[derive(Clone, Copy)]
 pub struct Steps {
     pub are_two: bool,
     pub one: u64,
