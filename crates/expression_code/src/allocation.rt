@@ -11,7 +11,7 @@ pub const REGISTER_COUNT: u32 = 16;
 
 /// How many temporaries have registers, the home of each variable and each control value that has one, a register in
 /// which it lives for the whole run, whether numbers go into instructions, and which control values nothing reads.
-#[derive(Debug, Drop)]
+#[derive(Drop)]
 pub struct Allocation<'f> {
     count: u32,
     homes: &'f [Option<Reg>],

@@ -87,6 +87,31 @@ fn fetched_choice(
     })
 }
 
+/// The registers of an operator between expressions, whose operands are fetched where they lie in slots.
+fn fetched_operands(
+    layout: &Layout<'_>,
+    code: &mut Vec<Instr>,
+    target: Reg,
+    place: u32,
+    left: &Term,
+    right: &Term,
+) -> Result<Operands, AllocError>
+    requires { temporaries_offset layout.now.declared layout.now.controls layout.now.depths + 4 * slots_to layout.now.allocation.count (place + 1) ≤ 65536 }
+    ensures code { let free = temporaries_offset layout.now.declared layout.now.controls layout.now.depths in let a = layout.now.allocation in OnOk result (code.new.items ≡ code.old.items ++ fetch_code (operand a free place (term_tree left.now)) first_spare ++ fetch_code (operand a free (place + 1) (term_tree right.now)) second_spare) }
+    ensures registers { let free = temporaries_offset layout.now.declared layout.now.controls layout.now.depths in let a = layout.now.allocation in IfOk result (λ registers. registers ≡ record { target = target; scratch = working_register a.count (place + 1) second_spare; left = register_of (operand a free place (term_tree left.now)) first_spare; right = register_of (operand a free (place + 1) (term_tree right.now)) second_spare }) }
+{
+    let next = layout.place_behind(place, 1);
+    let left = fetched(layout, code, place, left, FIRST_SPARE)?;
+    let right = fetched(layout, code, next, right, SECOND_SPARE)?;
+    let scratch = layout.working_register(next, SECOND_SPARE);
+    Ok(Operands {
+        target,
+        scratch,
+        left,
+        right,
+    })
+}
+
 /// A choice between a value and 0, which are in their places, into a register. Both operands are fetched where they lie in
 /// slots.
 fn fetched_or_zero(
@@ -158,15 +183,7 @@ pub fn into(
             let next = layout.place_behind(place, 1);
             expression(layout, code, place, left)?;
             expression(layout, code, next, right)?;
-            let left = fetched(layout, code, place, left, FIRST_SPARE)?;
-            let right = fetched(layout, code, next, right, SECOND_SPARE)?;
-            let scratch = layout.working_register(next, SECOND_SPARE);
-            let registers = Operands {
-                target,
-                scratch,
-                left,
-                right,
-            };
+            let registers = fetched_operands(layout, code, target, place, left, right)?;
             operators::operator(code, &registers, emitted(layout, *operator), *width)
         }
         Term::Rotate(width, operand, amount) => {

@@ -30,7 +30,7 @@ const LOOP_BYTES: u32 = 8;
 
 /// The variables with where they lie, how many control values there are, how many loops stand in one another at most,
 /// and how registers are given out.
-#[derive(Debug, Drop)]
+#[derive(Drop)]
 pub struct Layout<'f> {
     declared: &'f [FlatVariable],
     /// The offset of each variable, and that of the result behind them.

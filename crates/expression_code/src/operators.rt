@@ -19,7 +19,7 @@ use word::Width;
 
 /// The registers of an operator between two operands: where its outcome comes, one that may be written as well, and
 /// those of both operands.
-#[derive(Debug, Drop)]
+#[derive(Drop)]
 pub struct Operands {
     pub target: Reg,
     pub scratch: Reg,
@@ -72,7 +72,7 @@ impl Operands {
 }
 
 /// The registers of a choice: those that get the mask and what differs, and those of the operands.
-#[derive(Debug, Drop)]
+#[derive(Drop)]
 pub struct ChoiceOperands {
     pub mask: Reg,
     pub scratch: Reg,
