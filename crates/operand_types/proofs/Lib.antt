@@ -1,4 +1,3 @@
 pub mod ArgumentLemmas
 pub mod AroundLemmas
 pub mod NodeLemmas
-pub mod SiteLemmas

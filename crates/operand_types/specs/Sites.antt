@@ -92,6 +92,16 @@ pub record Site : Type 0 where
   pub around : Around
   pub earlier : List ProcedureTree
 
+-- in a procedure behind the earlier ones, where its own name is in scope too
+abbrev pub site_entered : ℕ → List ProcedureTree → Scope → ProcedureTree → Option Site
+site_entered at earlier scope p =
+    option_map (λ node. record {
+      node = node;
+      around = around_in at (in_body scope p) p.body;
+      earlier = earlier;
+    })
+    (node_in_procedure at p)
+
 -- in a procedure behind the earlier ones, whose scope this is
 abbrev pub site_in : ℕ → List ProcedureTree → Scope → ProcedureTree → Option Site
 site_in at earlier scope p =

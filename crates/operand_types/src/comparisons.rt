@@ -58,6 +58,22 @@ fn line_of_two(
     }
 }
 
+/// The lines of the three operands of a choice.
+fn lines_of_three(
+    alloc: Global,
+    mismatch: Mismatch,
+    condition: ValueType,
+    accepted: ValueType,
+    otherwise: ValueType,
+) -> Result<String, AllocError>
+    ensures { IfOk result (λ lines. string_bytes lines ≡ choice_lines mismatch condition accepted otherwise) }
+{
+    let parts = ("second operand", "third operand");
+    let first = one_line(alloc, mismatch, "first operand", condition)?;
+    let others = two_line(alloc, mismatch, parts, accepted, otherwise)?;
+    format!(in alloc; "{first}{others}")
+}
+
 /// The lines of a choice, where its three operands are well typed.
 fn choice_lines(
     alloc: Global,
@@ -70,10 +86,7 @@ fn choice_lines(
 {
     match (condition, accepted, otherwise) {
         (Some(condition), Some(accepted), Some(otherwise)) => {
-            let parts = ("second operand", "third operand");
-            let first = one_line(alloc, mismatch, "first operand", condition)?;
-            let others = two_line(alloc, mismatch, parts, accepted, otherwise)?;
-            format!(in alloc; "{first}{others}")
+            lines_of_three(alloc, mismatch, condition, accepted, otherwise)
         }
         (_, _, _) => Ok(String::new(alloc)),
     }

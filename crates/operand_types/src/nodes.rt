@@ -1,6 +1,6 @@
 // What stands at a place.
 
-ghost use Rattle.std.specs.Prelude.{◌≡◌, is_some, map};
+ghost use Rattle.std.specs.Prelude.{◌≡◌, is_some, map, Some};
 ghost use Rattle.std.specs.Option.{option_map, option_or};
 ghost use Rattle.language.specs.Tree.{block_tree, call_tree, expr_tree, procedure_tree, return_tree, right_tree, statement_tree, written};
 ghost use Rattle.operand_types.specs.Found.{node};
@@ -32,6 +32,38 @@ fn here<T: Copy>(at: u32, place: Place, what: T) -> Option<T>
     if place.offset == at { Some(what) } else { None }
 }
 
+/// This expression, where its place is behind so many bytes, else what is found in it.
+fn here_or_in<'p, 'a>(
+    at: u32,
+    place: Place,
+    expr: &'p Expr<'a>,
+    inside: Option<&'p Expr<'a>>,
+) -> Option<&'p Expr<'a>>
+    ensures { option_map (λ found. expr_tree found.now) result
+        ≡ option_or (here at place (expr_tree expr.now)) (option_map (λ found. expr_tree found.now) inside.entry) }
+{
+    if place.offset == at {
+        Some(expr)
+    } else {
+        inside
+    }
+}
+
+/// The first of two that is found.
+fn first_found<'p, 'a>(
+    one: Option<&'p Expr<'a>>,
+    other: Option<&'p Expr<'a>>,
+) -> Option<&'p Expr<'a>>
+    ensures { option_map (λ found. expr_tree found.now) result
+        ≡ option_or (option_map (λ found. expr_tree found.now) one.entry)
+        (option_map (λ found. expr_tree found.now) other.entry) }
+{
+    match one {
+        Some(found) => Some(found),
+        None => other,
+    }
+}
+
 /// The expression at a place.
 fn expr_at<'p, 'a>(at: u32, expr: &'p Expr<'a>) -> Option<&'p Expr<'a>>
     ensures { option_map (λ found. expr_tree found.now) result ≡ expr_at at (expr_tree expr.now) }
@@ -40,17 +72,18 @@ fn expr_at<'p, 'a>(at: u32, expr: &'p Expr<'a>) -> Option<&'p Expr<'a>>
         Expr::Number(place, _, _) => here(at, *place, expr),
         Expr::Truth(place, _) => here(at, *place, expr),
         Expr::Name(place, _) => here(at, *place, expr),
-        Expr::Prefix(place, _, operand) => here(at, *place, expr).or(expr_at(at, operand)),
+        Expr::Prefix(place, _, operand) => here_or_in(at, *place, expr, expr_at(at, operand)),
         Expr::Binary(place, _, left, right) => {
-            here(at, *place, expr).or(expr_at(at, left).or(expr_at(at, right)))
+            let inside = first_found(expr_at(at, left), expr_at(at, right));
+            here_or_in(at, *place, expr, inside)
         }
-        Expr::Rotate(place, operand, _) => here(at, *place, expr).or(expr_at(at, operand)),
-        Expr::Convert(place, _, operand) => here(at, *place, expr).or(expr_at(at, operand)),
+        Expr::Rotate(place, operand, _) => here_or_in(at, *place, expr, expr_at(at, operand)),
+        Expr::Convert(place, _, operand) => here_or_in(at, *place, expr, expr_at(at, operand)),
         Expr::Select(place, condition, accepted, otherwise) => {
-            let arms = expr_at(at, accepted).or(expr_at(at, otherwise));
-            here(at, *place, expr).or(expr_at(at, condition).or(arms))
+            let arms = first_found(expr_at(at, accepted), expr_at(at, otherwise));
+            here_or_in(at, *place, expr, first_found(expr_at(at, condition), arms))
         }
-        Expr::Element(place, _, _, index) => here(at, *place, expr).or(expr_at(at, index)),
+        Expr::Element(place, _, _, index) => here_or_in(at, *place, expr, expr_at(at, index)),
     }
 }
 
@@ -228,17 +261,26 @@ pub fn is_in(at: u32, block: &[Statement<'_>]) -> bool
     node_in(at, block).is_some()
 }
 
+/// The node at a place in a `return` for this type of result.
+fn node_of_return<'p, 'a>(
+    at: u32,
+    result_type: Option<WordType>,
+    it: &'p Return<'a>,
+) -> Option<Node<'p, 'a>>
+    ensures { option_map node result ≡ node_in_return at result_type (Some (return_tree it.now)) }
+{
+    if it.place.offset == at {
+        return Some(Node::Return(result_type, it));
+    }
+    of_expr(expr_at(at, &it.value))
+}
+
 /// The node at a place in the `return` of a procedure.
 fn node_in_return<'p, 'a>(at: u32, procedure: &'p Procedure<'a>) -> Option<Node<'p, 'a>>
     ensures { option_map node result ≡ node_in_return at procedure.now.result (option_map return_tree procedure.now.returned) }
 {
     match &procedure.returned {
-        Some(it) => {
-            if it.place.offset == at {
-                return Some(Node::Return(procedure.result, it));
-            }
-            of_expr(expr_at(at, &it.value))
-        }
+        Some(it) => node_of_return(at, procedure.result, it),
         None => None,
     }
 }
@@ -251,4 +293,11 @@ pub fn node_in_procedure<'p, 'a>(at: u32, procedure: &'p Procedure<'a>) -> Optio
         Some(found) => Some(found),
         None => node_in_return(at, procedure),
     }
+}
+
+/// Whether a node of a procedure is at a place.
+pub fn is_in_procedure(at: u32, procedure: &Procedure<'_>) -> bool
+    ensures { result ≡ is_some (node_in_procedure at (procedure_tree procedure.now)) }
+{
+    node_in_procedure(at, procedure).is_some()
 }

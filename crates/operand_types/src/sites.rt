@@ -1,14 +1,14 @@
 // The node at a place of a program, with what is in scope there.
 
-ghost use Rattle.std.specs.Prelude.{◌≡◌, [], IfOk};
+ghost use Rattle.std.specs.Prelude.{◌≡◌, [], map, IfOk};
 ghost use Rattle.std.specs.Option.{option_map};
 ghost use Rattle.language.specs.Tree.{procedure_tree, program_tree};
 ghost use Rattle.language.specs.Types.{empty};
 ghost use Rattle.operand_types.specs.Found.{site};
-ghost use Rattle.operand_types.specs.Sites.{around_in, in_body, site_at};
+ghost use Rattle.operand_types.specs.Sites.{around_in, in_body, site_at, site_entered};
 
 use crate::around::{Around, enter_body, enter_procedure};
-use crate::nodes::{Node, node_in_procedure};
+use crate::nodes::{Node, is_in_procedure, node_in_procedure};
 use language::{Procedure, Profile, Program};
 use scopes::Scope;
 use std::alloc::{AllocError, Global};
@@ -37,6 +37,28 @@ fn around_in<'a>(
     }
 }
 
+/// The site at a place in a procedure, whose own name and those of the earlier ones are in this scope.
+fn site_in<'p, 'a>(
+    alloc: Global,
+    earlier: &'p [Procedure<'a>],
+    procedure: &'p Procedure<'a>,
+    scope: Scope<'a>,
+    at: u32,
+) -> Result<Option<Site<'a, 'p>>, AllocError>
+    ensures { IfOk result (λ found. option_map site found
+        ≡ site_entered at (map procedure_tree earlier.now) scope.entry (procedure_tree procedure.now)) }
+{
+    let around = around_in(alloc, procedure, scope, at)?;
+    match node_in_procedure(at, procedure) {
+        Some(node) => Ok(Some(Site {
+            node,
+            around,
+            earlier,
+        })),
+        None => Ok(None),
+    }
+}
+
 /// The node that stands behind so many bytes of the source, for an observer.
 pub fn site_at<'p, 'a>(
     alloc: Global,
@@ -51,13 +73,8 @@ pub fn site_at<'p, 'a>(
     for (index, procedure) in procedures.iter().enumerate() {
         let earlier = &procedures[..index];
         enter_procedure(&mut scope, earlier, procedure)?;
-        if let Some(node) = node_in_procedure(at, procedure) {
-            let around = around_in(alloc, procedure, scope, at)?;
-            return Ok(Some(Site {
-                node,
-                around,
-                earlier,
-            }));
+        if is_in_procedure(at, procedure) {
+            return site_in(alloc, earlier, procedure, scope, at);
         }
     }
     Ok(None)
