@@ -21,7 +21,7 @@ use std::alloc::Global;
 pub const TEXT_LIMIT: usize = 262_144;
 
 /// How a list of tokens ends.
-#[derive(Clone, Copy, Debug, PartialEq, Eq)]
+#[derive(Clone, Copy)]
 pub enum ListEnd {
     /// At the end of the text, which stands here.
     TextEnd(Place),
@@ -30,7 +30,7 @@ pub enum ListEnd {
 }
 
 /// The tokens of a text, up to its end or to the first bad character or number.
-#[derive(Debug, Drop)]
+#[derive(Drop)]
 pub struct Lexed<'a> {
     pub tokens: Vec<Token<'a>>,
     pub end: ListEnd,

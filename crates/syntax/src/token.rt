@@ -1,7 +1,7 @@
 use crate::Place;
 
 /// A word with a meaning of its own.
-#[derive(Clone, Copy, Debug, PartialEq, Eq)]
+#[derive(Clone, Copy, PartialEq, Eq)]
 pub enum Keyword {
     Export,
     Void,
@@ -24,7 +24,7 @@ pub enum Keyword {
 }
 
 /// A sign.
-#[derive(Clone, Copy, Debug, PartialEq, Eq)]
+#[derive(Clone, Copy, PartialEq, Eq)]
 pub enum Sign {
     /// `<<<`
     RotateLeft,
@@ -89,7 +89,7 @@ pub enum Sign {
 }
 
 /// The type that a number's suffix names.
-#[derive(Clone, Copy, Debug, PartialEq, Eq)]
+#[derive(Clone, Copy, PartialEq, Eq)]
 pub enum Suffix {
     U8,
     U16,
@@ -97,7 +97,7 @@ pub enum Suffix {
 }
 
 /// What a token is.
-#[derive(Clone, Copy, Debug, PartialEq, Eq)]
+#[derive(Clone, Copy, PartialEq, Eq)]
 pub enum TokenKind {
     Keyword(Keyword),
     Name,
@@ -107,7 +107,7 @@ pub enum TokenKind {
 }
 
 /// A token of a text.
-#[derive(Clone, Copy, Debug)]
+#[derive(Clone, Copy)]
 pub struct Token<'a> {
     pub kind: TokenKind,
     /// Where it begins.

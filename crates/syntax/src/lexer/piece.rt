@@ -9,7 +9,7 @@ use crate::lexer::letters::{is_word_byte, piece_of_word, split_word};
 use crate::lexer::sign::{first_sign, spelling};
 
 /// What a piece of a text is.
-#[derive(Clone, Copy, Debug, PartialEq, Eq)]
+#[derive(Clone, Copy)]
 pub enum Piece {
     /// A blank or a comment.
     Space,

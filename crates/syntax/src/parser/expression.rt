@@ -2,7 +2,7 @@ ghost use Rattle.std.specs.Prelude.{◌≡◌, ◌≤◌, ◌<◌, ℕ, IfOk, If
 ghost use Rattle.syntax.specs.Lexeme.{lexeme};
 ghost use Rattle.syntax.specs.private.Machine.{State, expr, more, operand as operand_state, named as named_state, linked, link_level, after_select, converted, ended};
 ghost use Rattle.syntax.specs.private.ParserViews.{Leads, after_sign};
-ghost use Rattle.language.specs.Tree.{ExprTree, expr_tree, prefix as prefix_tree, binary as binary_tree, rotate as rotate_tree, convert as convert_tree, select as select_tree, element as element_tree};
+ghost use Rattle.language.specs.Tree.{ExprTree, expr_tree, prefix as prefix_tree, binary as binary_tree, rotate as rotate_tree, convert as convert_tree, element as element_tree};
 
 use super::operator::{
     Begins, Link, OPERAND_LEVEL, PREFIX_LEVEL, begins_of, level_of, link_of, suffix_kind,
@@ -19,6 +19,14 @@ struct Joint {
 }
 
 impl<'a, 't> Parser<'a, 't> {
+    /// An expression that is a part of another.
+    fn boxed(&self, part: Expr<'a>) -> Result<Box<Expr<'a>>, Fault>
+        ensures same { IfOk result (λ b. b.value ≡ part.entry) }
+        ensures memory { IfErr result (λ f. f ≡ Fault.Memory) }
+    {
+        Ok(Box::new(self.alloc, part)?)
+    }
+
     fn prefix(
         &self,
         place: Place,
@@ -28,7 +36,7 @@ impl<'a, 't> Parser<'a, 't> {
         ensures tree { IfOk result (λ e. expr_tree e ≡ prefix_tree place operator (expr_tree operand.entry)) }
         ensures memory { IfErr result (λ f. f ≡ Fault.Memory) }
     {
-        let operand = Box::new(self.alloc, operand)?;
+        let operand = self.boxed(operand)?;
         Ok(Expr::Prefix(place, operator, operand))
     }
 
@@ -43,8 +51,8 @@ impl<'a, 't> Parser<'a, 't> {
             ≡ binary_tree place operator (expr_tree left.entry) (expr_tree right.entry)) }
         ensures memory { IfErr result (λ f. f ≡ Fault.Memory) }
     {
-        let left = Box::new(self.alloc, left)?;
-        let right = Box::new(self.alloc, right)?;
+        let left = self.boxed(left)?;
+        let right = self.boxed(right)?;
         Ok(Expr::Binary(place, operator, left, right))
     }
 
@@ -52,7 +60,7 @@ impl<'a, 't> Parser<'a, 't> {
         ensures tree { IfOk result (λ e. expr_tree e ≡ rotate_tree place (expr_tree operand.entry) amount) }
         ensures memory { IfErr result (λ f. f ≡ Fault.Memory) }
     {
-        let operand = Box::new(self.alloc, operand)?;
+        let operand = self.boxed(operand)?;
         Ok(Expr::Rotate(place, operand, amount))
     }
 
@@ -60,7 +68,7 @@ impl<'a, 't> Parser<'a, 't> {
         ensures tree { IfOk result (λ e. expr_tree e ≡ convert_tree place kind (expr_tree operand.entry)) }
         ensures memory { IfErr result (λ f. f ≡ Fault.Memory) }
     {
-        let operand = Box::new(self.alloc, operand)?;
+        let operand = self.boxed(operand)?;
         Ok(Expr::Convert(place, kind, operand))
     }
 
@@ -69,25 +77,8 @@ impl<'a, 't> Parser<'a, 't> {
             ≡ element_tree place array.entry.place array.entry.text.now (expr_tree index.entry)) }
         ensures memory { IfErr result (λ f. f ≡ Fault.Memory) }
     {
-        let index = Box::new(self.alloc, index)?;
+        let index = self.boxed(index)?;
         Ok(Expr::Element(place, array.place, array.text, index))
-    }
-
-    fn selection(
-        &self,
-        place: Place,
-        condition: Expr<'a>,
-        accepted: Expr<'a>,
-        otherwise: Expr<'a>,
-    ) -> Result<Expr<'a>, Fault>
-        ensures tree { IfOk result (λ e. expr_tree e
-            ≡ select_tree place (expr_tree condition.entry) (expr_tree accepted.entry) (expr_tree otherwise.entry)) }
-        ensures memory { IfErr result (λ f. f ≡ Fault.Memory) }
-    {
-        let condition = Box::new(self.alloc, condition)?;
-        let accepted = Box::new(self.alloc, accepted)?;
-        let otherwise = Box::new(self.alloc, otherwise)?;
-        Ok(Expr::Select(place, condition, accepted, otherwise))
     }
 
     /// An expression in which no sign between operands, outside all brackets, binds below the
@@ -228,6 +219,17 @@ impl<'a, 't> Parser<'a, 't> {
         Ok(expression)
     }
 
+    /// An expression that is a part of another, and the token that ends it.
+    #[cycle(expression)]
+    fn part_to(&mut self, end: TokenKind) -> Result<Box<Expr<'a>>, Fault>
+        ensures leads { (k : ExprTree → State)
+            → Leads (ended end k) (λ b. k (expr_tree b.value)) result self.old self.new }
+        ensures shorter { OnOk result (length self.new.rest.now < length self.old.rest.now) }
+    {
+        let part = self.expression_to(end)?;
+        self.boxed(part)
+    }
+
     /// A conversion, after its keyword.
     #[cycle(expression)]
     fn conversion(&mut self, place: Place, kind: Kind) -> Result<Expr<'a>, Fault>
@@ -248,9 +250,9 @@ impl<'a, 't> Parser<'a, 't> {
         ensures shorter { OnOk result (length self.new.rest.now ≤ length self.old.rest.now) }
     {
         self.expect(TokenKind::Sign(Sign::OpenRound))?;
-        let condition = self.expression_to(TokenKind::Sign(Sign::Comma))?;
-        let accepted = self.expression_to(TokenKind::Sign(Sign::Comma))?;
-        let otherwise = self.expression_to(TokenKind::Sign(Sign::CloseRound))?;
-        self.selection(place, condition, accepted, otherwise)
+        let condition = self.part_to(TokenKind::Sign(Sign::Comma))?;
+        let accepted = self.part_to(TokenKind::Sign(Sign::Comma))?;
+        let otherwise = self.part_to(TokenKind::Sign(Sign::CloseRound))?;
+        Ok(Expr::Select(place, condition, accepted, otherwise))
     }
 }

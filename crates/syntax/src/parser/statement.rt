@@ -1,4 +1,4 @@
-ghost use Rattle.std.specs.Prelude.{◌≡◌, ◌≤◌, ◌<◌, IfOk, IfErr, OnOk, OnSome, length};
+ghost use Rattle.std.specs.Prelude.{◌≡◌, ◌≤◌, ◌<◌, IfOk, IfErr, OnOk, OnSome, length, [], ◌∷◌};
 ghost use Rattle.syntax.specs.Lexeme.{Lexeme, lexeme};
 ghost use Rattle.syntax.specs.private.Machine.{State, starts_with, statements as statements_state, statement as statement_state, conditioned, counter as counter_state, looped, block as block_state, otherwise as otherwise_state, after_else};
 ghost use Rattle.syntax.specs.private.ParserViews.{Leads, after_start};
@@ -37,6 +37,16 @@ fn starts_with(kind: TokenKind) -> Option<Start>
 }
 
 impl<'a, 't> Parser<'a, 't> {
+    /// A block of one statement.
+    fn alone(&self, statement: Statement<'a>) -> Result<Vec<Statement<'a>>, Fault>
+        ensures items { IfOk result (λ ss. ss.items ≡ statement.entry ∷ []) }
+        ensures memory { IfErr result (λ f. f ≡ Fault.Memory) }
+    {
+        let mut statements = Vec::new(self.alloc);
+        statements.push(statement)?;
+        Ok(statements)
+    }
+
     /// Statements, up to a token that begins none.
     #[cycle(statement)]
     pub fn statements(&mut self) -> Result<Vec<Statement<'a>>, Fault>
@@ -164,9 +174,7 @@ impl<'a, 't> Parser<'a, 't> {
         match self.takes(TokenKind::Keyword(Keyword::If))? {
             Some(word) => {
                 let conditional = self.conditional(word.place)?;
-                let mut statements = Vec::new(self.alloc);
-                statements.push(conditional)?;
-                Ok(statements)
+                self.alone(conditional)
             }
             None => self.block(),
         }

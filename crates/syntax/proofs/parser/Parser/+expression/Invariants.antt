@@ -17,7 +17,7 @@ abbrev pub decreases-operand : goal.decreases-operand
 decreases-operand l = 8 * length l.self.now.rest.now + 1
 
 abbrev pub decreases-operand_from : goal.decreases-operand_from
-decreases-operand_from l = 8 * length l.self.now.rest.now + 5
+decreases-operand_from l = 8 * length l.self.now.rest.now + 6
 
 abbrev pub decreases-named : goal.decreases-named
 decreases-named l = 8 * length l.self.now.rest.now + 4
@@ -25,11 +25,14 @@ decreases-named l = 8 * length l.self.now.rest.now + 4
 abbrev pub decreases-expression_to : goal.decreases-expression_to
 decreases-expression_to l = 8 * length l.self.now.rest.now + 3
 
+abbrev pub decreases-part_to : goal.decreases-part_to
+decreases-part_to l = 8 * length l.self.now.rest.now + 4
+
 abbrev pub decreases-conversion : goal.decreases-conversion
 decreases-conversion l = 8 * length l.self.now.rest.now + 4
 
 abbrev pub decreases-select : goal.decreases-select
-decreases-select l = 8 * length l.self.now.rest.now + 4
+decreases-select l = 8 * length l.self.now.rest.now + 5
 
 abbrev pub invariant-further-loop-left : goal.invariant-further-loop-left
 invariant-further-loop-left l = record {
