@@ -296,8 +296,8 @@ pub argument_more : (p : Parameter) (t : ValueType) (ps : List Parameter) (ts : 
     SoFar (all_passed ps ts es) (i + 1) given' changed' (clashed || clash') final
 argument_more p t ps ts es e i given changed given' changed' (Some one) mutable clashed clash' final h same same' here
     so_far is m g k new =
-    array_more p t ps ts es e i given changed given' changed' one mutable clashed clash' final h same same' here so_far is
-    m g k new
+    array_more p t ps ts es e i given changed given' changed' one mutable clashed clash' final h same same' here
+    so_far is m g k new
 argument_more p t ps ts es e i given changed given' changed' None mutable clashed clash' final h same same' here
     so_far is m g k new =
     rw (g, k, new, or-false clashed)

@@ -10,5 +10,6 @@ use Rattle.language.specs.Typing.{with_parameters}
 -- at its parameters, in its body and at its `return`, in the scope that has its name
 abbrev pub inside_violations : List ProcedureTree → Scope → ProcedureTree → List Violation
 inside_violations earlier scope p =
-    parameter_violations scope p.parameters ++ block_violations earlier (with_parameters scope p.parameters) Public p.body
+    parameter_violations scope p.parameters
+    ++ block_violations earlier (with_parameters scope p.parameters) Public p.body
     ++ return_violations (scope_after_all (with_parameters scope p.parameters) p.body) p.result p.returned
