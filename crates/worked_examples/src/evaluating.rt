@@ -5,6 +5,7 @@ use arguments::read;
 use language::{Form, Kind, Label, Outcome, Param};
 use source_eval::{EvalFault, eval};
 use std::alloc::{AllocError, Global};
+use std::process::Abort;
 use std::test::Fail;
 use syntax::parse;
 
@@ -29,6 +30,20 @@ fn evaluated(
     let args = read(alloc, params, texts)?;
     let answer = eval(alloc, &program, &args, budget);
     Ok(told(alloc, &answer)?)
+}
+
+/// This is told of a text on arguments.
+fn means<'a>(
+    rt: &(impl Abort + AllocGlobal),
+    text: &'a str,
+    params: &'a [Param],
+    texts: &'a [&'a str],
+    budget: u64,
+    wanted: &'a str,
+) -> Result<(), Fail> {
+    let told = evaluated(rt.alloc(), text, params, texts, budget)?;
+    assert_eq!(rt; told.as_str(), wanted, "{text} {texts:?} {budget}");
+    Ok(())
 }
 
 const TAKEN_ONCE: &str = "export secret uint32 f(secret bool t) {\n\
@@ -109,15 +124,6 @@ const LARGE_ARRAY: &str = "export secret uint32 f(secret uint32 x) {\n\
     return y;\n\
 }";
 
-/// A text on arguments, with how many nodes may be evaluated.
-struct Row {
-    text: &'static str,
-    params: &'static [Param],
-    texts: &'static [&'static str],
-    budget: u64,
-    wanted: &'static str,
-}
-
 const BOOL: Param = Param {
     kind: Kind::Boolean,
     label: Label::Secret,
@@ -146,210 +152,172 @@ const EIGHT: Param = Param {
     length: 8,
 };
 
-const ROWS: &[Row] = &[
-    Row {
-        text: TAKEN_ONCE,
-        params: &[BOOL],
-        texts: &["1"],
-        budget: 12,
-        wanted: "Some(1) []",
-    },
-    Row {
-        text: TAKEN_ONCE,
-        params: &[BOOL],
-        texts: &["1"],
-        budget: 11,
-        wanted: "E2: budget",
-    },
-    Row {
-        text: TAKEN_ONCE,
-        params: &[BOOL],
-        texts: &["0"],
-        budget: 10,
-        wanted: "Some(2) []",
-    },
-    Row {
-        text: TAKEN_ONCE,
-        params: &[BOOL],
-        texts: &["0"],
-        budget: 9,
-        wanted: "E2: budget",
-    },
-    Row {
-        text: SWAP,
-        params: &[BOOL, PAIR],
-        texts: &["1", "3,4"],
-        budget: 1000,
-        wanted: "None [Numbers { items: [4, 3] }]",
-    },
-    Row {
-        text: SWAP,
-        params: &[BOOL, PAIR],
-        texts: &["0", "3,4"],
-        budget: 1000,
-        wanted: "None [Numbers { items: [3, 4] }]",
-    },
-    Row {
-        text: GUARDED,
-        params: &[BOOL, UINT32, EIGHT, UINT32],
-        texts: &["1", "8", "1,2,3,4,5,6,7,8", "9"],
-        budget: 1000,
-        wanted: "None [Numbers { items: [1, 2, 3, 4, 5, 6, 7, 8] }]",
-    },
-    Row {
-        text: GUARDED,
-        params: &[BOOL, UINT32, EIGHT, UINT32],
-        texts: &["1", "7", "1,2,3,4,5,6,7,8", "9"],
-        budget: 1000,
-        wanted: "None [Numbers { items: [1, 2, 3, 4, 5, 6, 7, 9] }]",
-    },
-    Row {
-        text: UNGUARDED,
-        params: &[BOOL, UINT32, EIGHT, UINT32],
-        texts: &["0", "8", "1,2,3,4,5,6,7,8", "9"],
-        budget: 1000,
-        wanted: "None [Numbers { items: [1, 2, 3, 4, 5, 6, 7, 8] }]",
-    },
-    Row {
-        text: UNGUARDED,
-        params: &[BOOL, UINT32, EIGHT, UINT32],
-        texts: &["1", "8", "1,2,3,4,5,6,7,8", "9"],
-        budget: 1000,
-        wanted: "E1: no meaning at 2:11",
-    },
-    Row {
-        text: FILL,
-        params: &[EIGHT, UINT32],
-        texts: &["0,0,0,0,0,0,0,0", "5"],
-        budget: 43,
-        wanted: "None [Numbers { items: [5, 5, 5, 5, 5, 5, 5, 5] }]",
-    },
-    Row {
-        text: FILL,
-        params: &[EIGHT, UINT32],
-        texts: &["0,0,0,0,0,0,0,0", "5"],
-        budget: 42,
-        wanted: "E2: budget",
-    },
-    Row {
-        text: NO_TURNS,
-        params: &[],
-        texts: &[],
-        budget: 10,
-        wanted: "Some(7) []",
-    },
-    Row {
-        text: QUOTIENT,
-        params: &[UINT32, UINT32],
-        texts: &["10", "3"],
-        budget: 4,
-        wanted: "Some(3) []",
-    },
-    Row {
-        text: QUOTIENT,
-        params: &[UINT32, UINT32],
-        texts: &["10", "0"],
-        budget: 4,
-        wanted: "E1: no meaning at 2:10",
-    },
-    Row {
-        text: QUOTIENT,
-        params: &[UINT32, UINT32],
-        texts: &["10", "0"],
-        budget: 3,
-        wanted: "E2: budget",
-    },
-    Row {
-        text: GUARDED_QUOTIENT,
-        params: &[UINT32, UINT32],
-        texts: &["10", "3"],
-        budget: 100,
-        wanted: "Some(3) []",
-    },
-    Row {
-        text: GUARDED_QUOTIENT,
-        params: &[UINT32, UINT32],
-        texts: &["10", "0"],
-        budget: 100,
-        wanted: "Some(0) []",
-    },
-    Row {
-        text: COPIED,
-        params: &[PAIR, PAIR],
-        texts: &["7,5", "1,2"],
-        budget: 1000,
-        wanted: "None [Numbers { items: [7, 5] }, Numbers { items: [5, 10] }]",
-    },
-    Row {
-        text: DROPPED,
-        params: &[UINT32],
-        texts: &["2"],
-        budget: 1000,
-        wanted: "None []",
-    },
-    Row {
-        text: DROPPED,
-        params: &[UINT32],
-        texts: &["0"],
-        budget: 1000,
-        wanted: "E1: no meaning at 2:10",
-    },
-    Row {
-        text: NESTED,
-        params: &[BOOL, BOOL],
-        texts: &["1", "1"],
-        budget: 1000,
-        wanted: "Some(1) []",
-    },
-    Row {
-        text: NESTED,
-        params: &[BOOL, BOOL],
-        texts: &["1", "0"],
-        budget: 1000,
-        wanted: "Some(2) []",
-    },
-    Row {
-        text: NESTED,
-        params: &[BOOL, BOOL],
-        texts: &["0", "1"],
-        budget: 1000,
-        wanted: "Some(0) []",
-    },
-    Row {
-        text: LARGE_ARRAY,
-        params: &[UINT32],
-        texts: &["5"],
-        budget: 1000,
-        wanted: "Some(7) []",
-    },
-    Row {
-        text: NARROW,
-        params: &[UINT32],
-        texts: &["256"],
-        budget: 0,
-        wanted: "A3 at argument 0: value outside type",
-    },
-    Row {
-        text: NARROW,
-        params: &[],
-        texts: &[],
-        budget: 0,
-        wanted: "A1: argument count",
-    },
-];
+#[test]
+fn a_branch_is_taken_once(rt: HostRuntime) -> Result<(), Fail> {
+    means(&rt, TAKEN_ONCE, &[BOOL], &["1"], 12, "Some(1) []")?;
+    means(&rt, TAKEN_ONCE, &[BOOL], &["1"], 11, "E2: budget")?;
+    means(&rt, TAKEN_ONCE, &[BOOL], &["0"], 10, "Some(2) []")?;
+    means(&rt, TAKEN_ONCE, &[BOOL], &["0"], 9, "E2: budget")?;
+    means(&rt, NESTED, &[BOOL, BOOL], &["1", "1"], 1000, "Some(1) []")?;
+    means(&rt, NESTED, &[BOOL, BOOL], &["1", "0"], 1000, "Some(2) []")?;
+    means(&rt, NESTED, &[BOOL, BOOL], &["0", "1"], 1000, "Some(0) []")?;
+    Ok(())
+}
 
 #[test]
-fn texts_mean_this(rt: HostRuntime) -> Result<(), Fail> {
-    for row in ROWS {
-        let told = evaluated(rt.alloc(), row.text, row.params, row.texts, row.budget)?;
-        assert!(rt;
-            told.as_str() == row.wanted,
-            "{} {:?} {}: {told}",
-            row.text,
-            row.texts,
-            row.budget
-        );
-    }
+fn elements_change_where_a_secret_is_true(rt: HostRuntime) -> Result<(), Fail> {
+    means(
+        &rt,
+        SWAP,
+        &[BOOL, PAIR],
+        &["1", "3,4"],
+        1000,
+        "None [Numbers { items: [4, 3] }]",
+    )?;
+    means(
+        &rt,
+        SWAP,
+        &[BOOL, PAIR],
+        &["0", "3,4"],
+        1000,
+        "None [Numbers { items: [3, 4] }]",
+    )?;
+    means(
+        &rt,
+        GUARDED,
+        &[BOOL, UINT32, EIGHT, UINT32],
+        &["1", "8", "1,2,3,4,5,6,7,8", "9"],
+        1000,
+        "None [Numbers { items: [1, 2, 3, 4, 5, 6, 7, 8] }]",
+    )?;
+    means(
+        &rt,
+        GUARDED,
+        &[BOOL, UINT32, EIGHT, UINT32],
+        &["1", "7", "1,2,3,4,5,6,7,8", "9"],
+        1000,
+        "None [Numbers { items: [1, 2, 3, 4, 5, 6, 7, 9] }]",
+    )?;
+    means(
+        &rt,
+        UNGUARDED,
+        &[BOOL, UINT32, EIGHT, UINT32],
+        &["0", "8", "1,2,3,4,5,6,7,8", "9"],
+        1000,
+        "None [Numbers { items: [1, 2, 3, 4, 5, 6, 7, 8] }]",
+    )?;
+    means(
+        &rt,
+        UNGUARDED,
+        &[BOOL, UINT32, EIGHT, UINT32],
+        &["1", "8", "1,2,3,4,5,6,7,8", "9"],
+        1000,
+        "E1: no meaning at 2:11",
+    )?;
+    Ok(())
+}
+
+#[test]
+fn loops_take_their_turns(rt: HostRuntime) -> Result<(), Fail> {
+    means(
+        &rt,
+        FILL,
+        &[EIGHT, UINT32],
+        &["0,0,0,0,0,0,0,0", "5"],
+        43,
+        "None [Numbers { items: [5, 5, 5, 5, 5, 5, 5, 5] }]",
+    )?;
+    means(
+        &rt,
+        FILL,
+        &[EIGHT, UINT32],
+        &["0,0,0,0,0,0,0,0", "5"],
+        42,
+        "E2: budget",
+    )?;
+    means(&rt, NO_TURNS, &[], &[], 10, "Some(7) []")?;
+    means(&rt, LARGE_ARRAY, &[UINT32], &["5"], 1000, "Some(7) []")?;
+    Ok(())
+}
+
+#[test]
+fn a_quotient_by_zero_means_nothing(rt: HostRuntime) -> Result<(), Fail> {
+    means(
+        &rt,
+        QUOTIENT,
+        &[UINT32, UINT32],
+        &["10", "3"],
+        4,
+        "Some(3) []",
+    )?;
+    means(
+        &rt,
+        QUOTIENT,
+        &[UINT32, UINT32],
+        &["10", "0"],
+        4,
+        "E1: no meaning at 2:10",
+    )?;
+    means(
+        &rt,
+        QUOTIENT,
+        &[UINT32, UINT32],
+        &["10", "0"],
+        3,
+        "E2: budget",
+    )?;
+    means(
+        &rt,
+        GUARDED_QUOTIENT,
+        &[UINT32, UINT32],
+        &["10", "3"],
+        100,
+        "Some(3) []",
+    )?;
+    means(
+        &rt,
+        GUARDED_QUOTIENT,
+        &[UINT32, UINT32],
+        &["10", "0"],
+        100,
+        "Some(0) []",
+    )?;
+    Ok(())
+}
+
+#[test]
+fn calls_read_and_change_what_is_passed(rt: HostRuntime) -> Result<(), Fail> {
+    means(
+        &rt,
+        COPIED,
+        &[PAIR, PAIR],
+        &["7,5", "1,2"],
+        1000,
+        "None [Numbers { items: [7, 5] }, Numbers { items: [5, 10] }]",
+    )?;
+    means(&rt, DROPPED, &[UINT32], &["2"], 1000, "None []")?;
+    means(
+        &rt,
+        DROPPED,
+        &[UINT32],
+        &["0"],
+        1000,
+        "E1: no meaning at 2:10",
+    )?;
+    Ok(())
+}
+
+#[test]
+fn arguments_fit_their_parameters(rt: HostRuntime) -> Result<(), Fail> {
+    means(
+        &rt,
+        NARROW,
+        &[UINT32],
+        &["256"],
+        0,
+        "A3 at argument 0: value outside type",
+    )?;
+    means(&rt, NARROW, &[], &[], 0, "A1: argument count")?;
     Ok(())
 }
 
@@ -371,28 +339,26 @@ fn chain(alloc: Global, bodies: u32) -> Result<String, AllocError> {
     Ok(text)
 }
 
+/// The chain of so many procedures on this divisor means this.
+fn ends(
+    rt: &(impl Abort + AllocGlobal),
+    bodies: u32,
+    divisor: &str,
+    wanted: &str,
+) -> Result<(), Fail> {
+    let text = chain(rt.alloc(), bodies)?;
+    means(rt, text.as_str(), &[UINT32], &[divisor], 100_000, wanted)
+}
+
 #[test]
 fn opens_at_most_64_bodies(rt: HostRuntime) -> Result<(), Fail> {
-    for (bodies, divisor, wanted) in [
-        (64, "1", "None []"),
-        (65, "1", "E2: budget"),
-        (65, "0", "E1: no meaning at 65:40"),
-    ] {
-        let text = chain(rt.alloc(), bodies)?;
-        let told = evaluated(rt.alloc(), text.as_str(), &[UINT32], &[divisor], 100_000)?;
-        assert!(rt; told.as_str() == wanted, "{bodies} {divisor}: {told}");
-    }
-    Ok(())
+    ends(&rt, 64, "1", "None []")?;
+    ends(&rt, 65, "1", "E2: budget")?;
+    ends(&rt, 65, "0", "E1: no meaning at 65:40")
 }
 
 #[test]
 fn evaluates_ten_million_nodes(rt: HostRuntime) -> Result<(), Fail> {
-    for (budget, wanted) in [
-        (10_004_007, "Some(1999000000) []"),
-        (10_004_006, "E2: budget"),
-    ] {
-        let told = evaluated(rt.alloc(), LONG, &[], &[], budget)?;
-        assert!(rt; told.as_str() == wanted, "{budget}: {told}");
-    }
-    Ok(())
+    means(&rt, LONG, &[], &[], 10_004_007, "Some(1999000000) []")?;
+    means(&rt, LONG, &[], &[], 10_004_006, "E2: budget")
 }

@@ -11,4 +11,6 @@ mod checking;
 #[cfg(test)]
 mod evaluating;
 #[cfg(test)]
+mod judging;
+#[cfg(test)]
 mod multiplying;

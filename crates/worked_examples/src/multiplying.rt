@@ -1,31 +1,25 @@
 // Programs that multiply, as they are judged for each observer: the one who sees nothing of products, and the one who
 // sees their operands.
 
-use labels::check_as;
-use language::{Profile, Refusal};
-use std::alloc::{AllocError, Global};
+use crate::judging::gets;
+use language::Profile;
+use std::alloc::AllocError;
+use std::process::Abort;
 use std::test::Fail;
-use syntax::parse;
 
-/// What is said of a text for an observer.
-fn refusal(alloc: Global, text: &str, profile: Profile) -> Option<Refusal> {
-    match parse(alloc, text) {
-        Ok(program) => check_as(alloc, &program, profile).err(),
-        Err(refusal) => Some(refusal),
+/// A text with what is said of it for the one observer, and for the other.
+type Row = (&'static str, &'static str, &'static str);
+
+fn judges(rt: &(impl Abort + AllocGlobal), rows: &[Row]) -> Result<(), AllocError> {
+    for (text, one, two) in rows {
+        gets(rt, text, Profile::P1, one)?;
+        gets(rt, text, Profile::P2, two)?;
     }
+    Ok(())
 }
 
-/// The same, written out.
-fn said(alloc: Global, text: &str, profile: Profile) -> Result<String, AllocError> {
-    match refusal(alloc, text, profile) {
-        Some(refusal) => format!(in alloc; "{refusal}"),
-        None => String::from_str(alloc, "accepted"),
-    }
-}
-
-/// Each text with what is said of it for the one observer, and for the other.
-const ROWS: &[(&str, &str, &str)] = &[
-    // a product of something secret
+/// A product of something secret.
+const OF_SECRETS: &[Row] = &[
     (
         "export secret uint32 f(secret uint32 x) { return x * 3; }",
         "accepted",
@@ -66,7 +60,16 @@ const ROWS: &[(&str, &str, &str)] = &[
         "accepted",
         "L7 at 1:66: secret multiplication operand",
     ),
-    // of public operands alone, or none
+];
+
+#[test]
+fn products_of_secrets_are_refused_where_they_are_seen(rt: HostRuntime) -> Result<(), Fail> {
+    judges(&rt, OF_SECRETS)?;
+    Ok(())
+}
+
+/// A product of public operands alone, or none.
+const OF_PUBLIC_WORDS: &[Row] = &[
     (
         "export public uint32 f(public uint32 x) { return x * 3; }",
         "accepted",
@@ -87,7 +90,16 @@ const ROWS: &[(&str, &str, &str)] = &[
         "accepted",
         "accepted",
     ),
-    // kinds and widths come first at one node
+];
+
+#[test]
+fn products_of_public_words_are_accepted(rt: HostRuntime) -> Result<(), Fail> {
+    judges(&rt, OF_PUBLIC_WORDS)?;
+    Ok(())
+}
+
+/// Kinds and widths come first at one node.
+const OF_OTHER_KINDS: &[Row] = &[
     (
         "export secret uint32 f(secret uint32 x) { return x * true; }",
         "T2 at 1:52: wrong kind",
@@ -108,7 +120,16 @@ const ROWS: &[(&str, &str, &str)] = &[
         "T1 at 1:54: widths differ",
         "T1 at 1:54: widths differ",
     ),
-    // a node is asked only where its operands violate nothing
+];
+
+#[test]
+fn kinds_and_widths_come_first(rt: HostRuntime) -> Result<(), Fail> {
+    judges(&rt, OF_OTHER_KINDS)?;
+    Ok(())
+}
+
+/// A node is asked only where its operands violate nothing.
+const OF_REFUSED_OPERANDS: &[Row] = &[
     (
         "export secret uint32 f(secret uint32 x) { return x / 2 * x; }",
         "L5 at 1:52: secret division operand",
@@ -127,12 +148,7 @@ const ROWS: &[(&str, &str, &str)] = &[
 ];
 
 #[test]
-fn products_of_secrets_are_refused_where_they_are_seen(rt: HostRuntime) -> Result<(), Fail> {
-    for (text, one, two) in ROWS {
-        let unseen = said(rt.alloc(), text, Profile::P1)?;
-        assert!(rt; unseen.as_str() == *one, "{text}: {unseen}");
-        let seen = said(rt.alloc(), text, Profile::P2)?;
-        assert!(rt; seen.as_str() == *two, "{text}: {seen}");
-    }
+fn operands_come_first(rt: HostRuntime) -> Result<(), Fail> {
+    judges(&rt, OF_REFUSED_OPERANDS)?;
     Ok(())
 }
