@@ -2,9 +2,6 @@
 
 use arguments::read;
 use language::{Form, Kind, Label, Param};
-use std::alloc::AllocError;
-use std::process::Abort;
-use std::test::Fail;
 
 /// A word, and an array of two bytes.
 const PARAMS: [Param; 2] = [
@@ -54,18 +51,11 @@ const READ: &[([&str; 2], &str)] = &[
     ),
 ];
 
-/// This is read of two texts.
-fn reads(rt: &(impl Abort + AllocGlobal), texts: &[&str], wanted: &str) -> Result<(), AllocError> {
-    let answer = read(rt.alloc(), &PARAMS, texts);
-    let told = format!(in rt.alloc(); "{answer:?}")?;
-    assert!(rt; told.as_str() == wanted, "{texts:?}: {told}");
-    Ok(())
-}
-
 #[test]
-fn reads_words_and_arrays(rt: HostRuntime) -> Result<(), Fail> {
+fn reads_words_and_arrays(rt: HostRuntime) {
     for (texts, wanted) in READ {
-        reads(&rt, texts, wanted)?;
+        let answer = read(rt.alloc(), &PARAMS, texts);
+        let told = format!(in rt.alloc(); "{answer:?}").expect(&rt, "memory");
+        assert!(rt; told.as_str() == *wanted, "{texts:?}: {told}");
     }
-    Ok(())
 }

@@ -1,15 +1,23 @@
 // What is said of a program, as its text.
 
 use labels::check_as;
-use language::{Profile, Refusal};
+use language::{Profile, Program, Refusal};
 use std::alloc::{AllocError, Global};
 use std::process::Abort;
 use syntax::parse;
 
-/// The refusal of a text for an observer.
+/// The refusal of a program for an observer.
+fn violation(alloc: Global, program: &Program<'_>, profile: Profile) -> Option<Refusal> {
+    match check_as(alloc, program, profile) {
+        Ok(_) => None,
+        Err(refusal) => Some(refusal),
+    }
+}
+
+/// The same, of a text.
 fn refusal(alloc: Global, text: &str, profile: Profile) -> Option<Refusal> {
     match parse(alloc, text) {
-        Ok(program) => check_as(alloc, &program, profile).err(),
+        Ok(program) => violation(alloc, &program, profile),
         Err(refusal) => Some(refusal),
     }
 }
