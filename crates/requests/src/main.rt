@@ -14,8 +14,14 @@ mod fault;
 
 use calls::{arguments, bytes_of, fault_of_pair, image_of, keep, observe};
 use changes::print_changes;
-use language::Args;
+use fault::Fault;
+use hepurita::RunFault;
+use image::Image;
+use language::{Args, Outcome};
+use rv_machine::ListRecorder;
+use std::alloc::Global;
 use std::env;
+use streams::ByteSink;
 
 /// With a choice under a secret an observer sees enough for the recorder to grow several times.
 const TEXT: &str = "export secret uint32 f(secret bool s, secret uint32 a, secret uint32 b) { \
@@ -26,17 +32,51 @@ fn main(rt: HostRuntime) -> anyhow::Result<()> {
     if let Some(text) = env::args(&rt)?.nth(1) {
         return print_changes(alloc, &rt, bytes_of(alloc, text.as_str())?);
     }
+    print_answers(&rt, &ask(alloc)?)
+}
+
+/// What the calls gave.
+#[derive(Drop)]
+struct Answers {
+    outcome: Outcome,
+    recorder: ListRecorder,
+    fault: Option<RunFault>,
+    sink: ByteSink,
+}
+
+/// Makes the calls.
+fn ask(alloc: Global) -> Result<Answers, Fault> {
     let bytes = bytes_of(alloc, TEXT)?;
     let image = image_of(alloc, bytes.as_slice())?;
+    let (outcome, recorder) = run(alloc, &image)?;
+    let fault = compare(alloc, &image)?;
+    let sink = keep(alloc, bytes.as_slice())?;
+    Ok(Answers {
+        outcome,
+        recorder,
+        fault,
+        sink,
+    })
+}
+
+/// A run of the image that an observer sees.
+fn run(alloc: Global, image: &Image) -> Result<(Outcome, ListRecorder), Fault> {
     let args = arguments(alloc, 1)?;
-    let (outcome, recorder) = observe(alloc, &image, &args)?;
+    observe(alloc, image, &args)
+}
+
+/// Why its runs on a condition that is no bool, and on no arguments, are not compared.
+fn compare(alloc: Global, image: &Image) -> Result<Option<RunFault>, Fault> {
     let large = arguments(alloc, 2)?;
     let none = Args::new(Vec::new(alloc));
-    let fault = fault_of_pair(alloc, &image, &large, &none);
-    let sink = keep(alloc, bytes.as_slice())?;
-    println!(rt; "outcome {:?}", outcome.returned())?;
-    println!(rt; "{} observations", recorder.list().len())?;
-    println!(rt; "pair {fault:?}")?;
-    println!(rt; "{} bytes", sink.as_slice().len())?;
+    Ok(fault_of_pair(alloc, image, &large, &none))
+}
+
+/// Prints what the calls gave.
+fn print_answers(rt: &impl Print, answers: &Answers) -> anyhow::Result<()> {
+    println!(rt; "outcome {:?}", answers.outcome.returned())?;
+    println!(rt; "{} observations", answers.recorder.list().len())?;
+    println!(rt; "pair {:?}", answers.fault)?;
+    println!(rt; "{} bytes", answers.sink.as_slice().len())?;
     Ok(())
 }
