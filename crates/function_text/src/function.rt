@@ -20,14 +20,14 @@ use std::alloc::{AllocError, Global};
 use syntax::{one_answer_for_a_text, parse};
 
 /// A parameter under the name that is written for it.
-#[derive(Debug, Drop)]
+#[derive(Drop)]
 pub struct NamedParam {
     pub name: String,
     pub param: Param,
 }
 
 /// A function for C: the code of the image of an accepted text, under the names of its export.
-#[derive(Debug, Drop)]
+#[derive(Drop)]
 pub struct Function<'a> {
     pub name: &'a str,
     pub parameters: Vec<NamedParam>,

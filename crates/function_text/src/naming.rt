@@ -164,7 +164,7 @@ pub fn is_taken_name(name: &str) -> bool
 }
 
 /// The macros that the header of a function defines.
-#[derive(Debug, Drop)]
+#[derive(Drop)]
 pub(crate) struct Macros<'a> {
     pub function: &'a str,
     pub guard: String,

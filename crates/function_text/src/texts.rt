@@ -14,7 +14,7 @@ use language::{Profile, Refusal};
 use std::alloc::Global;
 
 /// A function for C as files have it.
-#[derive(Debug, Drop)]
+#[derive(Drop)]
 pub struct Texts {
     /// For a GNU or LLVM assembler.
     pub assembler: String,

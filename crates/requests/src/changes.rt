@@ -44,20 +44,14 @@ fn zero(alloc: Global, slot: &Slot) -> Result<Arg, Fault> {
     }
 }
 
-/// Puts zeros for each parameter at the end.
-fn push_zeros(alloc: Global, args: &mut Vec<Arg>, slots: &[Slot]) -> Result<(), Fault> {
-    for slot in slots {
+/// Zeros for each parameter of an image.
+fn zeros(alloc: Global, image: &Image) -> Result<Args, Fault> {
+    let mut args = Vec::new(alloc);
+    for slot in image.slots() {
         if args.push(zero(alloc, slot)?).is_err() {
             return Err(Fault::Arguments);
         }
     }
-    Ok(())
-}
-
-/// Zeros for each parameter of an image.
-fn zeros(alloc: Global, image: &Image) -> Result<Args, Fault> {
-    let mut args = Vec::new(alloc);
-    push_zeros(alloc, &mut args, image.slots())?;
     Ok(Args::new(args))
 }
 
@@ -80,20 +74,7 @@ fn answer_to(alloc: Global, bytes: &[u8]) -> Result<Answer, Fault> {
     }
 }
 
-/// Prints what comes of bytes that have a value at a place: a line with the place and the value.
-fn print_change(
-    alloc: Global,
-    rt: &impl Print,
-    bytes: &[u8],
-    place: usize,
-    value: u8,
-) -> anyhow::Result<()> {
-    let answer = answer_to(alloc, bytes)?;
-    println!(rt; "{place} {value} {answer}")?;
-    Ok(())
-}
-
-/// Prints what comes of bytes with each value at a place.
+/// Prints what comes of bytes with each value at a place: a line for each, with the place and the value.
 fn print_changes_at(
     alloc: Global,
     rt: &impl Print,
@@ -106,7 +87,8 @@ fn print_changes_at(
     let kept = bytes[place];
     for value in 0..=u8::MAX {
         bytes[place] = value;
-        print_change(alloc, rt, bytes.as_slice(), place, value)?;
+        let answer = answer_to(alloc, bytes.as_slice())?;
+        println!(rt; "{place} {value} {answer}")?;
     }
     bytes[place] = kept;
     Ok(())
