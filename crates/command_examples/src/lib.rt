@@ -11,6 +11,8 @@ mod memory_files;
 #[cfg(test)]
 mod one_file;
 #[cfg(test)]
+mod performing;
+#[cfg(test)]
 mod profiles;
 #[cfg(test)]
 mod side_by_side;

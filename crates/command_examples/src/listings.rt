@@ -1,8 +1,9 @@
-use crate::memory_files::{FAST, MemoryFiles};
-use crate::slow_streams::SlowSink;
-use commands::command;
+use crate::memory_files::{FAST, MemoryFiles, SLOW};
+use crate::performing::{cut_off, image_of, perform, performed};
 use std::process::Abort;
 use streams::ByteSink;
+
+const LEAK: [&str; 3] = ["factc", "leak", "in"];
 
 /// Where an image begins that has no parameter and no result.
 const HEAD: [u8; 11] = [0x46, 0x41, 0x43, 0x49, 1, 0, 1, 0, 0, 0, 0];
@@ -13,7 +14,12 @@ const DIVISION: &[u8] =
     b"pc 00010000\npc 00010004\ndiv 00000009 00000000\npc 00010008\nstop Ecall\n";
 
 /// An image of these words, with no parameter and no result.
-fn image_of(rt: &(impl Abort + AllocGlobal), frame: u32, steps: u64, words: &[u32]) -> Vec<u8> {
+fn image_of_code(
+    rt: &(impl Abort + AllocGlobal),
+    frame: u32,
+    steps: u64,
+    words: &[u32],
+) -> Vec<u8> {
     let mut image = Vec::from_slice(rt.alloc(), &HEAD).expect(rt, "memory for an image");
     let count = words.len() as u64;
     for part in [
@@ -33,22 +39,10 @@ fn image_of(rt: &(impl Abort + AllocGlobal), frame: u32, steps: u64, words: &[u3
     image
 }
 
-/// The status of a command on an image, and what it printed.
-fn printed(rt: &(impl Abort + AllocGlobal), image: &[u8], words: &[&str]) -> (u8, ByteSink) {
-    let mut files = MemoryFiles::new(rt, image, FAST);
-    let mut out = ByteSink::new(rt.alloc());
-    let mut err = ByteSink::new(rt.alloc());
-    let status = command(rt.alloc(), words, &mut files, &mut out, &mut err);
-    assert_eq!(rt; err.as_slice(), b"".as_slice());
-    (status, out)
-}
-
 /// Lists the run of an image of these words, with 3 steps.
 fn leaks(rt: &(impl Abort + AllocGlobal), frame: u32, words: &[u32], status: u8, listing: &[u8]) {
-    let image = image_of(rt, frame, 3, words);
-    let (answer, out) = printed(rt, image.as_slice(), &["factc", "leak", "in"]);
-    assert_eq!(rt; out.as_slice(), listing);
-    assert_eq!(rt; answer, status);
+    let image = image_of_code(rt, frame, 3, words);
+    performed(rt, image.as_slice(), &LEAK).is(rt, status, listing, b"");
 }
 
 #[test]
@@ -115,39 +109,33 @@ fn lists_how_code_of_others_stops(rt: HostRuntime) {
 
 #[test]
 fn lists_words_with_their_text(rt: HostRuntime) {
-    let image = image_of(
-        &rt,
-        0,
-        3,
-        &[0x0013_5293, 0x4013_5293, 0x0213_5293, 0x0001_2283],
-    );
-    let (status, out) = printed(&rt, image.as_slice(), &["factc", "list", "in"]);
-    assert_eq!(rt; status, 0);
-    assert_eq!(rt;
-        out.as_slice(),
-        b"00010000 00135293 srli x5, x6, 1\n\
-          00010004 40135293 srai x5, x6, 1\n\
-          00010008 02135293 illegal\n\
-          0001000c 00012283 lw x5, 0(x2)\n"
-            .as_slice()
-    );
+    let words = [0x0013_5293, 0x4013_5293, 0x0213_5293, 0x0001_2283];
+    let image = image_of_code(&rt, 0, 3, &words);
+    let done = performed(&rt, image.as_slice(), &["factc", "list", "in"]);
+    done.is(&rt, 0, TEXTS, b"");
+}
+
+const TEXTS: &[u8] = b"00010000 00135293 srli x5, x6, 1\n\
+                       00010004 40135293 srai x5, x6, 1\n\
+                       00010008 02135293 illegal\n\
+                       0001000c 00012283 lw x5, 0(x2)\n";
+
+const ADDS: &[u8] = b"export secret uint32 f(secret uint32 x) { return x + 1; }";
+
+/// What shows of the run of an image on this number.
+fn seen(rt: &(impl Abort + AllocGlobal), image: &[u8], number: &str) -> ByteSink {
+    let done = performed(rt, image, &["factc", "leak", "in", number]);
+    assert_eq!(rt; done.status, 0);
+    assert_eq!(rt; done.err.as_slice(), b"".as_slice());
+    done.out
 }
 
 /// The image of a sum, listed on the greatest number and on 0.
 #[test]
 fn a_secret_does_not_show(rt: HostRuntime) {
-    let text = b"export secret uint32 f(secret uint32 x) { return x + 1; }";
-    let mut files = MemoryFiles::new(&rt, text, FAST);
-    let mut out = ByteSink::new(rt.alloc());
-    let mut err = ByteSink::new(rt.alloc());
-    let words = ["factc", "build", "in", "image"];
-    let built = command(rt.alloc(), &words, &mut files, &mut out, &mut err);
-    assert_eq!(rt; built, 0);
-    let image = files.written.as_slice();
-    let (status, one) = printed(&rt, image, &["factc", "leak", "in", "4294967295"]);
-    assert_eq!(rt; status, 0);
-    let (status, other) = printed(&rt, image, &["factc", "leak", "in", "0"]);
-    assert_eq!(rt; status, 0);
+    let image = image_of(&rt, ADDS, &["factc", "build", "in", "image"], FAST);
+    let one = seen(&rt, image.as_slice(), "4294967295");
+    let other = seen(&rt, image.as_slice(), "0");
     assert!(rt; one.as_slice().ends_with(b"stop Ecall\n"));
     assert_eq!(rt; one.as_slice(), other.as_slice());
 }
@@ -155,22 +143,12 @@ fn a_secret_does_not_show(rt: HostRuntime) {
 /// Standard output takes a byte a call, and each call of it fails in turn.
 #[test]
 fn a_listing_is_cut_off_where_output_fails(rt: HostRuntime) {
-    let image = image_of(&rt, 0, 3, &DIVIDES);
+    let image = image_of_code(&rt, 0, 3, &DIVIDES);
     for good_calls in 0..DIVISION.len() {
         let mut files = MemoryFiles::new(&rt, image.as_slice(), FAST);
-        let mut out = SlowSink::new(ByteSink::new(rt.alloc()), true, Some(good_calls as u64));
-        let mut err = ByteSink::new(rt.alloc());
-        let words = ["factc", "leak", "in"];
-        let status = command(rt.alloc(), &words, &mut files, &mut out, &mut err);
-        assert_eq!(rt; status, 3, "after {good_calls} good writes");
-        assert_eq!(rt; out.into_inner().as_slice(), &DIVISION[..good_calls]);
-        assert_eq!(rt; err.as_slice(), b"file: cannot write -\n".as_slice());
+        let out = cut_off(&rt, &mut files, &LEAK, good_calls as u64);
+        assert_eq!(rt; out.as_slice(), &DIVISION[..good_calls]);
     }
     let mut files = MemoryFiles::new(&rt, image.as_slice(), FAST);
-    let mut out = SlowSink::new(ByteSink::new(rt.alloc()), true, None);
-    let mut err = ByteSink::new(rt.alloc());
-    let words = ["factc", "leak", "in"];
-    let status = command(rt.alloc(), &words, &mut files, &mut out, &mut err);
-    assert_eq!(rt; status, 0);
-    assert_eq!(rt; out.into_inner().as_slice(), DIVISION);
+    perform(&rt, &mut files, &LEAK, SLOW).is(&rt, 0, DIVISION, b"");
 }

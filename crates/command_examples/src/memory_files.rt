@@ -22,6 +22,13 @@ pub const FAST: Motion = Motion {
     good_writes: None,
 };
 
+/// Streams that move one byte a call, and never fail.
+pub const SLOW: Motion = Motion {
+    slow: true,
+    good_reads: None,
+    good_writes: None,
+};
+
 /// The path of a file that says which harts run.
 pub const PLAN: &str = "plan";
 

@@ -43,28 +43,29 @@ impl Files for OneFile {
     }
 }
 
-/// Does a command on the one file that there is, and answers the status.
-fn done(rt: &(impl Abort + AllocGlobal), files: &mut OneFile, words: &[&str]) -> u8 {
+/// A command on the one file that there is answers this status.
+fn answers(rt: &(impl Abort + AllocGlobal), files: &mut OneFile, words: &[&str], status: u8) {
     let mut out = ByteSink::new(rt.alloc());
     let mut err = ByteSink::new(rt.alloc());
-    command(rt.alloc(), words, files, &mut out, &mut err)
+    assert_eq!(rt;
+        command(rt.alloc(), words, files, &mut out, &mut err),
+        status
+    );
 }
+
+const TEXT: &[u8] = b"export public uint32 f() { return 1; }";
 
 #[test]
 fn an_image_takes_the_place_of_its_text(rt: HostRuntime) -> Result<(), Fail> {
-    let text = b"export public uint32 f() { return 1; }";
     let mut files = OneFile {
         alloc: rt.alloc(),
         path: String::from_str(rt.alloc(), "it")?,
-        bytes: Vec::from_slice(rt.alloc(), text)?,
+        bytes: Vec::from_slice(rt.alloc(), TEXT)?,
     };
-    assert_eq!(rt;
-        done(&rt, &mut files, &["factc", "build", "it", "other"]),
-        3
-    );
-    assert_eq!(rt; files.bytes.as_slice(), text.as_slice());
-    assert_eq!(rt; done(&rt, &mut files, &["factc", "build", "it", "it"]), 0);
-    assert_eq!(rt; done(&rt, &mut files, &["factc", "run", "it"]), 0);
-    assert_eq!(rt; done(&rt, &mut files, &["factc", "run", "other"]), 3);
+    answers(&rt, &mut files, &["factc", "build", "it", "other"], 3);
+    assert_eq!(rt; files.bytes.as_slice(), TEXT);
+    answers(&rt, &mut files, &["factc", "build", "it", "it"], 0);
+    answers(&rt, &mut files, &["factc", "run", "it"], 0);
+    answers(&rt, &mut files, &["factc", "run", "other"], 3);
     Ok(())
 }

@@ -1,7 +1,6 @@
 use crate::memory_files::{FAST, MemoryFiles};
-use commands::command;
+use crate::performing::{image_of, perform, performed};
 use std::process::Abort;
-use streams::ByteSink;
 
 const SECRET_PRODUCT: &[u8] = b"export secret uint32 f(secret uint32 x) { return x * 3; }";
 
@@ -18,48 +17,25 @@ const SEEN_IN_1: &[u8] = b"pc 00010000\npc 00010004\npc 00010008\npc 0001000c\ns
 const SEEN_IN_2: &[u8] =
     b"pc 00010000\npc 00010004\npc 00010008\nmul 00000009 00000003\npc 0001000c\nstop Ecall\n";
 
-/// What a command on files leaves.
-#[derive(Drop)]
-struct Done {
-    status: u8,
-    image: ByteSink,
-    out: ByteSink,
-    err: ByteSink,
-}
-
-/// Does a command, where each file has these bytes.
-fn performed(rt: &(impl Abort + AllocGlobal), bytes: &[u8], words: &[&str]) -> Done {
-    let mut files = MemoryFiles::new(rt, bytes, FAST);
-    let mut out = ByteSink::new(rt.alloc());
-    let mut err = ByteSink::new(rt.alloc());
-    let status = command(rt.alloc(), words, &mut files, &mut out, &mut err);
-    let MemoryFiles { written: image, .. } = files;
-    Done {
-        status,
-        image,
-        out,
-        err,
-    }
+/// The text is refused, and no image is written.
+fn is_refused(rt: &(impl Abort + AllocGlobal), words: &[&str]) {
+    let mut files = MemoryFiles::new(rt, SECRET_PRODUCT, FAST);
+    let done = perform(rt, &mut files, words, FAST);
+    done.is(
+        rt,
+        1,
+        b"",
+        b"refused: L7 at 1:52: secret multiplication operand\n",
+    );
+    assert_eq!(rt; files.written.as_slice(), b"".as_slice());
 }
 
 #[test]
 fn a_secret_product_is_refused_where_it_shows(rt: HostRuntime) {
     let checked = performed(&rt, SECRET_PRODUCT, &["factc", "check", "in"]);
-    assert_eq!(rt; checked.out.as_slice(), b"accepted\n".as_slice());
-    assert_eq!(rt; checked.status, 0);
-    for words in [
-        ["factc", "check", "--profile", "2", "in"].as_slice(),
-        ["factc", "build", "--profile", "2", "in", "image"].as_slice(),
-    ] {
-        let refused = performed(&rt, SECRET_PRODUCT, words);
-        assert_eq!(rt; refused.out.as_slice(), b"".as_slice());
-        assert_eq!(rt;
-            refused.err.as_slice(),
-            b"refused: L7 at 1:52: secret multiplication operand\n".as_slice()
-        );
-        assert_eq!(rt; refused.status, 1);
-        assert_eq!(rt; refused.image.as_slice(), b"".as_slice());
-    }
+    checked.is(&rt, 0, b"accepted\n", b"");
+    is_refused(&rt, &["factc", "check", "--profile", "2", "in"]);
+    is_refused(&rt, &["factc", "build", "--profile", "2", "in", "image"]);
 }
 
 /// How many lines of a listing are those of products.
@@ -82,22 +58,23 @@ fn shows(listing: &[u8], wanted: &[u8]) -> bool {
     is_there
 }
 
+/// An image of the product for this profile returns 15 on 5, and shows so many products.
+fn shows_products(rt: &(impl Abort + AllocGlobal), profile: &str, products: usize) {
+    let words = ["factc", "build", "in", "image", "--profile", profile];
+    let image = image_of(rt, PUBLIC_PRODUCT, &words, FAST);
+    let ran = performed(rt, image.as_slice(), &["factc", "run", "in", "5"]);
+    ran.is(rt, 0, b"return 15\n", b"");
+    let leaked = performed(rt, image.as_slice(), &["factc", "leak", "in", "5"]);
+    assert_eq!(rt; leaked.status, 0);
+    let listing = leaked.out.as_slice();
+    assert_eq!(rt; products_in(listing), products);
+    assert_eq!(rt; shows(listing, b"mul 00000005 00000003\n"), products == 1);
+}
+
 #[test]
 fn a_public_product_shows_in_profile_2(rt: HostRuntime) {
-    for (profile, products) in [("1", 0), ("2", 1)] {
-        let words = ["factc", "build", "in", "image", "--profile", profile];
-        let built = performed(&rt, PUBLIC_PRODUCT, &words);
-        assert_eq!(rt; built.status, 0);
-        let image = built.image.as_slice();
-        let ran = performed(&rt, image, &["factc", "run", "in", "5"]);
-        assert_eq!(rt; ran.out.as_slice(), b"return 15\n".as_slice());
-        assert_eq!(rt; ran.status, 0);
-        let leaked = performed(&rt, image, &["factc", "leak", "in", "5"]);
-        assert_eq!(rt; leaked.status, 0);
-        let listing = leaked.out.as_slice();
-        assert_eq!(rt; products_in(listing), products);
-        assert_eq!(rt; shows(listing, b"mul 00000005 00000003\n"), products == 1);
-    }
+    shows_products(&rt, "1", 0);
+    shows_products(&rt, "2", 1);
 }
 
 /// Code of others, with each profile and with one that there is not.
@@ -105,28 +82,24 @@ fn a_public_product_shows_in_profile_2(rt: HostRuntime) {
 fn an_image_is_for_its_own_observer(rt: HostRuntime) {
     let words = ["factc", "leak", "in"];
     let mut image = MULTIPLIES;
-    assert_eq!(rt; performed(&rt, &image, &words).out.as_slice(), SEEN_IN_2);
+    performed(&rt, &image, &words).is(&rt, 0, SEEN_IN_2, b"");
     image[6] = 1;
-    assert_eq!(rt; performed(&rt, &image, &words).out.as_slice(), SEEN_IN_1);
+    performed(&rt, &image, &words).is(&rt, 0, SEEN_IN_1, b"");
     image[6] = 3;
-    let refused = performed(&rt, &image, &words);
-    assert_eq!(rt;
-        refused.err.as_slice(),
-        b"refused: B3 at byte 6: profile\n".as_slice()
-    );
-    assert_eq!(rt; refused.status, 1);
+    performed(&rt, &image, &words).is(&rt, 1, b"", b"refused: B3 at byte 6: profile\n");
+}
+
+/// The words are no command line, and nothing is printed.
+fn is_wrong(rt: &(impl Abort + AllocGlobal), words: &[&str]) {
+    let wrong = performed(rt, PUBLIC_PRODUCT, words);
+    assert_eq!(rt; wrong.status, 2);
+    assert_eq!(rt; wrong.out.as_slice(), b"".as_slice());
+    assert!(rt; wrong.err.as_slice().starts_with(b"error: "));
 }
 
 #[test]
 fn there_is_no_third_profile(rt: HostRuntime) {
-    for words in [
-        ["factc", "check", "--profile", "3", "in"],
-        ["factc", "check", "--profile", "text", "in"],
-        ["factc", "check", "in", "--profile", ""],
-    ] {
-        let wrong = performed(&rt, PUBLIC_PRODUCT, &words);
-        assert_eq!(rt; wrong.status, 2);
-        assert_eq!(rt; wrong.out.as_slice(), b"".as_slice());
-        assert!(rt; wrong.err.as_slice().starts_with(b"error: "));
-    }
+    is_wrong(&rt, &["factc", "check", "--profile", "3", "in"]);
+    is_wrong(&rt, &["factc", "check", "--profile", "text", "in"]);
+    is_wrong(&rt, &["factc", "check", "in", "--profile", ""]);
 }

@@ -26,28 +26,30 @@ fn piece(slow: bool) -> usize
     if slow { 1 } else { usize::MAX }
 }
 
-/// A source of these bytes, of which the call after so many good ones fails.
-fn source_of(
-    alloc: Global,
-    bytes: &[u8],
+/// How a stream moves its bytes.
+#[derive(Clone, Copy)]
+struct Motion {
+    /// Whether each call moves one byte.
     slow: bool,
+    /// How many calls come before the one that fails.
     good_calls: Option<u64>,
-) -> Result<Faltering<ByteSource>, AllocError> {
-    Ok(Faltering {
-        stream: ByteSource::new(Vec::from_slice(alloc, bytes)?),
-        piece: piece(slow),
-        good_calls,
-        failures: 0,
-    })
 }
 
-/// A sink that has taken nothing, of which the call after so many good ones fails.
-fn sink_for(alloc: Global, slow: bool, good_calls: Option<u64>) -> Faltering<ByteSink> {
-    Faltering {
-        stream: ByteSink::new(alloc),
-        piece: piece(slow),
-        good_calls,
-        failures: 0,
+const FAST: Motion = Motion {
+    slow: false,
+    good_calls: None,
+};
+
+const SLOW: Motion = Motion {
+    slow: true,
+    good_calls: None,
+};
+
+/// A byte a call, and the call after so many fails.
+fn failing(good_calls: usize) -> Motion {
+    Motion {
+        slow: true,
+        good_calls: Some(good_calls as u64),
     }
 }
 
@@ -62,18 +64,68 @@ fn named(built: Result<(), BuildFault<Refusal>>) -> &'static str {
     }
 }
 
+/// What a build left.
+#[derive(Drop)]
+struct Built {
+    answer: &'static str,
+    failed_reads: u64,
+    failed_writes: u64,
+    image: ByteSink,
+}
+
+impl Built {
+    /// It answered this, and these bytes went out.
+    fn is(&self, rt: &(impl Abort + AllocGlobal), answer: &str, image: &[u8]) {
+        assert_eq!(rt; self.answer, answer);
+        assert_eq!(rt; self.image.as_slice(), image);
+    }
+}
+
+/// Builds an image of these bytes, which are read and written so.
+fn built(alloc: Global, bytes: &[u8], reads: Motion, writes: Motion) -> Result<Built, AllocError> {
+    let mut source = Faltering {
+        stream: ByteSource::new(Vec::from_slice(alloc, bytes)?),
+        piece: piece(reads.slow),
+        good_calls: reads.good_calls,
+        failures: 0,
+    };
+    let mut sink = Faltering {
+        stream: ByteSink::new(alloc),
+        piece: piece(writes.slow),
+        good_calls: writes.good_calls,
+        failures: 0,
+    };
+    let answer = named(build_stream(alloc, &mut source, &mut sink));
+    Ok(Built {
+        answer,
+        failed_reads: source.failures,
+        failed_writes: sink.failures,
+        image: sink.stream,
+    })
+}
+
+/// A build of the text writes the bytes of one in memory.
+fn agrees(rt: &(impl Abort + AllocGlobal), text: &str, motion: Motion) -> Result<(), AllocError> {
+    let image = build(rt.alloc(), text).expect(rt, "an accepted text");
+    let built = built(rt.alloc(), text.as_bytes(), motion, motion)?;
+    built.is(rt, "built", image.as_slice());
+    Ok(())
+}
+
 #[test]
 fn writes_the_bytes_of_build(rt: HostRuntime) -> Result<(), Fail> {
     for text in [ADDS, SELECTS, BRANCHES] {
-        let image = build(rt.alloc(), text).expect(&rt, "an accepted text");
-        for slow in [false, true] {
-            let mut source = source_of(rt.alloc(), text.as_bytes(), slow, None)?;
-            let mut sink = sink_for(rt.alloc(), slow, None);
-            let built = build_stream(rt.alloc(), &mut source, &mut sink);
-            assert_eq!(rt; named(built), "built", "{text:?}");
-            assert_eq!(rt; sink.stream.as_slice(), image.as_slice());
-        }
+        agrees(&rt, text, FAST)?;
+        agrees(&rt, text, SLOW)?;
     }
+    Ok(())
+}
+
+/// The read after so many good ones fails, and nothing goes out.
+fn fails_to_read(rt: &(impl Abort + AllocGlobal), good_calls: usize) -> Result<(), AllocError> {
+    let built = built(rt.alloc(), ADDS.as_bytes(), failing(good_calls), SLOW)?;
+    assert_eq!(rt; built.failed_reads, 1, "after {good_calls} good calls");
+    built.is(rt, "read", b"");
     Ok(())
 }
 
@@ -81,13 +133,20 @@ fn writes_the_bytes_of_build(rt: HostRuntime) -> Result<(), Fail> {
 fn each_read_fails_in_turn(rt: HostRuntime) -> Result<(), Fail> {
     // One call for each byte, and one for the end.
     for good_calls in 0..=ADDS.len() {
-        let mut source = source_of(rt.alloc(), ADDS.as_bytes(), true, Some(good_calls as u64))?;
-        let mut sink = sink_for(rt.alloc(), true, None);
-        let built = build_stream(rt.alloc(), &mut source, &mut sink);
-        assert_eq!(rt; named(built), "read", "after {good_calls} good calls");
-        assert_eq!(rt; source.failures, 1);
-        assert_eq!(rt; sink.stream.as_slice(), b"".as_slice());
+        fails_to_read(&rt, good_calls)?;
     }
+    Ok(())
+}
+
+/// The write after so many good ones fails, and these bytes have gone out.
+fn fails_to_write(
+    rt: &(impl Abort + AllocGlobal),
+    good_calls: usize,
+    image: &[u8],
+) -> Result<(), AllocError> {
+    let built = built(rt.alloc(), ADDS.as_bytes(), FAST, failing(good_calls))?;
+    assert_eq!(rt; built.failed_writes, 1, "after {good_calls} good calls");
+    built.is(rt, "write", image);
     Ok(())
 }
 
@@ -95,32 +154,24 @@ fn each_read_fails_in_turn(rt: HostRuntime) -> Result<(), Fail> {
 fn each_write_fails_in_turn(rt: HostRuntime) -> Result<(), Fail> {
     let image = build(rt.alloc(), ADDS).expect(&rt, "an accepted text");
     for good_calls in 0..image.len() {
-        let mut source = source_of(rt.alloc(), ADDS.as_bytes(), false, None)?;
-        let mut sink = sink_for(rt.alloc(), true, Some(good_calls as u64));
-        let built = build_stream(rt.alloc(), &mut source, &mut sink);
-        assert_eq!(rt; named(built), "write", "after {good_calls} good calls");
-        assert_eq!(rt; sink.failures, 1);
-        assert_eq!(rt; sink.stream.as_slice(), &image.as_slice()[..good_calls]);
+        fails_to_write(&rt, good_calls, &image.as_slice()[..good_calls])?;
     }
     Ok(())
 }
 
-/// What is answered to these bytes, of which nothing goes out.
-fn answer_to(rt: &(impl Abort + AllocGlobal), bytes: &[u8]) -> &'static str {
-    let mut source = source_of(rt.alloc(), bytes, false, None).expect(rt, "memory for a text");
-    let mut sink = sink_for(rt.alloc(), false, None);
-    let built = build_stream(rt.alloc(), &mut source, &mut sink);
-    assert_eq!(rt; sink.stream.as_slice(), b"".as_slice());
-    named(built)
+/// This is answered to these bytes, and nothing goes out.
+fn answers(rt: &(impl Abort + AllocGlobal), bytes: &[u8], answer: &str) -> Result<(), AllocError> {
+    built(rt.alloc(), bytes, FAST, FAST)?.is(rt, answer, b"");
+    Ok(())
 }
 
 #[test]
 fn length_comes_before_encoding(rt: HostRuntime) -> Result<(), Fail> {
-    assert_eq!(rt; answer_to(&rt, b""), "not exactly one export");
-    assert_eq!(rt; answer_to(&rt, b"export \xff"), "not UTF-8");
+    answers(&rt, b"", "not exactly one export")?;
+    answers(&rt, b"export \xff", "not UTF-8")?;
     let mut bytes = vec![in rt.alloc(); 0xffu8; 262_144]?;
-    assert_eq!(rt; answer_to(&rt, bytes.as_slice()), "not UTF-8");
+    answers(&rt, bytes.as_slice(), "not UTF-8")?;
     bytes.push(0xff)?;
-    assert_eq!(rt; answer_to(&rt, bytes.as_slice()), "text too long");
+    answers(&rt, bytes.as_slice(), "text too long")?;
     Ok(())
 }

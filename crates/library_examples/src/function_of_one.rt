@@ -1,32 +1,39 @@
 use function_code::function_words;
 use image_fields::{ImageFields, ResultSlot, Slot};
 use language::{Form, Kind, Label, Param, Profile};
+use std::alloc::{AllocError, Global};
 use std::test::Fail;
 
-/// The function that adds one to a number, word for word.
-#[test]
-fn adds_one(rt: HostRuntime) -> Result<(), Fail> {
+const BODY: [u32; 5] = [
+    0x0001_2283,
+    0x0010_0313,
+    0x0062_82b3,
+    0x0051_2223,
+    0x0000_0073,
+];
+
+/// A number in the first word of the frame, and that number plus one in the second.
+fn image_of_one(alloc: Global) -> Result<ImageFields, AllocError> {
     let param = Param {
         kind: Kind::Uint32,
         label: Label::Secret,
         form: Form::SingleWord,
         length: 1,
     };
-    let slots = Vec::from_slice(rt.alloc(), &[Slot { param, offset: 0 }])?;
     let returned = Some(ResultSlot {
         kind: Kind::Uint32,
         label: Label::Secret,
         offset: 4,
     });
-    let body = [
-        0x0001_2283,
-        0x0010_0313,
-        0x0062_82b3,
-        0x0051_2223,
-        0x0000_0073,
-    ];
-    let body = Vec::from_slice(rt.alloc(), &body)?;
-    let image = ImageFields::new(Profile::P1, slots, returned, 8, 96, body);
+    let slots = Vec::from_slice(alloc, &[Slot { param, offset: 0 }])?;
+    let body = Vec::from_slice(alloc, &BODY)?;
+    Ok(ImageFields::new(Profile::P1, slots, returned, 8, 96, body))
+}
+
+/// The function that adds one to a number, word for word.
+#[test]
+fn adds_one(rt: HostRuntime) -> Result<(), Fail> {
+    let image = image_of_one(rt.alloc())?;
     let words = function_words(rt.alloc(), &image)?;
     assert_eq!(rt; words.as_slice(), EXPECTED.as_slice());
     Ok(())

@@ -9,6 +9,7 @@ use rv_machine::hart::Hart;
 use rv_machine::memory::Memory;
 use rv_machine::{CodeRegion, FlatMemory, NullRecorder, Size, Stop, run};
 use std::alloc::{AllocError, Global};
+use std::process::Abort;
 use std::test::Fail;
 
 /// A number in the first word of the frame, an array of two behind most of it, and a result in the last word. The body
@@ -114,8 +115,17 @@ fn call(alloc: Global, turns: u64) -> Result<Called, AllocError> {
     Ok(Called { stop, hart, memory })
 }
 
-fn register(hart: &Hart, number: u8) -> Option<u32> {
-    Some(hart.reg(Reg::new(number)?))
+/// The hart has these numbers in these registers.
+fn has(rt: &(impl Abort + AllocGlobal), hart: &Hart, registers: &[(u8, u32)]) {
+    for (register, number) in registers {
+        let register = Reg::new(*register).expect(rt, "a register");
+        assert_eq!(rt; hart.reg(register), *number);
+    }
+}
+
+/// The word at an address is this number.
+fn holds(rt: &(impl Abort + AllocGlobal), memory: &FlatMemory, address: u32, number: u32) {
+    assert_eq!(rt; memory.load(address, Size::Word), Some(number));
 }
 
 /// Whether all words of the room are 0.
@@ -133,13 +143,13 @@ fn is_called(rt: HostRuntime) -> Result<(), Fail> {
     let called = call(rt.alloc(), TURNS)?;
     assert_eq!(rt; called.stop, Stop::Ecall);
     assert_eq!(rt; called.hart.pc(), CODE + 24);
-    assert_eq!(rt; register(&called.hart, 2), Some(STACK));
-    assert_eq!(rt; register(&called.hart, 10), Some(42));
-    assert_eq!(rt; register(&called.hart, 8), Some(7));
-    assert_eq!(rt; register(&called.hart, 27), Some(9));
-    assert_eq!(rt; register(&called.hart, 31), Some(0));
-    assert_eq!(rt; called.memory.load(STACK, Size::Word), Some(41));
-    assert_eq!(rt; called.memory.load(STACK + 4, Size::Word), Some(2));
+    has(
+        &rt,
+        &called.hart,
+        &[(2, STACK), (10, 42), (8, 7), (27, 9), (31, 0)],
+    );
+    holds(&rt, &called.memory, STACK, 41);
+    holds(&rt, &called.memory, STACK + 4, 2);
     assert!(rt; is_wiped(&called.memory));
     Ok(())
 }
