@@ -82,7 +82,12 @@ impl Built {
 }
 
 /// Builds an image of these bytes, which are read and written so.
-fn built(alloc: Global, bytes: &[u8], reads: Motion, writes: Motion) -> Result<Built, AllocError> {
+fn build_from(
+    alloc: Global,
+    bytes: &[u8],
+    reads: Motion,
+    writes: Motion,
+) -> Result<Built, AllocError> {
     let mut source = Faltering {
         stream: ByteSource::new(Vec::from_slice(alloc, bytes)?),
         piece: piece(reads.slow),
@@ -107,7 +112,7 @@ fn built(alloc: Global, bytes: &[u8], reads: Motion, writes: Motion) -> Result<B
 /// A build of the text writes the bytes of one in memory.
 fn agrees(rt: &(impl Abort + AllocGlobal), text: &str, motion: Motion) -> Result<(), AllocError> {
     let image = build(rt.alloc(), text).expect(rt, "an accepted text");
-    let built = built(rt.alloc(), text.as_bytes(), motion, motion)?;
+    let built = build_from(rt.alloc(), text.as_bytes(), motion, motion)?;
     built.is(rt, "built", image.as_slice());
     Ok(())
 }
@@ -123,7 +128,7 @@ fn writes_the_bytes_of_build(rt: HostRuntime) -> Result<(), Fail> {
 
 /// The read after so many good ones fails, and nothing goes out.
 fn fails_to_read(rt: &(impl Abort + AllocGlobal), good_calls: usize) -> Result<(), AllocError> {
-    let built = built(rt.alloc(), ADDS.as_bytes(), failing(good_calls), SLOW)?;
+    let built = build_from(rt.alloc(), ADDS.as_bytes(), failing(good_calls), SLOW)?;
     assert_eq!(rt; built.failed_reads, 1, "after {good_calls} good calls");
     built.is(rt, "read", b"");
     Ok(())
@@ -144,7 +149,7 @@ fn fails_to_write(
     good_calls: usize,
     image: &[u8],
 ) -> Result<(), AllocError> {
-    let built = built(rt.alloc(), ADDS.as_bytes(), FAST, failing(good_calls))?;
+    let built = build_from(rt.alloc(), ADDS.as_bytes(), FAST, failing(good_calls))?;
     assert_eq!(rt; built.failed_writes, 1, "after {good_calls} good calls");
     built.is(rt, "write", image);
     Ok(())
@@ -161,7 +166,7 @@ fn each_write_fails_in_turn(rt: HostRuntime) -> Result<(), Fail> {
 
 /// This is answered to these bytes, and nothing goes out.
 fn answers(rt: &(impl Abort + AllocGlobal), bytes: &[u8], answer: &str) -> Result<(), AllocError> {
-    built(rt.alloc(), bytes, FAST, FAST)?.is(rt, answer, b"");
+    build_from(rt.alloc(), bytes, FAST, FAST)?.is(rt, answer, b"");
     Ok(())
 }
 
