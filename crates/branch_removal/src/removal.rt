@@ -2,7 +2,8 @@ ghost use Rattle.std.specs.Prelude.{◌≡◌, ◌+◌, ◌^◌, ◌<◌, map, I
 ghost use Rattle.inline.specs.Flat.{branch, term_tree, flat_tree, flat_block};
 ghost use Rattle.language.specs.declared.signature.Label.TheVariants.{Public, Secret};
 ghost use Rattle.language.specs.WantOfMemory.{IsWantOfMemory};
-ghost use Rattle.branch_removal.specs.private.Removal.{set_within, put_within, made, removed, removed_all, single, controls_in, controls_in_all};
+ghost use Rattle.branch_removal.specs.private.Removal.{set_within, put_within, made, removed, removed_all, single};
+ghost use Rattle.branch_removal.specs.private.Removal.{controls_in, controls_in_all};
 ghost use Rattle.branch_removal.specs.Bounds.{IsCounted};
 ghost use Rattle.branch_removal.specs.Exact.{straight_of};
 ghost use Rattle.branch_removal.specs.Removed.{IsRemoved};
@@ -113,7 +114,8 @@ fn repeat(
     high: &Term,
     turn: Vec<StraightStatement>,
 ) -> Result<StraightStatement, AllocError>
-    ensures { IfOk result (λ one. straight_tree one ≡ repeats counter (term_tree low.now) (term_tree high.now) (straight_block turn.items)) }
+    ensures { IfOk result (λ one. straight_tree one
+        ≡ repeats counter (term_tree low.now) (term_tree high.now) (straight_block turn.items)) }
 {
     let low = copied(alloc, low)?;
     let high = copied(alloc, high)?;
@@ -178,7 +180,10 @@ fn push_secret(
 ) -> Result<(), AllocError>
     requires accepted { control + 2 + controls_in_all (flat_block accepted.now) < 2 ^ 32 }
     requires otherwise { control + 2 + controls_in_all (flat_block otherwise.now) < 2 ^ 32 }
-    ensures { OnOk result (straight_block code.new.items ≡ chain (straight_block code.old.items) (removed within control (branch Secret (term_tree condition.now) (flat_block accepted.now) (flat_block otherwise.now)))) }
+    ensures { OnOk result (straight_block code.new.items
+        ≡ chain (straight_block code.old.items)
+        (removed within control (branch Secret (term_tree condition.now) (flat_block accepted.now)
+        (flat_block otherwise.now)))) }
 {
     let condition = copied(alloc, condition)?;
     push(code, StraightStatement::Take(control, within, condition))?;
@@ -199,7 +204,10 @@ fn push_public(
 ) -> Result<(), AllocError>
     requires accepted { control + controls_in_all (flat_block accepted.now) < 2 ^ 32 }
     requires otherwise { control + controls_in_all (flat_block otherwise.now) < 2 ^ 32 }
-    ensures { OnOk result (straight_block code.new.items ≡ chain (straight_block code.old.items) (removed within control (branch Public (term_tree condition.now) (flat_block accepted.now) (flat_block otherwise.now)))) }
+    ensures { OnOk result (straight_block code.new.items
+        ≡ chain (straight_block code.old.items)
+        (removed within control (branch Public (term_tree condition.now) (flat_block accepted.now)
+        (flat_block otherwise.now)))) }
 {
     let one = part(alloc, within, control, accepted)?;
     let other = part(alloc, within, control, otherwise)?;

@@ -1,7 +1,9 @@
 // Instructions for arrays and their elements.
 
 ghost use Rattle.std.specs.Prelude.{◌≡◌, ◌≤◌, ◌<◌, ◌+◌, ◌*◌, ◌++◌, ◌∷◌, [], map, length, IfOk, OnOk};
-ghost use Rattle.codegen.specs.private.Emitted.{store_by, element_store_code, clear_code, fill_code, index_code, put_code, put_element_code, put_under_code, put_under_near_code, put_element_under_code, into_element_code, read_register};
+ghost use Rattle.codegen.specs.private.Emitted.{store_by, element_store_code, clear_code, fill_code, index_code};
+ghost use Rattle.codegen.specs.private.Emitted.{put_code, put_element_code, put_under_code, put_under_near_code};
+ghost use Rattle.codegen.specs.private.Emitted.{put_element_under_code, into_element_code, read_register};
 ghost use Rattle.codegen.specs.private.Jumps.{loop_code};
 ghost use Rattle.expression_code.specs.Layout.{temporaries_offset};
 ghost use Rattle.expression_code.specs.Registers.{zero_register, value_register, second_register, third_register};
@@ -97,8 +99,12 @@ fn into_element(
     offset: u32,
     value: &Term,
 ) -> Result<(), AllocError>
-    requires { IsPlaced (length layout.now.declared) layout.now.allocation.count (temporaries_offset layout.now.declared layout.now.controls layout.now.depths) 0 (term_tree value.now) }
-    ensures { OnOk result (code.new.items ≡ code.old.items ++ into_element_code layout.now.declared layout.now.allocation (temporaries_offset layout.now.declared layout.now.controls layout.now.depths) kind offset (term_tree value.now)) }
+    requires { IsPlaced (length layout.now.declared) layout.now.allocation.count
+        (temporaries_offset layout.now.declared layout.now.controls layout.now.depths) 0 (term_tree value.now) }
+    ensures { OnOk result (code.new.items ≡ code.old.items
+        ++ into_element_code layout.now.declared layout.now.allocation
+        (temporaries_offset layout.now.declared layout.now.controls layout.now.depths) kind offset
+        (term_tree value.now)) }
 {
     let value = stored(code, layout, value)?;
     store_element(code, value, kind, offset)

@@ -111,9 +111,13 @@ fn branch(
     accepted: &[Instr],
     otherwise: &[Instr],
 ) -> Result<(), AllocError>
-    requires condition { IsPlaced (length layout.now.declared) layout.now.allocation.count (temporaries_offset layout.now.declared layout.now.controls layout.now.depths) 0 (term_tree condition.now) }
+    requires condition { IsPlaced (length layout.now.declared) layout.now.allocation.count
+        (temporaries_offset layout.now.declared layout.now.controls layout.now.depths) 0 (term_tree condition.now) }
     requires near { AreNear (length accepted.now) (length otherwise.now) }
-    ensures { OnOk result (code.new.items ≡ code.old.items ++ branching_code layout.now.declared layout.now.allocation (temporaries_offset layout.now.declared layout.now.controls layout.now.depths) (term_tree condition.now) accepted.now otherwise.now) }
+    ensures { OnOk result (code.new.items ≡ code.old.items
+        ++ branching_code layout.now.declared layout.now.allocation
+        (temporaries_offset layout.now.declared layout.now.controls layout.now.depths) (term_tree condition.now)
+        accepted.now otherwise.now) }
 {
     if layout.immediates() && accepted.len() < SHORT_ARM {
         let test = comparing::condition(code, layout, condition)?;

@@ -3,7 +3,8 @@
 ghost use Rattle.std.specs.Prelude.{◌≡◌, map, slice_index, slice_set, IfOk};
 ghost use Rattle.branch_removal.specs.Straight.{straight_block, straight_tree};
 ghost use Rattle.inline.specs.Flat.{term_tree};
-ghost use Rattle.constants.specs.private.Choice.{begun, choice_of, chosen, chosen_all, counted, grown, most_nodes_of, settled, term_size, terms_size};
+ghost use Rattle.constants.specs.private.Choice.{begun, choice_of, chosen, chosen_all, counted, grown};
+ghost use Rattle.constants.specs.private.Choice.{most_nodes_of, settled, term_size, terms_size};
 
 use branch_removal::{Straight, StraightStatement};
 use inline::Term;

@@ -162,7 +162,9 @@ pub fn narrowed(
     left: Term,
     right: Term,
 ) -> Result<Term, AllocError>
-    ensures { IfOk result (λ term. term_tree term ≡ folding.narrowed place (fields.mask_of operator (constant_of (term_tree right))) (term_tree left) (binary place operator width (term_tree left) (term_tree right))) }
+    ensures { IfOk result (λ term. term_tree term
+        ≡ folding.narrowed place (fields.mask_of operator (constant_of (term_tree right))) (term_tree left)
+        (binary place operator width (term_tree left) (term_tree right))) }
 {
     let mask = mask_of(operator, &right);
     match left {

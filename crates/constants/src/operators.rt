@@ -2,7 +2,8 @@
 
 ghost use Rattle.std.specs.Prelude.{◌≡◌};
 ghost use Rattle.language.specs.Operators.{prefix_value, truth_of};
-ghost use Rattle.constants.specs.private.Folding.{decided_by_left, decided_by_right, folded, is_left_identity, is_right_identity, opposite_of, turned_of};
+ghost use Rattle.constants.specs.private.Folding.{decided_by_left, decided_by_right, folded, is_left_identity};
+ghost use Rattle.constants.specs.private.Folding.{is_right_identity, opposite_of, turned_of};
 
 use language::{BinaryOperator, PrefixOperator};
 use word::Width;

@@ -5,7 +5,9 @@ ghost use Rattle.branch_removal.specs.Straight.{chain, put, put_under, set, stra
 ghost use Rattle.inline.specs.Flat.{term_tree};
 ghost use Rattle.constants.specs.private.Folding.{simple};
 ghost use Rattle.constants.specs.private.Known.{forgotten_all, words_of};
-ghost use Rattle.constants.specs.private.Simplification.{branch_code, branch_known, knowing, knowing_all, loop_code, loop_known, set_to, simplified, simplified_all, single, turns_code, turns_known};
+ghost use Rattle.constants.specs.private.Simplification.{branch_code, branch_known, knowing, knowing_all};
+ghost use Rattle.constants.specs.private.Simplification.{loop_code, loop_known, set_to, simplified, simplified_all};
+ghost use Rattle.constants.specs.private.Simplification.{single, turns_code, turns_known};
 
 use crate::choice::copies_of;
 use crate::copies::learn;
@@ -49,8 +51,12 @@ fn set_simple(
     variable: u32,
     value: &Term,
 ) -> Result<(), AllocError>
-    ensures code { OnOk result (straight_block code.new.items ≡ chain (straight_block code.old.items) (single (set variable (simple (words_of known.old) (term_tree value.now))))) }
-    ensures known { OnOk result (words_of known.new ≡ set_to pass.now.declared.now (words_of known.old) variable (simple (words_of known.old) (term_tree value.now))) }
+    ensures code { OnOk result (straight_block code.new.items
+        ≡ chain (straight_block code.old.items)
+        (single (set variable (simple (words_of known.old) (term_tree value.now))))) }
+    ensures known { OnOk result (words_of known.new
+        ≡ set_to pass.now.declared.now (words_of known.old) variable
+        (simple (words_of known.old) (term_tree value.now))) }
 {
     let value = simple(pass.alloc, known, value)?;
     learn(pass.declared, known, variable, &value)?;
@@ -67,7 +73,9 @@ fn put_simple(
     index: &Term,
     value: &Term,
 ) -> Result<StraightStatement, AllocError>
-    ensures { IfOk result (λ one. straight_tree one ≡ put place array size (simple (words_of known.now) (term_tree index.now)) (simple (words_of known.now) (term_tree value.now))) }
+    ensures { IfOk result (λ one. straight_tree one
+        ≡ put place array size (simple (words_of known.now) (term_tree index.now))
+        (simple (words_of known.now) (term_tree value.now))) }
 {
     let index = simple(alloc, known, index)?;
     let value = simple(alloc, known, value)?;
@@ -85,7 +93,9 @@ fn put_under_simple(
     index: &Term,
     value: &Term,
 ) -> Result<StraightStatement, AllocError>
-    ensures { IfOk result (λ one. straight_tree one ≡ put_under control place array size (simple (words_of known.now) (term_tree index.now)) (simple (words_of known.now) (term_tree value.now))) }
+    ensures { IfOk result (λ one. straight_tree one
+        ≡ put_under control place array size (simple (words_of known.now) (term_tree index.now))
+        (simple (words_of known.now) (term_tree value.now))) }
 {
     let index = simple(alloc, known, index)?;
     let value = simple(alloc, known, value)?;
@@ -193,8 +203,13 @@ fn repeat(
     bounds: Bounds,
     body: &[StraightStatement],
 ) -> Result<(), AllocError>
-    ensures code { OnOk result (straight_block code.new.items ≡ chain (straight_block code.old.items) (loop_code pass.now.copies.now pass.now.declared.now (words_of known.old) counter (term_tree bounds.low) (term_tree bounds.high) (straight_block body.now))) }
-    ensures known { OnOk result (words_of known.new ≡ loop_known pass.now.copies.now pass.now.declared.now (words_of known.old) counter (term_tree bounds.low) (term_tree bounds.high) (straight_block body.now)) }
+    ensures code { OnOk result (straight_block code.new.items
+        ≡ chain (straight_block code.old.items)
+        (loop_code pass.now.copies.now pass.now.declared.now (words_of known.old) counter (term_tree bounds.low)
+        (term_tree bounds.high) (straight_block body.now))) }
+    ensures known { OnOk result (words_of known.new
+        ≡ loop_known pass.now.copies.now pass.now.declared.now (words_of known.old) counter (term_tree bounds.low)
+        (term_tree bounds.high) (straight_block body.now)) }
 {
     let most = copies_of(pass.copies, counter);
     match numbers_of(most, &bounds.low, &bounds.high) {

@@ -96,9 +96,22 @@ fn fetched_operands(
     left: &Term,
     right: &Term,
 ) -> Result<Operands, AllocError>
-    requires { temporaries_offset layout.now.declared layout.now.controls layout.now.depths + 4 * slots_to layout.now.allocation.count (place + 1) ≤ 65536 }
-    ensures code { let free = temporaries_offset layout.now.declared layout.now.controls layout.now.depths in let a = layout.now.allocation in OnOk result (code.new.items ≡ code.old.items ++ fetch_code (operand a free place (term_tree left.now)) first_spare ++ fetch_code (operand a free (place + 1) (term_tree right.now)) second_spare) }
-    ensures registers { let free = temporaries_offset layout.now.declared layout.now.controls layout.now.depths in let a = layout.now.allocation in IfOk result (λ registers. registers ≡ record { target = target; scratch = working_register a.count (place + 1) second_spare; left = register_of (operand a free place (term_tree left.now)) first_spare; right = register_of (operand a free (place + 1) (term_tree right.now)) second_spare }) }
+    requires { temporaries_offset layout.now.declared layout.now.controls layout.now.depths
+        + 4 * slots_to layout.now.allocation.count (place + 1) ≤ 65536 }
+    ensures code { let free = temporaries_offset layout.now.declared layout.now.controls layout.now.depths in
+        let a = layout.now.allocation in
+        OnOk result (code.new.items ≡ code.old.items ++ fetch_code (operand a free place (term_tree left.now))
+        first_spare ++ fetch_code (operand a free (place + 1) (term_tree right.now)) second_spare) }
+    ensures registers { let free = temporaries_offset layout.now.declared layout.now.controls layout.now.depths in
+        let a = layout.now.allocation in
+        IfOk result (λ registers. registers ≡ record {
+          target = target;
+          scratch = working_register a.count (place + 1) second_spare;
+          left = register_of
+              (operand a free place (term_tree left.now)) first_spare;
+          right = register_of
+              (operand a free (place + 1) (term_tree right.now)) second_spare;
+        }) }
 {
     let next = layout.place_behind(place, 1);
     let left = fetched(layout, code, place, left, FIRST_SPARE)?;
@@ -122,8 +135,15 @@ fn fetched_or_zero(
     condition: &Term,
     accepted: &Term,
 ) -> Result<(), AllocError>
-    requires { temporaries_offset layout.now.declared layout.now.controls layout.now.depths + 4 * slots_to layout.now.allocation.count (place + 1) ≤ 65536 }
-    ensures { let free = temporaries_offset layout.now.declared layout.now.controls layout.now.depths in let a = layout.now.allocation in let c = operand a free place (term_tree condition.now) in let l = operand a free (place + 1) (term_tree accepted.now) in OnOk result (code.new.items ≡ code.old.items ++ fetch_code c first_spare ++ fetch_code l second_spare ++ choice_or_zero_code target (working_register a.count place first_spare) (register_of c first_spare) (register_of l second_spare)) }
+    requires { temporaries_offset layout.now.declared layout.now.controls layout.now.depths
+        + 4 * slots_to layout.now.allocation.count (place + 1) ≤ 65536 }
+    ensures { let free = temporaries_offset layout.now.declared layout.now.controls layout.now.depths in
+        let a = layout.now.allocation in
+        let c = operand a free place (term_tree condition.now) in
+        let l = operand a free (place + 1) (term_tree accepted.now) in
+        OnOk result (code.new.items ≡ code.old.items ++ fetch_code c first_spare ++ fetch_code l second_spare
+        ++ choice_or_zero_code target (working_register a.count place first_spare) (register_of c first_spare)
+        (register_of l second_spare)) }
 {
     let second = layout.place_behind(place, 1);
     let condition = fetched(layout, code, place, condition, FIRST_SPARE)?;

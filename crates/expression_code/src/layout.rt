@@ -4,7 +4,8 @@ ghost use Rattle.std.specs.Prelude.{◌≡◌, ◌≤◌, ◌<◌, ◌+◌, ◌*
 ghost use Rattle.expression_code.specs.Layout.{variable_offset, variable_location, result_offset, control_offset, control_location, word_offset, next_offset, temporaries_offset, offsets_from, slots_from};
 ghost use Rattle.expression_code.specs.Allocation.{is_unread, slots_to, temporary, working_register};
 ghost use Rattle.expression_code.specs.Registers.{value_register};
-ghost use Rattle.expression_code.specs.TermCode.{kind_at, near_offset, near_element, is_word, keeps_words, home_of_term, is_at_home, operand};
+ghost use Rattle.expression_code.specs.TermCode.{kind_at, near_offset, near_element, is_word, keeps_words};
+ghost use Rattle.expression_code.specs.TermCode.{home_of_term, is_at_home, operand};
 ghost use Rattle.inline.specs.FlatSize.{words_of, declared_words};
 ghost use Rattle.inline.specs.Flat.{declaration_of, term_tree};
 

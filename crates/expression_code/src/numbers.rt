@@ -1,7 +1,9 @@
 // Numbers in instructions: of an operator and a number that an instruction holds, what is made of the other operand.
 
 ghost use Rattle.std.specs.Prelude.{◌≡◌};
-ghost use Rattle.expression_code.specs.NumberRows.{number_of, is_short, held, shifted, above_zero, low_bits, masked, number_row, turned_operator, right_row, left_row, chooses_zero};
+ghost use Rattle.expression_code.specs.NumberRows.{number_of, is_short, held, shifted, above_zero, low_bits};
+ghost use Rattle.expression_code.specs.NumberRows.{masked, number_row, turned_operator, right_row, left_row};
+ghost use Rattle.expression_code.specs.NumberRows.{chooses_zero};
 ghost use Rattle.inline.specs.Flat.{term_tree};
 
 use crate::emit::NEAR;

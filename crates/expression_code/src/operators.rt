@@ -2,7 +2,11 @@
 
 ghost use Rattle.std.specs.Prelude.{◌≡◌, ◌++◌, ◌∷◌, ◌<◌, [], OnOk};
 ghost use Rattle.expression_code.specs.TermCode as terms;
-ghost use Rattle.expression_code.specs.TermCode.{move_code, cut_code, narrow_code, narrowed_in, convert_code, is_zero_code, is_not_zero_code, negation_code, step_code, finish_code, operator_code, number_step_code, number_code, prefix_code, around_code, rotate_code, choice_code, choice_or_zero_code};
+ghost use Rattle.expression_code.specs.TermCode.{move_code, cut_code, narrow_code, narrowed_in, convert_code};
+ghost use Rattle.expression_code.specs.TermCode.{is_zero_code, is_not_zero_code, negation_code, step_code};
+ghost use Rattle.expression_code.specs.TermCode.{finish_code, operator_code, number_step_code, number_code};
+ghost use Rattle.expression_code.specs.TermCode.{prefix_code, around_code, rotate_code, choice_code};
+ghost use Rattle.expression_code.specs.TermCode.{choice_or_zero_code};
 ghost use Rattle.language.specs.Operators.{width_of};
 ghost use Rattle.word.specs.Widths.{bits};
 

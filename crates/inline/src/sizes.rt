@@ -3,11 +3,15 @@
 ghost use Rattle.std.specs.Prelude.{◌≡◌, ◌≤◌, ◌+◌, [], length, map, max, IfOk, IfErr, OnOk, Some};
 ghost use Rattle.inline.specs.Counts.{AreCountsTo};
 ghost use Rattle.std.specs.Option.{option_map};
-ghost use Rattle.inline.specs.Measured.{block_size, call_size, counted, counted_size, extents_in, most_counted, passed_limits, procedure_size, right_size, statement_size};
+ghost use Rattle.inline.specs.Measured.{block_size, call_size, counted, counted_size, extents_in, most_counted};
+ghost use Rattle.inline.specs.Measured.{passed_limits, procedure_size, right_size, statement_size};
 ghost use Rattle.language.specs.FirstViolation.{IsFirst, IsRefusedFor};
 ghost use Rattle.language.specs.Limits.{most_nodes};
-ghost use Rattle.language.specs.Size.{array_words, extents_of, nodes_in, nodes_in_all, nodes_of, parameter_words, passed_words, return_nodes, right_bodies, right_nodes, right_words, size_violations};
-ghost use Rattle.language.specs.Tree.{block_tree, call_tree, expr_tree, parameter_tree, procedure_tree, return_tree, right_tree, statement_tree, written};
+ghost use Rattle.language.specs.Size.{array_words, extents_of, nodes_in, nodes_in_all, nodes_of, parameter_words};
+ghost use Rattle.language.specs.Size.{passed_words, return_nodes, right_bodies, right_nodes, right_words};
+ghost use Rattle.language.specs.Size.{size_violations};
+ghost use Rattle.language.specs.Tree.{block_tree, call_tree, expr_tree, parameter_tree, procedure_tree};
+ghost use Rattle.language.specs.Tree.{return_tree, right_tree, statement_tree, written};
 ghost use Rattle.language.specs.WantOfMemory.{IsWantOfMemory};
 
 use crate::measured::{Measured, Size};
@@ -44,7 +48,9 @@ fn size_of_right<'s, 'a>(earlier: &Names<'a, Measured<'s, 'a>>, right: &RightSid
 
 /// How large a declaration of an array is.
 fn size_of_array(array: &ArrayDeclaration<'_>) -> Size
-    ensures { result ≡ counted_size (1 + nodes_in_all (written (option_map (λ values. map expr_tree values.items) array.now.values))) (array_words array.now.kind array.now.length) 0 }
+    ensures { result ≡ counted_size
+        (1 + nodes_in_all (written (option_map (λ values. map expr_tree values.items) array.now.values)))
+        (array_words array.now.kind array.now.length) 0 }
 {
     let values = match &array.values {
         Some(values) => nodes_in_all(values),
@@ -61,8 +67,11 @@ fn size_of_element<'s, 'a>(
     earlier: &Names<'a, Measured<'s, 'a>>,
     assignment: &ElementAssignment<'a>,
 ) -> Size
-    ensures { result ≡ counted_size (1 + (1 + nodes_in (expr_tree assignment.now.index)) + right_nodes (extents_in earlier.now) (right_tree assignment.now.value))
-        (right_words (extents_in earlier.now) (right_tree assignment.now.value)) (right_bodies (extents_in earlier.now) (right_tree assignment.now.value)) }
+    ensures { result ≡ counted_size
+        (1 + (1 + nodes_in (expr_tree assignment.now.index))
+        + right_nodes (extents_in earlier.now) (right_tree assignment.now.value))
+        (right_words (extents_in earlier.now) (right_tree assignment.now.value))
+        (right_bodies (extents_in earlier.now) (right_tree assignment.now.value)) }
 {
     let index = nodes_in(&assignment.index);
     size_of_right(earlier, &assignment.value).with(index.saturating_add(2), 0)
@@ -70,7 +79,8 @@ fn size_of_element<'s, 'a>(
 
 /// How large a conditional is, whose arms are so large.
 fn size_of_branch(condition: &Expr<'_>, accepted: Size, otherwise: Size) -> Size
-    ensures { result ≡ counted_size (1 + nodes_in (expr_tree condition.now) + accepted.nodes + otherwise.nodes) (accepted.words + otherwise.words) (max accepted.bodies otherwise.bodies) }
+    ensures { result ≡ counted_size (1 + nodes_in (expr_tree condition.now) + accepted.nodes + otherwise.nodes)
+        (accepted.words + otherwise.words) (max accepted.bodies otherwise.bodies) }
 {
     let condition = nodes_in(condition).saturating_add(1);
     accepted.and(otherwise).with(condition, 0)
@@ -78,7 +88,8 @@ fn size_of_branch(condition: &Expr<'_>, accepted: Size, otherwise: Size) -> Size
 
 /// How large a loop is, whose body is so large.
 fn size_of_loop(low: &Expr<'_>, high: &Expr<'_>, body: Size) -> Size
-    ensures { result ≡ counted_size (1 + nodes_in (expr_tree low.now) + nodes_in (expr_tree high.now) + body.nodes) (1 + body.words) body.bodies }
+    ensures { result ≡ counted_size (1 + nodes_in (expr_tree low.now) + nodes_in (expr_tree high.now) + body.nodes)
+        (1 + body.words) body.bodies }
 {
     let bounds = nodes_in(low).saturating_add(nodes_in(high));
     body.with(bounds.saturating_add(1), 1)
@@ -207,7 +218,8 @@ fn size_of_export<'a>(
     earlier: &[Procedure<'a>],
     export: &Procedure<'a>,
 ) -> Result<Size, AllocError>
-    ensures size { IfOk result (λ size. size ≡ procedure_size (extents_of (map procedure_tree earlier.now)) (parameter_words (procedure_tree export.now).parameters) (procedure_tree export.now)) }
+    ensures size { IfOk result (λ size. size ≡ procedure_size (extents_of (map procedure_tree earlier.now))
+        (parameter_words (procedure_tree export.now).parameters) (procedure_tree export.now)) }
     ensures memory { IfErr result (λ _. 1 ≤ length earlier.now) }
 {
     let known = measured_all(alloc, earlier)?;

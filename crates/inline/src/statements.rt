@@ -76,9 +76,17 @@ impl<'a> Numbering<'a> {
         declared: &mut Vec<FlatVariable>,
         flat: &mut Vec<FlatStatement>,
     ) -> Result<Option<Term>, AllocError>
-        ensures value { IfOk result (λ value. option_map term_tree value ≡ numbered.value_of (numbered.names_after_all (called_by earlier.now) self.old.names (length declared.old.items) (block_tree procedure.now.body.items)) (option_map return_tree procedure.now.returned)) }
-        ensures block { OnOk result (flat_block flat.new.items ≡ chain (flat_block flat.old.items) (numbered.block (called_by earlier.now) self.old.names (length declared.old.items) (block_tree procedure.now.body.items))) }
-        ensures declared { OnOk result (declared.new.items ≡ declared.old.items ++ numbered.declared_in_all (called_by earlier.now) (block_tree procedure.now.body.items)) }
+        ensures value { IfOk result (λ value. option_map term_tree value
+            ≡ numbered.value_of (numbered.names_after_all (called_by earlier.now) self.old.names
+            (length declared.old.items) (block_tree procedure.now.body.items))
+            (option_map return_tree procedure.now.returned)) }
+        ensures block { OnOk result (flat_block flat.new.items
+            ≡ chain (flat_block flat.old.items)
+            (numbered.block (called_by earlier.now) self.old.names (length declared.old.items)
+            (block_tree procedure.now.body.items))) }
+        ensures declared { OnOk result
+            (declared.new.items ≡ declared.old.items ++ numbered.declared_in_all (called_by earlier.now)
+            (block_tree procedure.now.body.items)) }
     {
         self.block(earlier, &procedure.body, declared, flat)?;
         self.value(&procedure.returned)

@@ -33,7 +33,8 @@ pub fn binary(
     left: (Term, Kind),
     right: Term,
 ) -> Result<(Term, Kind), AllocError>
-    ensures term { IfOk result (λ whole. term_tree whole.0 ≡ flat.binary place operator (width_of left.1) (term_tree left.0) (term_tree right)) }
+    ensures term { IfOk result (λ whole. term_tree whole.0
+        ≡ flat.binary place operator (width_of left.1) (term_tree left.0) (term_tree right)) }
     ensures kind { IfOk result (λ whole. whole.1 ≡ operation_kind (operation_of operator) left.1) }
 {
     let (term, kind) = left;
@@ -60,7 +61,8 @@ pub fn select(
     accepted: (Term, Kind),
     otherwise: Term,
 ) -> Result<(Term, Kind), AllocError>
-    ensures term { IfOk result (λ whole. term_tree whole.0 ≡ flat.select (term_tree condition) (term_tree accepted.0) (term_tree otherwise)) }
+    ensures term { IfOk result (λ whole. term_tree whole.0
+        ≡ flat.select (term_tree condition) (term_tree accepted.0) (term_tree otherwise)) }
     ensures kind { IfOk result (λ whole. whole.1 ≡ accepted.1) }
 {
     let (term, kind) = accepted;
@@ -77,7 +79,8 @@ pub fn element(
     array: Numbered,
     index: Term,
 ) -> Result<(Term, Kind), AllocError>
-    ensures term { IfOk result (λ whole. term_tree whole.0 ≡ flat.element place array.number (numbers_in array.declaration.elements) (term_tree index)) }
+    ensures term { IfOk result (λ whole. term_tree whole.0
+        ≡ flat.element place array.number (numbers_in array.declaration.elements) (term_tree index)) }
     ensures kind { IfOk result (λ whole. whole.1 ≡ array.declaration.word.kind) }
 {
     let index = Box::new(alloc, index)?;

@@ -1,7 +1,8 @@
 ghost use Rattle.std.specs.Prelude.{◌≡◌, ◌++◌, ◌&&◌, [], fold, length, map};
 ghost use Rattle.language.specs.Tree.{expr_tree, parameter_tree};
 ghost use Rattle.language.specs.Types.{are_met, at};
-ghost use Rattle.language.specs.Typing.{all_passed_rules, argument_variable, is_immutable, is_mutable, parameter_value, passed, passed_rules};
+ghost use Rattle.language.specs.Typing.{all_passed_rules, argument_variable, is_immutable, is_mutable};
+ghost use Rattle.language.specs.Typing.{parameter_value, passed, passed_rules};
 ghost use Rattle.language.specs.Sooner.{sooner};
 
 use crate::values::note_argument;

@@ -2,7 +2,8 @@ ghost use Rattle.std.specs.Prelude.{◌≡◌, ◌&&◌, None, Some, fold, lengt
 ghost use Rattle.std.specs.Option.{option_map};
 ghost use Rattle.language.specs.Tree.{call_tree, expr_tree, parameter_tree, procedure_tree};
 ghost use Rattle.language.specs.Types.{are_met, at, callee, found, is_secret, when};
-ghost use Rattle.language.specs.Typing.{arguments_rules, call_type, call_violations, called_one, known_call_rules, known_call_type, result_value};
+ghost use Rattle.language.specs.Typing.{arguments_rules, call_type, call_violations, called_one, known_call_rules};
+ghost use Rattle.language.specs.Typing.{known_call_type, result_value};
 ghost use Rattle.language.specs.declared.rule.Rule.TheVariants.{CallAssignsPublicUnderSecretControl};
 ghost use Rattle.language.specs.Sooner.{sooner};
 
@@ -99,7 +100,8 @@ fn known_call<'a>(
     requires { length types.now ≡ length call.now.arguments.items }
     ensures typed { IfOk result (λ type. type ≡ known_call_type names.now control (map expr_tree call.now.arguments.items)
         (called_one (map procedure_tree earlier.now) (callee (found names.now call.now.name.now))) types.now) }
-    ensures first { OnOk result (first.new.seen ≡ fold sooner first.old.seen (at call.now.place (known_call_rules names.now control (map expr_tree call.now.arguments.items)
+    ensures first { OnOk result (first.new.seen ≡ fold sooner first.old.seen
+        (at call.now.place (known_call_rules names.now control (map expr_tree call.now.arguments.items)
         (called_one (map procedure_tree earlier.now) (callee (found names.now call.now.name.now))) types.now))) }
 {
     let Some((callee, procedure)) = called(earlier, names.callee(call.name)) else {
@@ -122,7 +124,8 @@ pub fn call<'a>(
     call: &Call<'a>,
 ) -> Result<Option<ValueType>, AllocError>
     ensures typed { IfOk result (λ type. type ≡ call_type (map procedure_tree earlier.now) names.now control (call_tree call.now)) }
-    ensures first { OnOk result (first.new.seen ≡ fold sooner first.old.seen (call_violations (map procedure_tree earlier.now) names.now control (call_tree call.now))) }
+    ensures first { OnOk result (first.new.seen ≡ fold sooner first.old.seen
+        (call_violations (map procedure_tree earlier.now) names.now control (call_tree call.now))) }
 {
     match expressions(alloc, names, first, call.arguments.as_slice())? {
         Some(types) => known_call(

@@ -80,7 +80,8 @@ fn note_each<'a>(
     first: &mut First,
     procedures: &[Procedure<'a>],
 ) -> Result<(), AllocError>
-    ensures first { OnOk result (first.new.seen ≡ fold sooner first.old.seen (procedures_violations [] names.old (map procedure_tree procedures.now))) }
+    ensures first { OnOk result (first.new.seen ≡ fold sooner first.old.seen
+        (procedures_violations [] names.old (map procedure_tree procedures.now))) }
     ensures memory { procedures.now ≡ [] → IsOk result }
 {
     for (index, it) in procedures.iter().enumerate() {
@@ -117,7 +118,9 @@ fn judged(
     profile: Profile,
 ) -> Result<Findings, AllocError>
     ensures export { IfOk result (λ found. found.export ≡ export_index (exported [] (map procedure_tree procedures.now))) }
-    ensures violation { IfOk result (λ found. found.violation ≡ fold sooner None (violations profile (record { procedures = map procedure_tree procedures.now }))) }
+    ensures violation { IfOk result
+        (λ found. found.violation ≡ fold sooner None
+        (violations profile (record { procedures = map procedure_tree procedures.now }))) }
     ensures memory { procedures.now ≡ [] → IsOk result }
 {
     let mut first = First { seen: None };

@@ -63,9 +63,11 @@ impl<'a> Arrays<'a> {
         given: ValueType,
         argument: &Expr<'a>,
     ) -> Result<bool, AllocError>
-        ensures clash { IfOk result (λ clash. clash ≡ was_given self.old.given self.old.changed mutable (array_name given (expr_tree argument.now))) }
+        ensures clash { IfOk result (λ clash. clash ≡ was_given self.old.given self.old.changed mutable
+            (array_name given (expr_tree argument.now))) }
         ensures given { OnOk result (self.new.given ≡ with_array self.old.given (array_name given (expr_tree argument.now))) }
-        ensures changed { OnOk result (self.new.changed ≡ with_changed self.old.changed mutable (array_name given (expr_tree argument.now))) }
+        ensures changed { OnOk result (self.new.changed
+            ≡ with_changed self.old.changed mutable (array_name given (expr_tree argument.now))) }
     {
         match array_name(given, argument) {
             Some(name) => self.give(name, mutable),
@@ -85,7 +87,8 @@ fn any_clash<'a>(
     requires changed { arrays.old.changed ≡ [] }
     requires types { length types.now ≡ length parameters.now }
     requires arguments { length arguments.now ≡ length parameters.now }
-    ensures { IfOk result (λ clash. clash ≡ clashes [] (passed (map parameter_tree parameters.now) types.now (map expr_tree arguments.now))) }
+    ensures { IfOk result (λ clash. clash ≡ clashes []
+        (passed (map parameter_tree parameters.now) types.now (map expr_tree arguments.now))) }
 {
     let mut clash = false;
     for (index, parameter) in parameters.iter().enumerate() {

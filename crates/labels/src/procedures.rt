@@ -2,7 +2,8 @@ ghost use Rattle.std.specs.Prelude.{◌≡◌, [], fold, length, map, OnOk};
 ghost use Rattle.std.specs.Option.{option_map};
 ghost use Rattle.language.specs.Tree.{parameter_tree, procedure_tree, return_tree};
 ghost use Rattle.language.specs.Types.{at, of_one};
-ghost use Rattle.language.specs.Typing.{parameter_violations, procedure_rules, procedure_violations, return_rules, return_violations, scope_after_all, with_parameters, with_procedure};
+ghost use Rattle.language.specs.Typing.{parameter_violations, procedure_rules, procedure_violations, return_rules};
+ghost use Rattle.language.specs.Typing.{return_violations, scope_after_all, with_parameters, with_procedure};
 ghost use Rattle.language.specs.Sooner.{sooner};
 ghost use Rattle.labels.specs.Inside.{inside_violations};
 
@@ -84,8 +85,10 @@ fn inside<'a>(
     earlier: &[Procedure<'a>],
     procedure: &Procedure<'a>,
 ) -> Result<(), AllocError>
-    ensures names { OnOk result (names.new ≡ scope_after_all (with_parameters names.old (procedure_tree procedure.now).parameters) (procedure_tree procedure.now).body) }
-    ensures first { OnOk result (first.new.seen ≡ fold sooner first.old.seen (inside_violations (map procedure_tree earlier.now) names.old (procedure_tree procedure.now))) }
+    ensures names { OnOk result (names.new ≡ scope_after_all
+        (with_parameters names.old (procedure_tree procedure.now).parameters) (procedure_tree procedure.now).body) }
+    ensures first { OnOk result (first.new.seen ≡ fold sooner first.old.seen
+        (inside_violations (map procedure_tree earlier.now) names.old (procedure_tree procedure.now))) }
 {
     parameters(names, first, procedure.parameters.as_slice())?;
     let body = procedure.body.as_slice();

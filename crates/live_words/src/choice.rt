@@ -2,7 +2,11 @@
 
 ghost use Rattle.std.specs.Prelude.{◌≡◌, ◌≤◌, length, slice_get, slice_set, IfOk};
 ghost use Rattle.language.specs.Types.{same_label};
-ghost use Rattle.live_words.specs.private.Choice.{all_allowed, are_alike, chosen, conflicts_with, first_shared, is_allowed, is_conflict, is_fixed, is_noted, is_some, is_word, may_share, merged, none_placed, noted_where, own_variables, placed, placed_all, placing_by, same_words, variable_for, with_own};
+ghost use Rattle.live_words.specs.private.Choice.{all_allowed, are_alike, chosen, conflicts_with, first_shared};
+ghost use Rattle.live_words.specs.private.Choice.{is_allowed, is_conflict, is_fixed, is_noted, is_some, is_word};
+ghost use Rattle.live_words.specs.private.Choice.{may_share, merged, none_placed, noted_where, own_variables};
+ghost use Rattle.live_words.specs.private.Choice.{placed, placed_all, placing_by, same_words, variable_for};
+ghost use Rattle.live_words.specs.private.Choice.{with_own};
 
 use crate::live::{conflict_place, holder, mark};
 use branch_removal::{greatest_of, heaviest, take_greatest};
@@ -245,7 +249,8 @@ impl Placed {
 
     /// Places a word.
     fn place(&mut self, words: Words<'_>, word: u32) -> Result<(), AllocError>
-        ensures { IfOk result (λ done. placing_by self.new ≡ placed words.entry.declared.now words.entry.starts.now words.entry.width (placing_by self.old) word) }
+        ensures { IfOk result (λ done. placing_by self.new
+            ≡ placed words.entry.declared.now words.entry.starts.now words.entry.width (placing_by self.old) word) }
     {
         let variable = words.variable_for(&self.conflicts, &self.variables, word);
         merge_other(&mut self.conflicts, words.width, variable, word);
@@ -257,7 +262,9 @@ impl Placed {
     /// Places the words that are used, by their weights, the greatest first.
     fn place_all(&mut self, words: Words<'_>, weights: &mut Vec<u64>) -> Result<(), AllocError>
         requires { length weights.old.items ≤ words.width }
-        ensures { IfOk result (λ done. placing_by self.new ≡ placed_all words.entry.declared.now words.entry.starts.now words.entry.width words.entry.width weights.old.items (placing_by self.old)) }
+        ensures { IfOk result (λ done. placing_by self.new
+            ≡ placed_all words.entry.declared.now words.entry.starts.now words.entry.width words.entry.width
+            weights.old.items (placing_by self.old)) }
     {
         for _ in 0..words.width {
             if greatest_of(weights.as_slice()) == 0 {
@@ -278,7 +285,8 @@ pub fn choose(
     mut weights: Vec<u64>,
     conflicts: Vec<bool>,
 ) -> Result<Vec<u32>, AllocError>
-    ensures { IfOk result (λ table. table.items ≡ chosen words.entry.declared.now words.entry.starts.now words.entry.width weights.items conflicts.items) }
+    ensures { IfOk result (λ table. table.items ≡ chosen words.entry.declared.now words.entry.starts.now
+        words.entry.width weights.items conflicts.items) }
 {
     weights.truncate(words.width as usize);
     let mut placed = Placed::nothing(alloc, words.width, conflicts)?;

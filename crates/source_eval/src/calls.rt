@@ -71,7 +71,8 @@ fn begin<'a>(
     words: &[Word],
 ) -> Result<(), EvalFault>
     requires { held inner.old ≡ empty }
-    ensures ok { OnOk result (held inner.new ≡ begun (held caller.now) (map parameter_tree parameters.now) (map expr_tree arguments.now) (map word_of words.now)) }
+    ensures ok { OnOk result (held inner.new ≡ begun (held caller.now) (map parameter_tree parameters.now)
+        (map expr_tree arguments.now) (map word_of words.now)) }
     ensures memory { IfErr result (λ fault. fault ≡ Memory) }
 {
     let mut left = words;
@@ -95,7 +96,9 @@ pub fn begun<'a>(
     arguments: &[Expr<'a>],
     words: &[Word],
 ) -> Result<Variables<'a>, EvalFault>
-    ensures ok { IfOk result (λ inner. held inner ≡ begun (held caller.now) (map parameter_tree parameters.now) (map expr_tree arguments.now) (map word_of words.now)) }
+    ensures ok { IfOk result (λ inner. held inner
+        ≡ begun (held caller.now) (map parameter_tree parameters.now) (map expr_tree arguments.now)
+        (map word_of words.now)) }
     ensures memory { IfErr result (λ fault. fault ≡ Memory) }
 {
     let mut inner = Variables::new(alloc);

@@ -127,8 +127,12 @@ fn eval_export<'a>(
     args: &Args,
     budget: u64,
 ) -> Result<Outcome, EvalFault>
-    ensures answer { result ≢ Err Memory → result ≡ judged_answer (fault_of (map param_of (procedure_tree export.now).parameters) args.now) (export_run (map procedure_tree earlier.now) (procedure_tree export.now) args.now) budget }
-    ensures judged { (fault : ArgumentFault) → fault_of (map param_of (procedure_tree export.now).parameters) args.now ≡ Some fault → result ≡ Err (EvalFault.Argument fault) }
+    ensures answer { result ≢ Err Memory
+        → result ≡ judged_answer (fault_of (map param_of (procedure_tree export.now).parameters) args.now)
+        (export_run (map procedure_tree earlier.now) (procedure_tree export.now) args.now) budget }
+    ensures judged { (fault : ArgumentFault)
+        → fault_of (map param_of (procedure_tree export.now).parameters) args.now ≡ Some fault
+        → result ≡ Err (EvalFault.Argument fault) }
 {
     if let Some(fault) = first_fault_of(&export.parameters, args) {
         return Err(EvalFault::Argument(fault));
