@@ -49,21 +49,6 @@ fn here_or_in<'p, 'a>(
     }
 }
 
-/// The first of two that is found.
-fn first_found<'p, 'a>(
-    one: Option<&'p Expr<'a>>,
-    other: Option<&'p Expr<'a>>,
-) -> Option<&'p Expr<'a>>
-    ensures { option_map (λ found. expr_tree found.now) result
-        ≡ option_or (option_map (λ found. expr_tree found.now) one.entry)
-        (option_map (λ found. expr_tree found.now) other.entry) }
-{
-    match one {
-        Some(found) => Some(found),
-        None => other,
-    }
-}
-
 /// The expression at a place.
 fn expr_at<'p, 'a>(at: u32, expr: &'p Expr<'a>) -> Option<&'p Expr<'a>>
     ensures { option_map (λ found. expr_tree found.now) result ≡ expr_at at (expr_tree expr.now) }
@@ -74,14 +59,14 @@ fn expr_at<'p, 'a>(at: u32, expr: &'p Expr<'a>) -> Option<&'p Expr<'a>>
         Expr::Name(place, _) => here(at, *place, expr),
         Expr::Prefix(place, _, operand) => here_or_in(at, *place, expr, expr_at(at, operand)),
         Expr::Binary(place, _, left, right) => {
-            let inside = first_found(expr_at(at, left), expr_at(at, right));
+            let inside = expr_at(at, left).or(expr_at(at, right));
             here_or_in(at, *place, expr, inside)
         }
         Expr::Rotate(place, operand, _) => here_or_in(at, *place, expr, expr_at(at, operand)),
         Expr::Convert(place, _, operand) => here_or_in(at, *place, expr, expr_at(at, operand)),
         Expr::Select(place, condition, accepted, otherwise) => {
-            let arms = first_found(expr_at(at, accepted), expr_at(at, otherwise));
-            here_or_in(at, *place, expr, first_found(expr_at(at, condition), arms))
+            let arms = expr_at(at, accepted).or(expr_at(at, otherwise));
+            here_or_in(at, *place, expr, expr_at(at, condition).or(arms))
         }
         Expr::Element(place, _, _, index) => here_or_in(at, *place, expr, expr_at(at, index)),
     }
