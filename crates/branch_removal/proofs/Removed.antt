@@ -1,7 +1,7 @@
 -- Straight code is what is promised of it.
 use Rattle.std.proofs.Common.{◌≡◌, ℕ, ◌≤◌, List, [], Option, None, Some, slice_get, refl, ap, ap₂, ◌∙◌, subst, sym}
 use Rattle.std.proofs.Common.{arith}
-use Rattle.arguments.specs.Within.{AreWithin}
+use Rattle.language.specs.arguments.Within.{AreWithin}
 use Rattle.inline.specs.Flat.{FlatBlock, FlatProgram, TermTree, declaration_of}
 use Rattle.inline.specs.FlatMeaning.{given, path_of_result}
 use Rattle.inline.specs.FlatMeaning as flat

@@ -3,9 +3,9 @@ use Rattle.std.proofs.Common.{◌≡◌, ℕ, zero, suc, ◌+◌, if◌then◌el
 use Rattle.std.proofs.Common.{Option, None, Some, IfSome, slice_get, refl, sym, ap, ap₂, ◌∙◌, subst, arith}
 use Rattle.std.specs.Option.{option_map}
 use Rattle.std.proofs.lemmas.Option.{none-some, same_Some}
-use Rattle.arguments.specs.Agreement.{EqualWherePublic}
-use Rattle.arguments.specs.PublicResults.{public_arrays, next_public}
-use Rattle.arguments.specs.Within.{AreWithin, words_of}
+use Rattle.language.specs.arguments.Agreement.{EqualWherePublic}
+use Rattle.language.specs.arguments.PublicResults.{public_arrays, next_public}
+use Rattle.language.specs.arguments.Within.{AreWithin, words_of}
 use Rattle.inline.specs.declared.flat.FlatVariable.{FlatVariable}
 use Rattle.inline.specs.Flat.{TermTree, declaration_of}
 use Rattle.inline.specs.FlatMeaning.{Values, value_in, given, array_of, arrays_from}

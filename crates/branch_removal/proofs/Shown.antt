@@ -1,8 +1,8 @@
 -- What a run of well-typed straight code shows, and its public results, are decided by what is public.
 use Rattle.std.proofs.Common.{◌≡◌, List, ◌∙◌, subst}
-use Rattle.arguments.specs.Agreement as arguments
-use Rattle.arguments.specs.PublicResults.{AgreeInPublic}
-use Rattle.arguments.specs.Within.{AreWithin}
+use Rattle.language.specs.arguments.Agreement as arguments
+use Rattle.language.specs.arguments.PublicResults.{AgreeInPublic}
+use Rattle.language.specs.arguments.Within.{AreWithin}
 use Rattle.inline.specs.Flat.{declaration_of}
 use Rattle.inline.specs.FlatMeaning.{given, path_of_result}
 use Rattle.inline.specs.FlatTyping.{types_of, parameter_types}

@@ -16,9 +16,7 @@ use Rattle.inline.specs.Path.{Path, indexed, divided, multiplied, seen}
 use Rattle.language.specs.declared.signature.Label.{Label}
 use Rattle.language.specs.declared.signature.Label.TheVariants.{Public, Secret}
 use Rattle.language.specs.declared.tree.BinaryOperator.{BinaryOperator}
-use Rattle.language.specs.declared.tree.BinaryOperator.TheVariants.{Either, Both, Equal, Unequal, Less, LessOrEqual}
-use Rattle.language.specs.declared.tree.BinaryOperator.TheVariants.{Greater, GreaterOrEqual, BitOr, BitXor, BitAnd}
-use Rattle.language.specs.declared.tree.BinaryOperator.TheVariants.{ShiftLeft, ShiftRight, Add, Subtract, Multiply}
+use Rattle.language.specs.declared.tree.BinaryOperator.TheVariants.{Multiply}
 use Rattle.language.specs.declared.tree.BinaryOperator.TheVariants.{Divide, Remainder}
 use Rattle.language.specs.declared.operation.Operation.{Operation}
 use Rattle.language.specs.declared.typing.WordType.{WordType}
@@ -61,21 +59,7 @@ same_marks profile place Divide (divides_public numeric) a b c d left right =
     ap₂ (λ u v. divided place u v ∷ []) (left refl) (right refl)
 same_marks profile place Remainder (divides_public numeric) a b c d left right =
     ap₂ (λ u v. divided place u v ∷ []) (left refl) (right refl)
-same_marks profile place Either makes a b c d left right = refl
-same_marks profile place Both makes a b c d left right = refl
-same_marks profile place Equal makes a b c d left right = refl
-same_marks profile place Unequal makes a b c d left right = refl
-same_marks profile place Less makes a b c d left right = refl
-same_marks profile place LessOrEqual makes a b c d left right = refl
-same_marks profile place Greater makes a b c d left right = refl
-same_marks profile place GreaterOrEqual makes a b c d left right = refl
-same_marks profile place BitOr makes a b c d left right = refl
-same_marks profile place BitXor makes a b c d left right = refl
-same_marks profile place BitAnd makes a b c d left right = refl
-same_marks profile place ShiftLeft makes a b c d left right = refl
-same_marks profile place ShiftRight makes a b c d left right = refl
-same_marks profile place Add makes a b c d left right = refl
-same_marks profile place Subtract makes a b c d left right = refl
+same_marks profile place operator makes a b c d left right = refl
 
 module _ (types : Types) (one other : Values) where
   module _ (agree : Agree what_is_public types one other) where

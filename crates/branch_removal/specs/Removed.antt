@@ -1,8 +1,8 @@
 -- What is promised of straight code for a body with branches.
 use Rattle.std.specs.Prelude.{◌≡◌, List}
-use Rattle.arguments.specs.Agreement.{Agree}
-use Rattle.arguments.specs.PublicResults.{AgreeInPublic}
-use Rattle.arguments.specs.Within.{AreWithin}
+use Rattle.language.specs.arguments.Agreement.{Agree}
+use Rattle.language.specs.arguments.PublicResults.{AgreeInPublic}
+use Rattle.language.specs.arguments.Within.{AreWithin}
 use Rattle.branch_removal.specs.Bounds.{IsBounded}
 use Rattle.branch_removal.specs.Straight.{StraightProgram}
 use Rattle.branch_removal.specs.StraightMeaning.{outcome_of, path_of}

@@ -1,6 +1,6 @@
 -- Straight code that may stand in the place of other: what a pass over straight code promises.
 use Rattle.std.specs.Prelude.{◌≡◌, List}
-use Rattle.arguments.specs.Within.{AreWithin}
+use Rattle.language.specs.arguments.Within.{AreWithin}
 use Rattle.branch_removal.specs.Kept.{IsStraight}
 use Rattle.branch_removal.specs.Straight.{StraightProgram}
 use Rattle.branch_removal.specs.StraightMeaning.{outcome_of, path_of}

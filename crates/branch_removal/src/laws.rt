@@ -1,8 +1,8 @@
 // The laws, which hold of the definitions alone.
 
 ghost use Rattle.std.specs.Prelude.{◌≡◌, List, [], true};
-ghost use Rattle.arguments.specs.Agreement.{Agree};
-ghost use Rattle.arguments.specs.PublicResults.{AgreeInPublic};
+ghost use Rattle.language.specs.arguments.Agreement.{Agree};
+ghost use Rattle.language.specs.arguments.PublicResults.{AgreeInPublic};
 ghost use Rattle.branch_removal.specs.Quiet.{is_quiet};
 ghost use Rattle.branch_removal.specs.Removed.{IsRemoved};
 ghost use Rattle.branch_removal.specs.Replaced.{IsReplaced};

@@ -13,8 +13,8 @@ use Rattle.codegen.proofs.Slots.{hidden_by, hidden_kept, hidden_then, read_runs,
 use Rattle.codegen.proofs.Slots.{Shown}
 use Rattle.codegen.specs.declared.jumping.Test.{Test}
 use Rattle.codegen.specs.private.Compared.{is_short_arm}
-use Rattle.program_logic.proofs.Tests.{unless_at}
-use Rattle.program_logic.specs.Tests as logic
+use Rattle.codegen.proofs.program_logic_lemmas.Tests.{unless_at}
+use Rattle.codegen.specs.program_logic.Tests as logic
 use Rattle.rv_machine.specs.Machine as machine
 
 -- the condition is known

@@ -18,10 +18,10 @@ use Rattle.codegen.proofs.Slots.{ready_still, ready_with}
 use Rattle.codegen.proofs.Unset.{all_left_alone}
 use Rattle.codegen.specs.private.Jumps.{again_code}
 use Rattle.codegen.specs.private.Loops.{any_sets, guarded_code, turns_code}
-use Rattle.expression_code.proofs.Moves.{Computed}
-use Rattle.expression_code.specs.TermCode.{move_code}
-use Rattle.program_logic.proofs.Jumps.{first_runs, second_runs}
-use Rattle.program_logic.proofs.Loops.{repeating}
+use Rattle.codegen.proofs.expression_code_lemmas.Moves.{Computed}
+use Rattle.codegen.specs.expression_code.TermCode.{move_code}
+use Rattle.codegen.proofs.program_logic_lemmas.Jumps.{first_runs, second_runs}
+use Rattle.codegen.proofs.program_logic_lemmas.Loops.{repeating}
 use Rattle.rv_code.specs.declared.instructions.Instr.TheVariants as instr
 use Rattle.rv_code.specs.declared.operations.BranchTest.TheVariants.{Bne}
 use Rattle.rv_machine.specs.Machine as machine

@@ -19,7 +19,7 @@ use Rattle.codegen.proofs.Masks.{fetched_homes, mask_register, mask_runs, mask_s
 use Rattle.codegen.proofs.SetRuns.{chosen_fits, under_alone, under_by, under_word}
 use Rattle.codegen.proofs.Slots.{cut_kind, hidden_by, hidden_then, hidden_wrote, ready_chosen, ready_homed, ready_put}
 use Rattle.codegen.proofs.Slots.{ready_with, Shown, suits_fits, word_before}
-use Rattle.expression_code.specs.NumberRows.{number_of}
+use Rattle.codegen.specs.expression_code.NumberRows.{number_of}
 
 -- an old word and the complement of a mask
 erased : (b : Bool) (old : ℕ) → old < 2 ^ 32

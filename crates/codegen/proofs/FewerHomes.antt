@@ -20,8 +20,8 @@ use Rattle.codegen.specs.private.Fresh.{any_names, homes_but, names, names_in, n
 use Rattle.codegen.proofs.StoredValues.{stored_alike}
 use Rattle.codegen.specs.private.Emitted.{into_element_code, stored_value}
 use Rattle.codegen.specs.private.Loops.{any_sets, counting_home, loop_from, repeat_code, short_number}
-use Rattle.expression_code.specs.Allocation.{temporary, working_register}
-use Rattle.expression_code.specs.TermCode.{is_at_home, keeps_words, operand}
+use Rattle.codegen.specs.expression_code.Allocation.{temporary, working_register}
+use Rattle.codegen.specs.expression_code.TermCode.{is_at_home, keeps_words, operand}
 use Rattle.inline.specs.Flat as flat
 use Rattle.language.specs.declared.signature.Kind.{Kind}
 

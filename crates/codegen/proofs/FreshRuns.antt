@@ -26,7 +26,7 @@ use Rattle.codegen.proofs.Arguments.{Left}
 use Rattle.codegen.proofs.Slots.{homed_runs, Laid, suits_fits}
 use Rattle.codegen.proofs.StatementRuns.{statement_runs}
 use Rattle.codegen.specs.private.Fresh.{homes_but, is_fresh, names, names_in, names_in_result, sets_fresh}
-use Rattle.expression_code.specs.Allocation.{IsAllocation}
+use Rattle.codegen.specs.expression_code.Allocation.{IsAllocation}
 use Rattle.rv_machine.specs.Machine as machine
 
 -- Fewer homes.

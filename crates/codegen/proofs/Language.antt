@@ -1,5 +1,5 @@
 -- What straight code is made of and what it means, in one place: the words of the crates above the machine.
-pub use Rattle.arguments.specs.Within.{AreWithin, HasShape, IsWithin, greatest_of, words_of}
+pub use Rattle.language.specs.arguments.Within.{AreWithin, HasShape, IsWithin, greatest_of, words_of}
 pub use Rattle.branch_removal.specs.Bounds.{IsBounded, IsCounted, block_nodes, block_work, set_work, statement_nodes}
 pub use Rattle.branch_removal.specs.Bounds.{statement_work}
 pub use Rattle.branch_removal.specs.Straight.{StraightBlock, StraightProgram, StraightTree, branch, clear, fill}

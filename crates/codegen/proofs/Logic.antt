@@ -1,33 +1,33 @@
 -- The laws of the crates below that the proofs here build on, in one place.
 pub use Rattle.branch_removal.proofs.Scopes.{but_among, suits_among}
 pub use Rattle.branch_removal.proofs.Values.{all_values, one_path_all}
-pub use Rattle.expression_code.proofs.Logic.{address_length, address_runs, Addressed, After, after_append, All-one}
-pub use Rattle.expression_code.proofs.Logic.{along, along_fit, apart, apart_from, as_code, base_of, Before, beside}
-pub use Rattle.expression_code.proofs.Logic.{branching_at, by_bounds, by_index, by_mark, bytes_by, bytes_of, cheaper}
-pub use Rattle.expression_code.proofs.Logic.{computing_within, condition_kind, constant_after, constant_length}
-pub use Rattle.expression_code.proofs.Logic.{constant_plain, does, elements_apart, ends_before_result, frame_runs}
-pub use Rattle.expression_code.proofs.Logic.{frame_there, free_from, gives, height, Held, held_regs, HeldAt}
-pub use Rattle.expression_code.proofs.Logic.{home_beside, home_target, homes_beside, homes_by, homes_computed}
-pub use Rattle.expression_code.proofs.Logic.{homes_moved, homes_then, HomesKept, idle, into_length, into_runs}
-pub use Rattle.expression_code.proofs.Logic.{is_free, is_scratch, IsHome, Kept, kept_by, kept_less, kept_number}
-pub use Rattle.expression_code.proofs.Logic.{kept_then, kind_known, Known, load_bytes, load_length, load_plain}
-pub use Rattle.expression_code.proofs.Logic.{loading, looping, lower_fits, mask_fits, mask_of, mask_otherwise}
-pub use Rattle.expression_code.proofs.Logic.{mask_when, masks_join, merge, merged, move_length, move_runs, moves_run}
-pub use Rattle.expression_code.proofs.Logic.{never, none, none_low, number_or_zero, number_same, one_of}
-pub use Rattle.expression_code.proofs.Logic.{only_computes, parameter_words, place_before, place_ends, place_even}
-pub use Rattle.expression_code.proofs.Logic.{place_of, place_target, place_within, Placed, Placed-left, Placed-right}
-pub use Rattle.expression_code.proofs.Logic.{plain_append, put, quiet, quietly, Ready, ready_after, ready_below}
-pub use Rattle.expression_code.proofs.Logic.{registers_after, Runs, scratch_low, seen_by, seq, Setting, setting}
-pub use Rattle.expression_code.proofs.Logic.{Steps, steps_of, Still, store_length, storing, Straight, take, Then}
-pub use Rattle.expression_code.proofs.Logic.{then_moves, typed_among, typed_within, value_word, ValuedIn, unwritten}
-pub use Rattle.expression_code.proofs.Logic.{variables_home, variables_kept, weaken, works_at, Wrote, wrote_kept}
-pub use Rattle.expression_code.proofs.Logic.{wrote_there, written, code_length, known, near_known, NearElement}
-pub use Rattle.expression_code.proofs.Logic.{at_control, control_stays, controls_kept, Fetched, fetch_length}
-pub use Rattle.expression_code.proofs.Logic.{fetch_runs, HasRoom, Holds, near_address, took}
-pub use Rattle.expression_code.proofs.Homes.{home_there}
-pub use Rattle.expression_code.proofs.Moves.{moves_cost, register-at}
-pub use Rattle.expression_code.proofs.Values.{Leaves}
-pub use Rattle.expression_code.proofs.WorkRegisters.{home_allowed, IsTarget}
+pub use Rattle.codegen.proofs.expression_code_lemmas.Logic.{address_length, address_runs, Addressed, After, after_append, All-one}
+pub use Rattle.codegen.proofs.expression_code_lemmas.Logic.{along, along_fit, apart, apart_from, as_code, base_of, Before, beside}
+pub use Rattle.codegen.proofs.expression_code_lemmas.Logic.{branching_at, by_bounds, by_index, by_mark, bytes_by, bytes_of, cheaper}
+pub use Rattle.codegen.proofs.expression_code_lemmas.Logic.{computing_within, condition_kind, constant_after, constant_length}
+pub use Rattle.codegen.proofs.expression_code_lemmas.Logic.{constant_plain, does, elements_apart, ends_before_result, frame_runs}
+pub use Rattle.codegen.proofs.expression_code_lemmas.Logic.{frame_there, free_from, gives, height, Held, held_regs, HeldAt}
+pub use Rattle.codegen.proofs.expression_code_lemmas.Logic.{home_beside, home_target, homes_beside, homes_by, homes_computed}
+pub use Rattle.codegen.proofs.expression_code_lemmas.Logic.{homes_moved, homes_then, HomesKept, idle, into_length, into_runs}
+pub use Rattle.codegen.proofs.expression_code_lemmas.Logic.{is_free, is_scratch, IsHome, Kept, kept_by, kept_less, kept_number}
+pub use Rattle.codegen.proofs.expression_code_lemmas.Logic.{kept_then, kind_known, Known, load_bytes, load_length, load_plain}
+pub use Rattle.codegen.proofs.expression_code_lemmas.Logic.{loading, looping, lower_fits, mask_fits, mask_of, mask_otherwise}
+pub use Rattle.codegen.proofs.expression_code_lemmas.Logic.{mask_when, masks_join, merge, merged, move_length, move_runs, moves_run}
+pub use Rattle.codegen.proofs.expression_code_lemmas.Logic.{never, none, none_low, number_or_zero, number_same, one_of}
+pub use Rattle.codegen.proofs.expression_code_lemmas.Logic.{only_computes, parameter_words, place_before, place_ends, place_even}
+pub use Rattle.codegen.proofs.expression_code_lemmas.Logic.{place_of, place_target, place_within, Placed, Placed-left, Placed-right}
+pub use Rattle.codegen.proofs.expression_code_lemmas.Logic.{plain_append, put, quiet, quietly, Ready, ready_after, ready_below}
+pub use Rattle.codegen.proofs.expression_code_lemmas.Logic.{registers_after, Runs, scratch_low, seen_by, seq, Setting, setting}
+pub use Rattle.codegen.proofs.expression_code_lemmas.Logic.{Steps, steps_of, Still, store_length, storing, Straight, take, Then}
+pub use Rattle.codegen.proofs.expression_code_lemmas.Logic.{then_moves, typed_among, typed_within, value_word, ValuedIn, unwritten}
+pub use Rattle.codegen.proofs.expression_code_lemmas.Logic.{variables_home, variables_kept, weaken, works_at, Wrote, wrote_kept}
+pub use Rattle.codegen.proofs.expression_code_lemmas.Logic.{wrote_there, written, code_length, known, near_known, NearElement}
+pub use Rattle.codegen.proofs.expression_code_lemmas.Logic.{at_control, control_stays, controls_kept, Fetched, fetch_length}
+pub use Rattle.codegen.proofs.expression_code_lemmas.Logic.{fetch_runs, HasRoom, Holds, near_address, took}
+pub use Rattle.codegen.proofs.expression_code_lemmas.Homes.{home_there}
+pub use Rattle.codegen.proofs.expression_code_lemmas.Moves.{moves_cost, register-at}
+pub use Rattle.codegen.proofs.expression_code_lemmas.Values.{Leaves}
+pub use Rattle.codegen.proofs.expression_code_lemmas.WorkRegisters.{home_allowed, IsTarget}
 pub use Rattle.inline.proofs.Fitting.{value_fits}
 pub use Rattle.inline.proofs.FittingBodies.{fits_assigned, one_held}
 pub use Rattle.rv_machine.proofs.ByteLaws.{number_at-suc, number_at-with_number, number_at-zero, number_at_apart}

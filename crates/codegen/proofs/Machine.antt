@@ -24,21 +24,21 @@ pub use Rattle.codegen.specs.private.Generated.{image_within, most_words, result
 pub use Rattle.codegen.specs.private.Jumps.{AreNear, IsFar, branch_code, far, leave, loop_code, unless_code}
 pub use Rattle.codegen.specs.private.Placed.{ArePlacedTerms, HasPlace, HavePlaces}
 pub use Rattle.codegen.specs.private.Room.{HasRoom, IsFitting, frame_of}
-pub use Rattle.expression_code.specs.Layout.{Frame, control_offset, next_offset, result_offset, slots_from}
-pub use Rattle.expression_code.specs.Layout.{control_location, temporaries_offset, variable_location}
-pub use Rattle.expression_code.specs.Layout.{variable_offset, word_offset}
-pub use Rattle.expression_code.specs.Allocation.{Allocation, at_home, home_of, plain, register_of, slots_to}
-pub use Rattle.expression_code.specs.Allocation.{is_unread}
+pub use Rattle.codegen.specs.expression_code.Layout.{Frame, control_offset, next_offset, result_offset, slots_from}
+pub use Rattle.codegen.specs.expression_code.Layout.{control_location, temporaries_offset, variable_location}
+pub use Rattle.codegen.specs.expression_code.Layout.{variable_offset, word_offset}
+pub use Rattle.codegen.specs.expression_code.Allocation.{Allocation, at_home, home_of, plain, register_of, slots_to}
+pub use Rattle.codegen.specs.expression_code.Allocation.{is_unread}
 pub use Rattle.codegen.specs.private.Reads.{AllReadKept, IsKeptWithin, ReadsKept}
-pub use Rattle.expression_code.specs.TermCode.{IsAmong, address_code, code_by, constant_code, fetch_code, into_code}
+pub use Rattle.codegen.specs.expression_code.TermCode.{IsAmong, address_code, code_by, constant_code, fetch_code, into_code}
 pub use Rattle.branch_removal.specs.Heights.{height_of}
-pub use Rattle.expression_code.specs.TermCode.{kind_at, load_by, load_code, lower_part, near_element, store_code}
-pub use Rattle.expression_code.specs.declared.locations.Location.{Location}
-pub use Rattle.expression_code.specs.declared.locations.Location.TheVariants.{InRegister, InSlot}
-pub use Rattle.image_fields.specs.Fields.{AreSlots, Fields, IsImage, IsResultSlot, is_length, result_end, slot_end}
-pub use Rattle.image_fields.specs.Fields.{slots_end, type_in}
-pub use Rattle.image_fields.specs.declared.slot.ResultSlot.{ResultSlot}
-pub use Rattle.image_fields.specs.declared.slot.Slot.{Slot}
+pub use Rattle.codegen.specs.expression_code.TermCode.{kind_at, load_by, load_code, lower_part, near_element, store_code}
+pub use Rattle.codegen.specs.declared.expression_code.locations.Location.{Location}
+pub use Rattle.codegen.specs.declared.expression_code.locations.Location.TheVariants.{InRegister, InSlot}
+pub use Rattle.codegen.specs.image_fields.Fields.{AreSlots, Fields, IsImage, IsResultSlot, is_length, result_end, slot_end}
+pub use Rattle.codegen.specs.image_fields.Fields.{slots_end, type_in}
+pub use Rattle.codegen.specs.declared.image_fields.slot.ResultSlot.{ResultSlot}
+pub use Rattle.codegen.specs.declared.image_fields.slot.Slot.{Slot}
 pub use Rattle.rv_code.specs.Words.{word_of}
 pub use Rattle.rv_code.specs.declared.instructions.Instr.{Instr}
 pub use Rattle.rv_code.specs.declared.operations.ImmediateOperation.TheVariants.{Addi}

@@ -28,8 +28,8 @@ use Rattle.codegen.proofs.Logic.{place_target, variables_home, is_free, idle, lt
 use Rattle.codegen.proofs.Logic.{then_moves, setting, Runs, gives, cheaper, kept_less, kept_by, ready_below}
 use Rattle.codegen.proofs.Logic.{along, home_allowed, home_there, known, move_runs, none, quiet, ready_after}
 use Rattle.codegen.proofs.Logic.{register-at, value_fits}
-use Rattle.expression_code.proofs.Logic.{emptied, put_code}
-use Rattle.expression_code.specs.NumberRows.{number_of}
+use Rattle.codegen.proofs.expression_code_lemmas.Logic.{emptied, put_code}
+use Rattle.codegen.specs.expression_code.NumberRows.{number_of}
 use Rattle.rv_code.specs.declared.operations.StoreOperation.{StoreOperation}
 use Rattle.rv_machine.specs.Registers.{register}
 use Rattle.std.proofs.lemmas.Bool.{false≢true}

@@ -3,8 +3,8 @@ use Rattle.branch_removal.specs.Straight.{StraightProgram}
 use Rattle.std.specs.Prelude.{Option}
 use Rattle.codegen.specs.private.Generated.{image_of, image_within}
 use Rattle.codegen.specs.private.Homes.{word_homes}
-use Rattle.expression_code.specs.Allocation.{plain}
-use Rattle.image_fields.specs.Fields.{Fields}
+use Rattle.codegen.specs.expression_code.Allocation.{plain}
+use Rattle.codegen.specs.image_fields.Fields.{Fields}
 
 unfoldable pub fields_of : StraightProgram → Fields
 fields_of straight = image_of plain straight

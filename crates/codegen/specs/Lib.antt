@@ -1,3 +1,6 @@
+pub mod program_logic
+pub mod image_fields
+pub mod expression_code
 pub mod private
 pub mod Loaded
 pub mod Bases

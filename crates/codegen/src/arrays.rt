@@ -5,8 +5,8 @@ ghost use Rattle.codegen.specs.private.Emitted.{store_by, element_store_code, cl
 ghost use Rattle.codegen.specs.private.Emitted.{put_code, put_element_code, put_under_code, put_under_near_code};
 ghost use Rattle.codegen.specs.private.Emitted.{put_element_under_code, into_element_code, read_register};
 ghost use Rattle.codegen.specs.private.Jumps.{loop_code};
-ghost use Rattle.expression_code.specs.Layout.{temporaries_offset};
-ghost use Rattle.expression_code.specs.Registers.{zero_register, value_register, second_register, third_register};
+ghost use Rattle.codegen.specs.expression_code.Layout.{temporaries_offset};
+ghost use Rattle.codegen.specs.expression_code.Registers.{zero_register, value_register, second_register, third_register};
 ghost use Rattle.rv_code.specs.declared.instructions.Instr.TheVariants.{Immediate, Register, Store};
 ghost use Rattle.rv_code.specs.declared.operations.ImmediateOperation.TheVariants.{Addi};
 ghost use Rattle.rv_code.specs.declared.operations.RegisterOperation.TheVariants.{Sub};
@@ -14,12 +14,12 @@ ghost use Rattle.rv_code.specs.declared.operations.StoreOperation.TheVariants.{S
 ghost use Rattle.codegen.specs.private.Placed.{IsPlaced, ArePlacedTerms};
 ghost use Rattle.inline.specs.Flat.{term_tree};
 
+use crate::expression_code::emit::{self, address, load_by, near};
+use crate::expression_code::{Layout, Location, fetch};
 use crate::jumping::repeat;
 use crate::masking;
 use crate::reading::{read, stored};
 use crate::stored_values::stored_value;
-use expression_code::emit::{self, address, load_by, near};
-use expression_code::{Layout, Location, fetch};
 use inline::Term;
 use language::Kind;
 use rv_code::{

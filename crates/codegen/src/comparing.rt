@@ -6,13 +6,13 @@ ghost use Rattle.codegen.specs.private.Compared.{against_zero, between, conditio
 ghost use Rattle.codegen.specs.private.Compared.{right_code, right_register, test_of};
 ghost use Rattle.codegen.specs.private.Placed.{IsPlaced};
 ghost use Rattle.codegen.specs.private.Words.{read_code, read_register};
-ghost use Rattle.expression_code.specs.Layout.{temporaries_offset};
-ghost use Rattle.expression_code.specs.Registers.{value_register};
+ghost use Rattle.codegen.specs.expression_code.Layout.{temporaries_offset};
+ghost use Rattle.codegen.specs.expression_code.Registers.{value_register};
 ghost use Rattle.inline.specs.Flat.{term_tree};
 
+use crate::expression_code::Layout;
 use crate::jumping::Test;
 use crate::reading::{gives_zero, read};
-use expression_code::Layout;
 use inline::Term;
 use language::BinaryOperator;
 use rv_code::{BranchTest, Instr, Reg};
@@ -36,18 +36,7 @@ fn failing(operator: BinaryOperator) -> Option<Comparison>
         BinaryOperator::LessOrEqual => (BranchTest::Bltu, true),
         BinaryOperator::Greater => (BranchTest::Bgeu, true),
         BinaryOperator::GreaterOrEqual => (BranchTest::Bltu, false),
-        BinaryOperator::Either
-        | BinaryOperator::Both
-        | BinaryOperator::BitOr
-        | BinaryOperator::BitXor
-        | BinaryOperator::BitAnd
-        | BinaryOperator::ShiftLeft
-        | BinaryOperator::ShiftRight
-        | BinaryOperator::Add
-        | BinaryOperator::Subtract
-        | BinaryOperator::Multiply
-        | BinaryOperator::Divide
-        | BinaryOperator::Remainder => return None,
+        _ => return None,
     };
     Some(Comparison { test, is_turned })
 }

@@ -7,7 +7,7 @@ ghost use Rattle.codegen.specs.private.Fresh.{homes_but, starts_fresh};
 ghost use Rattle.codegen.specs.private.Generated.{entry_code, program_code, program_slots, result_slot, most_words, step_limit, image_of, image_within};
 ghost use Rattle.codegen.specs.private.Jumps.{IsFar};
 ghost use Rattle.codegen.specs.private.Room.{HasRoom, IsFitting, frame_of};
-ghost use Rattle.image_fields.specs.Fields.{IsImage};
+ghost use Rattle.codegen.specs.image_fields.Fields.{IsImage};
 ghost use Rattle.intervals.specs.Limits.{most_work};
 ghost use Rattle.language.specs.Limits.{most_nodes};
 ghost use Rattle.language.specs.WantOfMemory.{IsWantOfMemory};
@@ -16,15 +16,17 @@ ghost use Rattle.rv_code.specs.declared.instructions.Instr.TheVariants.{Ecall};
 
 use crate::Code;
 use crate::control_uses::unread_controls;
+use crate::expression_code::{
+    Allocation, Layout, REGISTER_COUNT, WORD_BYTES, emit, offsets, slots,
+};
 use crate::fresh::starts_fresh;
 use crate::heights::{greatest_depth, program_height, temporary_registers};
 use crate::homes::word_homes;
+use crate::image_fields::{ImageFields, ResultSlot};
 use crate::reading::assign;
 use crate::statements::statements;
 use crate::unemitted::Unemitted;
 use branch_removal::Straight;
-use expression_code::{Allocation, Layout, REGISTER_COUNT, WORD_BYTES, emit, offsets, slots};
-use image_fields::{ImageFields, ResultSlot};
 use language::Refusal;
 use rv_code::{Instr, encode};
 use std::alloc::{AllocError, Global};

@@ -6,8 +6,8 @@ ghost use Rattle.branch_removal.specs.Heights.{program_height, height_of_all, he
 ghost use Rattle.codegen.specs.private.Homes.{temporary_registers};
 ghost use Rattle.inline.specs.Flat.{term_tree};
 
+use crate::expression_code::height;
 use branch_removal::{Straight, StraightStatement};
-use expression_code::height;
 use inline::Term;
 
 /// How many temporaries have registers at least and at most where words live in registers.

@@ -5,16 +5,16 @@ ghost use Rattle.std.specs.Prelude.{◌≡◌, ◌++◌, ◌+◌, ◌*◌, ◌<�
 ghost use Rattle.codegen.specs.private.Loops.{bounds_code, test_code, count_code, below_number_code, below_word_code, counting_home, guarded_code, is_below, repeat_code, short_number, to_number_code, to_word_code, turns_code};
 ghost use Rattle.codegen.specs.private.Jumps.{IsFar};
 ghost use Rattle.codegen.specs.private.Placed.{IsPlaced};
-ghost use Rattle.expression_code.specs.Layout.{next_offset, temporaries_offset, variable_location};
+ghost use Rattle.codegen.specs.expression_code.Layout.{next_offset, temporaries_offset, variable_location};
 ghost use Rattle.inline.specs.Flat.{term_tree};
 ghost use Rattle.rv_code.specs.declared.instructions.Instr.TheVariants.{Immediate};
 ghost use Rattle.rv_code.specs.declared.operations.ImmediateOperation.TheVariants.{Addi};
 
+use crate::expression_code::emit::{MINUS_ONE, NEAR, load, store};
+use crate::expression_code::{Layout, Location, WORD_BYTES, into, move_register};
 use crate::jumping;
 use crate::reading::{assign, read};
 use crate::unemitted::Unemitted;
-use expression_code::emit::{MINUS_ONE, NEAR, load, store};
-use expression_code::{Layout, Location, WORD_BYTES, into, move_register};
 use inline::Term;
 use rv_code::{Immediate12, ImmediateOperation, Instr, Reg, RegisterOperation};
 use std::alloc::{AllocError, Global};

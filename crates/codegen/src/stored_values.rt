@@ -5,7 +5,7 @@ ghost use Rattle.codegen.specs.private.Emitted.{cuts, stored_value, uncut};
 ghost use Rattle.codegen.specs.private.Placed.{IsPlaced};
 ghost use Rattle.inline.specs.Flat.{term_tree};
 
-use expression_code::Layout;
+use crate::expression_code::Layout;
 use inline::Term;
 use language::Kind;
 

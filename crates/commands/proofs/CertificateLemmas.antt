@@ -10,12 +10,12 @@ use Rattle.certified_runs.specs.Certified.{same, may_differ, CertifiedRun, spent
 use Rattle.certified_runs.specs.Known.{Known}
 use Rattle.certified_runs.specs.declared.certifying.CertifiedEnd.{CertifiedEnd}
 use Rattle.certified_runs.specs.declared.certifying.CertifiedEnd.TheVariants.{Same, MayDiffer}
-use Rattle.certificates.specs.Certified.{Certified, refused, out_of_memory, certified}
+use Rattle.image_reports.specs.certificates.Certified.{Certified, refused, out_of_memory, certified}
 use Rattle.codegen.specs.Loaded.{code_at}
 use Rattle.commands.specs.Certificates.{StandsInCode}
 use Rattle.hepurita.specs.Bases.{code_base}
 use Rattle.hepurita.specs.declared.fault.RunFault.{RunFault}
-use Rattle.image_fields.specs.Fields.{Fields}
+use Rattle.codegen.specs.image_fields.Fields.{Fields}
 use Rattle.language.specs.declared.values.Arg.{Arg}
 
 depends_at : (code : Code) (k : Known) (ending : KnownEnding) → KnownTurn code k ending → ending ≡ depends

@@ -13,11 +13,11 @@ use Rattle.harts.specs.Frames.{job_of}
 use Rattle.harts.specs.RunHarts.{RunsHarts}
 use Rattle.harts.specs.SideBySide as side_by_side
 use Rattle.harts.specs.declared.ends.HartEnd.{HartEnd}
-use Rattle.harts_file.specs.Jobs.{hart_of}
-use Rattle.harts_file.specs.Lines.{PlannedHart}
-use Rattle.harts_file.specs.Plans.{IsPlan}
-use Rattle.harts_file.specs.declared.jobs.Job.{Job}
-use Rattle.image_fields.specs.Fields.{Fields}
+use Rattle.input_files.specs.harts_file.Jobs.{hart_of}
+use Rattle.input_files.specs.harts_file.Lines.{PlannedHart}
+use Rattle.input_files.specs.harts_file.Plans.{IsPlan}
+use Rattle.input_files.specs.declared.harts_file.jobs.Job.{Job}
+use Rattle.codegen.specs.image_fields.Fields.{Fields}
 use Rattle.language.specs.declared.signature.Param.{Param}
 use Rattle.language.specs.declared.values.Arg.{Arg}
 use Rattle.rv_machine.specs.declared.hart_recording.HartObservation.{HartObservation}

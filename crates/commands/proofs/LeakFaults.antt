@@ -14,7 +14,7 @@ use Rattle.commands.specs.declared.fault.Fault.TheVariants.{Text, Explained, Ima
 use Rattle.commands.specs.declared.fault.Fault.TheVariants.{Code, Name, File}
 use Rattle.commands.specs.declared.fault.FileFault.{FileFault}
 use Rattle.commands.specs.declared.fault.FileFault.TheVariants.{CannotRead, CannotWrite, NotUtf8}
-use Rattle.image_fields.specs.Fields.{Fields}
+use Rattle.codegen.specs.image_fields.Fields.{Fields}
 use Rattle.language.specs.declared.values.Arg.{Arg}
 use Rattle.listing.specs.Leaked as leaked_specs
 use Rattle.listing.specs.Leaked.{Leaks, IsLeak, ran}

@@ -1,6 +1,6 @@
 -- Why a picture is refused, by how many words there are.
 use Rattle.std.proofs.Common.{◌≡◌, ℕ, Bool, List, Result, Err, IfErr, if◌then◌else◌, sym, subst, inl, inr}
-use Rattle.certificates.specs.Texts.{fault_of_given_texts}
+use Rattle.image_reports.specs.certificates.Texts.{fault_of_given_texts}
 use Rattle.codegen.specs.Loaded.{params_of}
 use Rattle.commands.specs.Contents.{Contents}
 use Rattle.commands.specs.ImageRefusals.{no_arguments, no_answer}
@@ -9,7 +9,7 @@ use Rattle.commands.specs.Pictures.{RefusesLists, one_refused, two_refused, Refu
 use Rattle.commands.specs.Words.{IsFaultOfWords, fault_of_both}
 use Rattle.commands.specs.declared.fault.Fault.TheVariants.{Run}
 use Rattle.hepurita.specs.declared.fault.RunFault.{RunFault}
-use Rattle.image_fields.specs.Fields.{Fields}
+use Rattle.codegen.specs.image_fields.Fields.{Fields}
 
 -- a fault that is handed on as it is
 pub handed : {A : Type 0} (P : RunFault → Type 0) (answer : Result A RunFault) (got why : RunFault) → answer ≡ Err got

@@ -2,7 +2,7 @@
 use Rattle.std.proofs.Common.{◌≡◌, ◌⊎◌, inl, inr, ℕ, Bool, true, false, List, Option, Result, Ok, Err, OnOk, OnErr, sym, subst}
 use Rattle.certified_runs.specs.declared.shifts.Shifts.{Shifts}
 use Rattle.codegen.specs.Loaded.{params_of, code_at, loaded_at}
-use Rattle.command_line.specs.declared.words.Request.{Request}
+use Rattle.commands.specs.declared.command_line.words.Request.{Request}
 use Rattle.commands.specs.Certificates.{shifts_seen}
 use Rattle.commands.specs.Contents.{Contents}
 use Rattle.commands.specs.Images.{HoldsImage}
@@ -10,10 +10,10 @@ use Rattle.commands.specs.Progress.{RunGoesOn, PairGoesOn, CertificateGoesOn, Te
 use Rattle.commands.specs.Progress.{FileRunTells, FilePairTells, FileCertificateTells, RequestTells}
 use Rattle.commands.specs.Words.{AreSpelled, AreBothSpelled, AreGiven}
 use Rattle.hepurita.specs.Bases.{code_base, frame_base}
-use Rattle.image_fields.specs.Fields.{Fields}
+use Rattle.codegen.specs.image_fields.Fields.{Fields}
 use Rattle.language.specs.declared.values.Arg.{Arg}
-use Rattle.progress.proofs.Told.{reaches}
-use Rattle.progress.specs.GoingOn.{Counting, GoesOn, BothGoOn, Reaches, HasLines, IsTold}
+use Rattle.run_reports.proofs.progress_lemmas.Told.{reaches}
+use Rattle.run_reports.specs.progress.GoingOn.{Counting, GoesOn, BothGoOn, Reaches, HasLines, IsTold}
 use Rattle.rv_machine.specs.Machine.{State, Code}
 
 -- where it holds whatever the answer is

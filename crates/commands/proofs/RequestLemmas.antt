@@ -1,9 +1,9 @@
 -- What comes of a request, from what its call and standard output answer.
 use Rattle.std.proofs.Common.{◌≡◌, ◌⊎◌, inl, inr, ℕ, List, ◌++◌, map, Result, Ok, Err, Bor, refl, sym, ap, subst}
 use Rattle.std.specs.Result.{IfOk, IfErr, OnOk, OnErr}
-use Rattle.command_line.specs.declared.words.Request.{Request}
+use Rattle.commands.specs.declared.command_line.words.Request.{Request}
 use Rattle.commands.specs.Contents.{Contents}
-use Rattle.command_line.specs.declared.words.Request.TheVariants as requests
+use Rattle.commands.specs.declared.command_line.words.Request.TheVariants as requests
 use Rattle.commands.proofs.ImageLemmas.{handed_on}
 use Rattle.commands.proofs.LeakFaults.{at_output_or_not}
 use Rattle.commands.specs.Leaks.{SaysLeak, RefusesLeak, IsOutputFault}

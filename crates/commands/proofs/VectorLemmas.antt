@@ -6,9 +6,9 @@ use Rattle.commands.specs.Vectors.{HoldVectors, RefusesVectors, no_vectors, no_m
 use Rattle.commands.specs.declared.fault.Fault.TheVariants.{Vectors}
 use Rattle.std.specs.Prelude.{Some}
 use Rattle.std.specs.Str.{IsUtf8}
-use Rattle.vectors.specs.Lines.{NamedVector, vectors_in}
-use Rattle.vectors.specs.declared.fault.VectorsFault.{VectorsFault}
-use Rattle.vectors.specs.declared.fault.VectorsFault.TheVariants.{Line, Memory}
+use Rattle.image_reports.specs.vectors.Lines.{NamedVector, vectors_in}
+use Rattle.image_reports.specs.declared.vectors.fault.VectorsFault.{VectorsFault}
+use Rattle.image_reports.specs.declared.vectors.fault.VectorsFault.TheVariants.{Line, Memory}
 use Rattle.word.specs.declared.profile.Profile.{Profile}
 
 -- why a text says no vectors

@@ -6,13 +6,13 @@ use Rattle.std.proofs.lemmas.Bool.Decides.{Decides-eqb}
 use Rattle.std.specs.Result.{IfErr}
 use Rattle.std.proofs.lemmas.List.{take-map, drop-map, length-map}
 use Rattle.std.proofs.lemmas.Simd.{map-map}
-use Rattle.arguments.specs.Faults.{fault_at, fault_from, count_fault}
-use Rattle.arguments.specs.Texts.{numbers_of, fault_of_texts, rule_of_text}
-use Rattle.arguments.specs.Within.{AreWithin, words_of}
-use Rattle.arguments.specs.declared.fault.ArgumentFault.{ArgumentFault}
-use Rattle.arguments.specs.declared.fault.ArgumentRule.{ArgumentRule}
-use Rattle.certificates.specs.Given.{fault_of_given}
-use Rattle.certificates.specs.Texts.{numbers_given}
+use Rattle.language.specs.arguments.Faults.{fault_at, fault_from, count_fault}
+use Rattle.language.specs.arguments.Texts.{numbers_of, fault_of_texts, rule_of_text}
+use Rattle.language.specs.arguments.Within.{AreWithin, words_of}
+use Rattle.language.specs.declared.arguments.fault.ArgumentFault.{ArgumentFault}
+use Rattle.language.specs.declared.arguments.fault.ArgumentRule.{ArgumentRule}
+use Rattle.image_reports.specs.certificates.Given.{fault_of_given}
+use Rattle.image_reports.specs.certificates.Texts.{numbers_given}
 use Rattle.commands.specs.Words.{AreSpelled, AreGiven, IsFaultOfWords, fault_of_both}
 use Rattle.hepurita.specs.Paired.{shifted, first_of}
 use Rattle.hepurita.specs.declared.fault.RunFault.{RunFault}

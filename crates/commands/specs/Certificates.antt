@@ -1,8 +1,8 @@
 -- What is printed of a certificate.
 use Rattle.std.specs.Prelude.{◌≡◌, ◌≢◌, ℕ, Bool, true, false, ◌++◌, List, Option, Some, None, Ok, Err, codes, ⊤}
 use Rattle.std.specs.Fmt.{decimal}
-use Rattle.certificates.specs.Certified.{Certified}
-use Rattle.certificates.specs.Texts.{fault_of_given_texts}
+use Rattle.image_reports.specs.certificates.Certified.{Certified}
+use Rattle.image_reports.specs.certificates.Texts.{fault_of_given_texts}
 use Rattle.certified_runs.specs.declared.certifying.CertifiedEnd.{CertifiedEnd}
 use Rattle.certified_runs.specs.declared.certifying.CertifiedEnd.TheVariants.{Same, MayDiffer}
 use Rattle.certified_runs.specs.declared.shifts.Shifts.{Shifts}
@@ -17,7 +17,7 @@ use Rattle.commands.specs.declared.fault.Fault.{Fault}
 use Rattle.commands.specs.declared.fault.Fault.TheVariants.{Run}
 use Rattle.hepurita.specs.Bases.{code_base}
 use Rattle.hepurita.specs.declared.fault.RunFault.{RunFault}
-use Rattle.image_fields.specs.Fields.{Fields}
+use Rattle.codegen.specs.image_fields.Fields.{Fields}
 use Rattle.language.specs.declared.values.Arg.{Arg}
 use Rattle.listing.specs.Code.{IsLineAt}
 use Rattle.listing.specs.Lines.{stop_line}

@@ -2,26 +2,26 @@
 use Rattle.std.specs.Prelude.{ℕ, List, ◌++◌, None, codes}
 use Rattle.std.specs.Fmt.{decimal}
 use Rattle.std.specs.String.{string_bytes}
-use Rattle.arguments.specs.Text as arguments
+use Rattle.language.specs.arguments.Text as arguments
 use Rattle.commands.specs.declared.fault.Fault.{Fault}
 use Rattle.commands.specs.declared.fault.Fault.TheVariants.{Text, Explained, Image, Run, Eval, Plan, Harts, Vectors}
 use Rattle.commands.specs.declared.fault.Fault.TheVariants.{Code, Name, File}
 use Rattle.commands.specs.declared.fault.FileFault.{FileFault}
 use Rattle.commands.specs.declared.fault.FileFault.TheVariants.{CannotRead, CannotWrite, NotUtf8}
-use Rattle.function_text.specs.FaultText as functions
-use Rattle.function_text.specs.declared.fault.FunctionFault.TheVariants as function_faults
+use Rattle.functions.specs.function_text.FaultText as functions
+use Rattle.functions.specs.declared.function_text.fault.FunctionFault.TheVariants as function_faults
 use Rattle.harts.specs.RuleNames as rules
 use Rattle.harts.specs.declared.fault.HartsFault.{HartsFault}
 use Rattle.harts.specs.declared.fault.HartsFault.TheVariants as harts
-use Rattle.harts_file.specs.Text.{plan_fault_text}
-use Rattle.harts_file.specs.declared.fault.PlanFault.{PlanFault}
-use Rattle.harts_file.specs.declared.fault.PlanFault.TheVariants as plans
+use Rattle.input_files.specs.harts_file.Text.{plan_fault_text}
+use Rattle.input_files.specs.declared.harts_file.fault.PlanFault.{PlanFault}
+use Rattle.input_files.specs.declared.harts_file.fault.PlanFault.TheVariants as plans
 use Rattle.hepurita.specs.Text.{run_fault_text}
 use Rattle.hepurita.specs.declared.fault.RunFault.{RunFault}
 use Rattle.hepurita.specs.declared.fault.RunFault.TheVariants as runs
-use Rattle.image.specs.Text as images
-use Rattle.image.specs.declared.fault.ImageFault.{ImageFault}
-use Rattle.image.specs.declared.fault.ImageFault.TheVariants as image_faults
+use Rattle.hepurita.specs.image.Text as images
+use Rattle.hepurita.specs.declared.image.fault.ImageFault.{ImageFault}
+use Rattle.hepurita.specs.declared.image.fault.ImageFault.TheVariants as image_faults
 use Rattle.language.specs.Rules.{refusal_text}
 use Rattle.language.specs.declared.rule.Rule.{Rule}
 use Rattle.language.specs.declared.rule.Rule.TheVariants.{OutOfMemory}
@@ -29,10 +29,10 @@ use Rattle.source_eval.specs.FaultText.{eval_fault_text}
 use Rattle.source_eval.specs.declared.fault.EvalFault.{EvalFault}
 use Rattle.source_eval.specs.declared.fault.EvalFault.TheVariants as evaluations
 use Rattle.rv_machine.specs.Stops.{stop_name}
-use Rattle.vectors.specs.FaultText.{vectors_fault_text}
-use Rattle.vectors.specs.declared.fault.VectorsFault.{VectorsFault}
-use Rattle.vectors.specs.declared.fault.VectorsFault.TheVariants as vectors
-use Rattle.wrapping.specs.RuleNames.{rule_text}
+use Rattle.image_reports.specs.vectors.FaultText.{vectors_fault_text}
+use Rattle.image_reports.specs.declared.vectors.fault.VectorsFault.{VectorsFault}
+use Rattle.image_reports.specs.declared.vectors.fault.VectorsFault.TheVariants as vectors
+use Rattle.input_files.specs.wrapping.RuleNames.{rule_text}
 
 -- what failed, and the path; that of standard output is `-`
 abbrev pub file_fault_text : FileFault → List ℕ

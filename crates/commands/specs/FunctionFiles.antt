@@ -5,8 +5,8 @@ use Rattle.commands.specs.FileTexts.{HoldsText}
 use Rattle.commands.specs.Judged.{IsRefusedSo}
 use Rattle.commands.specs.declared.fault.Fault.{Fault}
 use Rattle.commands.specs.declared.fault.Fault.TheVariants.{Name}
-use Rattle.function_text.specs.Functions.{HasTakenName}
-use Rattle.function_text.specs.Texts.{AreTextsOf}
+use Rattle.functions.specs.function_text.Functions.{HasTakenName}
+use Rattle.functions.specs.function_text.Texts.{AreTextsOf}
 use Rattle.hepurita.specs.declared.optimisation.Optimisation.{Optimisation}
 use Rattle.word.specs.declared.place.Place.{Place}
 use Rattle.word.specs.declared.profile.Profile.{Profile}

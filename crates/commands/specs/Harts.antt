@@ -10,8 +10,8 @@ use Rattle.commands.specs.Words.{AreSpelled}
 use Rattle.harts.specs.RunHarts.{RunsHarts}
 use Rattle.harts.specs.SideBySide.{Job}
 use Rattle.harts.specs.declared.ends.HartEnd.{HartEnd}
-use Rattle.harts_file.specs.Lines.{PlannedHart}
-use Rattle.harts_file.specs.Plans.{IsPlan}
+use Rattle.input_files.specs.harts_file.Lines.{PlannedHart}
+use Rattle.input_files.specs.harts_file.Plans.{IsPlan}
 use Rattle.rv_machine.specs.declared.hart_recording.HartObservation.{HartObservation}
 
 -- the job of a hart that a line names: the image of the file at its path, and the arguments that its words spell

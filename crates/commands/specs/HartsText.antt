@@ -7,7 +7,7 @@ use Rattle.codegen.specs.Loaded.{params_of}
 use Rattle.commands.specs.OutcomeText.{outcome_text}
 use Rattle.harts.specs.SideBySide.{Job}
 use Rattle.harts.specs.declared.ends.HartEnd.{HartEnd}
-use Rattle.image_fields.specs.Fields.{Fields}
+use Rattle.codegen.specs.image_fields.Fields.{Fields}
 use Rattle.language.specs.Results.{Results}
 use Rattle.listing.specs.Lines.{lines_of, stop_line}
 use Rattle.rv_machine.specs.declared.hart_recording.HartObservation.{HartObservation}

@@ -6,12 +6,12 @@ use Rattle.commands.specs.FileTexts.{HoldsText, NoText}
 use Rattle.commands.specs.declared.fault.Fault.{Fault}
 use Rattle.commands.specs.declared.fault.Fault.TheVariants.{Text, Explained}
 use Rattle.commands.specs.Unread.{IsOutOfMemory}
-use Rattle.explained_refusals.specs.Explained.{Explains}
+use Rattle.explanations.specs.explained_refusals.Explained.{Explains}
 use Rattle.hepurita.specs.Built.{Judges, IsRefusal, IsBuilt, accepts}
 use Rattle.hepurita.specs.declared.optimisation.Optimisation.{Optimisation}
 use Rattle.language.specs.Tree.{ProcedureTree, ProgramTree}
 use Rattle.language.specs.declared.refusal.Refusal.{Refusal}
-use Rattle.source_statistics.specs.SourceText.{SaysCosts}
+use Rattle.image_reports.specs.source_statistics.SourceText.{SaysCosts}
 use Rattle.word.specs.declared.profile.Profile.{Profile}
 
 -- the file's bytes are a text that is accepted

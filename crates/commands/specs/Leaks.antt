@@ -1,6 +1,6 @@
 -- What is written of what an observer sees of a run of the image of a file.
 use Rattle.std.specs.Prelude.{◌≡◌, ℕ, List, Err, codes}
-use Rattle.arguments.specs.Texts.{fault_of_texts}
+use Rattle.language.specs.arguments.Texts.{fault_of_texts}
 use Rattle.codegen.specs.Loaded.{params_of}
 use Rattle.commands.specs.Contents.{Contents}
 use Rattle.commands.specs.ImageRefusals.{RefusesImage}
@@ -12,7 +12,7 @@ use Rattle.commands.specs.declared.fault.Fault.{Fault}
 use Rattle.commands.specs.declared.fault.Fault.TheVariants as faults
 use Rattle.commands.specs.declared.fault.FileFault.{FileFault}
 use Rattle.hepurita.specs.declared.fault.RunFault.TheVariants as runs
-use Rattle.image_fields.specs.Fields.{Fields}
+use Rattle.codegen.specs.image_fields.Fields.{Fields}
 use Rattle.language.specs.declared.values.Arg.{Arg}
 use Rattle.listing.specs.Leaked.{Leaks, IsLeak}
 use Rattle.listing.specs.declared.fault.LeakFault.{LeakFault}

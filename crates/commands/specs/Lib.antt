@@ -1,3 +1,4 @@
+pub mod command_line
 pub mod Contents
 pub mod Costs
 pub mod OutcomeText

@@ -1,6 +1,6 @@
 -- What is printed of what the text of a file means.
 use Rattle.std.specs.Prelude.{◌≡◌, Bool, ℕ, List, map, Some, Ok}
-use Rattle.arguments.specs.Texts.{fault_of_texts}
+use Rattle.language.specs.arguments.Texts.{fault_of_texts}
 use Rattle.commands.specs.Contents.{Contents}
 use Rattle.commands.specs.FileTexts.{NoText}
 use Rattle.commands.specs.Judged.{Tells}
@@ -18,7 +18,7 @@ use Rattle.language.specs.Tree.{ProcedureTree, ProgramTree}
 use Rattle.language.specs.declared.refusal.Refusal.{Refusal}
 use Rattle.language.specs.declared.values.Arg.{Arg}
 use Rattle.source_eval.specs.Answer.{answer}
-use Rattle.stream_build.specs.Faults.{IsText}
+use Rattle.input_files.specs.stream_build.Faults.{IsText}
 use Rattle.word.specs.declared.profile.Profile.TheVariants.{P1}
 
 -- how many nodes are evaluated at most

@@ -11,10 +11,10 @@ use Rattle.commands.specs.declared.fault.Fault.TheVariants.{Run}
 use Rattle.hepurita.specs.Bases.{code_base}
 use Rattle.hepurita.specs.Paired.{Paired}
 use Rattle.hepurita.specs.declared.fault.RunFault.{RunFault}
-use Rattle.image_fields.specs.Fields.{Fields}
+use Rattle.codegen.specs.image_fields.Fields.{Fields}
 use Rattle.language.specs.declared.values.Arg.{Arg}
 use Rattle.listing.specs.Code.{ListsCode}
-use Rattle.pair_explanations.specs.Explained.{Explains}
+use Rattle.image_reports.specs.pair_explanations.Explained.{Explains}
 use Rattle.rv_machine.specs.declared.pairing.Pairing.{Pairing}
 use Rattle.rv_machine.specs.declared.pairing.Pairing.TheVariants.{Same, Differ}
 

@@ -1,8 +1,8 @@
 -- Which page is the picture of the image of a file.
 use Rattle.std.specs.Prelude.{◌≡◌, ◌⊎◌, ℕ, ◌==◌, true, false, List, ◌++◌, length, Option, Ok, codes, if◌then◌else◌}
-use Rattle.arguments.specs.declared.fault.ArgumentFault.{ArgumentFault}
-use Rattle.certificates.specs.Certified.{Certified}
-use Rattle.certificates.specs.Texts.{fault_of_given_texts}
+use Rattle.language.specs.declared.arguments.fault.ArgumentFault.{ArgumentFault}
+use Rattle.image_reports.specs.certificates.Certified.{Certified}
+use Rattle.image_reports.specs.certificates.Texts.{fault_of_given_texts}
 use Rattle.certified_runs.specs.declared.certifying.CertifiedEnd.{CertifiedEnd}
 use Rattle.certified_runs.specs.declared.shifts.Shifts.TheVariants.{Hidden}
 use Rattle.codegen.specs.Loaded.{params_of}
@@ -16,8 +16,8 @@ use Rattle.commands.specs.declared.fault.Fault.{Fault}
 use Rattle.commands.specs.declared.fault.Fault.TheVariants.{Run}
 use Rattle.hepurita.specs.Paired.{Paired}
 use Rattle.hepurita.specs.declared.fault.RunFault.{RunFault}
-use Rattle.image_fields.specs.Fields.{Fields}
-use Rattle.image_pictures.specs.Drawn.{DrawsOne, DrawsTwo}
+use Rattle.codegen.specs.image_fields.Fields.{Fields}
+use Rattle.image_reports.specs.image_pictures.Drawn.{DrawsOne, DrawsTwo}
 use Rattle.language.specs.declared.signature.Param.{Param}
 use Rattle.language.specs.declared.values.Arg.{Arg}
 use Rattle.rv_machine.specs.declared.pairing.Pairing.{Pairing}

@@ -1,20 +1,20 @@
 -- What goes out on standard error while an image runs, where that is asked for: a line behind each so many turns
 -- after which the run goes on.
 use Rattle.std.specs.Prelude.{◌≡◌, ℕ, Bool, true, false, List, map, Option}
-use Rattle.certificates.specs.KnownImage.{known_at}
+use Rattle.image_reports.specs.certificates.KnownImage.{known_at}
 use Rattle.certified_runs.specs.declared.shifts.Shifts.{Shifts}
 use Rattle.codegen.specs.Loaded.{params_of, code_at, loaded_at}
-use Rattle.command_line.specs.declared.words.Request.{Request}
-use Rattle.command_line.specs.declared.words.Request.TheVariants as requests
+use Rattle.commands.specs.declared.command_line.words.Request.{Request}
+use Rattle.commands.specs.declared.command_line.words.Request.TheVariants as requests
 use Rattle.commands.specs.Certificates.{shifts_seen}
 use Rattle.commands.specs.Contents.{Contents}
 use Rattle.commands.specs.Images.{HoldsImage}
 use Rattle.commands.specs.Words.{AreSpelled, AreBothSpelled, AreGiven}
 use Rattle.hepurita.specs.Bases.{code_base, frame_base}
-use Rattle.image_fields.specs.Fields.{Fields}
+use Rattle.codegen.specs.image_fields.Fields.{Fields}
 use Rattle.language.specs.declared.values.Arg.{Arg}
-use Rattle.progress.specs.Certified.{GoesOnKnown}
-use Rattle.progress.specs.GoingOn.{Counting, GoesOn, BothGoOn, IsTold}
+use Rattle.run_reports.specs.progress.Certified.{GoesOnKnown}
+use Rattle.run_reports.specs.progress.GoingOn.{Counting, GoesOn, BothGoOn, IsTold}
 
 -- an image's run on arguments goes on after so many turns
 abbrev pub RunGoesOn : Fields → List Arg → ℕ → Type 0

@@ -1,7 +1,7 @@
 -- What is asked for, done: what is printed, the exit status, and what files hold then.
 use Rattle.std.specs.Prelude.{◌≡◌, ◌⊎◌, ℕ, List, [], ◌++◌, map, codes}
-use Rattle.command_line.specs.declared.words.Request.{Request}
-use Rattle.command_line.specs.declared.words.Request.TheVariants as requests
+use Rattle.commands.specs.declared.command_line.words.Request.{Request}
+use Rattle.commands.specs.declared.command_line.words.Request.TheVariants as requests
 use Rattle.commands.specs.Certificates.{SaysCertificate, RefusesCertificate, shifts_seen}
 use Rattle.commands.specs.Contents.{Contents}
 use Rattle.commands.specs.Costs.{SaysCosts, RefusesCosts}
@@ -23,9 +23,9 @@ use Rattle.commands.specs.WrappedCode.{IsImageOfCode, RefusesCode}
 use Rattle.commands.specs.Written.{WritesFile, FailsToWrite}
 use Rattle.commands.specs.declared.fault.Fault.{Fault}
 use Rattle.explanations.specs.Text.{explanation_text}
-use Rattle.progress.specs.GoingOn.{Reaches, HasLines}
+use Rattle.run_reports.specs.progress.GoingOn.{Reaches, HasLines}
 use Rattle.streams.specs.Streams.{GainsPart}
-use Rattle.wrapping.specs.declared.asked.Asked.{Asked}
+use Rattle.input_files.specs.declared.wrapping.asked.Asked.{Asked}
 
 -- the text that answers a request, and the exit status, by what files hold
 abbrev pub Answers : Request → Contents → List ℕ → ℕ → Type 0

@@ -6,12 +6,12 @@ use Rattle.commands.specs.declared.fault.Fault.TheVariants.{Code, Name, File}
 use Rattle.commands.specs.declared.fault.FileFault.{FileFault}
 use Rattle.commands.specs.declared.fault.FileFault.TheVariants.{CannotRead, CannotWrite, NotUtf8}
 use Rattle.harts.specs.declared.fault.HartsFault.TheVariants as harts
-use Rattle.harts_file.specs.declared.fault.PlanFault.TheVariants as plans
+use Rattle.input_files.specs.declared.harts_file.fault.PlanFault.TheVariants as plans
 use Rattle.hepurita.specs.declared.fault.RunFault.TheVariants as runs
-use Rattle.image.specs.declared.fault.ImageFault.TheVariants as images
+use Rattle.hepurita.specs.declared.image.fault.ImageFault.TheVariants as images
 use Rattle.language.specs.WantOfMemory.{IsWantOfMemory}
 use Rattle.source_eval.specs.declared.fault.EvalFault.TheVariants as evaluations
-use Rattle.vectors.specs.declared.fault.VectorsFault.TheVariants as vectors
+use Rattle.image_reports.specs.declared.vectors.fault.VectorsFault.TheVariants as vectors
 
 -- memory was refused
 abbrev pub IsOutOfMemory : Fault → Type 0

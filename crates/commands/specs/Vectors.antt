@@ -8,9 +8,9 @@ use Rattle.commands.specs.declared.fault.Fault.{Fault}
 use Rattle.commands.specs.declared.fault.Fault.TheVariants.{Text, Vectors}
 use Rattle.hepurita.specs.Built.{Judges, IsRefusal}
 use Rattle.language.specs.declared.refusal.Refusal.{Refusal}
-use Rattle.vectors.specs.Lines.{NamedVector, vectors_in}
-use Rattle.vectors.specs.Verdicts.{IsReport}
-use Rattle.vectors.specs.declared.fault.VectorsFault.TheVariants.{Line}
+use Rattle.image_reports.specs.vectors.Lines.{NamedVector, vectors_in}
+use Rattle.image_reports.specs.vectors.Verdicts.{IsReport}
+use Rattle.image_reports.specs.declared.vectors.fault.VectorsFault.TheVariants.{Line}
 use Rattle.word.specs.declared.profile.Profile.{Profile}
 
 -- the exit status: 0 where none failed, else 1

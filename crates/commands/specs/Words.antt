@@ -1,12 +1,12 @@
 -- The arguments that the words of a command line spell, or their first fault.
 use Rattle.std.specs.Prelude.{◌≡◌, ℕ, ◌*◌, ◌==◌, List, length, map, take, drop, Option, Some, None, if◌then◌else◌, ⊤}
 use Rattle.std.specs.Option.{option_map}
-use Rattle.arguments.specs.Faults.{count_fault}
-use Rattle.arguments.specs.Texts.{numbers_of, fault_of_texts}
-use Rattle.arguments.specs.Within.{AreWithin, words_of}
-use Rattle.arguments.specs.declared.fault.ArgumentFault.{ArgumentFault}
-use Rattle.certificates.specs.Given.{fault_of_given}
-use Rattle.certificates.specs.Texts.{numbers_given}
+use Rattle.language.specs.arguments.Faults.{count_fault}
+use Rattle.language.specs.arguments.Texts.{numbers_of, fault_of_texts}
+use Rattle.language.specs.arguments.Within.{AreWithin, words_of}
+use Rattle.language.specs.declared.arguments.fault.ArgumentFault.{ArgumentFault}
+use Rattle.image_reports.specs.certificates.Given.{fault_of_given}
+use Rattle.image_reports.specs.certificates.Texts.{numbers_given}
 use Rattle.hepurita.specs.Paired.{shifted, first_of}
 use Rattle.hepurita.specs.declared.fault.RunFault.{RunFault}
 use Rattle.hepurita.specs.declared.fault.RunFault.TheVariants.{Argument, Memory, Stopped}

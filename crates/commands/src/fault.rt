@@ -2,18 +2,18 @@ ghost use Rattle.std.specs.Prelude.{◌≡◌};
 ghost use Rattle.commands.specs.Unread.{IsOutOfMemory};
 ghost use Rattle.commands.specs.declared.fault.Fault.TheVariants.{Text, Image, Run, Eval, Plan, Harts, Vectors, File};
 
-use arguments::ArgumentFault;
-use function_text::FunctionFault;
+use functions::function_text::FunctionFault;
 use harts::HartsFault;
-use harts_file::PlanFault;
 use hepurita::RunFault;
-use image::ImageFault;
+use hepurita::image::ImageFault;
+use image_reports::vectors::VectorsFault;
+use input_files::harts_file::PlanFault;
+use input_files::wrapping::CodeRule;
+use language::arguments::ArgumentFault;
 use language::{Place, Refusal, Rule};
 use source_eval::EvalFault;
 use std::alloc::{AllocError, AllocFailed};
 use std::fmt;
-use vectors::VectorsFault;
-use wrapping::CodeRule;
 
 /// What a file failed by, with its path; that of standard output is `-`.
 #[derive(Clone, Copy, Debug)]

@@ -7,9 +7,9 @@ ghost use Rattle.commands.specs.Written.{IsWriteFault, WritesFile, FailsToWrite}
 use crate::fault::Fault;
 use crate::files::Files;
 use crate::texts::{read_fault, text_of_file, write_file};
-use image_fields::MOST_WORDS;
+use codegen::image_fields::MOST_WORDS;
+use input_files::wrapping::{Asked, WrapFault, wrap};
 use std::alloc::Global;
-use wrapping::{Asked, WrapFault, wrap};
 
 /// How many bytes of code are read at most: one more than an image may have, so that longer code is refused.
 const CODE_LIMIT: usize = 4 * MOST_WORDS as usize + 1;

@@ -6,11 +6,11 @@ ghost use Rattle.commands.specs.FunctionFiles.{AreFunctionTexts, RefusesFunction
 ghost use Rattle.commands.specs.TwoFiles.{AreWritten, AreCutOff, WritesTwo, FailsToWriteTwo};
 ghost use Rattle.commands.specs.Written.{IsWriteFault};
 
+use crate::command_line::CompileOptions;
 use crate::fault::Fault;
 use crate::files::Files;
 use crate::texts::{refused, text_of_file, write_file};
-use command_line::CompileOptions;
-use function_text::{FunctionFault, Texts, texts_of};
+use functions::function_text::{FunctionFault, Texts, texts_of};
 use std::alloc::Global;
 
 /// The texts of the plain or the optimised function that the text of a file is compiled to, for an observer. A refusal of

@@ -6,6 +6,7 @@
 #![tactic(auto)]
 
 mod certifying;
+pub mod command_line;
 mod evaluating;
 mod fault;
 mod files;
@@ -21,7 +22,7 @@ mod telling;
 mod texts;
 mod trying;
 
-pub use command_line::Request;
+pub use crate::command_line::Request;
 pub use fault::{Fault, FileFault};
 pub use files::Files;
 pub use performing::{command, perform};

@@ -4,10 +4,11 @@ ghost use Rattle.std.specs.Prelude.{◌≡◌, ◌≤◌, ◌++◌, ◌⊎◌, I
 ghost use Rattle.commands.specs.Leaks.{IsOutputFault};
 ghost use Rattle.commands.specs.Progress.{RequestTells};
 ghost use Rattle.commands.specs.Requests.{IsPut, IsDone, Fails, Reports, Performs};
-ghost use Rattle.progress.specs.GoingOn.{Reaches, HasLines};
+ghost use Rattle.run_reports.specs.progress.GoingOn.{Reaches, HasLines};
 ghost use Rattle.streams.specs.Streams.{GainsPart};
 
 use crate::certifying::certify_image;
+use crate::command_line::{NoRequest, Request, parse};
 use crate::evaluating::evaluate_text;
 use crate::fault::{Fault, FileFault};
 use crate::files::Files;
@@ -19,11 +20,10 @@ use crate::picturing::picture_image;
 use crate::side_by_side::{run_side_by_side, whole_text};
 use crate::texts::{build_image, check_text};
 use crate::trying::try_file;
-use command_line::{NoRequest, Request, parse};
+use input_files::wrapping::Asked;
 use language::Refusal;
 use std::alloc::Global;
 use streams::{Sink, put_all};
-use wrapping::Asked;
 
 /// The path that stands for standard output.
 pub const STANDARD_OUTPUT: &str = "-";

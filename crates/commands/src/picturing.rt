@@ -2,17 +2,17 @@
 
 ghost use Rattle.std.specs.Prelude.{◌≡◌, map, IsTrue, IfOk, IfErr};
 ghost use Rattle.codegen.specs.Loaded.{params_of};
-ghost use Rattle.image_fields.specs.Fields.{IsImage};
+ghost use Rattle.codegen.specs.image_fields.Fields.{IsImage};
 ghost use Rattle.commands.specs.Pictures.{PicturesOne, PicturesTwo, PicturesImage, RefusesOne, RefusesTwo, RefusesLists, SaysPicture, RefusesPicture};
 
 use crate::certifying::text_of;
 use crate::fault::Fault;
 use crate::files::Files;
 use crate::images::{both_args, image_of, pairing_line};
-use certificates::{Shifts, certify, read_given};
+use hepurita::image::Image;
 use hepurita::{RunFault, pair, params};
-use image::Image;
-use image_pictures::{picture_of_given, picture_of_pair};
+use image_reports::certificates::{Shifts, certify, read_given};
+use image_reports::image_pictures::{picture_of_given, picture_of_pair};
 use language::Param;
 use std::alloc::Global;
 

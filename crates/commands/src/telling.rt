@@ -1,19 +1,19 @@
 // Runs of an image that say on standard error how many turns they have made, where that is asked for.
 
 ghost use Rattle.std.specs.Prelude.{◌≡◌, false, [], IsTrue, OnOk, OnErr};
-ghost use Rattle.certificates.specs.Certified.{Certified};
+ghost use Rattle.image_reports.specs.certificates.Certified.{Certified};
 ghost use Rattle.commands.specs.Progress.{RunGoesOn, PairGoesOn, CertificateGoesOn, Tells};
 ghost use Rattle.hepurita.specs.Executed.{Executed};
 ghost use Rattle.hepurita.specs.Paired.{Paired};
-ghost use Rattle.progress.specs.GoingOn.{Reaches, HasLines, IsTold};
+ghost use Rattle.run_reports.specs.progress.GoingOn.{Reaches, HasLines, IsTold};
 
-use certificates::{Certificate, Shifts, certify, certify_telling};
+use hepurita::image::Image;
 use hepurita::{
     RunFault, answer, code, execute, fault_of_both, first_fault, load, pair, result_space,
 };
-use image::Image;
+use image_reports::certificates::{Certificate, Shifts, certify, certify_telling};
 use language::{Arg, Args, Outcome};
-use progress::{compare_telling, run_in_pieces};
+use run_reports::progress::{compare_telling, run_in_pieces};
 use rv_machine::{NullRecorder, Pairing};
 use std::alloc::Global;
 use streams::Sink;

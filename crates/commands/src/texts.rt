@@ -7,16 +7,16 @@ ghost use Rattle.commands.specs.FileTexts.{HoldsText, NoText};
 ghost use Rattle.commands.specs.Judged.{Tells, IsAccepted, IsRefusedSo, IsImageOf};
 ghost use Rattle.commands.specs.Unread.{NotRead};
 ghost use Rattle.commands.specs.Written.{IsWriteFault, WritesFile, FailsToWrite};
-ghost use Rattle.stream_build.specs.Faults as texts;
+ghost use Rattle.input_files.specs.stream_build.Faults as texts;
 
+use crate::command_line::CompileOptions;
 use crate::fault::{Fault, FileFault};
 use crate::files::Files;
-use command_line::CompileOptions;
-use explained_refusals::explain_refusal;
+use explanations::explained_refusals::explain_refusal;
 use hepurita::{build_with, judge_as};
+use input_files::stream_build::{BuildFault, text_of};
 use language::{Profile, Refusal};
 use std::alloc::Global;
-use stream_build::{BuildFault, text_of};
 use streams::ReadFault;
 use syntax::TEXT_LIMIT;
 

@@ -9,9 +9,9 @@ use crate::files::Files;
 use crate::performing::DONE;
 use crate::side_by_side::whole_text;
 use crate::texts::text_of_file;
+use image_reports::vectors::{read, try_vectors};
 use language::Profile;
 use std::alloc::Global;
-use vectors::{read, try_vectors};
 
 /// The exit status where a vector failed.
 const FAILED: u8 = 1;

@@ -1,3 +1,7 @@
+pub mod statement_costs_lemmas
+pub mod statement_work_lemmas
+pub mod refusal_details_lemmas
+pub mod explained_refusals_lemmas
 mod DistinctTexts
 mod FoundRows
 mod OneOfGroups

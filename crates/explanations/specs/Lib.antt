@@ -1,2 +1,6 @@
+pub mod statement_costs
+pub mod statement_work
+pub mod refusal_details
+pub mod explained_refusals
 pub mod Listed
 pub mod Text

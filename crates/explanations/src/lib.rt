@@ -5,10 +5,14 @@
 // that of the code asked for. Nothing here takes memory or fails. It stands on nothing but the standard library.
 #![tactic(auto)]
 
+pub mod explained_refusals;
 mod finding;
 pub mod lookup;
+pub mod refusal_details;
 pub mod row;
 mod rows;
+pub mod statement_costs;
+pub mod statement_work;
 
 pub use lookup::{codes, explanation};
 pub use row::Explanation;

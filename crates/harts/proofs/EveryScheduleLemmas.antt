@@ -7,7 +7,7 @@ use Rattle.std.proofs.lemmas.Option.{none-some, same_Some, slice_get_within}
 use Rattle.std.specs.List.{AllByRecursion}
 use Rattle.codegen.specs.Bases.{AreBases, IsInside}
 use Rattle.codegen.specs.Loaded.{code_at, loaded_at, results_in, params_of}
-use Rattle.arguments.specs.Within.{AreWithin}
+use Rattle.language.specs.arguments.Within.{AreWithin}
 use Rattle.harts.proofs.FrameLemmas.{frame_there, outcome_same}
 use Rattle.harts.proofs.Resting.{rests_on}
 use Rattle.harts.proofs.SystemLemmas.{IsFit, fit_of, all_fit, fit_at, run_of, member_at, job_at, own_of, own_is}
@@ -16,7 +16,7 @@ use Rattle.harts.specs.EverySchedule.{IsFromText, IsAlone, JobsAgree, AllAgree}
 use Rattle.harts.specs.SideBySide.{code_base_of, frame_base_of, Job, loaded_alone, member_of, members_from, system_of}
 use Rattle.hepurita.specs.Bases.{most_images}
 use Rattle.hepurita.specs.Compiled.{IsCompiled, Means}
-use Rattle.image_fields.specs.Fields.{Fields, IsImage}
+use Rattle.codegen.specs.image_fields.Fields.{Fields, IsImage}
 use Rattle.language.specs.Results.{Results}
 use Rattle.harts.proofs.Below.{alone, shown_the_same, shown_alone, stopped_alone, MemberTurn-determined}
 use Rattle.rv_machine.specs.Apart.{IsAsAlone, ShowTheSame}

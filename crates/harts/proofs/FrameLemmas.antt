@@ -6,12 +6,12 @@ use Rattle.std.proofs.Math.Nat.{mul-suc}
 use Rattle.std.proofs.lemmas.Bool.Decides.{nat_tests}
 use Rattle.std.specs.List.{AllByRecursion}
 use Rattle.std.specs.Option.{option_map}
-use Rattle.arguments.specs.Within.{AreWithin, HasShape}
+use Rattle.language.specs.arguments.Within.{AreWithin, HasShape}
 use Rattle.codegen.specs.Loaded.{params_of, with_numbers, with_argument, with_arguments, loaded_at, word_in}
 use Rattle.codegen.specs.Loaded.{numbers_at, array_in, arrays_in, results_in}
-use Rattle.image_fields.specs.Fields.{Fields, IsImage, slot_bytes, slot_end, result_end}
-use Rattle.image_fields.specs.declared.slot.ResultSlot.{ResultSlot}
-use Rattle.image_fields.specs.declared.slot.Slot.{Slot}
+use Rattle.codegen.specs.image_fields.Fields.{Fields, IsImage, slot_bytes, slot_end, result_end}
+use Rattle.codegen.specs.declared.image_fields.slot.ResultSlot.{ResultSlot}
+use Rattle.codegen.specs.declared.image_fields.slot.Slot.{Slot}
 use Rattle.language.specs.Results.{Results}
 use Rattle.language.specs.Size.{element_bytes, array_words}
 use Rattle.language.specs.declared.signature.Form.{Form}

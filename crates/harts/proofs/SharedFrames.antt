@@ -9,13 +9,13 @@ use Rattle.std.proofs.lemmas.Bool.{cases_eq, false≢true}
 use Rattle.std.proofs.lemmas.List.{drop_more}
 use Rattle.std.proofs.lemmas.List.Elements.{All-head, All-tail, All-cons, All-get_or, All-from_recursion}
 use Rattle.std.proofs.lemmas.Option.{none-some, same_Some, slice_get_within, get_or_from_slice_get}
-use Rattle.arguments.specs.Within.{AreWithin}
+use Rattle.language.specs.arguments.Within.{AreWithin}
 use Rattle.codegen.specs.Loaded.{with_numbers, with_argument, with_arguments}
 use Rattle.hepurita.specs.Frames.{HoldsSlot}
 use Rattle.harts.proofs.Below.{zeros_there, HoldsSlot-same, is_some-with_argument, slots_hold, with_byte_same}
 use Rattle.harts.proofs.Below.{with_byte_other, with_number-zero, with_number-suc}
-use Rattle.image_fields.specs.Fields.{slot_end, IsImage}
-use Rattle.image_fields.specs.declared.slot.Slot.{Slot}
+use Rattle.codegen.specs.image_fields.Fields.{slot_end, IsImage}
+use Rattle.codegen.specs.declared.image_fields.slot.Slot.{Slot}
 use Rattle.language.specs.Size.{element_bytes}
 use Rattle.language.specs.declared.values.Arg.{Arg}
 use Rattle.language.specs.declared.values.Arg.TheVariants.{Word, Array}

@@ -5,7 +5,7 @@ use Rattle.std.proofs.Common.{Some, None, is_some, refl, sym, ap, ap₂, subst, 
 use Rattle.std.proofs.lemmas.Bool.{cases_lt, false≢true}
 use Rattle.std.proofs.lemmas.Option.{none-some, same_Some, slice_get_within}
 use Rattle.std.specs.List.{AllByRecursion}
-use Rattle.arguments.specs.Within.{AreWithin}
+use Rattle.language.specs.arguments.Within.{AreWithin}
 use Rattle.codegen.specs.Bases.{AreBases}
 use Rattle.codegen.specs.Loaded.{params_of}
 use Rattle.harts.proofs.FrameLemmas.{frame_only}
@@ -14,8 +14,8 @@ use Rattle.harts.specs.SideBySide.{code_base_of, frame_base_of, Job, loaded_alon
 use Rattle.harts.specs.SideBySide.{members_from, system_of}
 use Rattle.hepurita.specs.Bases.{most_images, frame_distance}
 use Rattle.hepurita.specs.Compiled.{IsCompiled, RunsTo}
-use Rattle.image.specs.Reading.{Spells}
-use Rattle.image_fields.specs.Fields.{Fields, IsImage}
+use Rattle.hepurita.specs.image.Reading.{Spells}
+use Rattle.codegen.specs.image_fields.Fields.{Fields, IsImage}
 use Rattle.language.specs.Tree.{ProcedureTree, ProgramTree}
 use Rattle.harts.proofs.Below.{keeps_inside}
 use Rattle.rv_machine.specs.Apart.{Covers, KeepsInside, AreApart}

@@ -1,14 +1,14 @@
 -- What is promised of the images of accepted texts side by side, under any schedule.
 use Rattle.std.specs.Prelude.{◌≡◌, ◌⊎◌, ℕ, ◌+◌, ◌<◌, ◌≤◌, List, [], ◌∷◌, Some, None, All, slice_get}
-use Rattle.arguments.specs.Agreement.{Agree}
-use Rattle.arguments.specs.Within.{AreWithin}
+use Rattle.language.specs.arguments.Agreement.{Agree}
+use Rattle.language.specs.arguments.Within.{AreWithin}
 use Rattle.codegen.specs.Bases.{IsInside}
 use Rattle.codegen.specs.Loaded.{params_of, results_in}
 use Rattle.harts.specs.SideBySide.{frame_base_of, Job, loaded_alone, member_of}
 use Rattle.hepurita.specs.Built.{IsBuilt}
 use Rattle.hepurita.specs.Compiled.{Means}
 use Rattle.hepurita.specs.declared.optimisation.Optimisation.{Optimisation}
-use Rattle.image.specs.Reading.{Spells}
+use Rattle.hepurita.specs.image.Reading.{Spells}
 use Rattle.language.specs.Tree.{ProgramTree}
 use Rattle.word.specs.declared.profile.Profile.{Profile}
 use Rattle.rv_machine.specs.Bytes.{ByteMap}

@@ -1,10 +1,10 @@
 -- Frames side by side in one memory, and arguments put into one after another.
 use Rattle.std.specs.Prelude.{◌≡◌, ℕ, ◌+◌, List, [], ◌∷◌, slice_get, Some, All}
 use Rattle.std.proofs.Common.{suc}
-use Rattle.arguments.specs.Within.{AreWithin}
+use Rattle.language.specs.arguments.Within.{AreWithin}
 use Rattle.codegen.specs.Loaded.{params_of, with_arguments}
 use Rattle.hepurita.specs.Frames.{HoldsSlot}
-use Rattle.image_fields.specs.Fields.{Fields, IsImage}
+use Rattle.codegen.specs.image_fields.Fields.{Fields, IsImage}
 use Rattle.language.specs.declared.values.Arg.{Arg}
 use Rattle.rv_machine.specs.Bytes.{ByteMap}
 use Rattle.rv_machine.specs.declared.paged.AddressRange.{AddressRange}

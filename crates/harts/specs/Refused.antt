@@ -1,8 +1,8 @@
 -- Which images, arguments and schedules are refused.
 use Rattle.std.specs.Prelude.{◌≡◌, ◌⊎◌, ℕ, ◌<◌, ◌≤◌, nat_lt, if◌then◌else◌, List, length, take, slice_get, Option}
 use Rattle.std.specs.Prelude.{Some, None, All}
-use Rattle.arguments.specs.Faults.{fault_of}
-use Rattle.arguments.specs.declared.fault.ArgumentFault.{ArgumentFault}
+use Rattle.language.specs.arguments.Faults.{fault_of}
+use Rattle.language.specs.declared.arguments.fault.ArgumentFault.{ArgumentFault}
 use Rattle.codegen.specs.Loaded.{params_of}
 use Rattle.hepurita.specs.Bases.{most_images}
 use Rattle.harts.specs.SideBySide.{Job}

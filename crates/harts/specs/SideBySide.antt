@@ -3,7 +3,7 @@ use Rattle.std.specs.Prelude.{ℕ, ◌+◌, ◌*◌, List, [], ◌∷◌, None}
 use Rattle.std.proofs.Common.{zero, suc}
 use Rattle.codegen.specs.Loaded.{code_at, loaded_at}
 use Rattle.hepurita.specs.Bases.{code_base, frame_base, code_distance, frame_distance}
-use Rattle.image_fields.specs.Fields.{Fields}
+use Rattle.codegen.specs.image_fields.Fields.{Fields}
 use Rattle.language.specs.declared.values.Arg.{Arg}
 use Rattle.rv_machine.specs.Bytes.{ByteMap}
 use Rattle.rv_machine.specs.Machine.{State}

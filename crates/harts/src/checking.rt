@@ -6,10 +6,10 @@ ghost use Rattle.harts.specs.Frames.{job_of, IsRunnable};
 
 use crate::bases::MOST_IMAGES;
 use crate::fault::{HartsFault, HartsRule};
-use arguments::ArgumentFault;
 use hepurita::first_fault;
-use image::Image;
+use hepurita::image::Image;
 use language::Args;
+use language::arguments::ArgumentFault;
 
 /// The most entries of a schedule that are followed.
 pub const MOST_TURNS: usize = 1_048_576;

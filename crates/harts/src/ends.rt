@@ -4,7 +4,7 @@ ghost use Rattle.std.specs.Prelude.{◌≡◌, ◌<◌, ◌≤◌, List, length,
 ghost use Rattle.codegen.specs.Loaded.{results_in};
 ghost use Rattle.hepurita.specs.Bases.{most_images};
 ghost use Rattle.hepurita.specs.Frames.{IsSpaceFor};
-ghost use Rattle.image_fields.specs.Fields.{IsImage};
+ghost use Rattle.codegen.specs.image_fields.Fields.{IsImage};
 ghost use Rattle.language.specs.declared.values.Arg.{Arg};
 ghost use Rattle.rv_machine.specs.Paged.{paged_bytes};
 ghost use Rattle.rv_machine.specs.RunningHarts.{system_now};
@@ -14,8 +14,8 @@ ghost use Rattle.harts.specs.Frames.{job_of, HasImage};
 ghost use Rattle.harts.specs.SideBySide.{frame_base_of};
 
 use crate::bases::frame_base;
+use hepurita::image::Image;
 use hepurita::{ResultSpace, outcome, result_space};
-use image::Image;
 use language::{Args, Outcome};
 use rv_machine::{PagedMemory, RunningHarts, Stop};
 use std::alloc::{AllocError, Global};

@@ -4,7 +4,7 @@ ghost use Rattle.std.specs.Prelude.{◌≡◌};
 ghost use Rattle.harts.specs.RuleNames.{code_of, name_of};
 ghost use Rattle.harts.specs.declared.fault.HartsFault.TheVariants.{Memory};
 
-use arguments::ArgumentRule;
+use language::arguments::ArgumentRule;
 use std::alloc::{AllocError, AllocFailed};
 use std::fmt;
 

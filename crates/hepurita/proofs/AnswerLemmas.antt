@@ -3,11 +3,11 @@ use Rattle.std.proofs.Common.{◌≡◌, ◌≢◌, ◌↔◌, inl, inr, ℕ, �
 use Rattle.std.proofs.Common.{Option, None, Some, Result, Ok, if◌then◌else◌, refl, sym, ap, subst, ◌∙◌, arith}
 use Rattle.std.specs.Option.{option_map}
 use Rattle.std.proofs.lemmas.Bool.Decides.{Decides-eqb}
-use Rattle.arguments.specs.Faults.{fault_of, count_fault}
-use Rattle.arguments.specs.Within.{AreWithin}
-use Rattle.arguments.specs.declared.fault.ArgumentFault.{ArgumentFault}
-use Rattle.image_fields.specs.Fields.{Fields}
-use Rattle.image.specs.Reading.{Spells}
+use Rattle.language.specs.arguments.Faults.{fault_of, count_fault}
+use Rattle.language.specs.arguments.Within.{AreWithin}
+use Rattle.language.specs.declared.arguments.fault.ArgumentFault.{ArgumentFault}
+use Rattle.codegen.specs.image_fields.Fields.{Fields}
+use Rattle.hepurita.specs.image.Reading.{Spells}
 use Rattle.rv_machine.specs.Entries.{Entry, entries_of, Compares}
 use Rattle.rv_machine.specs.declared.pairing.Pairing.{Pairing}
 use Rattle.rv_machine.specs.declared.pairing.Pairing.TheVariants.{Same, Differ}
@@ -19,8 +19,8 @@ use Rattle.rv_machine.specs.declared.observation.Observation.{Observation}
 use Rattle.rv_machine.specs.declared.stops.Stop.{Stop}
 use Rattle.rv_machine.specs.declared.stops.Stop.TheVariants.{Ecall, Break, Illegal, AccessFault, Misaligned, Budget}
 use Rattle.rv_machine.specs.declared.stops.Stop.TheVariants.{RecorderRefused}
-use Rattle.arguments.specs.Agreement.{Agree}
-use Rattle.arguments.specs.PublicResults.{AgreeInPublic}
+use Rattle.language.specs.arguments.Agreement.{Agree}
+use Rattle.language.specs.arguments.PublicResults.{AgreeInPublic}
 use Rattle.hepurita.specs.Bases.{code_base, frame_base}
 use Rattle.codegen.specs.Bases.{AreBases}
 use Rattle.hepurita.specs.Compiled.{IsCompiled, Means, RunsTo, TwoRuns}

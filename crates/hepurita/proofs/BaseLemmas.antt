@@ -5,7 +5,7 @@ use Rattle.hepurita.specs.Bases.{code_base, frame_base, most_images, code_distan
 use Rattle.hepurita.specs.Compiled.{IsCompiled}
 use Rattle.hepurita.specs.Built.{JudgesProgram, accepts}
 use Rattle.hepurita.proofs.JudgementLemmas.{few_nodes, small_of}
-use Rattle.image_fields.specs.Fields.{Fields}
+use Rattle.codegen.specs.image_fields.Fields.{Fields}
 use Rattle.language.specs.Size.{extents_of, nodes_of}
 use Rattle.language.specs.Tree.{ProcedureTree, ProgramTree}
 use Rattle.language.specs.Limits.{most_nodes}

@@ -1,8 +1,8 @@
 -- The compiler's theorem, from what each pass promises.
 use Rattle.std.proofs.Common.{◌≡◌, ℕ, ◌+◌, ◌*◌, ◌≤◌, List, length, map, Option, sym, ap, ◌∙◌, subst}
-use Rattle.arguments.specs.Agreement.{Agree}
-use Rattle.arguments.specs.PublicResults.{AgreeInPublic}
-use Rattle.arguments.specs.Within.{AreWithin}
+use Rattle.language.specs.arguments.Agreement.{Agree}
+use Rattle.language.specs.arguments.PublicResults.{AgreeInPublic}
+use Rattle.language.specs.arguments.Within.{AreWithin}
 use Rattle.branch_removal.specs.Removed.{IsRemoved}
 use Rattle.branch_removal.specs.Straight.{StraightProgram}
 use Rattle.branch_removal.specs.StraightMeaning.{outcome_of, path_of}
@@ -10,7 +10,7 @@ use Rattle.codegen.specs.Anywhere.{IsPlaced, IsLoaded}
 use Rattle.codegen.specs.Bases.{AreBases}
 use Rattle.codegen.specs.Followed.{RunsAs, IsGenerated}
 use Rattle.codegen.specs.Loaded.{params_of, results_in}
-use Rattle.image_fields.specs.Fields.{Fields}
+use Rattle.codegen.specs.image_fields.Fields.{Fields}
 use Rattle.inline.specs.FlatMeaning.{outcome_of as outcome_of_flat}
 use Rattle.inline.specs.Numbering.{flattened, param_of}
 use Rattle.inline.specs.Path.{seen as seen_of}
@@ -25,7 +25,7 @@ use Rattle.language.specs.Results.{Results}
 use Rattle.language.specs.Tree.{ProcedureTree, ProgramTree}
 use Rattle.hepurita.specs.Compiled.{Means, WholeRun, RunsTo, TwoRuns, IsCompiled}
 use Rattle.hepurita.specs.Linked.{RunsLinked, IsLinked}
-use Rattle.source_work.specs.SourceWork.{source_work}
+use Rattle.source_laws.specs.source_work.SourceWork.{source_work}
 use Rattle.word.specs.declared.profile.Profile.{Profile}
 
 -- a procedure, the program's export, means what its body with numbered variables means

@@ -3,15 +3,15 @@ use Rattle.std.specs.Prelude.{◌⊎◌}
 use Rattle.std.proofs.Common.{◌≡◌, ◌≢◌, inl, inr, ℕ, suc, ◌<◌, ◌≤◌, List, ◌∷◌, ◌++◌, length, length-append, take}
 use Rattle.std.proofs.Common.{refl, sym, ap, subst, ◌∙◌, ⊎_elim, arith}
 use Rattle.std.proofs.lemmas.List.{take_all}
-use Rattle.arguments.specs.Agreement.{Agree}
-use Rattle.arguments.specs.Within.{AreWithin}
+use Rattle.language.specs.arguments.Agreement.{Agree}
+use Rattle.language.specs.arguments.Within.{AreWithin}
 use Rattle.codegen.specs.Loaded.{params_of, results_in}
 use Rattle.hepurita.proofs.AnswerLemmas.{Fits, run_on, same_shown}
 use Rattle.hepurita.specs.Bases.{frame_base}
 use Rattle.hepurita.specs.Compiled.{Means}
 use Rattle.hepurita.specs.CutOff.{IsRightSoFar}
 use Rattle.hepurita.specs.Uncut.{RunsFor}
-use Rattle.image_fields.specs.Fields.{Fields}
+use Rattle.codegen.specs.image_fields.Fields.{Fields}
 use Rattle.language.specs.Tree.{ProcedureTree, ProgramTree}
 use Rattle.language.specs.declared.values.Arg.{Arg}
 use Rattle.hepurita.proofs.Below.{Turn-determined, goes_on≢stops, Halts-determined, turn_stops}

@@ -2,9 +2,9 @@
 use Rattle.std.proofs.Common.{◌≡◌, ℕ, ◌+◌, ◌*◌, ◌<◌, ◌≤◌, Bool, true, ◌&&◌, nat_le, nat_lt, List, length, Some, None}
 use Rattle.std.proofs.Common.{cond, is_some, refl, sym, ap, subst, ◌∙◌, arith}
 use Rattle.std.proofs.lemmas.Bool.Decides.{nat_tests}
-use Rattle.arguments.specs.Within.{HasShape}
-use Rattle.image_fields.specs.Fields.{slot_end, slot_bytes}
-use Rattle.image_fields.specs.declared.slot.Slot.{Slot}
+use Rattle.language.specs.arguments.Within.{HasShape}
+use Rattle.codegen.specs.image_fields.Fields.{slot_end, slot_bytes}
+use Rattle.codegen.specs.declared.image_fields.slot.Slot.{Slot}
 use Rattle.rv_machine.specs.Bytes.{ByteMap, number_at, zeros}
 use Rattle.hepurita.proofs.Below.{is_some-with_number}
 use Rattle.language.specs.Size.{element_bytes, array_words}

@@ -2,9 +2,9 @@
 use Rattle.std.proofs.Common.{◌≡◌, ◌++◌, ℕ, ◌≤◌, ◌||◌, Bool, true, false, nat_lt, List, length, map, Option, None, Ok}
 use Rattle.std.proofs.Common.{refl, sym, ap, ◌∙◌, arith}
 use Rattle.std.proofs.lemmas.Bool.Decides.{nat_tests}
-use Rattle.arguments.specs.Faults.{fault_of}
-use Rattle.arguments.specs.Within.{AreWithin}
-use Rattle.arguments.specs.declared.fault.ArgumentFault.{ArgumentFault}
+use Rattle.language.specs.arguments.Faults.{fault_of}
+use Rattle.language.specs.arguments.Within.{AreWithin}
+use Rattle.language.specs.declared.arguments.fault.ArgumentFault.{ArgumentFault}
 use Rattle.inline.specs.FlatMeaning.{outcome_of}
 use Rattle.inline.specs.Numbering.{flattened, param_of}
 use Rattle.hepurita.proofs.Below.{accepted_is_safe}
@@ -18,7 +18,7 @@ use Rattle.language.specs.Limits.{most_bodies, most_declared_bytes, most_nodes}
 use Rattle.language.specs.declared.rule.Rule.TheVariants.{InlinedSize, DeclaredBytes}
 use Rattle.language.specs.declared.signature.Param.{Param}
 use Rattle.language.specs.declared.values.Arg.{Arg}
-use Rattle.run_bounds.proofs.Answered.{answered}
+use Rattle.source_laws.proofs.run_bounds_lemmas.Answered.{answered}
 use Rattle.source_eval.specs.Answer.{answer, judged_answer, found_params, params_of}
 use Rattle.word.specs.declared.place.Place.{Place}
 use Rattle.hepurita.specs.Built.{Judges, accepts, readable, fine}

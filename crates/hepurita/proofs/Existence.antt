@@ -3,7 +3,7 @@ use Rattle.std.proofs.Common.{◌≡◌, ℕ, List, [], length, None, Some, ⊎_
 use Rattle.hepurita.proofs.Below.{answer_to, Export, has_export, first_of}
 use Rattle.inline.specs.Numbering.{flattened}
 use Rattle.intervals.specs.Ranges.{range_violations}
-use Rattle.source_work.specs.SourceWork.{work_violations}
+use Rattle.source_laws.specs.source_work.SourceWork.{work_violations}
 use Rattle.language.specs.Meaning.{exported}
 use Rattle.language.specs.Size.{size_violations}
 use Rattle.language.specs.Tree.{ProcedureTree, ProgramTree}

@@ -1,11 +1,11 @@
 -- Faults of arguments, as faults of reading and of a run.
 use Rattle.std.proofs.Common.{◌≡◌, ℕ, ◌+◌, ◌<◌, ◌==◌, Bool, true, false, List, [], ◌∷◌, length, Option, None, Some}
 use Rattle.std.proofs.Common.{Result, Err, cond, ap, ◌∙◌, arith}
-use Rattle.arguments.specs.Faults.{fault_at, fault_from, fault_of, rule_of, count_fault}
-use Rattle.arguments.specs.declared.fault.ArgumentFault.{ArgumentFault}
-use Rattle.arguments.specs.declared.fault.ArgumentRule.{ArgumentRule}
-use Rattle.arguments.specs.declared.texts.ReadError.{ReadError}
-use Rattle.arguments.specs.declared.texts.ReadError.TheVariants as errors
+use Rattle.language.specs.arguments.Faults.{fault_at, fault_from, fault_of, rule_of, count_fault}
+use Rattle.language.specs.declared.arguments.fault.ArgumentFault.{ArgumentFault}
+use Rattle.language.specs.declared.arguments.fault.ArgumentRule.{ArgumentRule}
+use Rattle.language.specs.declared.arguments.texts.ReadError.{ReadError}
+use Rattle.language.specs.declared.arguments.texts.ReadError.TheVariants as errors
 use Rattle.language.specs.declared.signature.Param.{Param}
 use Rattle.language.specs.declared.values.Arg.{Arg}
 use Rattle.hepurita.specs.declared.fault.RunFault.{RunFault}

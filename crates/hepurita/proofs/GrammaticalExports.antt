@@ -10,8 +10,8 @@ use Rattle.language.specs.Meaning.{exported}
 use Rattle.language.specs.Tree.{ProcedureTree, ProgramTree}
 use Rattle.language.specs.Types.{at, when}
 use Rattle.language.specs.declared.rule.Rule.TheVariants.{TooMuchWork}
-use Rattle.source_work.proofs.Export.{work_is_that_of_the_body}
-use Rattle.source_work.specs.SourceWork.{source_work, work_violations}
+use Rattle.source_laws.proofs.source_work_lemmas.Export.{work_is_that_of_the_body}
+use Rattle.source_laws.specs.source_work.SourceWork.{source_work, work_violations}
 use Rattle.syntax.proofs.GrammarLemmas.{read_text}
 use Rattle.syntax.specs.Reading.{Reads, accepted}
 use Rattle.word.specs.declared.profile.Profile.{Profile}

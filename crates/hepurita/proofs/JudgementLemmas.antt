@@ -9,7 +9,7 @@ use Rattle.language.specs.declared.rule.Rule.TheVariants.{InlinedSize, DeclaredB
 use Rattle.language.specs.declared.typing.Violation.{Violation}
 use Rattle.inline.specs.Numbering.{flattened}
 use Rattle.intervals.specs.Ranges.{range_violations}
-use Rattle.source_work.specs.SourceWork.{work_violations}
+use Rattle.source_laws.specs.source_work.SourceWork.{work_violations}
 use Rattle.language.specs.Meaning.{exported}
 use Rattle.syntax.specs.Reading.{accepted, refused, OneAnswer}
 use Rattle.language.specs.Limits.{most_bodies, most_nodes, most_declared_bytes}

@@ -1,3 +1,4 @@
+pub mod image_lemmas
 mod Below
 pub mod ElementLemmas
 pub mod DataLemmas

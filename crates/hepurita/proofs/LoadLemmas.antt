@@ -2,9 +2,9 @@
 use Rattle.std.proofs.Common.{◌≡◌, ℕ, zero, suc, ◌+◌, ◌^◌, ◌<◌, ◌≤◌, List, [], ◌∷◌, length, map, drop, slice_index_or}
 use Rattle.std.proofs.Common.{refl, sym, ap, ◌∙◌, arith, drop-cons, add-one}
 use Rattle.std.specs.List.{AllByRecursion}
-use Rattle.arguments.specs.Within.{AreWithin, HasShape}
-use Rattle.image_fields.specs.Fields.{slot_end}
-use Rattle.image_fields.specs.declared.slot.Slot.{Slot}
+use Rattle.language.specs.arguments.Within.{AreWithin, HasShape}
+use Rattle.codegen.specs.image_fields.Fields.{slot_end}
+use Rattle.codegen.specs.declared.image_fields.slot.Slot.{Slot}
 use Rattle.rv_machine.specs.Bytes.{ByteMap, zeros}
 use Rattle.rv_machine.specs.Machine.{State}
 use Rattle.language.specs.declared.signature.Form.TheVariants.{SingleWord}

@@ -1,7 +1,7 @@
 -- What is answered to two lists of arguments, case by case.
 use Rattle.std.proofs.Common.{◌≡◌, ℕ, List, Some, None, Result, Err, sym, subst}
-use Rattle.arguments.specs.declared.fault.ArgumentFault.{ArgumentFault}
-use Rattle.image_fields.specs.Fields.{Fields}
+use Rattle.language.specs.declared.arguments.fault.ArgumentFault.{ArgumentFault}
+use Rattle.codegen.specs.image_fields.Fields.{Fields}
 use Rattle.rv_machine.specs.Leakage.{IsShown}
 use Rattle.rv_machine.specs.Machine.{State, Code}
 use Rattle.rv_machine.specs.declared.observation.Observation.{Observation}

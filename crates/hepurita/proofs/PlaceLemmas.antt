@@ -7,7 +7,7 @@ use Rattle.language.specs.declared.rule.Rule.{Rule}
 use Rattle.language.specs.Meaning.{exported}
 use Rattle.language.specs.Tree.{ProcedureTree, ProgramTree}
 use Rattle.syntax.specs.Reading.{Reads, accepted}
-use Rattle.grammar_laws.specs.Heads.{astray, in_procedure, in_procedures, in_program}
+use Rattle.source_laws.specs.grammar_laws.Heads.{astray, in_procedure, in_procedures, in_program}
 use Rattle.hepurita.proofs.Below.{heads_in_place, light_of, sizes_light, violations_light}
 use Rattle.hepurita.specs.Built.{IsWellFormed, JudgesProgram, refuses, ill_typed, too_large, out_of_range}
 use Rattle.hepurita.specs.Built.{too_much_work}

@@ -2,7 +2,7 @@
 use Rattle.std.proofs.Common.{◌≡◌, ℕ, ◌==◌, ◌&&◌, nat_lt, nat_le, List, [], ◌∷◌, length, Option, None, Some, arith}
 use Rattle.std.specs.List.{AllByRecursion}
 use Rattle.hepurita.proofs.Below.{none, more, both, AreAtLight}
-use Rattle.grammar_laws.specs.Heads.{in_procedure, in_procedures}
+use Rattle.source_laws.specs.grammar_laws.Heads.{in_procedure, in_procedures}
 use Rattle.inline.specs.declared.flat.FlatVariable.{FlatVariable}
 use Rattle.inline.specs.Flat.{TermTree, number, truth, variable, prefix, binary, rotate, convert, select, element}
 use Rattle.inline.specs.Flat.{FlatTree, declare, array, assign, put, hold, skip, branch, loop, FlatBlock, nothing}
@@ -13,7 +13,7 @@ use Rattle.intervals.specs.Intervals.{Bounds, interval}
 use Rattle.intervals.specs.Narrowing.{where_true, where_false}
 use Rattle.intervals.specs.Ranges.{index_violations, term_violations, terms_violations, violations, violations_all}
 use Rattle.intervals.specs.Ranges.{result_violations, range_violations, bounds_after, in_loop}
-use Rattle.source_work.specs.SourceWork.{source_work, work_violations}
+use Rattle.source_laws.specs.source_work.SourceWork.{source_work, work_violations}
 use Rattle.intervals.specs.Limits.{most_work}
 use Rattle.language.specs.Operators.{divides}
 use Rattle.language.specs.Tree.{ProcedureTree}

@@ -17,7 +17,7 @@ use Rattle.language.specs.declared.typing.Violation.{Violation}
 use Rattle.language.specs.FirstViolation.{IsFirst, IsNoLaterThan}
 use Rattle.inline.specs.Numbering.{flattened}
 use Rattle.intervals.specs.Ranges.{range_violations}
-use Rattle.source_work.specs.SourceWork.{work_violations}
+use Rattle.source_laws.specs.source_work.SourceWork.{work_violations}
 use Rattle.language.specs.Rules.{rank_of}
 use Rattle.language.specs.Size.{size_violations}
 use Rattle.language.specs.Tree.{ProcedureTree, ProgramTree}

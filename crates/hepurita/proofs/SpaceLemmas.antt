@@ -4,8 +4,8 @@ use Rattle.std.proofs.Common.{slice_index_or, refl, sym, ap, ◌∙◌, arith, d
 use Rattle.std.proofs.lemmas.List.{map-append}
 use Rattle.std.proofs.lemmas.List.Elements.{All-append}
 use Rattle.codegen.specs.Loaded.{array_in, arrays_in}
-use Rattle.image_fields.specs.Fields.{slot_bytes, slot_end}
-use Rattle.image_fields.specs.declared.slot.Slot.{Slot}
+use Rattle.codegen.specs.image_fields.Fields.{slot_bytes, slot_end}
+use Rattle.codegen.specs.declared.image_fields.slot.Slot.{Slot}
 use Rattle.language.specs.Size.{element_bytes}
 use Rattle.language.specs.declared.signature.Form.{Form}
 use Rattle.language.specs.declared.signature.Form.TheVariants.{SingleWord, FixedArray, MutableArray}

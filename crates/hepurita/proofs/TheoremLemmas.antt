@@ -1,11 +1,11 @@
 -- An accepted text's image is the export, compiled; and what the passes ask of its export.
 use Rattle.std.proofs.Common.{◌≡◌, ℕ, ◌≤◌, Bool, true, false, nat_lt, List, length, map, refl, sym, subst, ◌∙◌, arith}
 use Rattle.std.proofs.lemmas.Bool.Decides.{nat_tests}
-use Rattle.arguments.specs.Within.{AreWithin}
+use Rattle.language.specs.arguments.Within.{AreWithin}
 use Rattle.branch_removal.specs.Removed.{IsRemoved}
 use Rattle.branch_removal.specs.Straight.{StraightProgram}
 use Rattle.codegen.specs.Followed.{IsGenerated}
-use Rattle.image_fields.specs.Fields.{Fields}
+use Rattle.codegen.specs.image_fields.Fields.{Fields}
 use Rattle.hepurita.proofs.Below.{flat_keeps_meaning, flat_is_typed, accepted_is_safe, safe_runs_meet_no_fault}
 use Rattle.inline.specs.FlatMeaning.{outcome_of}
 use Rattle.inline.specs.FlatTyping.{IsTypedProgram}

@@ -1,7 +1,7 @@
 -- What the compiler answers to a text: the passes are asked in order, and each names its first violation.
 use Rattle.std.specs.Prelude.{◌≡◌, ◌⊎◌, ℕ, ◌+◌, ◌*◌, ◌<◌, List, [], length, Some}
-use Rattle.image_fields.specs.Fields.{Fields, IsImage}
-use Rattle.image.specs.Reading.{AreBytes, Spells}
+use Rattle.codegen.specs.image_fields.Fields.{Fields, IsImage}
+use Rattle.hepurita.specs.image.Reading.{AreBytes, Spells}
 use Rattle.codegen.specs.Bases.{AreBases}
 use Rattle.hepurita.specs.Bases.{code_base, frame_base, most_images, code_distance, frame_distance}
 use Rattle.hepurita.specs.Compiled.{IsCompiled}
@@ -9,7 +9,7 @@ use Rattle.hepurita.specs.Exact.{image_for}
 use Rattle.hepurita.specs.declared.optimisation.Optimisation.{Optimisation}
 use Rattle.inline.specs.Numbering.{flattened}
 use Rattle.intervals.specs.Ranges.{range_violations}
-use Rattle.source_work.specs.SourceWork.{work_violations}
+use Rattle.source_laws.specs.source_work.SourceWork.{work_violations}
 use Rattle.word.specs.declared.place.Place.{Place}
 use Rattle.word.specs.declared.profile.Profile.{Profile}
 use Rattle.language.specs.declared.refusal.Refusal.{Refusal}

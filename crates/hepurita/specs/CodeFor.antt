@@ -2,7 +2,7 @@
 use Rattle.branch_removal.specs.Removed.{IsRemoved}
 use Rattle.branch_removal.specs.Straight.{StraightProgram}
 use Rattle.codegen.specs.Followed.{IsGenerated}
-use Rattle.image_fields.specs.Fields.{Fields}
+use Rattle.codegen.specs.image_fields.Fields.{Fields}
 use Rattle.intervals.specs.Ranged.{RangedProgram}
 
 pub record IsCodeFor (straight : StraightProgram) (image : Fields) : Type 0 where

@@ -1,12 +1,12 @@
 -- What it is for an image to be a compiled procedure: its outcome is the source's, and it shows only what is public.
 use Rattle.std.specs.Prelude.{◌≡◌, ℕ, ◌+◌, ◌*◌, ◌≤◌, List, length, map, All}
 use Rattle.std.specs.Option.{option_map}
-use Rattle.arguments.specs.PublicResults.{AgreeInPublic}
-use Rattle.arguments.specs.Within.{AreWithin}
+use Rattle.language.specs.arguments.PublicResults.{AgreeInPublic}
+use Rattle.language.specs.arguments.Within.{AreWithin}
 use Rattle.inline.specs.Numbering.{param_of}
-use Rattle.source_work.specs.SourceWork.{source_work}
-use Rattle.image_fields.specs.Fields.{Fields, type_in}
-use Rattle.image_fields.specs.Limits.{most_frame_bytes}
+use Rattle.source_laws.specs.source_work.SourceWork.{source_work}
+use Rattle.codegen.specs.image_fields.Fields.{Fields, type_in}
+use Rattle.codegen.specs.image_fields.Limits.{most_frame_bytes}
 use Rattle.rv_machine.specs.Leakage.{Halts}
 use Rattle.rv_machine.specs.Machine.{State, Code}
 use Rattle.rv_machine.specs.declared.observation.Observation.{Observation}
@@ -14,7 +14,7 @@ use Rattle.rv_machine.specs.declared.stops.Stop.TheVariants.{Ecall}
 use Rattle.language.specs.declared.values.Arg.{Arg}
 use Rattle.language.specs.Size.{extents_of, nodes_of}
 use Rattle.language.specs.Tree.{ProcedureTree, ProgramTree}
-use Rattle.arguments.specs.Agreement.{Agree}
+use Rattle.language.specs.arguments.Agreement.{Agree}
 use Rattle.codegen.specs.Anywhere.{IsPlaced}
 use Rattle.codegen.specs.Bases.{AreBases, IsInside}
 use Rattle.codegen.specs.Loaded.{params_of, code_at, loaded_at, results_in}

@@ -4,15 +4,15 @@ use Rattle.std.specs.Prelude.{List, [], ◌∷◌, Option, None, Some}
 use Rattle.branch_removal.specs.Exact.{straight_of}
 use Rattle.branch_removal.specs.Straight.{StraightProgram}
 use Rattle.codegen.specs.Exact.{fields_of, optimised_fields_of}
-use Rattle.constants.specs.Exact.{simplified_of, unrolled_of}
-use Rattle.element_words.specs.Exact.{split_of}
+use Rattle.optimisation.specs.constants.Exact.{simplified_of, unrolled_of}
+use Rattle.optimisation.specs.element_words.Exact.{split_of}
 use Rattle.hepurita.specs.declared.optimisation.Optimisation.{Optimisation}
 use Rattle.hepurita.specs.declared.optimisation.Optimisation.TheVariants.{Off, On}
-use Rattle.image_fields.specs.Fields.{Fields}
+use Rattle.codegen.specs.image_fields.Fields.{Fields}
 use Rattle.inline.specs.Numbering.{flattened}
 use Rattle.intervals.specs.Work.{ranged}
 use Rattle.language.specs.Tree.{ProcedureTree}
-use Rattle.live_words.specs.Exact.{shared_of}
+use Rattle.optimisation.specs.live_words.Exact.{shared_of}
 use Rattle.word.specs.declared.profile.Profile.{Profile}
 
 -- the first image of those that are there, and else another

@@ -2,8 +2,8 @@
 use Rattle.std.specs.Prelude.{◌≡◌, ℕ, ◌+◌, ◌*◌, ◌^◌, ◌<◌, ◌≤◌, true, is_some, List, [], length, map, All}
 use Rattle.std.specs.Prelude.{vec_capacity}
 use Rattle.codegen.specs.Loaded.{arrays_in, numbers_at}
-use Rattle.image_fields.specs.Fields.{Fields, slot_end}
-use Rattle.image_fields.specs.declared.slot.Slot.{Slot}
+use Rattle.codegen.specs.image_fields.Fields.{Fields, slot_end}
+use Rattle.codegen.specs.declared.image_fields.slot.Slot.{Slot}
 use Rattle.language.specs.Size.{element_bytes}
 use Rattle.rv_machine.specs.Bytes.{ByteMap}
 use Rattle.hepurita.specs.declared.results.ArraySpace.{ArraySpace}

@@ -1,3 +1,4 @@
+pub mod image
 pub mod Bases
 pub mod Frames
 pub mod Meant

@@ -1,13 +1,13 @@
 -- What is promised of the body of a compiled image, wherever its words stand, so that it can be the body of a
 -- function: among whatever other code it does what the image does, and leaves what is not its own as it was.
 use Rattle.std.specs.Prelude.{◌≡◌, ℕ, List}
-use Rattle.arguments.specs.Agreement.{Agree}
-use Rattle.arguments.specs.PublicResults.{AgreeInPublic}
-use Rattle.arguments.specs.Within.{AreWithin}
+use Rattle.language.specs.arguments.Agreement.{Agree}
+use Rattle.language.specs.arguments.PublicResults.{AgreeInPublic}
+use Rattle.language.specs.arguments.Within.{AreWithin}
 use Rattle.codegen.specs.Anywhere.{IsLoaded, BodyRun}
 use Rattle.codegen.specs.Loaded.{params_of, results_in}
 use Rattle.hepurita.specs.Meant.{Means}
-use Rattle.image_fields.specs.Fields.{Fields}
+use Rattle.codegen.specs.image_fields.Fields.{Fields}
 use Rattle.language.specs.declared.values.Arg.{Arg}
 use Rattle.language.specs.Results.{Results}
 use Rattle.language.specs.Tree.{ProcedureTree, ProgramTree}

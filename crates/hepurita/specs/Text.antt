@@ -1,6 +1,6 @@
 -- How faults of a run are printed.
 use Rattle.std.specs.Prelude.{ℕ, List, None, codes}
-use Rattle.arguments.specs.Text.{fault_text}
+use Rattle.language.specs.arguments.Text.{fault_text}
 use Rattle.rv_machine.specs.Stops.{stop_name}
 use Rattle.hepurita.specs.declared.fault.RunFault.{RunFault}
 use Rattle.hepurita.specs.declared.fault.RunFault.TheVariants.{Argument, Memory, Stopped}

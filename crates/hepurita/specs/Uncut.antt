@@ -1,7 +1,7 @@
 -- Runs of at most so many turns that no recorder cuts short.
 use Rattle.std.specs.Prelude.{◌≢◌, ℕ, List}
 use Rattle.codegen.specs.Loaded.{code_at, loaded_at}
-use Rattle.image_fields.specs.Fields.{Fields}
+use Rattle.codegen.specs.image_fields.Fields.{Fields}
 use Rattle.language.specs.declared.values.Arg.{Arg}
 use Rattle.rv_machine.specs.Leakage.{Runs}
 use Rattle.rv_machine.specs.Machine.{State, Code}

@@ -1,14 +1,14 @@
 // What is wrong with arguments, found over an image's slots before any memory is asked for.
 
 ghost use Rattle.std.specs.Prelude.{◌≡◌, ◌↔◌, None};
-ghost use Rattle.arguments.specs.Faults.{fault_of};
-ghost use Rattle.arguments.specs.Within.{AreWithin};
+ghost use Rattle.language.specs.arguments.Faults.{fault_of};
+ghost use Rattle.language.specs.arguments.Within.{AreWithin};
 ghost use Rattle.codegen.specs.Loaded.{params_of};
-ghost use Rattle.image_fields.specs.Fields.{IsImage};
+ghost use Rattle.codegen.specs.image_fields.Fields.{IsImage};
 
-use arguments::{ArgumentFault, broken_rule, first_fault_by};
-use image::Image;
-use image_fields::Slot;
+use crate::image::Image;
+use codegen::image_fields::Slot;
+use language::arguments::{ArgumentFault, broken_rule, first_fault_by};
 use language::{Arg, Args};
 
 /// The first fault of an image's arguments: their count before all else, then the leftmost faulty argument, its shape

@@ -1,17 +1,17 @@
 // Two runs of an image, compared by what an observer sees.
 
 ghost use Rattle.std.specs.Prelude.{◌≡◌, None};
-ghost use Rattle.arguments.specs.Within.{AreWithin};
+ghost use Rattle.language.specs.arguments.Within.{AreWithin};
 ghost use Rattle.codegen.specs.Loaded.{params_of};
-ghost use Rattle.image_fields.specs.Fields.{IsImage};
+ghost use Rattle.codegen.specs.image_fields.Fields.{IsImage};
 ghost use Rattle.hepurita.specs.Paired.{pair_fault, Paired};
 
 use crate::checking::first_fault;
 use crate::fault::RunFault;
+use crate::image::Image;
 use crate::loading::{code, load};
-use arguments::ArgumentFault;
-use image::Image;
 use language::Args;
+use language::arguments::ArgumentFault;
 use rv_machine::{Pairing, compare};
 use std::alloc::Global;
 

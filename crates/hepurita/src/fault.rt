@@ -3,8 +3,8 @@
 ghost use Rattle.std.specs.Prelude.{◌≡◌};
 ghost use Rattle.hepurita.specs.declared.fault.RunFault.TheVariants.{Argument, Memory};
 
-use arguments::{ArgumentFault, ArgumentRule};
 use language::Refusal;
+use language::arguments::{ArgumentFault, ArgumentRule};
 use rv_machine::Stop;
 use std::alloc::{AllocError, AllocFailed};
 use std::fmt;

@@ -1,12 +1,12 @@
 // What the answers of the calls are to each other.
 
 ghost use Rattle.std.specs.Prelude.{ℕ, ◌+◌, ◌*◌, ◌<◌, ◌≤◌, ◌≡◌, ◌≢◌, Bool, List, ◌++◌, Result, Ok, Err, Some, map};
-ghost use Rattle.arguments.specs.Within.{AreWithin, words_of};
+ghost use Rattle.language.specs.arguments.Within.{AreWithin, words_of};
 ghost use Rattle.branch_removal.specs.Removed.{IsRemoved};
 ghost use Rattle.branch_removal.specs.Straight.{StraightProgram};
 ghost use Rattle.codegen.specs.Bases.{AreBases};
 ghost use Rattle.codegen.specs.Followed.{IsGenerated};
-ghost use Rattle.image_fields.specs.Fields.{Fields};
+ghost use Rattle.codegen.specs.image_fields.Fields.{Fields};
 ghost use Rattle.inline.specs.Numbering.{flattened, param_of};
 ghost use Rattle.intervals.specs.Work.{ranged};
 ghost use Rattle.intervals.specs.Limits.{most_work};
@@ -14,8 +14,8 @@ ghost use Rattle.rv_machine.specs.declared.pairing.Pairing.{Pairing};
 ghost use Rattle.rv_machine.specs.Machine.{State};
 ghost use Rattle.rv_machine.specs.declared.observation.Observation.{Observation};
 ghost use Rattle.rv_machine.specs.declared.stops.Stop.{Stop};
-ghost use Rattle.arguments.specs.Agreement.{Agree};
-ghost use Rattle.arguments.specs.PublicResults.{AgreeInPublic};
+ghost use Rattle.language.specs.arguments.Agreement.{Agree};
+ghost use Rattle.language.specs.arguments.PublicResults.{AgreeInPublic};
 ghost use Rattle.language.specs.Size.{extents_of, nodes_of};
 ghost use Rattle.language.specs.Limits.{most_nodes};
 ghost use Rattle.hepurita.specs.Bases.{code_base, frame_base, most_images, code_distance, frame_distance};
@@ -37,7 +37,7 @@ ghost use Rattle.hepurita.specs.Executed.{Executed, WantsMemory};
 ghost use Rattle.hepurita.specs.Paired.{Paired};
 ghost use Rattle.hepurita.specs.Uncut.{RunsFor};
 
-use arguments::faultless_arguments;
+use language::arguments::faultless_arguments;
 use syntax::one_answer_for_a_text;
 
 /// What the passes promise, put together. Where a text is a program that is accepted with an export, for an observer, the

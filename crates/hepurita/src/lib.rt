@@ -9,6 +9,7 @@ mod comparing;
 mod elements;
 mod executing;
 mod fault;
+pub mod image;
 mod judging;
 mod laws;
 mod loading;

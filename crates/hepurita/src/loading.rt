@@ -1,10 +1,10 @@
 // Images and their arguments, loaded into a machine.
 
 ghost use Rattle.std.specs.Prelude.{◌≡◌, ◌≤◌, length, map, All, IfOk};
-ghost use Rattle.arguments.specs.Within.{AreWithin, HasShape};
+ghost use Rattle.language.specs.arguments.Within.{AreWithin, HasShape};
 ghost use Rattle.codegen.specs.Loaded.{params_of, with_argument, with_arguments, code_at, loaded_at};
-ghost use Rattle.image_fields.specs.Fields.{IsImage};
-ghost use Rattle.image_fields.specs.Limits.{most_parameters};
+ghost use Rattle.codegen.specs.image_fields.Fields.{IsImage};
+ghost use Rattle.codegen.specs.image_fields.Limits.{most_parameters};
 ghost use Rattle.rv_machine.specs.Harts.{state_of};
 ghost use Rattle.rv_machine.specs.Bytes.{zeros};
 ghost use Rattle.rv_machine.specs.Paged.{paged_bytes};
@@ -13,8 +13,8 @@ ghost use Rattle.hepurita.specs.Bases.{code_base, frame_base};
 ghost use Rattle.hepurita.specs.Frames.{HoldsSlot};
 
 use crate::elements::{element_size, put_numbers};
-use image::Image;
-use image_fields::Slot;
+use crate::image::Image;
+use codegen::image_fields::Slot;
 use language::{Arg, Args, Param};
 use rv_machine::hart::Hart;
 use rv_machine::memory::{Memory, Size};

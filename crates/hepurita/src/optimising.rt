@@ -2,18 +2,18 @@
 
 ghost use Rattle.std.specs.Prelude.{◌≡◌, IfOk, IfErr, IfSome};
 ghost use Rattle.codegen.specs.Exact.{optimised_fields_of};
-ghost use Rattle.constants.specs.Exact.{simplified_of, unrolled_of};
+ghost use Rattle.optimisation.specs.constants.Exact.{simplified_of, unrolled_of};
 ghost use Rattle.hepurita.specs.CodeFor.{IsCodeFor};
 ghost use Rattle.hepurita.specs.Exact.{finished_of};
-ghost use Rattle.image_fields.specs.Fields.{IsImage};
+ghost use Rattle.codegen.specs.image_fields.Fields.{IsImage};
 ghost use Rattle.language.specs.WantOfMemory.{IsWantOfMemory};
 
 use branch_removal::{Straight, replaced_is_removed};
 use codegen::{Code, generate_optimised};
-use constants::{simplify, unroll};
-use element_words::Words;
 use language::Refusal;
-use live_words::share_words;
+use optimisation::constants::{simplify, unroll};
+use optimisation::element_words::Words;
+use optimisation::live_words::share_words;
 use std::alloc::Global;
 
 /// The optimised code of a program whose loops are as they stay, where it is within the limit on words: short arrays become

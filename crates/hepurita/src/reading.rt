@@ -1,13 +1,13 @@
 // Arguments from the texts that spell them.
 
 ghost use Rattle.std.specs.Prelude.{◌≡◌, ◌≢◌, ◌↔◌, Some, None, Err, map, IfOk, OnOk};
-ghost use Rattle.arguments.specs.declared.fault.ArgumentFault.{ArgumentFault};
-ghost use Rattle.arguments.specs.Texts.{numbers_of, fault_of_texts};
-ghost use Rattle.arguments.specs.Within.{words_of, AreWithin};
+ghost use Rattle.language.specs.declared.arguments.fault.ArgumentFault.{ArgumentFault};
+ghost use Rattle.language.specs.arguments.Texts.{numbers_of, fault_of_texts};
+ghost use Rattle.language.specs.arguments.Within.{words_of, AreWithin};
 ghost use Rattle.rv_machine.specs.declared.stops.Stop.{Stop};
 
 use crate::fault::RunFault;
-use arguments::{ReadError, read};
+use language::arguments::{ReadError, read};
 use language::{Args, Param};
 use std::alloc::Global;
 

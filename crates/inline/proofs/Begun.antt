@@ -21,7 +21,7 @@ use Rattle.language.specs.Typing.{with_parameters, parameter_as, is_mutable, sam
 use Rattle.language.specs.WellTyped.{labelled, HasType, Suits, IsVariable, IsPassed, as_word, as_array}
 use Rattle.language.specs.WellTyped.{as_mutable_array, array_given, array_of, SharesNone, ArePassed, none_passed}
 use Rattle.language.specs.WellTyped.{one_passed, AreNew, one_is_new}
-use Rattle.names.specs.Scope.{found}
+use Rattle.language.specs.names.Scope.{found}
 use Rattle.inline.proofs.Below.{found-new, found-other, found-kept}
 use Rattle.inline.proofs.Linked.{Linked, Serves, entry, linked_named, linked_beside, linked_declared, known_array}
 use Rattle.inline.proofs.Parameters.{parameter_same, typed_with, itself}

@@ -22,7 +22,7 @@ use Rattle.language.specs.Tree.{ExprTree, CallTree, ParameterTree, ProcedureTree
 use Rattle.language.specs.Types.{Scope}
 use Rattle.language.specs.Typing.{is_mutable, result_value}
 use Rattle.language.specs.WellTyped.{ArePassed, none_passed, one_passed, IsCall, of_procedure}
-use Rattle.names.specs.Scope.{found}
+use Rattle.language.specs.names.Scope.{found}
 use Rattle.inline.proofs.Below.{known-named}
 use Rattle.inline.proofs.Begun.{Enters, array_passed, enters, distinct_none}
 use Rattle.inline.proofs.Called.{Agrees, Spares, IsKept, Ready}

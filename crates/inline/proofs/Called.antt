@@ -21,7 +21,7 @@ use Rattle.language.specs.Types.{Scope, declared}
 use Rattle.language.specs.Typing.{with_parameters, scope_after, scope_after_all}
 use Rattle.language.specs.WellTyped.{labelled, AreNew, IsWellTyped, declares, declares_array, assigns}
 use Rattle.language.specs.WellTyped.{assigns_element, calls, chooses, repeats, AreWellTyped, no_statement, one_more}
-use Rattle.names.specs.Scope.{found}
+use Rattle.language.specs.names.Scope.{found}
 use Rattle.inline.proofs.Comes.{Comes}
 use Rattle.inline.proofs.Linked.{Linked, later, linked_declared, variable_as}
 use Rattle.inline.proofs.Parameters.{NoVariables}

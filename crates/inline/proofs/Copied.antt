@@ -21,7 +21,7 @@ use Rattle.language.specs.Types.{Scope}
 use Rattle.language.specs.Typing.{is_mutable}
 use Rattle.language.specs.WellTyped.{labelled, IsVariable, as_word, as_array, as_mutable_array, array_of, ArePassed}
 use Rattle.language.specs.WellTyped.{none_passed, one_passed}
-use Rattle.names.specs.Scope.{found}
+use Rattle.language.specs.names.Scope.{found}
 use Rattle.inline.proofs.Begun.{NamesGiven}
 use Rattle.inline.proofs.Called.{Spares}
 use Rattle.inline.proofs.Linked.{Linked, entry, known_array}

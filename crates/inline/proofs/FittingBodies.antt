@@ -5,7 +5,7 @@ use Rattle.std.proofs.Common.{subst, refl, arith, eqb-true}
 use Rattle.std.proofs.lemmas.List.{length-set, length-replicate, length-map}
 use Rattle.std.proofs.lemmas.List.Elements.{All-nil, All-cons, All-set, All-replicate}
 use Rattle.std.proofs.lemmas.Option.{none-some, same_Some}
-use Rattle.arguments.specs.Within.{AreWithin, IsWithin, greatest_of, words_of}
+use Rattle.language.specs.arguments.Within.{AreWithin, IsWithin, greatest_of, words_of}
 use Rattle.inline.specs.declared.flat.FlatVariable.{FlatVariable}
 use Rattle.inline.specs.Fitting.{IsWithinKind, IsHeld, Fits}
 use Rattle.inline.specs.Flat.{TermTree, FlatTree, declare, array, assign, put, hold, skip, branch, loop, FlatBlock}

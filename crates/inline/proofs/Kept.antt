@@ -21,7 +21,7 @@ use Rattle.language.specs.Types.{Scope}
 use Rattle.language.specs.WellTyped.{labelled, IsVariable, of_value, of_call, IsWellTyped, declares, declares_array}
 use Rattle.language.specs.WellTyped.{assigns, assigns_element, calls, chooses, repeats, AreWellTyped, no_statement}
 use Rattle.language.specs.WellTyped.{one_more}
-use Rattle.names.specs.Scope.{found}
+use Rattle.language.specs.names.Scope.{found}
 use Rattle.inline.specs.Flat.{TermTree}
 use Rattle.inline.proofs.Called.{Spares, Ready, ready_later, ready_declared, ready_after}
 use Rattle.inline.proofs.CallEnds.{call_means}

@@ -19,7 +19,7 @@ use Rattle.language.specs.WellTyped.{labelled}
 use Rattle.inline.specs.Numbering.{Callables, Numbers, block, names_after, names_after_all, naming, statement, single}
 use Rattle.inline.specs.Numbering.{term, label_in, right_end, declared_in, declared_in_all, numbers_taken}
 use Rattle.inline.specs.Numbering.{numbers_taken_all, dropped_block, value_given}
-use Rattle.names.specs.Scope.{declared, found}
+use Rattle.language.specs.names.Scope.{declared, found}
 use Rattle.word.specs.declared.place.Place.{Place}
 use Rattle.language.specs.declared.tree.Expr.{Expr}
 use Rattle.language.specs.declared.tree.Statement.{Statement, If, For}

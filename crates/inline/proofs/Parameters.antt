@@ -5,7 +5,7 @@ use Rattle.std.proofs.lemmas.Option.{none-some, same_Some}
 use Rattle.std.specs.Str.{bytes_eq}
 use Rattle.word.specs.declared.profile.Profile.{Profile}
 use lib.Pointwise.{bytes_decides}
-use Rattle.arguments.specs.Within.{AreWithin, HasShape, words_of}
+use Rattle.language.specs.arguments.Within.{AreWithin, HasShape, words_of}
 use Rattle.inline.specs.declared.flat.FlatVariable.{FlatVariable}
 use Rattle.inline.specs.declared.numbering.Numbered.{Numbered}
 use Rattle.inline.specs.Flat.{declaration_of, elements_by, numbers_in}
@@ -13,7 +13,7 @@ use Rattle.inline.specs.FlatMeaning.{Values, given, array_of, arrays_from}
 use Rattle.inline.specs.FlatTyping.{Types, with_type, types_of}
 use Rattle.inline.specs.Numbering as numbering
 use Rattle.inline.specs.Numbering.{Numbers, param_of, naming}
-use Rattle.names.specs.Scope.{found}
+use Rattle.language.specs.names.Scope.{found}
 use Rattle.language.specs.declared.signature.Form.{Form}
 use Rattle.language.specs.declared.signature.Form.TheVariants.{SingleWord, FixedArray, MutableArray}
 use Rattle.language.specs.declared.signature.Kind.{Kind}

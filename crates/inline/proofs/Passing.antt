@@ -24,7 +24,7 @@ use Rattle.language.specs.Tree.{ExprTree, ParameterTree}
 use Rattle.language.specs.Types.{Scope}
 use Rattle.language.specs.WellTyped as rules
 use Rattle.language.specs.WellTyped.{labelled, ArePassed, none_passed, one_passed}
-use Rattle.names.specs.Scope.{found}
+use Rattle.language.specs.names.Scope.{found}
 use Rattle.inline.proofs.Begun.{ArrayGiven, word_given, array_passed, kept_begun}
 use Rattle.inline.proofs.Comes.{Comes, well, then_comes, also, across}
 use Rattle.inline.proofs.Linked.{Linked, entry, later}

@@ -22,7 +22,7 @@ use Rattle.language.specs.WellTyped.{repeats, IsProcedure, AreProcedures, no_pro
 use Rattle.inline.proofs.KnownLemmas.{named-kept, named-missed, named-new}
 use Rattle.inline.proofs.Below.{found-new, found-other, found-split}
 use Rattle.inline.proofs.Parameters.{NoVariables}
-use Rattle.typing_laws.proofs.Programs.{programs}
+use Rattle.language.proofs.typing_laws_lemmas.Programs.{programs}
 
 -- what a name in scope is, where it is a procedure's
 abbrev pub as_callee : Scope → ℕ → ProcedureTree → Callee

@@ -11,7 +11,7 @@ use Rattle.inline.specs.FlatMeaning.{Values}
 use Rattle.inline.specs.FlatMeaning as flat
 use Rattle.inline.specs.FlatTyping.{Types}
 use Rattle.inline.specs.Numbering.{Numbers, Callables, naming, names_after, names_after_all, numbers_taken, right_end}
-use Rattle.names.specs.Scope.{found}
+use Rattle.language.specs.names.Scope.{found}
 use Rattle.language.specs.State.{State, Value, with_value}
 use Rattle.language.specs.Tree.{StatementTree, declaration, array, assignment, element_assignment, call, conditional}
 use Rattle.language.specs.Tree.{loop, BlockTree, nothing, first}

@@ -12,7 +12,7 @@ use Rattle.inline.specs.FlatTyping as flat
 use Rattle.inline.specs.FlatTyping.{Types, HasType, Suits}
 use Rattle.inline.specs.Numbering.{Numbers, number_of, size_of, kind_in, label_in, term}
 use Rattle.inline.specs.Path.{indexed, divided, multiplied, either, first_fault}
-use Rattle.names.specs.Scope.{found}
+use Rattle.language.specs.names.Scope.{found}
 use Rattle.language.specs.declared.signature.Kind.{Kind}
 use Rattle.language.specs.declared.signature.Kind.TheVariants.{Boolean, Uint32}
 use Rattle.language.specs.declared.signature.Label.{Label}

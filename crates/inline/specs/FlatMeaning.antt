@@ -3,7 +3,7 @@
 use Rattle.std.specs.Prelude.{ℕ, zero, suc, ◌+◌, ◌-◌, ◌==◌, List, [], ◌∷◌, ◌++◌, map, replicate, drop, Option, None}
 use Rattle.std.specs.Prelude.{Some, if◌then◌else◌, slice_index, slice_set}
 use Rattle.std.specs.Option.{option_map}
-use Rattle.arguments.specs.Within.{words_of}
+use Rattle.language.specs.arguments.Within.{words_of}
 use Rattle.inline.specs.declared.flat.FlatVariable.{FlatVariable}
 use Rattle.inline.specs.Flat.{TermTree, number, truth, variable, prefix, binary, rotate, convert, select, element}
 use Rattle.inline.specs.Flat.{FlatTree, declare, array, assign, put, hold, skip, branch, loop, FlatBlock, nothing}

@@ -12,7 +12,7 @@ use Rattle.language.specs.Size.{right_words, right_bodies, statement_nodes, stat
 use Rattle.language.specs.Size.{block_nodes, block_words, block_bodies, nodes_of, bodies_of}
 use Rattle.language.specs.Tree.{CallTree, RightTree, StatementTree, BlockTree, ProcedureTree, parameter_tree}
 use Rattle.language.specs.Types.{at, when}
-use Rattle.names.specs.Scope.{found}
+use Rattle.language.specs.names.Scope.{found}
 use Rattle.word.specs.declared.place.Place.{Place}
 
 -- a count is at most the greatest number of 32 bits

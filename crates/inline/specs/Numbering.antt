@@ -4,7 +4,7 @@
 use Rattle.std.specs.Prelude.{ℕ, ◌+◌, false, List, [], ◌∷◌, ◌++◌, length, map, Option, None, Some, unwrap_or}
 use Rattle.std.specs.Prelude.{if◌then◌else◌}
 use Rattle.std.specs.Option.{option_map}
-use Rattle.names.specs.Scope.{found, declared}
+use Rattle.language.specs.names.Scope.{found, declared}
 use Rattle.inline.specs.declared.flat.FlatVariable.{FlatVariable}
 use Rattle.inline.specs.Flat.{TermTree, FlatTree, FlatBlock, FlatProgram, chain, word_as, array_as, declaration_of}
 use Rattle.inline.specs.Flat.{numbers_in, counter_type}

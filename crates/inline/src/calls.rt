@@ -7,8 +7,8 @@ ghost use Rattle.language.specs.Tree.{expr_tree, parameter_tree};
 
 use crate::numbering::{Numbered, Numbering, add};
 use crate::{FlatStatement, FlatVariable};
+use language::names::Names;
 use language::{Expr, Form, Parameter, WordType};
-use names::Names;
 use std::alloc::AllocError;
 
 /// Puts a statement behind a block.

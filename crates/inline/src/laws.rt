@@ -3,7 +3,7 @@
 ghost use Rattle.std.specs.List.{AllByRecursion};
 ghost use Rattle.std.specs.Prelude.{◌≡◌, ℕ, [], List, Some, length, map};
 ghost use Rattle.word.specs.declared.profile.Profile.{Profile};
-ghost use Rattle.arguments.specs.Within.{AreWithin};
+ghost use Rattle.language.specs.arguments.Within.{AreWithin};
 ghost use Rattle.inline.specs.Counts.{AreCountsTo, counted_to, extent_to};
 ghost use Rattle.inline.specs.declared.flat.FlatVariable.{FlatVariable};
 ghost use Rattle.inline.specs.Fitting.{Fits, IsWithinKind};

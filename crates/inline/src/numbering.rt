@@ -11,8 +11,8 @@ ghost use Rattle.language.specs.WellTyped.{labelled};
 
 use crate::typed::{binary, element, prefix, rotate, select};
 use crate::{FlatStatement, FlatVariable, Term};
+use language::names::Names;
 use language::{ArrayDeclaration, Expr, Kind, Label, Param, Parameter, Return, WordType};
-use names::Names;
 use std::alloc::{AllocError, Global};
 
 /// What a name stands for: a variable's number, and what it is declared as.

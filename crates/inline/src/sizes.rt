@@ -16,11 +16,11 @@ ghost use Rattle.language.specs.WantOfMemory.{IsWantOfMemory};
 
 use crate::measured::{Measured, Size};
 use crate::nodes::{nodes_in, nodes_in_all, nodes_passed};
+use language::names::Names;
 use language::{
     ArrayDeclaration, Call, ElementAssignment, Expr, Form, MOST_BODIES, MOST_DECLARED_BYTES,
     MOST_NODES, Parameter, Place, Procedure, Refusal, Return, RightSide, Rule, Statement,
 };
-use names::Names;
 use std::alloc::{AllocError, Global};
 
 /// How large a call is: itself, its word arguments and the called body.

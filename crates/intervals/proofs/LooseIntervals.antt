@@ -11,8 +11,8 @@ use Rattle.intervals.specs.Intervals.{operated_interval, prefix_interval, conver
 use Rattle.language.specs.Operators.{operated, prefix_value, truth_of, width_of}
 use Rattle.language.specs.declared.tree.BinaryOperator.{BinaryOperator}
 use Rattle.language.specs.declared.tree.BinaryOperator.TheVariants.{Either, Both, Equal, Unequal, Less, LessOrEqual}
-use Rattle.language.specs.declared.tree.BinaryOperator.TheVariants.{Greater, GreaterOrEqual, BitOr, BitXor, BitAnd}
-use Rattle.language.specs.declared.tree.BinaryOperator.TheVariants.{ShiftLeft, ShiftRight, Add, Subtract, Multiply}
+use Rattle.language.specs.declared.tree.BinaryOperator.TheVariants.{Greater, GreaterOrEqual, BitAnd}
+use Rattle.language.specs.declared.tree.BinaryOperator.TheVariants.{ShiftRight, Add, Subtract, Multiply}
 use Rattle.language.specs.declared.tree.BinaryOperator.TheVariants.{Divide, Remainder}
 use Rattle.intervals.proofs.Below.{complement_fits, number_fits, wrapped_fits}
 use Rattle.inline.specs.Fitting.{IsWithinKind}
@@ -148,14 +148,11 @@ module _ (w : Width) (a b : Interval) (x y : ℕ) (one : IsIn a x) (other : IsIn
   operated_in LessOrEqual fits = truth_in (nat_le x y)
   operated_in Greater fits = truth_in (nat_lt y x)
   operated_in GreaterOrEqual fits = truth_in (nat_le y x)
-  operated_in BitOr fits = word_in w _ fits
-  operated_in BitXor fits = word_in w _ fits
   operated_in BitAnd fits = (
     omega arith,
     below_both (bit_and x y) a.high b.high (let l = and_le_l x y in
         omega (arith, l, one)) (let r = and_le_r x y in omega (arith, r, other)),
   )
-  operated_in ShiftLeft fits = word_in w _ fits
   operated_in ShiftRight fits = shift_in
   operated_in Add fits = fits_in w (a.low + b.low) (a.high + b.high) (x + y) (omega (arith, one, other))
       (omega (arith, one, other)) fits
@@ -165,6 +162,7 @@ module _ (w : Width) (a b : Interval) (x y : ℕ) (one : IsIn a x) (other : IsIn
       (mul-le x y a.high b.high one.1 other.1) fits
   operated_in Divide fits = quotient_in
   operated_in Remainder fits = remainder_in
+  operated_in operator fits = word_in w _ fits
 
 pub prefix_in : (operator : PrefixOperator) (w : Width) (a : ℕ)
     → IsIn (prefix_interval operator w) (prefix_value operator w a)

@@ -28,10 +28,7 @@ use Rattle.language.specs.Operators.{operated, truth_of}
 use Rattle.language.specs.declared.signature.Label.{Label}
 use Rattle.language.specs.declared.signature.Label.TheVariants.{Public, Secret}
 use Rattle.language.specs.declared.tree.BinaryOperator.{BinaryOperator}
-use Rattle.language.specs.declared.tree.BinaryOperator.TheVariants.{Either, Both, Equal, Unequal, Less, LessOrEqual}
-use Rattle.language.specs.declared.tree.BinaryOperator.TheVariants.{Greater, GreaterOrEqual, BitOr, BitXor, BitAnd}
-use Rattle.language.specs.declared.tree.BinaryOperator.TheVariants.{ShiftLeft, ShiftRight, Add, Subtract, Multiply}
-use Rattle.language.specs.declared.tree.BinaryOperator.TheVariants.{Divide, Remainder}
+use Rattle.language.specs.declared.tree.BinaryOperator.TheVariants.{Both, Equal, Less, LessOrEqual}
 use Rattle.language.specs.declared.typing.WordType.{WordType}
 use Rattle.word.specs.Operators.{word_of}
 use Rattle.word.specs.declared.profile.Profile.{Profile}
@@ -145,21 +142,7 @@ module _ (m : Values) (x b : ℕ) (e : Interval) (inside : IsIn e b) where
       let t = is_true (slice_index (m x) 0 == b) h in
       let same : slice_index (m x) 0 ≡ b = grind (arith, nat_tests, t) in
       ((omega (arith, same, inside), omega (arith, same, inside)), tt)
-  true_so Either w h = tt
-  true_so Both w h = tt
-  true_so Unequal w h = tt
-  true_so Greater w h = tt
-  true_so GreaterOrEqual w h = tt
-  true_so BitOr w h = tt
-  true_so BitXor w h = tt
-  true_so BitAnd w h = tt
-  true_so ShiftLeft w h = tt
-  true_so ShiftRight w h = tt
-  true_so Add w h = tt
-  true_so Subtract w h = tt
-  true_so Multiply w h = tt
-  true_so Divide w h = tt
-  true_so Remainder w h = tt
+  true_so operator w h = tt
 
   false_so : (operator : BinaryOperator) (w : _) (greatest : ℕ) → slice_index (m x) 0 ≤ greatest
       → operated operator w (slice_index (m x) 0) b ≡ 0
@@ -176,44 +159,13 @@ module _ (m : Values) (x b : ℕ) (e : Interval) (inside : IsIn e b) where
       by : (c : Bool) → AreSo m (option_to_list (if c then says x (e.low + 1) greatest else None))
       by true = ((omega (arith, more, inside), most), tt)
       by false = tt
-  false_so Equal w greatest most h = tt
-  false_so Either w greatest most h = tt
-  false_so Both w greatest most h = tt
-  false_so Unequal w greatest most h = tt
-  false_so Greater w greatest most h = tt
-  false_so GreaterOrEqual w greatest most h = tt
-  false_so BitOr w greatest most h = tt
-  false_so BitXor w greatest most h = tt
-  false_so BitAnd w greatest most h = tt
-  false_so ShiftLeft w greatest most h = tt
-  false_so ShiftRight w greatest most h = tt
-  false_so Add w greatest most h = tt
-  false_so Subtract w greatest most h = tt
-  false_so Multiply w greatest most h = tt
-  false_so Divide w greatest most h = tt
-  false_so Remainder w greatest most h = tt
+  false_so operator w greatest most h = tt
 
 -- Conditions.
 
 is_both_alone : (operator : BinaryOperator) → is_both operator ≡ true → operator ≡ Both
 is_both_alone Both is = refl
-is_both_alone Either is = absurd cc
-is_both_alone Equal is = absurd cc
-is_both_alone Unequal is = absurd cc
-is_both_alone Less is = absurd cc
-is_both_alone LessOrEqual is = absurd cc
-is_both_alone Greater is = absurd cc
-is_both_alone GreaterOrEqual is = absurd cc
-is_both_alone BitOr is = absurd cc
-is_both_alone BitXor is = absurd cc
-is_both_alone BitAnd is = absurd cc
-is_both_alone ShiftLeft is = absurd cc
-is_both_alone ShiftRight is = absurd cc
-is_both_alone Add is = absurd cc
-is_both_alone Subtract is = absurd cc
-is_both_alone Multiply is = absurd cc
-is_both_alone Divide is = absurd cc
-is_both_alone Remainder is = absurd cc
+is_both_alone operator is = absurd cc
 
 named_variable : (e : TermTree) (x : ℕ) → named e ≡ Some x → e ≡ variable x
 named_variable (variable y) x is = ap variable (same_Some y x is)

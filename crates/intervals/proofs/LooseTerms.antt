@@ -28,9 +28,6 @@ use Rattle.language.specs.declared.signature.Kind.{Kind}
 use Rattle.language.specs.declared.signature.Kind.TheVariants.{Boolean, Uint8, Uint16, Uint32}
 use Rattle.language.specs.declared.signature.Label.TheVariants.{Public, Secret}
 use Rattle.language.specs.declared.tree.BinaryOperator.{BinaryOperator}
-use Rattle.language.specs.declared.tree.BinaryOperator.TheVariants.{Either, Both, Equal, Unequal, Less, LessOrEqual}
-use Rattle.language.specs.declared.tree.BinaryOperator.TheVariants.{Greater, GreaterOrEqual, BitOr, BitXor, BitAnd}
-use Rattle.language.specs.declared.tree.BinaryOperator.TheVariants.{ShiftLeft, ShiftRight, Add, Subtract, Multiply}
 use Rattle.language.specs.declared.tree.BinaryOperator.TheVariants.{Divide, Remainder}
 use Rattle.language.specs.declared.typing.WordType.{WordType}
 use Rattle.language.specs.WellTyped.{labelled, Makes, arithmetic, multiplication, shift, equality, order, logic}
@@ -94,22 +91,7 @@ divisor_public : (operator : BinaryOperator) → divides operator ≡ true → {
     → Makes profile (operation_of operator) a b c → b.label ≡ Public
 divisor_public Divide is (typing.division p) = refl
 divisor_public Remainder is (typing.division p) = refl
-divisor_public Either is makes = absurd cc
-divisor_public Both is makes = absurd cc
-divisor_public Equal is makes = absurd cc
-divisor_public Unequal is makes = absurd cc
-divisor_public Less is makes = absurd cc
-divisor_public LessOrEqual is makes = absurd cc
-divisor_public Greater is makes = absurd cc
-divisor_public GreaterOrEqual is makes = absurd cc
-divisor_public BitOr is makes = absurd cc
-divisor_public BitXor is makes = absurd cc
-divisor_public BitAnd is makes = absurd cc
-divisor_public ShiftLeft is makes = absurd cc
-divisor_public ShiftRight is makes = absurd cc
-divisor_public Add is makes = absurd cc
-divisor_public Subtract is makes = absurd cc
-divisor_public Multiply is makes = absurd cc
+divisor_public operator is makes = absurd cc
 
 pub secret_is_not : (a b : WordType) → a ≡ b → a.label ≡ Public → b.label ≡ Secret → ⊥
 secret_is_not a b same public secret = let labels = ap (λ (t : WordType). t.label) same in absurd cc

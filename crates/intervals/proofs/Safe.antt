@@ -5,7 +5,7 @@ use Rattle.std.proofs.Common.{refl, sym, ap, ap₂, ◌∙◌, subst, arith}
 use Rattle.std.proofs.lemmas.Bool.Decides.{nat_tests}
 use Rattle.std.proofs.lemmas.List.{length-replicate}
 use Rattle.std.proofs.lemmas.Option.{none-some, same_Some, slice_get-map}
-use Rattle.arguments.specs.Within.{AreWithin}
+use Rattle.language.specs.arguments.Within.{AreWithin}
 use Rattle.inline.specs.declared.flat.FlatVariable.{FlatVariable}
 use Rattle.inline.specs.Fitting.{Fits}
 use Rattle.inline.specs.Flat.{FlatProgram, TermTree, declaration_of, elements_by}

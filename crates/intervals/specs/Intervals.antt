@@ -10,8 +10,8 @@ use Rattle.language.specs.declared.signature.Kind.{Kind}
 use Rattle.language.specs.declared.signature.Kind.TheVariants.{Uint32}
 use Rattle.language.specs.declared.tree.BinaryOperator.{BinaryOperator}
 use Rattle.language.specs.declared.tree.BinaryOperator.TheVariants.{Either, Both, Equal, Unequal, Less, LessOrEqual}
-use Rattle.language.specs.declared.tree.BinaryOperator.TheVariants.{Greater, GreaterOrEqual, BitOr, BitXor, BitAnd}
-use Rattle.language.specs.declared.tree.BinaryOperator.TheVariants.{ShiftLeft, ShiftRight, Add, Subtract, Multiply}
+use Rattle.language.specs.declared.tree.BinaryOperator.TheVariants.{Greater, GreaterOrEqual, BitAnd}
+use Rattle.language.specs.declared.tree.BinaryOperator.TheVariants.{ShiftRight, Add, Subtract, Multiply}
 use Rattle.language.specs.declared.tree.BinaryOperator.TheVariants.{Divide, Remainder}
 use Rattle.language.specs.declared.tree.PrefixOperator.{PrefixOperator}
 use Rattle.language.specs.declared.tree.PrefixOperator.TheVariants.{Not, Complement, Negate}
@@ -67,10 +67,7 @@ operated_interval Less w a b = either_truth
 operated_interval LessOrEqual w a b = either_truth
 operated_interval Greater w a b = either_truth
 operated_interval GreaterOrEqual w a b = either_truth
-operated_interval BitOr w a b = full w
-operated_interval BitXor w a b = full w
 operated_interval BitAnd w a b = between 0 (min a.high b.high)
-operated_interval ShiftLeft w a b = full w
 operated_interval ShiftRight w a b = shifted_interval a b
 operated_interval Add w a b = fitting w (a.low + b.low) (a.high + b.high)
 operated_interval Subtract w a b = if nat_le b.high a.low then between (a.low - b.high) (a.high - b.low) else full w
@@ -78,6 +75,7 @@ operated_interval Multiply w a b = fitting w (a.low * b.low) (a.high * b.high)
 operated_interval Divide w a b = if nat_le 1 b.low && nat_le 1 b.high then between (a.low / b.high) (a.high / b.low)
     else full w
 operated_interval Remainder w a b = if nat_le 1 b.low then between 0 (min a.high (b.high - 1)) else full w
+operated_interval operator w a b = full w
 
 abbrev pub prefix_interval : PrefixOperator → Width → Interval
 prefix_interval Not w = either_truth

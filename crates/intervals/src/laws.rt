@@ -1,7 +1,7 @@
 // The laws, which hold of the definitions alone.
 
 ghost use Rattle.std.specs.Prelude.{◌≡◌, ℕ, ◌+◌, ◌≤◌, List, length, map};
-ghost use Rattle.arguments.specs.Within.{AreWithin};
+ghost use Rattle.language.specs.arguments.Within.{AreWithin};
 ghost use Rattle.inline.specs.Flat.{FlatProgram};
 ghost use Rattle.inline.specs.FlatMeaning.{ending_of, outcome_of, path_of};
 ghost use Rattle.inline.specs.FlatSize.{value_nodes};

@@ -132,18 +132,15 @@ pub fn operated_interval(
     ensures { result ≡ operated_interval operator width a b }
 {
     match operator {
-        BinaryOperator::Either => EITHER_TRUTH,
-        BinaryOperator::Both => EITHER_TRUTH,
-        BinaryOperator::Equal => EITHER_TRUTH,
-        BinaryOperator::Unequal => EITHER_TRUTH,
-        BinaryOperator::Less => EITHER_TRUTH,
-        BinaryOperator::LessOrEqual => EITHER_TRUTH,
-        BinaryOperator::Greater => EITHER_TRUTH,
-        BinaryOperator::GreaterOrEqual => EITHER_TRUTH,
-        BinaryOperator::BitOr => full(width),
-        BinaryOperator::BitXor => full(width),
+        BinaryOperator::Either
+        | BinaryOperator::Both
+        | BinaryOperator::Equal
+        | BinaryOperator::Unequal
+        | BinaryOperator::Less
+        | BinaryOperator::LessOrEqual
+        | BinaryOperator::Greater
+        | BinaryOperator::GreaterOrEqual => EITHER_TRUTH,
         BinaryOperator::BitAnd => masked(a, b),
-        BinaryOperator::ShiftLeft => full(width),
         BinaryOperator::ShiftRight => shifted_right(a, b),
         BinaryOperator::Add => {
             let low = u64::from(a.low) + u64::from(b.low);
@@ -158,6 +155,7 @@ pub fn operated_interval(
         }
         BinaryOperator::Divide => quotient(width, a, b),
         BinaryOperator::Remainder => remainder(width, a, b),
+        _ => full(width),
     }
 }
 

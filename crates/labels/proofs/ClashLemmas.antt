@@ -9,7 +9,7 @@ use Rattle.std.proofs.lemmas.Slice.Eq.{bytes_eq-Decides}
 use Rattle.std.specs.List.{list_any}
 use Rattle.std.specs.Str.{bytes_eq}
 use Rattle.std.proofs.Math.Bool.{or-false, and-true, and-false}
-use Rattle.names.specs.Scope.{found, declared}
+use Rattle.language.specs.names.Scope.{found, declared}
 use Rattle.language.specs.declared.tree.Expr.{Expr}
 use Rattle.language.specs.declared.tree.Parameter.{Parameter}
 use Rattle.language.specs.declared.typing.ValueType.{ValueType}

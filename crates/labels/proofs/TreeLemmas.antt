@@ -22,7 +22,7 @@ use Rattle.language.specs.Types.{Scope, at, declared, found, of_one, of_two, whe
 use Rattle.language.specs.Typing.{block_violations, bounds_rules, condition_rules, control_under}
 use Rattle.language.specs.Typing.{counter_as, declared_array, declared_as, parameter_as, scope_after, scope_after_all}
 use Rattle.language.specs.Typing.{statement_violations, with_parameters}
-use Rattle.scopes.specs.Shortened.{shortened}
+use Rattle.language.specs.scopes.Shortened.{shortened}
 use Rattle.language.specs.Sooner.{sooner}
 
 -- names, and what they stand for

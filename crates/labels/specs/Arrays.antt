@@ -1,6 +1,6 @@
 -- What is kept of the arrays that the arguments of a call are.
 use Rattle.std.specs.Prelude.{ℕ, Bool, true, false, ◌&&◌, ◌||◌, List, Option, Some, None, is_some, if◌then◌else◌}
-use Rattle.names.specs.Scope.{declared, found}
+use Rattle.language.specs.names.Scope.{declared, found}
 
 -- arrays with one more argument's, where it is one
 abbrev pub with_array : List (List ℕ × Bool) → Option (List ℕ) → List (List ℕ × Bool)

@@ -6,10 +6,10 @@ ghost use Rattle.language.specs.Typing.{parameter_value, passed, passed_rules};
 ghost use Rattle.language.specs.Sooner.{sooner};
 
 use crate::values::note_argument;
+use language::scopes::Scope;
 use language::{
     ArrayType, Expr, First, Form, Parameter, Place, Rule, ValueType, VariableType, WordType,
 };
-use scopes::Scope;
 
 /// What a parameter is.
 pub fn parameter_value(parameter: &Parameter<'_>) -> ValueType

@@ -9,11 +9,11 @@ use crate::declarations::right_side;
 use crate::expressions::{expression, name};
 use crate::nodes::element;
 use crate::values::{note_control, note_value};
+use language::scopes::Scope;
 use language::{
     Assignment, ElementAssignment, First, Label, Place, Procedure, Rule, ValueType, VariableType,
     WordType,
 };
-use scopes::Scope;
 use std::alloc::{AllocError, Global};
 
 /// Notes what a value violates that is put into a target. An array as a whole is none.

@@ -10,10 +10,10 @@ ghost use Rattle.language.specs.Sooner.{sooner};
 use crate::arguments::note_all_passed;
 use crate::clashes::arrays_clash;
 use crate::expressions::expressions;
+use language::scopes::Scope;
 use language::{
     Call, Callee, First, Label, Parameter, Place, Procedure, Rule, ValueType, WordType,
 };
-use scopes::Scope;
 use std::alloc::{AllocError, Global};
 
 /// What a procedure gives.

@@ -13,8 +13,8 @@ ghost use Rattle.labels.specs.Exports.{export_index};
 ghost use Rattle.language.specs.Sooner.{sooner};
 
 use crate::procedures::procedure;
+use language::scopes::Scope;
 use language::{First, Place, Procedure, Profile, Program, Refusal, Rule, Violation};
-use scopes::Scope;
 use std::alloc::{AllocError, Global};
 
 /// A program that violates no rule on names, types and labels, where this is the observer; so one of

@@ -1,14 +1,14 @@
 ghost use Rattle.std.specs.Prelude.{◌≡◌, ◌&&◌, ◌||◌, [], is_some, true, length, map, IfOk, OnOk, if◌then◌else◌};
 ghost use Rattle.std.specs.Option.{option_map};
-ghost use Rattle.names.specs.Scope.{declared, found};
+ghost use Rattle.language.specs.names.Scope.{declared, found};
 ghost use Rattle.language.specs.Tree.{expr_tree, parameter_tree};
 ghost use Rattle.language.specs.Typing.{array_name, clashes, passed};
 ghost use Rattle.language.specs.declared.typing.ArrayType.{ArrayType};
 ghost use Rattle.language.specs.declared.typing.ValueType.TheVariants.{Array};
 ghost use Rattle.labels.specs.Arrays.{was_given, with_array, with_changed};
 
+use language::names::Names;
 use language::{Expr, Parameter, ValueType};
-use names::Names;
 use std::alloc::{AllocError, Global};
 
 /// The name that an argument is.

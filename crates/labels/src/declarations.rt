@@ -11,11 +11,11 @@ ghost use Rattle.labels.specs.Written.{values_tree};
 use crate::calls::call;
 use crate::expressions::{expression, expressions};
 use crate::values::{note_control, note_value};
+use language::scopes::Scope;
 use language::{
     ArrayDeclaration, ArrayType, Declaration, Declared, Expr, First, Label, Place, Procedure,
     RightSide, Rule, ValueType, VariableType, WordType,
 };
-use scopes::Scope;
 use std::alloc::{AllocError, Global};
 
 /// Notes what a right side violates, and gives its type where it is well typed.

@@ -7,8 +7,8 @@ ghost use Rattle.language.specs.declared.typing.VariableType.{VariableType};
 ghost use Rattle.language.specs.Sooner.{sooner};
 
 use crate::nodes::{binary, choice, convert, element, number, prefix, rotate};
+use language::scopes::Scope;
 use language::{Expr, First, Kind, Label, Place, Rule, ValueType, VariableType};
-use scopes::Scope;
 use std::alloc::{AllocError, Global};
 
 /// The type of a variable, where there is one.

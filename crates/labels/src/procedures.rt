@@ -11,11 +11,11 @@ use crate::arguments::parameter_value;
 use crate::expressions::expression;
 use crate::statements::statements;
 use crate::values::note_value;
+use language::scopes::{Scope, assigns_public};
 use language::{
     Callee, Declared, First, Label, Parameter, Place, Procedure, Return, Rule, ValueType,
     VariableType, WordType,
 };
-use scopes::{Scope, assigns_public};
 use std::alloc::{AllocError, Global};
 
 /// Declares the parameters, and notes the names that are taken.

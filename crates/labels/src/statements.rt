@@ -9,11 +9,11 @@ use crate::assignments::{assignment, element_assignment};
 use crate::calls::call;
 use crate::declarations::{array, declaration};
 use crate::expressions::expression;
+use language::scopes::Scope;
 use language::{
     Counter, Declared, First, Kind, Label, Place, Procedure, Rule, Statement, ValueType,
     VariableType,
 };
-use scopes::Scope;
 use std::alloc::{AllocError, Global};
 
 /// Notes what a condition of this type violates.

@@ -1,3 +1,7 @@
+pub mod names_lemmas
+pub mod scopes_lemmas
+pub mod arguments_lemmas
+pub mod typing_laws_lemmas
 pub mod BlockLemmas
 pub mod KnownLemmas
 pub mod SoonerLemmas

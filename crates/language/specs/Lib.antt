@@ -1,3 +1,7 @@
+pub mod names
+pub mod scopes
+pub mod arguments
+pub mod typing_laws
 pub mod Limits
 pub mod Rules
 pub mod Results

@@ -1,6 +1,6 @@
 -- What the operators of the language make of words.
 use Rattle.std.specs.Prelude.{ℕ, ◌==◌, ◌&&◌, ◌||◌, Bool, true, false, not, nat_lt, nat_le, bit_and, bit_or, bit_xor}
-use Rattle.std.specs.Prelude.{if◌then◌else◌}
+use Rattle.std.specs.Prelude.{Option, None, Some, if◌then◌else◌}
 use Rattle.word.specs.Operators.{sum, difference, product, quotient, remainder, negated, complemented, shifted_left}
 use Rattle.word.specs.Operators.{shifted_right, rotated_left, converted, word_of}
 use Rattle.word.specs.declared.width.Width.{Width}
@@ -53,6 +53,30 @@ abbrev pub divides : BinaryOperator → Bool
 divides Divide = true
 divides Remainder = true
 divides _ = false
+
+-- the comparison that holds exactly where another one does not
+abbrev pub opposite_of : BinaryOperator → Option BinaryOperator
+opposite_of Equal = Some Unequal
+opposite_of Unequal = Some Equal
+opposite_of Less = Some GreaterOrEqual
+opposite_of LessOrEqual = Some Greater
+opposite_of Greater = Some LessOrEqual
+opposite_of GreaterOrEqual = Some Less
+opposite_of _ = None
+
+-- the operator that makes the same of two numbers turned round, where there is one and neither of them is shown
+abbrev pub turned_of : BinaryOperator → Option BinaryOperator
+turned_of Equal = Some Equal
+turned_of Unequal = Some Unequal
+turned_of Less = Some Greater
+turned_of LessOrEqual = Some GreaterOrEqual
+turned_of Greater = Some Less
+turned_of GreaterOrEqual = Some LessOrEqual
+turned_of BitOr = Some BitOr
+turned_of BitXor = Some BitXor
+turned_of BitAnd = Some BitAnd
+turned_of Add = Some Add
+turned_of _ = None
 
 -- a product
 abbrev pub multiplies : BinaryOperator → Bool

@@ -3,15 +3,20 @@
 // promises of all crates above are stated. It stands on the words and the places of `word`.
 #![tactic(auto)]
 
+pub mod arguments;
 mod first;
 mod laws;
 mod limits;
+pub mod names;
 mod operation;
+mod operators;
 mod refusal;
 mod rule;
+pub mod scopes;
 mod signature;
 mod tree;
 mod typing;
+pub mod typing_laws;
 mod values;
 
 pub use first::First;
@@ -20,6 +25,7 @@ pub use limits::{
     MOST_BODIES, MOST_DECLARED_BYTES, MOST_ELEMENTS, MOST_NODES, limits_are_as_stated,
 };
 pub use operation::Operation;
+pub use operators::is_true;
 pub use refusal::Refusal;
 pub use rule::Rule;
 pub use signature::{Form, Kind, Label, Param};

@@ -5,11 +5,11 @@ use Rattle.std.proofs.Common.{◌≡◌, ℕ, suc, ◌+◌, ◌*◌, ◌%◌, �
 use Rattle.std.proofs.Common.{inl, inr, refl, sym, ap, ◌∙◌, subst, arith}
 use Rattle.std.proofs.lemmas.List.{length-map}
 use Rattle.codegen.specs.Loaded.{with_numbers, numbers_at}
-use Rattle.expression_code.specs.TermCode.{load_code, store_code}
+use Rattle.codegen.specs.expression_code.TermCode.{load_code, store_code}
 use Rattle.linked_calls.specs.FunctionCode.{argument_offset, argument_code, arguments_code, meant_code, until_equal}
 use Rattle.linked_calls.specs.FunctionCode.{copied_in_code}
-use Rattle.image_fields.specs.Fields.{Fields}
-use Rattle.image_fields.specs.declared.slot.Slot.{Slot}
+use Rattle.codegen.specs.image_fields.Fields.{Fields}
+use Rattle.codegen.specs.declared.image_fields.slot.Slot.{Slot}
 use Rattle.language.specs.Size.{element_bytes}
 use Rattle.language.specs.declared.signature.Form.{Form}
 use Rattle.language.specs.declared.signature.Form.TheVariants.{SingleWord, FixedArray, MutableArray}

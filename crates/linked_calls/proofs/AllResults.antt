@@ -4,8 +4,8 @@ use Rattle.std.specs.Prelude.{unwrap_or}
 use Rattle.std.proofs.Common.{◌≡◌, ℕ, zero, suc, ◌+◌, ◌*◌, ◌<◌, ◌≤◌, List, [], ◌∷◌, ◌++◌, length, Option, Some, inl}
 use Rattle.std.proofs.Common.{inr, refl, sym, ap, ap₂, ◌∙◌, subst, arith}
 use Rattle.codegen.specs.Loaded.{with_numbers, numbers_at, array_in, arrays_in}
-use Rattle.image_fields.specs.Fields.{Fields}
-use Rattle.image_fields.specs.declared.slot.Slot.{Slot}
+use Rattle.codegen.specs.image_fields.Fields.{Fields}
+use Rattle.codegen.specs.declared.image_fields.slot.Slot.{Slot}
 use Rattle.language.specs.Size.{element_bytes}
 use Rattle.language.specs.declared.signature.Form.{Form}
 use Rattle.language.specs.declared.signature.Form.TheVariants.{SingleWord, FixedArray, MutableArray}

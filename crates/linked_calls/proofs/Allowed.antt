@@ -1,6 +1,6 @@
 -- The setting of a call: its code, and the accesses that it may make.
 use Rattle.std.proofs.Common.{ℕ, ◌+◌, ◌≤◌, inl, arith}
-use Rattle.image_fields.specs.Fields.{Fields}
+use Rattle.codegen.specs.image_fields.Fields.{Fields}
 use Rattle.language.specs.Size.{element_bytes}
 use Rattle.language.specs.declared.signature.Kind.{Kind}
 use Rattle.language.specs.declared.signature.Kind.TheVariants.{Boolean, Uint8, Uint16, Uint32}

@@ -5,8 +5,8 @@ use Rattle.std.proofs.Common.{◌≡◌, ℕ, suc, ◌+◌, ◌-◌, ◌*◌, �
 use Rattle.std.proofs.Common.{None}
 use Rattle.codegen.specs.Anywhere.{IsLoaded, IsUntouched, body_words}
 use Rattle.codegen.specs.Loaded.{results_in}
-use Rattle.image_fields.specs.Fields.{Fields, IsImage}
-use Rattle.image_fields.specs.declared.slot.Slot.{Slot}
+use Rattle.codegen.specs.image_fields.Fields.{Fields, IsImage}
+use Rattle.codegen.specs.declared.image_fields.slot.Slot.{Slot}
 use Rattle.language.specs.declared.signature.Form.{Form}
 use Rattle.language.specs.declared.signature.Form.TheVariants.{SingleWord, FixedArray, MutableArray}
 use Rattle.linked_calls.specs.Called.{IsOfCall, IsLeft}

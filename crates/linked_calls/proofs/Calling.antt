@@ -10,7 +10,7 @@ use Rattle.codegen.specs.Anywhere.{IsPlaced, IsBeside, BodyRun}
 use Rattle.codegen.specs.Bases.{IsInside}
 use Rattle.codegen.specs.Loaded.{results_in}
 use Rattle.hepurita.specs.Linked.{IsLinked, RunsLinked}
-use Rattle.image_fields.specs.Fields.{Fields}
+use Rattle.codegen.specs.image_fields.Fields.{Fields}
 use Rattle.language.specs.Results.{Results}
 use Rattle.language.specs.Tree.{ProcedureTree, ProgramTree}
 use Rattle.language.specs.declared.values.Arg.{Arg}

@@ -5,12 +5,12 @@ use Rattle.std.proofs.Common.{map, Option, Some, inl, inr, refl, sym, ap, ap₂,
 use Rattle.std.proofs.Common.{append_assoc}
 use Rattle.std.proofs.lemmas.List.{map-id}
 use Rattle.codegen.specs.Loaded.{with_numbers, numbers_at}
-use Rattle.expression_code.specs.TermCode.{load_code, constant_code}
+use Rattle.codegen.specs.expression_code.TermCode.{load_code, constant_code}
 use Rattle.linked_calls.specs.FunctionCode.{argument_offset, array_bytes, bounds_code, argument_code, copy_out_code}
 use Rattle.linked_calls.specs.FunctionCode.{copied_in_code, copied_out_code, until_equal}
 use Rattle.linked_calls.specs.Sections.{element_turns}
-use Rattle.image_fields.specs.Fields.{Fields}
-use Rattle.image_fields.specs.declared.slot.Slot.{Slot}
+use Rattle.codegen.specs.image_fields.Fields.{Fields}
+use Rattle.codegen.specs.declared.image_fields.slot.Slot.{Slot}
 use Rattle.language.specs.Size.{element_bytes}
 use Rattle.language.specs.declared.signature.Form.TheVariants.{FixedArray, MutableArray}
 use Rattle.language.specs.declared.signature.Kind.{Kind}

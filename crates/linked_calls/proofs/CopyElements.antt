@@ -27,7 +27,7 @@ use Rattle.linked_calls.proofs.Pieces.{Setting, Piece, block, weaken, loop, Plac
 use Rattle.linked_calls.proofs.Registers.{unwritten, one_fit}
 use Rattle.linked_calls.proofs.Steps.{Placed, Data, plain, access, Reaches}
 use Rattle.codegen.specs.Loaded.{with_numbers, numbers_at}
-use Rattle.expression_code.specs.TermCode.{load_by}
+use Rattle.codegen.specs.expression_code.TermCode.{load_by}
 use Rattle.linked_calls.specs.FunctionCode.{until_equal, added, next_code, element_meant_code, store_by}
 use Rattle.linked_calls.proofs.CopySpots.{pointer_fits, slot_fits, pointer_below, slot_below, Spot, past, next_put}
 use Rattle.linked_calls.proofs.CopySpots.{other_way, Stretches, Known, reach_five, reach_six, found_is, found_there}

@@ -28,7 +28,7 @@ use Rattle.linked_calls.proofs.Pieces.{Setting, Piece, block, weaken, loop, Plac
 use Rattle.linked_calls.proofs.Registers.{unwritten, one_fit}
 use Rattle.linked_calls.proofs.Steps.{Placed, Data, plain, access, Reaches}
 use Rattle.codegen.specs.Loaded.{with_numbers, numbers_at}
-use Rattle.expression_code.specs.TermCode.{load_by}
+use Rattle.codegen.specs.expression_code.TermCode.{load_by}
 use Rattle.linked_calls.specs.FunctionCode.{until_equal, added, next_code, element_meant_code, store_by}
 
 -- where the copying is: in the caller's array, and in its slot

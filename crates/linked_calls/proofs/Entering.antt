@@ -13,7 +13,7 @@ use Rattle.rv_machine.specs.Bytes.{ByteMap, with_number}
 use Rattle.rv_machine.specs.Effects.{sum_of, difference_of}
 use Rattle.rv_machine.specs.Registers.{register}
 use Rattle.codegen.specs.Loaded.{with_numbers}
-use Rattle.expression_code.specs.TermCode.{constant_code}
+use Rattle.codegen.specs.expression_code.TermCode.{constant_code}
 use Rattle.linked_calls.specs.Convention.{saved_registers, argument_registers}
 use Rattle.linked_calls.specs.FunctionCode.{stores_code, entry_code, until_equal, added, zeros_code}
 use Rattle.linked_calls.proofs.Bytes.{AreData, number_there, stays_data, AreZeroed}

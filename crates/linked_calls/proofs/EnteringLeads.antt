@@ -7,7 +7,7 @@ use Rattle.std.proofs.lemmas.Bool.{cases_lt}
 use Rattle.std.proofs.lemmas.Bool.Decides.{nat_tests}
 use Rattle.codegen.specs.Anywhere.{IsLoaded, IsUntouched}
 use Rattle.codegen.specs.Loaded.{with_numbers, word_in}
-use Rattle.image_fields.specs.Fields.{Fields, IsImage}
+use Rattle.codegen.specs.image_fields.Fields.{Fields, IsImage}
 use Rattle.linked_calls.specs.Called.{IsOfCall}
 use Rattle.linked_calls.specs.Calls.{Site, IsSite, IsCalled, room_base, arguments_of}
 use Rattle.linked_calls.specs.Convention.{saved_registers, argument_registers}

@@ -5,8 +5,8 @@ use Rattle.std.specs.List.{AllByRecursion}
 use Rattle.std.proofs.Common.{◌≡◌, ℕ, zero, suc, ◌+◌, ◌*◌, ◌%◌, ◌^◌, ◌<◌, ◌≤◌, nat_le, true, ◌&&◌, List, [], ◌∷◌}
 use Rattle.std.proofs.Common.{length, Some, inl, inr, refl, ap, sym, subst, arith}
 use Rattle.std.proofs.lemmas.Bool.{false≢true}
-use Rattle.image_fields.specs.Fields.{Fields, IsImage, AreSlots, is_length, slot_bytes, slot_end}
-use Rattle.image_fields.specs.declared.slot.Slot.{Slot}
+use Rattle.codegen.specs.image_fields.Fields.{Fields, IsImage, AreSlots, is_length, slot_bytes, slot_end}
+use Rattle.codegen.specs.declared.image_fields.slot.Slot.{Slot}
 use Rattle.language.specs.Limits.{most_elements}
 use Rattle.language.specs.Size.{element_bytes, array_words}
 use Rattle.language.specs.declared.signature.Form.{Form}

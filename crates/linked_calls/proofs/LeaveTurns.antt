@@ -2,9 +2,9 @@
 use Rattle.std.specs.List.{sum_by}
 use Rattle.std.proofs.Common.{◌≡◌, ℕ, ◌+◌, List, [], ◌∷◌, ◌++◌, length, refl, ap, ap₂, ◌∙◌, arith, length-append}
 use Rattle.std.proofs.lemmas.List.Sums.{sum_by-cons, sum_by-append, sum-map}
-use Rattle.expression_code.specs.TermCode.{constant_code}
-use Rattle.image_fields.specs.Fields.{Fields}
-use Rattle.image_fields.specs.declared.slot.Slot.{Slot}
+use Rattle.codegen.specs.expression_code.TermCode.{constant_code}
+use Rattle.codegen.specs.image_fields.Fields.{Fields}
+use Rattle.codegen.specs.declared.image_fields.slot.Slot.{Slot}
 use Rattle.language.specs.declared.signature.Form.{Form}
 use Rattle.language.specs.declared.signature.Form.TheVariants.{SingleWord, FixedArray, MutableArray}
 use Rattle.rv_code.specs.declared.instructions.Instr.TheVariants.{Register}

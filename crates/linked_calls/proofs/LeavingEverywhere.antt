@@ -7,9 +7,9 @@ use Rattle.std.proofs.Common.{Some, None, inl, inr, refl, sym, ap, ◌∙◌, su
 use Rattle.std.proofs.lemmas.List.{length-map}
 use Rattle.codegen.specs.Anywhere.{Stand, body_words}
 use Rattle.codegen.specs.Loaded.{word_in, arrays_in, results_in}
-use Rattle.expression_code.specs.TermCode.{constant_code}
-use Rattle.image_fields.specs.Fields.{Fields, IsImage, IsResultSlot, result_end, slots_end}
-use Rattle.image_fields.specs.declared.slot.ResultSlot.{ResultSlot}
+use Rattle.codegen.specs.expression_code.TermCode.{constant_code}
+use Rattle.codegen.specs.image_fields.Fields.{Fields, IsImage, IsResultSlot, result_end, slots_end}
+use Rattle.codegen.specs.declared.image_fields.slot.ResultSlot.{ResultSlot}
 use Rattle.rv_code.specs.Words.{word_of}
 use Rattle.rv_code.specs.declared.instructions.Instr.{Instr}
 use Rattle.rv_code.specs.declared.instructions.Instr.TheVariants.{Immediate, JumpRegister}

@@ -23,7 +23,7 @@ use Rattle.linked_calls.proofs.Registers.{register-at, written, unwritten, parts
 use Rattle.linked_calls.proofs.Registers.{upper_fits, lower_fits, two_fit, three_fit}
 use Rattle.linked_calls.proofs.Pieces.{Setting, Ends, Piece, Makes, AreAllowed, block, Placed-left, Placed-right}
 use Rattle.linked_calls.proofs.Steps.{Placed, Data, Step, plain, access, instrs}
-use Rattle.expression_code.specs.TermCode.{upper_part, lower_part, load_code, store_code, constant_code}
+use Rattle.codegen.specs.expression_code.TermCode.{upper_part, lower_part, load_code, store_code, constant_code}
 
 -- code from one address to another in an exact number of turns, which shows one list
 pub record Part (z : Setting) (p q n : ℕ) (P : Data → Type 0) (R : Data → Data → Type 0) : Type 0 where

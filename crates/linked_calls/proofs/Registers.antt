@@ -4,7 +4,7 @@ use Rattle.std.proofs.Common.{refl, ap, ◌∙◌, arith, eq-eqb, ne_eqb}
 use Rattle.std.proofs.lemmas.Bool.Decides.{nat_tests}
 use Rattle.rv_machine.specs.Effects.{sum_of, sign_extended}
 use Rattle.rv_machine.specs.Registers.{register, with_register}
-use Rattle.expression_code.specs.TermCode.{upper_part, lower_part}
+use Rattle.codegen.specs.expression_code.TermCode.{upper_part, lower_part}
 
 pub register-at : (regs : ℕ → ℕ) (r : ℕ) → r ≢ 0 → register regs r ≡ regs r
 register-at regs r h = rw (ne_eqb r 0 h)

@@ -1,6 +1,6 @@
 -- Where the room of a call and its arguments lie, in numbers.
 use Rattle.std.proofs.Common.{◌≡◌, ℕ, ◌+◌, ◌%◌, ◌^◌, ◌<◌, ◌≤◌, length, arith}
-use Rattle.image_fields.specs.Fields.{Fields}
+use Rattle.codegen.specs.image_fields.Fields.{Fields}
 use Rattle.linked_calls.specs.Calls.{Site, IsSite, room_base, arguments_end}
 use Rattle.linked_calls.specs.FunctionCode.{frame_room, argument_offset}
 use Rattle.rv_machine.specs.Machine.{Code}

@@ -1,7 +1,7 @@
 -- The room of a call: where its frame, the saved registers and the arguments lie in it.
 use Rattle.std.proofs.Common.{◌≡◌, ℕ, ◌+◌, ◌-◌, ◌*◌, ◌/◌, ◌%◌, ◌^◌, ◌<◌, ◌≤◌, length, inl, inr, arith}
-use Rattle.image_fields.specs.Fields.{Fields, IsImage}
-use Rattle.image_fields.specs.Limits.{most_frame_bytes}
+use Rattle.codegen.specs.image_fields.Fields.{Fields, IsImage}
+use Rattle.codegen.specs.image_fields.Limits.{most_frame_bytes}
 use Rattle.linked_calls.specs.Calls.{Site, IsSite, room_base, arguments_end}
 use Rattle.linked_calls.specs.FunctionCode.{frame_room, argument_offset}
 use Rattle.linked_calls.proofs.AllArguments.{IsOutside}

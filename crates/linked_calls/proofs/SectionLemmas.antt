@@ -3,7 +3,7 @@ use Rattle.std.proofs.Common.{◌≡◌, ℕ, ◌+◌, ◌-◌, ◌==◌, Bool, 
 use Rattle.std.proofs.Common.{if◌then◌else◌}
 use Rattle.std.proofs.lemmas.List.{append_assoc, append-nil}
 use Rattle.codegen.specs.Anywhere.{body_words}
-use Rattle.expression_code.specs.TermCode.{constant_code}
+use Rattle.codegen.specs.expression_code.TermCode.{constant_code}
 use Rattle.linked_calls.specs.Convention.{stack_register, link_register, saved_registers, scratch_registers}
 use Rattle.linked_calls.specs.FunctionCode.{above_frame, frame_room, frame_code, entry_code, argument_code}
 use Rattle.linked_calls.specs.FunctionCode.{arguments_code, enter_code, result_code, results_code, restore_code}
@@ -15,8 +15,8 @@ use Rattle.linked_calls.specs.declared.section.Section.{Section}
 use Rattle.linked_calls.specs.declared.section.Section.TheVariants.{FrameBase, ClearedFrame, FrameTop}
 use Rattle.linked_calls.specs.declared.section.Section.TheVariants.{RestoredRegisters, CallersStack, WipedRoom}
 use Rattle.linked_calls.specs.declared.section.Section.TheVariants.{ClearedRegisters, Return}
-use Rattle.image_fields.specs.Fields.{Fields}
-use Rattle.image_fields.specs.declared.slot.Slot.{Slot}
+use Rattle.codegen.specs.image_fields.Fields.{Fields}
+use Rattle.codegen.specs.declared.image_fields.slot.Slot.{Slot}
 use Rattle.language.specs.declared.signature.Form.{Form}
 use Rattle.language.specs.declared.signature.Form.TheVariants.{SingleWord, FixedArray, MutableArray}
 use Rattle.rv_code.specs.Words.{word_of}

@@ -4,7 +4,7 @@ use Rattle.std.proofs.Common.{◌≡◌, ℕ, suc, ◌+◌, ◌*◌, List, [], �
 use Rattle.std.proofs.Common.{arith, length-append}
 use Rattle.std.proofs.lemmas.List.{length-map}
 use Rattle.codegen.specs.Anywhere.{Stand, body_words}
-use Rattle.image_fields.specs.Fields.{Fields}
+use Rattle.codegen.specs.image_fields.Fields.{Fields}
 use Rattle.linked_calls.specs.Calls.{Site, IsSite}
 use Rattle.linked_calls.specs.FunctionCode.{enter_code, leave_code, function_words}
 use Rattle.linked_calls.proofs.Between.{body_at, leave_at}

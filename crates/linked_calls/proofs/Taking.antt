@@ -4,7 +4,7 @@ use Rattle.std.proofs.Common.{◌≡◌, ◌≢◌, ℕ, suc, ◌+◌, ◌*◌, 
 use Rattle.std.proofs.Common.{Option, Some, bit_and, refl, sym, ap, ap₂, ◌∙◌, subst, arith, append_assoc}
 use Rattle.std.proofs.lemmas.Grind.{and_numeral}
 use Rattle.codegen.specs.Loaded.{with_numbers, numbers_at}
-use Rattle.expression_code.specs.TermCode.{load_code, store_code, constant_code}
+use Rattle.codegen.specs.expression_code.TermCode.{load_code, store_code, constant_code}
 use Rattle.linked_calls.specs.FunctionCode.{meant_code, until_equal, copied_in_code, copied_out_code}
 use Rattle.language.specs.Size.{element_bytes}
 use Rattle.language.specs.declared.signature.Kind.{Kind}

@@ -3,7 +3,7 @@ use Rattle.std.specs.Prelude.{is_some, unwrap_or, bit_and}
 use Rattle.std.proofs.Common.{◌≡◌, ◌≢◌, ℕ, ◌+◌, ◌%◌, ◌^◌, ◌<◌, nat_lt, true, List, [], ◌∷◌, ◌++◌, length, Some, refl}
 use Rattle.std.proofs.Common.{sym, ap, ap₂, ◌∙◌, subst, arith, length-append, append_assoc}
 use Rattle.std.proofs.lemmas.Nat.{and_mask}
-use Rattle.expression_code.specs.TermCode.{load_code, store_code}
+use Rattle.codegen.specs.expression_code.TermCode.{load_code, store_code}
 use Rattle.linked_calls.specs.FunctionCode.{argument_offset, argument_code, meant_code}
 use Rattle.language.specs.declared.signature.Form.TheVariants.{SingleWord}
 use Rattle.language.specs.declared.signature.Kind.{Kind}
@@ -20,7 +20,7 @@ use Rattle.rv_machine.specs.Effects.{shift_value}
 use Rattle.rv_machine.specs.Registers.{with_register}
 use Rattle.word.specs.Operators.{word_of}
 use Rattle.linked_calls.specs.Does.{Data}
-use Rattle.image_fields.specs.Fields.{Fields}
+use Rattle.codegen.specs.image_fields.Fields.{Fields}
 use Rattle.linked_calls.specs.Meant.{meant}
 use Rattle.linked_calls.specs.Words.{HasWordArgument, IsPut, IsPutting, WordIsTaken, HasResult, IsReturned, IsLoadOf}
 use Rattle.linked_calls.specs.Words.{ResultIsHandedBack}

@@ -1,7 +1,7 @@
 -- The code that zeroes a frame, and the code that wipes a room.
 use Rattle.std.proofs.Common.{◌≡◌, ℕ, zero, suc, ◌+◌, ◌-◌, ◌*◌, ◌/◌, ◌%◌, ◌^◌, ◌<◌, List, [], ◌∷◌, ◌++◌, length, refl}
 use Rattle.std.proofs.Common.{sym, ap, ap₂, ◌∙◌, subst, arith, ne_eqb, if◌then◌else◌}
-use Rattle.expression_code.specs.TermCode.{constant_code}
+use Rattle.codegen.specs.expression_code.TermCode.{constant_code}
 use Rattle.linked_calls.specs.FunctionCode.{frame_code, wipe_code, until_equal, added, zeros_code}
 use Rattle.linked_calls.specs.Sections.{block_turns}
 use Rattle.rv_code.specs.declared.instructions.Instr.{Instr}

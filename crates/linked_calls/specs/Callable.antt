@@ -1,12 +1,12 @@
 -- The linked call: a caller that keeps the calling convention gets what the source means, in an exact number of turns
 -- around those of the body, and its secrets make no difference to what an observer sees.
 use Rattle.std.specs.Prelude.{◌≡◌, ℕ, suc, ◌+◌, ◌-◌, ◌*◌, ◌%◌, ◌<◌, List, length, All, None}
-use Rattle.arguments.specs.Agreement.{Agree}
-use Rattle.arguments.specs.PublicResults.{AgreeInPublic}
+use Rattle.language.specs.arguments.Agreement.{Agree}
+use Rattle.language.specs.arguments.PublicResults.{AgreeInPublic}
 use Rattle.codegen.specs.Loaded.{params_of}
 use Rattle.hepurita.specs.Compiled.{IsCompiled}
 use Rattle.hepurita.specs.Meant.{Means}
-use Rattle.image_fields.specs.Fields.{Fields, IsImage}
+use Rattle.codegen.specs.image_fields.Fields.{Fields, IsImage}
 use Rattle.language.specs.Results.{Results}
 use Rattle.language.specs.Tree.{ProcedureTree, ProgramTree}
 use Rattle.language.specs.declared.values.Arg.{Arg}

@@ -5,8 +5,8 @@ use Rattle.std.specs.Prelude.{◌≡◌, ◌⊎◌, ℕ, ◌+◌, ◌-◌, ◌*�
 use Rattle.std.specs.Prelude.{if◌then◌else◌}
 use Rattle.codegen.specs.Anywhere.{Stand}
 use Rattle.codegen.specs.Loaded.{word_in, numbers_at}
-use Rattle.image_fields.specs.Fields.{Fields}
-use Rattle.image_fields.specs.declared.slot.Slot.{Slot}
+use Rattle.codegen.specs.image_fields.Fields.{Fields}
+use Rattle.codegen.specs.declared.image_fields.slot.Slot.{Slot}
 use Rattle.language.specs.Size.{element_bytes}
 use Rattle.language.specs.declared.signature.Form.{Form}
 use Rattle.language.specs.declared.signature.Form.TheVariants.{SingleWord, FixedArray, MutableArray}

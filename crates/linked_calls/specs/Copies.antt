@@ -4,8 +4,8 @@ use Rattle.std.specs.Prelude.{◌≡◌, ◌≢◌, ◌⊎◌, ℕ, ◌+◌, ◌
 use Rattle.codegen.specs.Loaded.{with_argument, with_numbers, numbers_at}
 use Rattle.linked_calls.specs.FunctionCode.{argument_offset, array_bytes, argument_code, copy_out_code}
 use Rattle.linked_calls.specs.Sections.{argument_turns, array_turns}
-use Rattle.image_fields.specs.Fields.{Fields}
-use Rattle.image_fields.specs.declared.slot.Slot.{Slot}
+use Rattle.codegen.specs.image_fields.Fields.{Fields}
+use Rattle.codegen.specs.declared.image_fields.slot.Slot.{Slot}
 use Rattle.language.specs.Size.{element_bytes}
 use Rattle.language.specs.declared.signature.Form.TheVariants.{FixedArray, MutableArray}
 use Rattle.language.specs.declared.values.Arg.TheVariants.{Array}

@@ -4,9 +4,9 @@ use Rattle.codegen.specs.Loaded.{with_argument, word_in}
 use Rattle.linked_calls.specs.Convention.{result_register}
 use Rattle.linked_calls.specs.FunctionCode.{argument_offset, argument_code, result_code}
 use Rattle.linked_calls.specs.Sections.{argument_turns}
-use Rattle.image_fields.specs.Fields.{Fields}
-use Rattle.image_fields.specs.declared.slot.ResultSlot.{ResultSlot}
-use Rattle.image_fields.specs.declared.slot.Slot.{Slot}
+use Rattle.codegen.specs.image_fields.Fields.{Fields}
+use Rattle.codegen.specs.declared.image_fields.slot.ResultSlot.{ResultSlot}
+use Rattle.codegen.specs.declared.image_fields.slot.Slot.{Slot}
 use Rattle.language.specs.declared.signature.Form.TheVariants.{SingleWord}
 use Rattle.language.specs.declared.values.Arg.TheVariants.{Word}
 use Rattle.linked_calls.specs.Does.{Data, Does, AreThere}

@@ -1,6 +1,6 @@
 -- The frame of a call, zeroed before the body, and all its room, zeroed behind it.
 use Rattle.std.specs.Prelude.{◌≡◌, ◌≢◌, ℕ, ◌+◌, ◌%◌, ◌^◌, ◌<◌, ◌==◌, length, Option, Some, None, if◌then◌else◌}
-use Rattle.expression_code.specs.TermCode.{constant_code}
+use Rattle.codegen.specs.expression_code.TermCode.{constant_code}
 use Rattle.linked_calls.specs.FunctionCode.{frame_code, wipe_code}
 use Rattle.linked_calls.specs.Sections.{block_turns}
 use Rattle.linked_calls.specs.Does.{Data, Does, AreThere}

@@ -2,7 +2,7 @@
 
 ghost use Rattle.std.specs.Prelude.{◌≡◌, ◌++◌, map};
 ghost use Rattle.codegen.specs.Anywhere.{body_words};
-ghost use Rattle.image_fields.specs.Fields.{Fields};
+ghost use Rattle.codegen.specs.image_fields.Fields.{Fields};
 ghost use Rattle.linked_calls.specs.Callable.{CallsAreLinked};
 ghost use Rattle.linked_calls.specs.Cleared.{RegistersAreCleared};
 ghost use Rattle.linked_calls.specs.Copies.{ArrayIsTaken, ArrayIsHandedBack};

@@ -1,6 +1,6 @@
 // What the code of a function is made of.
 
-use image_fields::Slot;
+use codegen::image_fields::Slot;
 
 /// A part of a function's code, with one purpose.
 #[derive(Clone, Copy, Debug, PartialEq, Eq)]

@@ -1,10 +1,10 @@
 -- What is answered to arguments, case by case.
 use Rattle.std.proofs.Common.{◌≡◌, ℕ, List, Some, None, Result, Ok, Err, sym, subst}
-use Rattle.arguments.specs.Faults.{fault_of}
-use Rattle.arguments.specs.declared.fault.ArgumentFault.{ArgumentFault}
+use Rattle.language.specs.arguments.Faults.{fault_of}
+use Rattle.language.specs.declared.arguments.fault.ArgumentFault.{ArgumentFault}
 use Rattle.codegen.specs.Loaded.{params_of, code_at, loaded_at}
 use Rattle.hepurita.specs.Bases.{code_base, frame_base}
-use Rattle.image_fields.specs.Fields.{Fields}
+use Rattle.codegen.specs.image_fields.Fields.{Fields}
 use Rattle.language.specs.declared.values.Arg.{Arg}
 use Rattle.rv_machine.specs.Machine.{State, Code}
 use Rattle.rv_machine.specs.declared.observation.Observation.{Observation}

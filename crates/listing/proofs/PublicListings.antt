@@ -4,7 +4,7 @@ use Rattle.codegen.specs.Loaded.{results_in}
 use Rattle.hepurita.specs.Bases.{frame_base}
 use Rattle.hepurita.specs.Compiled.{Means}
 use Rattle.hepurita.specs.CutOff.{IsRightSoFar}
-use Rattle.image_fields.specs.Fields.{Fields}
+use Rattle.codegen.specs.image_fields.Fields.{Fields}
 use Rattle.language.specs.Tree.{ProgramTree}
 use Rattle.language.specs.declared.values.Arg.{Arg}
 use Rattle.rv_machine.specs.Machine.{State}

@@ -3,7 +3,7 @@
 ghost use Rattle.std.specs.Prelude.{◌≡◌};
 ghost use Rattle.listing.specs.declared.fault.LeakFault.TheVariants.{Argument, Memory};
 
-use arguments::{ArgumentFault, ArgumentRule};
+use language::arguments::{ArgumentFault, ArgumentRule};
 use std::alloc::AllocError;
 
 /// Why the listing of a run was not written to its end.

@@ -1,11 +1,11 @@
 // What the answers of calls of `leak` are to each other.
 
 ghost use Rattle.std.specs.Prelude.{ℕ, ◌≡◌, ◌≢◌, List, ◌++◌, Result, Err};
-ghost use Rattle.arguments.specs.Agreement.{Agree};
+ghost use Rattle.language.specs.arguments.Agreement.{Agree};
 ghost use Rattle.codegen.specs.Loaded.{params_of};
 ghost use Rattle.hepurita.specs.Answers.{Builds};
 ghost use Rattle.hepurita.specs.declared.optimisation.Optimisation.{Optimisation};
-ghost use Rattle.image_fields.specs.Fields.{Fields};
+ghost use Rattle.codegen.specs.image_fields.Fields.{Fields};
 ghost use Rattle.language.specs.Tree.{ProcedureTree, ProgramTree};
 ghost use Rattle.language.specs.declared.values.Arg.{Arg};
 ghost use Rattle.rv_machine.specs.declared.stops.Stop.{Stop};

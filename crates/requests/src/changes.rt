@@ -1,12 +1,12 @@
 // What comes of an image's bytes where one of them is another.
 
 ghost use Rattle.std.specs.Prelude.{◌≡◌, ◌<◌, map, length, IfOk};
-ghost use Rattle.image_fields.specs.declared.slot.Slot.{Slot};
+ghost use Rattle.codegen.specs.declared.image_fields.slot.Slot.{Slot};
 
 use crate::fault::Fault;
+use codegen::image_fields::Slot;
+use hepurita::image::{Image, ImageFault, read};
 use hepurita::{RunFault, execute};
-use image::{Image, ImageFault, read};
-use image_fields::Slot;
 use language::{Arg, Args, Form, Numbers};
 use rv_machine::{NullRecorder, Stop};
 use std::alloc::Global;

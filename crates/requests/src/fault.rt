@@ -1,5 +1,5 @@
 use hepurita::RunFault;
-use image::ImageFault;
+use hepurita::image::ImageFault;
 use language::Rule;
 use thiserror::Error;
 

@@ -11,7 +11,7 @@ use Rattle.word.specs.declared.profile.Profile.{Profile}
 use Rattle.source_eval.proofs.EndsHad.{program-had}
 use Rattle.source_eval.proofs.NamedCalls.{one-exported, all-call-earlier}
 use Rattle.source_eval.proofs.WorkedOut.{worked-out}
-use Rattle.typing_laws.proofs.Programs.{programs}
+use Rattle.language.proofs.typing_laws_lemmas.Programs.{programs}
 
 pub end-had : (profile : Profile) (program : ProgramTree) (args : List Arg) → length (violations profile program) ≡ 0
     → Gives program args (program_run program args).ends

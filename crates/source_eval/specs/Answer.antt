@@ -1,7 +1,7 @@
 -- What `eval` answers.
 use Rattle.std.specs.Prelude.{ℕ, ◌||◌, nat_lt, List, [], map, Option, Some, None, Result, Ok, Err, if◌then◌else◌}
-use Rattle.arguments.specs.Faults.{fault_of}
-use Rattle.arguments.specs.declared.fault.ArgumentFault.{ArgumentFault}
+use Rattle.language.specs.arguments.Faults.{fault_of}
+use Rattle.language.specs.declared.arguments.fault.ArgumentFault.{ArgumentFault}
 use Rattle.language.specs.declared.signature.Param.{Param}
 use Rattle.language.specs.declared.values.Arg.{Arg}
 use Rattle.language.specs.Evaluation.{Run, program_run}

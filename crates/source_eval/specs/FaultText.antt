@@ -1,6 +1,6 @@
 -- How faults of a run are printed.
 use Rattle.std.specs.Prelude.{ℕ, List, None, codes}
-use Rattle.arguments.specs.Text.{fault_text}
+use Rattle.language.specs.arguments.Text.{fault_text}
 use Rattle.source_eval.specs.declared.fault.EvalFault.{EvalFault}
 use Rattle.source_eval.specs.declared.fault.EvalFault.TheVariants.{Argument, NoMeaning, Budget, Memory}
 use Rattle.language.specs.Rules.{refusal_text}

@@ -8,7 +8,7 @@ ghost use Rattle.language.specs.Meaning.{argument_value, final_arrays, holding};
 ghost use Rattle.language.specs.Signature.{param_of};
 ghost use Rattle.language.specs.State.{empty};
 ghost use Rattle.language.specs.Tree.{parameter_tree, procedure_tree, program_tree};
-ghost use Rattle.arguments.specs.Faults.{fault_of};
+ghost use Rattle.language.specs.arguments.Faults.{fault_of};
 ghost use Rattle.source_eval.specs.Answer.{answer, judged_answer, params_of};
 ghost use Rattle.source_eval.specs.Metering.{Ended, Stopped};
 ghost use Rattle.source_eval.specs.Views.{held, value_of, word_of};
@@ -18,7 +18,7 @@ use crate::EvalFault;
 use crate::statements::body;
 use crate::values::{Value, Word};
 use crate::variables::Variables;
-use arguments::{ArgumentFault, first_fault_of};
+use language::arguments::{ArgumentFault, first_fault_of};
 use language::{
     Arg, Args, Form, Kind, MOST_BODIES, Numbers, Outcome, Parameter, Procedure, Program,
 };

@@ -1,7 +1,7 @@
 ghost use Rattle.std.specs.Prelude.{◌≡◌};
 ghost use Rattle.source_eval.specs.declared.fault.EvalFault.TheVariants.{Memory};
 
-use arguments::ArgumentFault;
+use language::arguments::ArgumentFault;
 use language::{Place, Refusal};
 use std::alloc::{AllocError, AllocFailed};
 use std::fmt;

@@ -13,13 +13,12 @@ ghost use Rattle.source_eval.specs.declared.fault.EvalFault.TheVariants.{Memory}
 use crate::EvalFault;
 use crate::calls::{begun, copy_out};
 use crate::expressions::{passed, value, values};
-use crate::operators::is_true;
 use crate::spending::spend;
 use crate::values::{Value, Word};
 use crate::variables::Variables;
 use language::{
     ArrayDeclaration, Call, Counter, ElementAssignment, Expr, Kind, Procedure, Return, RightSide,
-    Statement, procedure_named,
+    Statement, is_true, procedure_named,
 };
 use std::alloc::Global;
 

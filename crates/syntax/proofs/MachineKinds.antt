@@ -180,45 +180,13 @@ label-starts kind label e = ap (option_map by_label) e
 -- operators bind less strongly than signs before an operand
 pub weak_level : (link : Link) → link_level link < 10
 weak_level (by_operator operator.Either) = omega arith
-weak_level (by_operator operator.Both) = omega arith
-weak_level (by_operator operator.Equal) = omega arith
-weak_level (by_operator operator.Unequal) = omega arith
-weak_level (by_operator operator.Less) = omega arith
-weak_level (by_operator operator.LessOrEqual) = omega arith
-weak_level (by_operator operator.Greater) = omega arith
-weak_level (by_operator operator.GreaterOrEqual) = omega arith
-weak_level (by_operator operator.BitOr) = omega arith
-weak_level (by_operator operator.BitXor) = omega arith
-weak_level (by_operator operator.BitAnd) = omega arith
-weak_level (by_operator operator.ShiftLeft) = omega arith
-weak_level (by_operator operator.ShiftRight) = omega arith
-weak_level (by_operator operator.Add) = omega arith
-weak_level (by_operator operator.Subtract) = omega arith
-weak_level (by_operator operator.Multiply) = omega arith
-weak_level (by_operator operator.Divide) = omega arith
-weak_level (by_operator operator.Remainder) = omega arith
+weak_level (by_operator o) = omega arith
 weak_level by_rotation = omega arith
 
 -- a left operand binds as strongly as the operator, or one level more
 pub left_levels : (o : BinaryOperator) → (level_of o ≤ left_level_of o) × (left_level_of o < 10)
 left_levels operator.Either = (omega arith, omega arith)
-left_levels operator.Both = (omega arith, omega arith)
-left_levels operator.Equal = (omega arith, omega arith)
-left_levels operator.Unequal = (omega arith, omega arith)
-left_levels operator.Less = (omega arith, omega arith)
-left_levels operator.LessOrEqual = (omega arith, omega arith)
-left_levels operator.Greater = (omega arith, omega arith)
-left_levels operator.GreaterOrEqual = (omega arith, omega arith)
-left_levels operator.BitOr = (omega arith, omega arith)
-left_levels operator.BitXor = (omega arith, omega arith)
-left_levels operator.BitAnd = (omega arith, omega arith)
-left_levels operator.ShiftLeft = (omega arith, omega arith)
-left_levels operator.ShiftRight = (omega arith, omega arith)
-left_levels operator.Add = (omega arith, omega arith)
-left_levels operator.Subtract = (omega arith, omega arith)
-left_levels operator.Multiply = (omega arith, omega arith)
-left_levels operator.Divide = (omega arith, omega arith)
-left_levels operator.Remainder = (omega arith, omega arith)
+left_levels o = (omega arith, omega arith)
 
 -- no opening bracket, such as stands after a name
 abbrev pub Bars : TokenKind → Type 0

@@ -11,16 +11,16 @@ pub use Rattle.codegen.specs.private.StoredValues.{cuts, stored_value, uncut}
 pub use Rattle.codegen.specs.private.Words.{assign_code, home_of_term, home_or, put_word_code, read_code}
 pub use Rattle.codegen.specs.private.Words.{gives_zero, is_zero, read_register, stored_code, stored_register}
 pub use Rattle.codegen.specs.private.Words.{unless_home}
-use Rattle.expression_code.specs.Allocation.{Allocation, is_unread, register_of}
-use Rattle.expression_code.specs.Layout.{variable_offset, variable_location, control_location, next_offset}
-use Rattle.expression_code.specs.Layout.{temporaries_offset}
-use Rattle.expression_code.specs.Registers.{zero_register, frame_register, value_register, second_register}
-use Rattle.expression_code.specs.Registers.{third_register, address_register, first_spare}
-use Rattle.expression_code.specs.TermCode.{is_near, upper_part, lower_part, load_code, store_code, constant_code}
-use Rattle.expression_code.specs.TermCode.{address_code, load_by, kind_at, near_element, near_code, code_by}
-use Rattle.expression_code.specs.TermCode.{fetch_code, into_code}
-use Rattle.expression_code.specs.declared.locations.Location.{Location}
-use Rattle.expression_code.specs.declared.locations.Location.TheVariants.{InRegister, InSlot}
+use Rattle.codegen.specs.expression_code.Allocation.{Allocation, is_unread, register_of}
+use Rattle.codegen.specs.expression_code.Layout.{variable_offset, variable_location, control_location, next_offset}
+use Rattle.codegen.specs.expression_code.Layout.{temporaries_offset}
+use Rattle.codegen.specs.expression_code.Registers.{zero_register, frame_register, value_register, second_register}
+use Rattle.codegen.specs.expression_code.Registers.{third_register, address_register, first_spare}
+use Rattle.codegen.specs.expression_code.TermCode.{is_near, upper_part, lower_part, load_code, store_code, constant_code}
+use Rattle.codegen.specs.expression_code.TermCode.{address_code, load_by, kind_at, near_element, near_code, code_by}
+use Rattle.codegen.specs.expression_code.TermCode.{fetch_code, into_code}
+use Rattle.codegen.specs.declared.expression_code.locations.Location.{Location}
+use Rattle.codegen.specs.declared.expression_code.locations.Location.TheVariants.{InRegister, InSlot}
 use Rattle.inline.specs.declared.flat.FlatVariable.{FlatVariable}
 use Rattle.inline.specs.Flat.{TermTree}
 use Rattle.rv_code.specs.declared.instructions.Instr.{Instr}

@@ -5,17 +5,17 @@ use Rattle.branch_removal.specs.Straight.{StraightProgram}
 use Rattle.rv_code.specs.declared.instructions.Instr.{Instr}
 use Rattle.rv_code.specs.declared.instructions.Instr.TheVariants.{Ecall}
 use Rattle.rv_code.specs.Words.{word_of}
-use Rattle.image_fields.specs.Fields.{Fields}
-use Rattle.image_fields.specs.declared.slot.ResultSlot.{ResultSlot}
+use Rattle.codegen.specs.image_fields.Fields.{Fields}
+use Rattle.codegen.specs.declared.image_fields.slot.ResultSlot.{ResultSlot}
 use Rattle.inline.specs.declared.flat.FlatVariable.{FlatVariable}
 use Rattle.inline.specs.Flat.{TermTree}
 use Rattle.language.specs.declared.typing.WordType.{WordType}
 use Rattle.codegen.specs.private.Emitted.{block_code, assign_code}
 use Rattle.codegen.specs.private.Fresh.{homes_but, starts_fresh}
 use Rattle.branch_removal.specs.Heights.{depth_in_all, program_height}
-use Rattle.expression_code.specs.Allocation.{Allocation, slots_to}
-use Rattle.expression_code.specs.Layout.{slots_from, result_offset, temporaries_offset, word_offset}
-use Rattle.expression_code.specs.TermCode.{load_code}
+use Rattle.codegen.specs.expression_code.Allocation.{Allocation, slots_to}
+use Rattle.codegen.specs.expression_code.Layout.{slots_from, result_offset, temporaries_offset, word_offset}
+use Rattle.codegen.specs.expression_code.TermCode.{load_code}
 
 -- the value into the result's slot, where there is one
 abbrev pub result_code : List FlatVariable → Allocation → ℕ → Option TermTree → List Instr

@@ -6,7 +6,7 @@ use Rattle.codegen.specs.declared.unemitted.Unemitted.TheVariants.{TooFar}
 use Rattle.rv_code.specs.declared.instructions.Instr.{Instr}
 use Rattle.rv_code.specs.declared.instructions.Instr.TheVariants.{Jump, Branch}
 use Rattle.rv_code.specs.declared.operations.BranchTest.TheVariants.{Bne}
-use Rattle.expression_code.specs.Registers.{zero_register, value_register}
+use Rattle.codegen.specs.expression_code.Registers.{zero_register, value_register}
 
 -- over the next instruction, where a register is not 0
 abbrev pub skip : ℕ → Instr

@@ -7,11 +7,11 @@ use Rattle.branch_removal.specs.Straight.{StraightTree, set, clear, fill, put, t
 use Rattle.branch_removal.specs.Straight.{repeats, StraightBlock, nothing, first}
 use Rattle.codegen.specs.private.Jumps.{again_code, branch_code, loop_code}
 use Rattle.codegen.specs.private.Words.{assign_code, put_word_code, read_code, read_register}
-use Rattle.expression_code.specs.Allocation.{Allocation}
-use Rattle.expression_code.specs.Registers.{value_register, second_register}
-use Rattle.expression_code.specs.TermCode.{into_code, is_near, load_code, move_code, store_code}
-use Rattle.expression_code.specs.declared.locations.Location.{Location}
-use Rattle.expression_code.specs.declared.locations.Location.TheVariants.{InRegister, InSlot}
+use Rattle.codegen.specs.expression_code.Allocation.{Allocation}
+use Rattle.codegen.specs.expression_code.Registers.{value_register, second_register}
+use Rattle.codegen.specs.expression_code.TermCode.{into_code, is_near, load_code, move_code, store_code}
+use Rattle.codegen.specs.declared.expression_code.locations.Location.{Location}
+use Rattle.codegen.specs.declared.expression_code.locations.Location.TheVariants.{InRegister, InSlot}
 use Rattle.inline.specs.declared.flat.FlatVariable.{FlatVariable}
 use Rattle.inline.specs.Flat.{TermTree, number}
 use Rattle.rv_code.specs.declared.instructions.Instr.{Instr}

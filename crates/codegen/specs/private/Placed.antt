@@ -3,9 +3,9 @@ use Rattle.std.specs.Prelude.{ℕ, ◌+◌, ◌*◌, ◌<◌, ◌≤◌, List, [
 use Rattle.branch_removal.specs.Straight.{StraightTree, set, clear, fill, put, take, set_under, put_under, branch}
 use Rattle.branch_removal.specs.Straight.{repeats, StraightBlock, nothing, first}
 use Rattle.branch_removal.specs.StraightTyping.{IsAmong as IsControl}
-use Rattle.expression_code.specs.Allocation.{Allocation, slots_to}
-use Rattle.expression_code.specs.Layout.{variable_offset, temporaries_offset}
-use Rattle.expression_code.specs.TermCode.{IsAmong}
+use Rattle.codegen.specs.expression_code.Allocation.{Allocation, slots_to}
+use Rattle.codegen.specs.expression_code.Layout.{variable_offset, temporaries_offset}
+use Rattle.codegen.specs.expression_code.TermCode.{IsAmong}
 use Rattle.branch_removal.specs.Heights.{height_of}
 use Rattle.inline.specs.declared.flat.FlatVariable.{FlatVariable}
 use Rattle.inline.specs.Flat.{TermTree}

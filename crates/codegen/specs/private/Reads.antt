@@ -3,7 +3,7 @@ use Rattle.std.specs.Prelude.{◌≡◌, ℕ, ◌==◌, false, Bool, List, map, 
 use Rattle.branch_removal.specs.Straight.{StraightTree, set, clear, fill, put, take, set_under, put_under, branch}
 use Rattle.branch_removal.specs.Straight.{repeats, StraightBlock, nothing, first, StraightProgram}
 use Rattle.codegen.specs.private.Uses.{control_weights_of}
-use Rattle.expression_code.specs.Allocation.{Allocation, is_unread}
+use Rattle.codegen.specs.expression_code.Allocation.{Allocation, is_unread}
 
 -- whether nothing reads each control value of a program, by its number: no place that reads it counts
 abbrev pub unread_of : StraightProgram → List Bool

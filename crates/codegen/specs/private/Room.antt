@@ -8,8 +8,8 @@ use Rattle.branch_removal.specs.Heights.{depth_in_all}
 use Rattle.codegen.specs.private.Generated.{home_count}
 use Rattle.codegen.specs.private.Reads.{AllReadKept}
 use Rattle.branch_removal.specs.Heights.{program_height}
-use Rattle.expression_code.specs.Allocation.{Allocation, IsAllocation}
-use Rattle.expression_code.specs.Layout.{Frame}
+use Rattle.codegen.specs.expression_code.Allocation.{Allocation, IsAllocation}
+use Rattle.codegen.specs.expression_code.Layout.{Frame}
 use Rattle.inline.specs.Flat.{declaration_of}
 use Rattle.inline.specs.Limits.{most_variable_bytes}
 use Rattle.inline.specs.FlatSize.{HasLength, declared_words, value_nodes}

@@ -1,12 +1,12 @@
 -- The instructions that are emitted for words: an expression's value is read where it is, and put where it belongs.
 use Rattle.std.specs.Prelude.{ℕ, ◌==◌, ◌&&◌, Bool, false, List, [], ◌++◌, Option, None, Some, if◌then◌else◌}
-use Rattle.expression_code.specs.Allocation.{Allocation}
-use Rattle.expression_code.specs.NumberRows.{number_of}
-use Rattle.expression_code.specs.Registers.{zero_register, value_register}
-pub use Rattle.expression_code.specs.TermCode.{home_of_term}
-use Rattle.expression_code.specs.TermCode.{into_code, move_code, store_code}
-use Rattle.expression_code.specs.declared.locations.Location.{Location}
-use Rattle.expression_code.specs.declared.locations.Location.TheVariants.{InRegister, InSlot}
+use Rattle.codegen.specs.expression_code.Allocation.{Allocation}
+use Rattle.codegen.specs.expression_code.NumberRows.{number_of}
+use Rattle.codegen.specs.expression_code.Registers.{zero_register, value_register}
+pub use Rattle.codegen.specs.expression_code.TermCode.{home_of_term}
+use Rattle.codegen.specs.expression_code.TermCode.{into_code, move_code, store_code}
+use Rattle.codegen.specs.declared.expression_code.locations.Location.{Location}
+use Rattle.codegen.specs.declared.expression_code.locations.Location.TheVariants.{InRegister, InSlot}
 use Rattle.inline.specs.declared.flat.FlatVariable.{FlatVariable}
 use Rattle.inline.specs.Flat.{TermTree}
 use Rattle.rv_code.specs.declared.instructions.Instr.{Instr}

@@ -1,8 +1,8 @@
 use Rattle.std.proofs.Common.{◌≡◌, ℕ, Bool, List, Option, Ok, Err, map, inr, refl, ◌∙◌, subst}
 use Rattle.std.proofs.lemmas.Result.{err_from_is_err_and}
-use Rattle.certificates.specs.Certified.{Certified}
+use Rattle.image_reports.specs.certificates.Certified.{Certified}
 use Rattle.certified_runs.specs.declared.shifts.Shifts.{Shifts}
-use Rattle.certificates.specs.Texts.{fault_of_given_texts}
+use Rattle.image_reports.specs.certificates.Texts.{fault_of_given_texts}
 use Rattle.language.specs.declared.signature.Param.{Param}
 use Rattle.language.specs.declared.values.Arg.{Arg}
 use Rattle.commands.specs.Certificates.{RefusesCertificate, shifts_seen}
@@ -10,8 +10,8 @@ use Rattle.codegen.specs.Loaded.{params_of}
 use Rattle.commands.specs.Contents.{Contents}
 use Rattle.commands.specs.Images.{HoldsImage}
 use Rattle.commands.specs.Progress.{CertificateGoesOn, Tells, FileCertificateTells}
-use Rattle.image_fields.specs.Fields.{Fields}
-use Rattle.progress.specs.GoingOn.{Counting, HasLines}
+use Rattle.codegen.specs.image_fields.Fields.{Fields}
+use Rattle.run_reports.specs.progress.GoingOn.{Counting, HasLines}
 use Rattle.commands.specs.ImageRefusals.{no_image, no_arguments, no_answer, out_of_memory}
 use Rattle.commands.specs.Words.{IsFaultOfWords, AreGiven}
 use Rattle.commands.specs.declared.fault.Fault.TheVariants.{Run}

@@ -1,7 +1,7 @@
 use Rattle.std.proofs.Common.{ℕ, List, map, Err, refl, ap, ◌∙◌, subst, arith}
 use Rattle.std.proofs.lemmas.Result.{err_from_is_err_and}
 use Rattle.std.specs.String.{string_bytes}
-use Rattle.arguments.specs.Texts.{fault_of_texts}
+use Rattle.language.specs.arguments.Texts.{fault_of_texts}
 use Rattle.hepurita.specs.Built.{Judges, IsRefusal}
 use Rattle.hepurita.specs.Compiled.{Means}
 use Rattle.language.specs.Results.{Results}

@@ -2,14 +2,14 @@ use Rattle.std.proofs.Common.{◌≡◌, ℕ, List, take, refl, ◌∙◌, subst
 use Rattle.std.proofs.lemmas.Result.{err_from_is_err_and, on_ok_weaker}
 use Rattle.std.specs.String.{string_bytes}
 use Rattle.hepurita.specs.Built.{Judges, IsRefusal}
-use Rattle.wrapping.specs.Wrapped.{IsWrapped, Breaks, IsFaultOf}
+use Rattle.input_files.specs.wrapping.Wrapped.{IsWrapped, Breaks, IsFaultOf}
 use Rattle.commands.specs.Contents.{Contents, Begins, IsWritten, IsCutOff}
 use Rattle.commands.specs.FileTexts.{HoldsText}
 use Rattle.commands.specs.Judged.{IsRefused, no_text}
 use Rattle.commands.specs.Judged as judged
 use Rattle.commands.specs.WrappedCode.{IsImageOfCode, RefusesCode, not_accepted, not_read, broken}
 use Rattle.commands.specs.Written.{FailsToWrite, refused, cut_off}
-use Rattle.wrapping.specs.declared.asked.Asked.{Asked}
+use Rattle.input_files.specs.declared.wrapping.asked.Asked.{Asked}
 use Rattle.commands.proofs.CodeLemmas.{wrapped_whole, breaks_whole}
 use Rattle.commands.proofs.ImageLemmas.{handed_on}
 use Rattle.commands.proofs.Writing.{err_both}

@@ -1,8 +1,8 @@
 use Rattle.std.proofs.Common.{ℕ, List, subst}
 use Rattle.std.proofs.lemmas.Result.{err_from_is_err_and}
 use Rattle.std.specs.String.{string_bytes}
-use Rattle.function_text.specs.Functions.{IsFaultOf, HasTakenName}
-use Rattle.function_text.specs.Texts.{AreTextsOf}
+use Rattle.functions.specs.function_text.Functions.{IsFaultOf, HasTakenName}
+use Rattle.functions.specs.function_text.Texts.{AreTextsOf}
 use Rattle.hepurita.specs.Built.{Judges, IsRefusal}
 use Rattle.commands.specs.FunctionFiles.{RefusesFunction, not_accepted, taken_name}
 use Rattle.commands.specs.Judged as judged

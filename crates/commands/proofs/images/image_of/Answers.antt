@@ -1,7 +1,7 @@
 use Rattle.std.proofs.Common.{List, ℕ, Err, sym, ap, ◌∙◌, subst}
 use Rattle.std.proofs.lemmas.Result.{err_from_is_err_and}
-use Rattle.image.specs.Reading.{reading, IsUnlessMemory}
-use Rattle.image_fields.specs.Fields.{Fields}
+use Rattle.hepurita.specs.image.Reading.{reading, IsUnlessMemory}
+use Rattle.codegen.specs.image_fields.Fields.{Fields}
 use Rattle.commands.specs.Images.{NoImage, not_read}
 use Rattle.commands.specs.declared.fault.Fault.TheVariants.{Image}
 use Rattle.commands.proofs.ImageLemmas.{image_held, image_refused, handed_on}

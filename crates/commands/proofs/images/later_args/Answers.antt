@@ -1,7 +1,7 @@
 -- The first fault of the second list, numbered on from the first.
 use Rattle.std.proofs.Common.{◌≡◌, ◌<◌, map, length, Some, None, refl, ap, arith}
 use Rattle.std.specs.Option.{option_map}
-use Rattle.arguments.specs.Texts.{fault_of_texts}
+use Rattle.language.specs.arguments.Texts.{fault_of_texts}
 use Rattle.hepurita.specs.Paired.{shifted}
 use Rattle.commands.proofs.WordLemmas.{index_below, shifted_fault, spelled_from, fault_told}
 use Rattle.commands.proofs.images.later_args.Goals as goal

@@ -1,6 +1,6 @@
 use Rattle.std.proofs.Common.{List, ℕ, Result, Err, map, refl, ap, ◌∙◌, subst}
 use Rattle.std.proofs.lemmas.Result.{err_from_is_err_and}
-use Rattle.arguments.specs.Texts.{fault_of_texts}
+use Rattle.language.specs.arguments.Texts.{fault_of_texts}
 use Rattle.language.specs.declared.signature.Param.{Param}
 use Rattle.commands.specs.ImageRefusals.{no_image, no_arguments, no_answer, out_of_memory}
 use Rattle.commands.specs.Leaks.{SaysLeak, RefusesLeak, IsOutputFault}

@@ -1,7 +1,7 @@
 -- Why the two runs are not compared, step by step.
 use Rattle.std.proofs.Common.{List, map, inr, ◌∙◌, subst}
 use Rattle.std.proofs.lemmas.Result.{err_from_is_err_and}
-use Rattle.arguments.specs.Within.{AreWithin}
+use Rattle.language.specs.arguments.Within.{AreWithin}
 use Rattle.language.specs.declared.signature.Param.{Param}
 use Rattle.commands.specs.ImageRefusals.{no_image, no_arguments, no_answer, out_of_memory}
 use Rattle.commands.specs.Pairs.{RefusesPair}
@@ -9,7 +9,7 @@ use Rattle.commands.specs.Words.{AreBothSpelled, IsFaultOfWords, fault_of_both}
 use Rattle.commands.specs.declared.fault.Fault.TheVariants.{Run}
 use Rattle.commands.proofs.ImageLemmas.{handed_on, memory_on}
 use Rattle.commands.proofs.ProgressLemmas.{on_err, file_pair_tells, pair_reaches}
-use Rattle.progress.specs.GoingOn.{HasLines}
+use Rattle.run_reports.specs.progress.GoingOn.{HasLines}
 use Rattle.commands.proofs.images.pair_image.Goals as goal
 
 pub returns-in_err-image-clause-refused : goal.returns-in_err-image-clause-refused

@@ -1,6 +1,6 @@
 use Rattle.std.proofs.Common.{List, Err, map, inr, refl, ap, ◌∙◌, subst}
 use Rattle.std.proofs.lemmas.Result.{err_from_is_err_and}
-use Rattle.arguments.specs.Texts.{fault_of_texts}
+use Rattle.language.specs.arguments.Texts.{fault_of_texts}
 use Rattle.language.specs.declared.signature.Param.{Param}
 use Rattle.commands.specs.ImageRefusals.{no_image, no_arguments, no_answer, out_of_memory}
 use Rattle.commands.specs.OutcomeText.{outcome_text}
@@ -9,7 +9,7 @@ use Rattle.commands.specs.Words.{IsFaultOfWords}
 use Rattle.commands.specs.declared.fault.Fault.TheVariants.{Run}
 use Rattle.commands.proofs.ImageLemmas.{handed_on, memory_on}
 use Rattle.commands.proofs.ProgressLemmas.{on_err, file_run_tells, run_reaches}
-use Rattle.progress.specs.GoingOn.{Reaches, HasLines}
+use Rattle.run_reports.specs.progress.GoingOn.{Reaches, HasLines}
 use Rattle.commands.proofs.WordLemmas.{fault_of_words, spelled_from}
 use Rattle.commands.proofs.images.run_image.Goals as goal
 

@@ -2,7 +2,7 @@ use Rattle.std.proofs.Common.{List, ℕ, Ok, ap, subst}
 use Rattle.std.proofs.lemmas.Result.{err_from_is_err_and}
 use Rattle.std.specs.Option.{IfSome}
 use Rattle.std.specs.String.{string_bytes}
-use Rattle.image_statistics.specs.ImageText.{BeginsOtherwise, SaysFields, IsFaultOf}
+use Rattle.image_reports.specs.image_statistics.ImageText.{BeginsOtherwise, SaysFields, IsFaultOf}
 use Rattle.commands.specs.Costs.{RefusesCosts, of_source, not_read, no_source}
 use Rattle.commands.specs.declared.fault.Fault.TheVariants.{Image}
 use Rattle.commands.proofs.ImageLemmas.{handed_on}

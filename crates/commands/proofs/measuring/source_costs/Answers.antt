@@ -3,7 +3,7 @@ use Rattle.std.proofs.lemmas.Result.{err_from_is_err_and}
 use Rattle.std.proofs.lemmas.Str.{IsUtf8-string_bytes}
 use Rattle.std.specs.String.{string_bytes}
 use Rattle.hepurita.specs.Built.{Judges, IsRefusal}
-use Rattle.source_statistics.specs.SourceText.{SaysCosts}
+use Rattle.image_reports.specs.source_statistics.SourceText.{SaysCosts}
 use Rattle.commands.specs.FileTexts.{HoldsText}
 use Rattle.commands.specs.Judged.{no_text, not_accepted}
 use Rattle.commands.proofs.MeasuringLemmas.{cut_shorter}

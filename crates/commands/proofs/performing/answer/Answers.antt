@@ -8,7 +8,7 @@ use Rattle.commands.specs.Pictures.{SaysPicture}
 use Rattle.commands.specs.Runs.{SaysRun}
 use Rattle.commands.specs.Vectors.{SaysVectors}
 use Rattle.commands.proofs.ProgressLemmas.{on_ok, on_err, run_reaches, pair_reaches, certificate_reaches, tells_known, part_known}
-use Rattle.progress.specs.GoingOn.{Reaches, HasLines}
+use Rattle.run_reports.specs.progress.GoingOn.{Reaches, HasLines}
 use Rattle.commands.proofs.RequestLemmas.{refuses, prints, fails_to_print, fails_to_list}
 use Rattle.commands.proofs.performing.answer.Goals as goal
 

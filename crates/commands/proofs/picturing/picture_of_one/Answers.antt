@@ -1,9 +1,9 @@
 use Rattle.std.proofs.Common.{◌≡◌, ◌++◌, List, ℕ, Option, Ok, Err, map, refl, ap₂, ◌∙◌, subst, inl}
 use Rattle.std.proofs.lemmas.Result.{err_from_is_err_and}
-use Rattle.certificates.specs.Certified.{Certified}
-use Rattle.certificates.specs.Texts.{fault_of_given_texts}
+use Rattle.image_reports.specs.certificates.Certified.{Certified}
+use Rattle.image_reports.specs.certificates.Texts.{fault_of_given_texts}
 use Rattle.certified_runs.specs.declared.shifts.Shifts.TheVariants.{Hidden}
-use Rattle.image_pictures.specs.Drawn.{DrawsOne}
+use Rattle.image_reports.specs.image_pictures.Drawn.{DrawsOne}
 use Rattle.language.specs.declared.signature.Param.{Param}
 use Rattle.language.specs.declared.values.Arg.{Arg}
 use Rattle.commands.specs.Pictures.{RefusesOne, before_certificate}

@@ -3,8 +3,8 @@ use Rattle.std.proofs.Common.{List, map, ap, subst}
 use Rattle.std.specs.List.{AllZip}
 use Rattle.commands.specs.Harts.{IsJobOf}
 use Rattle.harts.specs.Frames.{job_of}
-use Rattle.harts_file.specs.Jobs.{hart_of}
-use Rattle.harts_file.specs.declared.jobs.Job.{Job}
+use Rattle.input_files.specs.harts_file.Jobs.{hart_of}
+use Rattle.input_files.specs.declared.harts_file.jobs.Job.{Job}
 use Rattle.commands.proofs.HartLemmas.{plan_said}
 use Rattle.commands.proofs.side_by_side.run_side_by_side.Goals as goal
 

@@ -4,8 +4,8 @@ use Rattle.std.proofs.lemmas.Result.{err_from_is_err_and}
 use Rattle.commands.proofs.ProgressLemmas.{on_ok, on_err, told_of_image}
 use Rattle.commands.specs.Progress.{RunGoesOn}
 use Rattle.hepurita.proofs.ExecutedLemmas.{memory_executed, refused_executed, ran_executed}
-use Rattle.progress.proofs.Told.{none_told, reaches}
-use Rattle.progress.specs.GoingOn.{HasLines}
+use Rattle.run_reports.proofs.progress_lemmas.Told.{none_told, reaches}
+use Rattle.run_reports.specs.progress.GoingOn.{HasLines}
 use Rattle.rv_machine.specs.Harts.{state_of}
 use Rattle.rv_machine.specs.Paged.{paged_bytes}
 use Rattle.rv_machine.specs.Regions.{code_of}

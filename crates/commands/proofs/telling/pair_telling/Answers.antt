@@ -4,7 +4,7 @@ use Rattle.std.proofs.lemmas.Result.{err_from_is_err_and}
 use Rattle.commands.proofs.ProgressLemmas.{on_err, told_of_pair}
 use Rattle.hepurita.proofs.PairedLemmas.{memory_paired, refused_paired, observed_from}
 use Rattle.hepurita.specs.Paired.{compared}
-use Rattle.progress.specs.GoingOn.{HasLines}
+use Rattle.run_reports.specs.progress.GoingOn.{HasLines}
 use Rattle.rv_machine.specs.Harts.{state_of}
 use Rattle.rv_machine.specs.Paged.{paged_bytes}
 use Rattle.rv_machine.specs.Regions.{code_of}

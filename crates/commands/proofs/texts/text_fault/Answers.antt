@@ -5,9 +5,9 @@ use Rattle.commands.specs.Unread.{unread, out_of_memory}
 use Rattle.commands.specs.declared.fault.Fault.TheVariants.{Text}
 use Rattle.language.specs.WantOfMemory.{IsWantOfMemory}
 use Rattle.language.specs.declared.refusal.Refusal.{Refusal}
-use Rattle.stream_build.specs.Faults as texts
-use Rattle.stream_build.specs.Faults.{IsTooLong}
-use Rattle.stream_build.specs.declared.fault.BuildFault.TheVariants.{NotUtf8}
+use Rattle.input_files.specs.stream_build.Faults as texts
+use Rattle.input_files.specs.stream_build.Faults.{IsTooLong}
+use Rattle.input_files.specs.declared.stream_build.fault.BuildFault.TheVariants.{NotUtf8}
 use Rattle.commands.proofs.texts.text_fault.Goals as goal
 
 by_refusal : (files : Contents) (path bytes : List ℕ) (refusal : Refusal) → files path ≡ Some bytes

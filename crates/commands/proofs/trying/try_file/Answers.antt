@@ -3,9 +3,9 @@ use Rattle.std.proofs.lemmas.Result.{err_from_is_err_and}
 use Rattle.std.proofs.lemmas.Str.{IsUtf8-string_bytes}
 use Rattle.std.specs.String.{string_bytes}
 use Rattle.hepurita.specs.Built.{Judges, IsRefusal}
-use Rattle.vectors.specs.Lines.{NamedVector}
-use Rattle.vectors.specs.Verdicts.{IsReport}
-use Rattle.vectors.specs.Views.{named}
+use Rattle.image_reports.specs.vectors.Lines.{NamedVector}
+use Rattle.image_reports.specs.vectors.Verdicts.{IsReport}
+use Rattle.image_reports.specs.vectors.Views.{named}
 use Rattle.commands.specs.Vectors.{RefusesVectors, no_source, no_lines, not_accepted}
 use Rattle.commands.specs.declared.fault.Fault.TheVariants.{Text, Vectors}
 use Rattle.commands.proofs.ImageLemmas.{handed_on}

@@ -1,11 +1,11 @@
 -- The arguments of one more are put.
 use Rattle.std.proofs.Common.{◌≡◌, ℕ, ◌+◌, List, All, length, map, drop, is_some, sym, ap, subst, ◌∙◌}
 use Rattle.std.proofs.lemmas.List.{length-map}
-use Rattle.arguments.specs.Within.{AreWithin}
+use Rattle.language.specs.arguments.Within.{AreWithin}
 use Rattle.codegen.specs.Loaded.{params_of, with_arguments}
 use Rattle.hepurita.specs.Frames.{HoldsSlot}
 use Rattle.harts.proofs.Below.{length-within}
-use Rattle.image_fields.specs.declared.slot.Slot.{Slot}
+use Rattle.codegen.specs.declared.image_fields.slot.Slot.{Slot}
 use Rattle.language.specs.declared.values.Arg.{Arg}
 use Rattle.rv_machine.specs.Bytes.{ByteMap}
 use Rattle.harts.specs.Frames.{job_of, IsRunnable, with_all_arguments}

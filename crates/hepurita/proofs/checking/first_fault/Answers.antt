@@ -1,8 +1,8 @@
 use Rattle.std.proofs.Common.{List, map, rules, ap₂, ◌∙◌}
-use Rattle.arguments.proofs.FaultLemmas.{None-from_fault_of, fault_by-shown}
-use Rattle.arguments.specs.Faults.{rule_of, fault_of}
+use Rattle.language.proofs.arguments_lemmas.FaultLemmas.{None-from_fault_of, fault_by-shown}
+use Rattle.language.specs.arguments.Faults.{rule_of, fault_of}
 use Rattle.codegen.specs.Loaded.{params_of}
-use Rattle.image_fields.specs.declared.slot.Slot.{Slot}
+use Rattle.codegen.specs.declared.image_fields.slot.Slot.{Slot}
 use Rattle.language.specs.declared.values.Arg.{Arg}
 use Rattle.hepurita.proofs.checking.first_fault.Goals as goal
 

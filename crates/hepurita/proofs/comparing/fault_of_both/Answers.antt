@@ -1,7 +1,7 @@
 use Rattle.std.proofs.Common.{sym, arith}
 use Rattle.std.proofs.lemmas.List.{length-map}
 use Rattle.codegen.specs.Loaded.{params_of}
-use Rattle.image_fields.specs.declared.slot.Slot.{Slot}
+use Rattle.codegen.specs.declared.image_fields.slot.Slot.{Slot}
 use Rattle.hepurita.proofs.FaultLemmas.{index_below}
 use Rattle.hepurita.proofs.comparing.fault_of_both.Goals as goal
 

@@ -1,7 +1,7 @@
 use Rattle.std.proofs.Common.{List, length, All, ap, sym, subst, ◌∙◌, arith}
 use Rattle.std.proofs.lemmas.List.{length-map}
 use Rattle.std.proofs.lemmas.List.Elements.{All-from_recursion}
-use Rattle.image_fields.specs.declared.slot.Slot.{Slot}
+use Rattle.codegen.specs.declared.image_fields.slot.Slot.{Slot}
 use Rattle.rv_machine.specs.Bytes.{ByteMap, zeros}
 use Rattle.rv_machine.specs.Paged.{paged_bytes}
 use Rattle.rv_machine.specs.Harts.{pc_of, regs_of}

@@ -1,5 +1,5 @@
 use Rattle.std.proofs.Common.{sym, ap, subst, ◌∙◌, arith}
-use Rattle.arguments.specs.Within.{HasShape}
+use Rattle.language.specs.arguments.Within.{HasShape}
 use Rattle.language.specs.declared.values.Arg.{Arg}
 use Rattle.language.specs.declared.values.Arg.TheVariants.{Word}
 use Rattle.codegen.specs.Loaded.{with_argument}

@@ -1,5 +1,5 @@
 use Rattle.std.proofs.Common.{◌+◌, ◌<◌, length, drop, slice_index_or, is_some, ap, sym, subst, ◌∙◌, arith}
-use Rattle.arguments.specs.Within.{HasShape}
+use Rattle.language.specs.arguments.Within.{HasShape}
 use Rattle.language.specs.declared.values.Arg.{Arg}
 use Rattle.codegen.specs.Loaded.{with_argument, with_arguments}
 use Rattle.hepurita.proofs.DataLemmas.{HoldsSlot-same, is_some-with_argument}

@@ -1,5 +1,5 @@
 use Rattle.std.proofs.Common.{◌≡◌, Err, ap}
-use Rattle.arguments.specs.declared.texts.ReadError.TheVariants as errors
+use Rattle.language.specs.declared.arguments.texts.ReadError.TheVariants as errors
 use Rattle.hepurita.proofs.FaultLemmas.{same_fault, no_fault}
 use Rattle.hepurita.proofs.reading.read_args.Goals as goal
 

@@ -3,8 +3,8 @@ use Rattle.std.proofs.Common.{is_ok, sym, ap, subst, ◌∙◌}
 use Rattle.std.specs.List.{AllByRecursion}
 use Rattle.std.proofs.ResultArms.{chosen}
 use Rattle.std.proofs.lemmas.List.Elements.{All-from_recursion}
-use Rattle.image_fields.specs.Fields.{slot_end}
-use Rattle.image_fields.specs.declared.slot.Slot.{Slot}
+use Rattle.codegen.specs.image_fields.Fields.{slot_end}
+use Rattle.codegen.specs.declared.image_fields.slot.Slot.{Slot}
 use Rattle.language.specs.declared.signature.Form.TheVariants.{MutableArray}
 use Rattle.codegen.specs.Loaded.{arrays_in}
 use Rattle.hepurita.specs.declared.results.ArraySpace.{ArraySpace}

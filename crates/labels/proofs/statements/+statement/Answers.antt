@@ -1,5 +1,5 @@
 use Rattle.std.proofs.Common.{map, false, ◌∙◌, ap, ap₂}
-use Rattle.scopes.specs.Shortened.{shortened}
+use Rattle.language.specs.scopes.Shortened.{shortened}
 use Rattle.labels.proofs.TreeLemmas.{conditional_seen, loop_seen, on_ok, scope_before, scope_before_turns}
 use Rattle.language.specs.Tree.{block_tree, procedure_tree}
 use Rattle.language.specs.Types.{declared}

@@ -1,4 +1,0 @@
-mod NumberLemmas
-pub mod FaultLemmas
-mod TextLemmas
-pub mod ReadLemmas

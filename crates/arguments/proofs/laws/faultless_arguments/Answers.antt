@@ -1,8 +1,0 @@
-use Rattle.arguments.proofs.FaultLemmas.{fault_of-None, length-AreWithin}
-use Rattle.arguments.proofs.laws.faultless_arguments.Goals as goal
-
-pub returns-clause-none : goal.returns-clause-none
-returns-clause-none c = fault_of-None
-
-pub returns-clause-count : goal.returns-clause-count
-returns-clause-count c = length-AreWithin

@@ -1,6 +1,0 @@
-use Rattle.std.proofs.Common.{arith}
-use Rattle.arguments.proofs.ReadLemmas.{word_below}
-use Rattle.arguments.proofs.texts.word.Goals as goal
-
-pub returns-in-Some : goal.returns-in-Some
-returns-in-Some c = word_below c.args.text.now c.in-Some.value c.in-Some.ensures (omega arith)

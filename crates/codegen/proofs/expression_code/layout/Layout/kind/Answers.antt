@@ -1,0 +1,7 @@
+use Rattle.std.proofs.Common.{arith}
+use Rattle.codegen.proofs.expression_code_lemmas.Places.{kind_listed}
+use Rattle.codegen.proofs.expression_code.layout.Layout.kind.Goals as goal
+
+-- src/layout.rt:71:5
+pub returns : goal.returns
+returns c = grind (arith, kind_listed, c.self.view_is, c.requires)

@@ -1,0 +1,86 @@
+-- Arithmetic of addresses, of numbers in two parts, and of masks.
+use Rattle.std.proofs.Common.{◌≡◌, ℕ, ◌+◌, ◌*◌, ◌%◌, ◌^◌, ◌<◌, ◌==◌, Bool, true, false, not, ◌&&◌, if◌then◌else◌}
+use Rattle.std.proofs.Common.{bit_and, bit_xor, ap, ◌∙◌, arith}
+use Rattle.codegen.proofs.expression_code_lemmas.Below.{lower_part, nat_tests, upper_part, and_mask, xor_of_32, sum_of}
+use Rattle.codegen.proofs.expression_code_lemmas.Below.{difference_of}
+use Rattle.codegen.proofs.expression_code_lemmas.Below.{sign_extended}
+use Rattle.std.specs.Int.{bit_at}
+use Rattle.std.specs.Int.Bits.{and_zero_r, xor_zero_r}
+use Rattle.std.proofs.lemmas.Nat.Bits.{bit_at_xor, bit_at-lt, same_from_bits}
+
+-- the upper and the lower part make the number
+pub parts : (n : ℕ) → n < 2 ^ 32 → sum_of (upper_part n * 2 ^ 12) (sign_extended 12 (lower_part n)) ≡ n
+parts n below = grind (arith, nat_tests)
+
+-- and with a base added between them an address
+pub far_address : (frame n : ℕ) → frame + n < 2 ^ 32
+    → sum_of (sum_of (upper_part n * 2 ^ 12) frame) (sign_extended 12 (lower_part n)) ≡ frame + n
+far_address frame n below = omega (arith, parts n (omega (arith, below)), below)
+
+pub near_address : (frame n : ℕ) → n < 2048 → frame + n < 2 ^ 32 → sum_of frame (sign_extended 12 n) ≡ frame + n
+near_address frame n near below = grind (arith, nat_tests)
+
+pub upper_fits : (n : ℕ) → upper_part n < 2 ^ 20
+upper_fits n = omega arith
+
+pub lower_fits : (n : ℕ) → lower_part n < 2 ^ 12
+lower_fits n = omega arith
+
+-- Masks.
+
+-- a control value's word
+abbrev pub mask_of : Bool → ℕ
+mask_of b = if b then 4294967295 else 0
+
+pub mask_fits : (b : Bool) → mask_of b < 2 ^ 32
+mask_fits b = grind (arith, nat_tests)
+
+-- the masks of a condition
+pub mask_when : (v : ℕ) → v < 2 → difference_of 0 v ≡ mask_of (not (v == 0))
+mask_when v h = grind (arith, nat_tests)
+
+pub mask_otherwise : (v : ℕ) → v < 2 → sum_of v 4294967295 ≡ mask_of (v == 0)
+mask_otherwise v h = grind (arith, nat_tests)
+
+-- two masks joined, the enclosing one second
+pub masks_join : (outer inner : Bool) → bit_and (mask_of inner) (mask_of outer) ≡ mask_of (outer && inner)
+masks_join outer inner = grind (arith, nat_tests)
+
+-- the new word under a mask, and the old one elsewhere
+abbrev pub merged : ℕ → ℕ → ℕ → ℕ
+merged mask old new = bit_xor old (bit_and (bit_xor new old) mask)
+
+bit_back : (a b i : ℕ) → bit_at (bit_xor b (bit_xor a b)) i ≡ bit_at a i
+bit_back a b i =
+    bit_at_xor b (bit_xor a b) i
+    ∙ (ap (λ x. (bit_at b i + x) % 2) (bit_at_xor a b i)
+    ∙ omega (arith, bit_at-lt a i, bit_at-lt b i))
+
+all_ones : (x : ℕ) → x < 2 ^ 32 → bit_and x 4294967295 ≡ x
+all_ones x below = omega (arith, and_mask x 32)
+
+pub merge : (b : Bool) (old new : ℕ) → old < 2 ^ 32 → new < 2 ^ 32
+    → merged (mask_of b) old new ≡ (if b then new else old)
+merge true old new p q = ap (bit_xor old) (all_ones (bit_xor new old) (xor_of_32 new old q p))
+    ∙ same_from_bits _ new (bit_back new old)
+merge false old new p q = ap (bit_xor old) (and_zero_r (bit_xor new old)) ∙ xor_zero_r old
+
+-- the choice of a where c is 1, of b where c is 0
+abbrev pub chosen : ℕ → ℕ → ℕ → ℕ
+chosen c a b = merged (difference_of 0 c) b a
+
+pub choice : (c a b : ℕ) → c < 2 → a < 2 ^ 32 → b < 2 ^ 32 → chosen c a b ≡ (if c == 0 then b else a)
+choice c a b h p q = ap (λ m. merged m b a) (mask_when c h)
+    ∙ (merge (not (c == 0)) b a q p ∙ grind (arith, nat_tests))
+
+-- what a has under the mask of c: a where c is 1, and else 0
+abbrev pub chosen_or_zero : ℕ → ℕ → ℕ
+chosen_or_zero c a = bit_and a (difference_of 0 c)
+
+under_mask : (b : Bool) (a : ℕ) → a < 2 ^ 32 → bit_and a (mask_of b) ≡ (if b then a else 0)
+under_mask true a p = all_ones a p
+under_mask false a p = and_zero_r a
+
+pub choice_or_zero : (c a : ℕ) → c < 2 → a < 2 ^ 32 → chosen_or_zero c a ≡ (if c == 0 then 0 else a)
+choice_or_zero c a h p = ap (bit_and a) (mask_when c h)
+    ∙ (under_mask (not (c == 0)) a p ∙ grind (arith, nat_tests))

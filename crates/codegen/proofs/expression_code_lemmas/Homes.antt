@@ -1,0 +1,55 @@
+-- Expressions that have a home: its register has their value, and nothing is shown for it.
+use Rattle.std.proofs.Common.{◌≡◌, ℕ, ◌^◌, ◌<◌, true, [], length, Some, refl, sym, ◌∙◌, arith}
+use Rattle.std.proofs.lemmas.Option.{none-some, slice_get_within}
+use Rattle.codegen.proofs.expression_code_lemmas.Below.{Allocation, convert, converted, HasType, home_of, home_of_term, keeps_words}
+use Rattle.codegen.proofs.expression_code_lemmas.Below.{Kind, of_conversion, of_variable, path_in, State, StraightState, TermTree}
+use Rattle.codegen.proofs.expression_code_lemmas.Below.{types_of, value_in, Values, width_of, word_as, WordType}
+use Rattle.codegen.proofs.expression_code_lemmas.Frame.{Setting}
+use Rattle.codegen.proofs.expression_code_lemmas.Values.{Ready, value_word}
+use Rattle.codegen.proofs.expression_code_lemmas.WorkRegisters.{converted_home}
+use Rattle.language.specs.declared.signature.Kind.TheVariants.{Uint32}
+
+-- a conversion that keeps words keeps each
+pub word_kept : (a : Allocation) (kind : Kind) → keeps_words a kind ≡ true → (v : ℕ) → v < 2 ^ 32
+    → converted (width_of kind) v ≡ v
+word_kept a Uint32 keeps v below = omega (arith, below)
+word_kept a kind keeps v below = grind (arith, keeps, below)
+
+-- such a conversion of a well-typed expression has its value
+pub conversion_kept : (z : Setting) {operand : TermTree} {word : WordType} (kind : Kind)
+    → keeps_words z.allocation kind ≡ true → HasType (types_of z.code.profile z.declared) operand word
+    → (env : StraightState) (s : State) → Ready z env s
+    → value_in env.variables operand ≡ value_in env.variables (convert kind operand)
+conversion_kept z {operand = operand} {word = word} kind keeps has env s ready =
+    sym (word_kept z.allocation kind keeps (value_in env.variables operand)
+    (value_word z.code.profile z.declared operand word env.variables ready.fits has))
+
+-- such an expression is a variable at home, or is one but for conversions that keep its value
+pub record IsAtHome (z : Setting) (e : TermTree) (home : ℕ) : Type 0 where
+  pub x : ℕ
+  pub declared : x < length z.declared
+  pub at : home_of z.allocation.homes x ≡ Some home
+  pub quiet : (m : Values) → path_in m e ≡ []
+  pub there : (env : StraightState) (s : State) → Ready z env s → s.regs home ≡ value_in env.variables e
+
+pub home_there : (z : Setting) {e : TermTree} {word : WordType}
+    → HasType (types_of z.code.profile z.declared) e word
+    → (home : ℕ) → home_of_term z.allocation e ≡ Some home → IsAtHome z e home
+home_there z (of_variable {x = x} {word = word} {mutable = mutable} is) home at = record {
+  x = x;
+  declared = slice_get_within z.declared x (word_as word mutable) is;
+  at = at;
+  quiet = λ m. refl;
+  there = λ env s ready. ready.homes_there x home (word_as word mutable) is at;
+}
+home_there z (of_conversion {kind = kind} {operand = operand} has numeric) home at =
+    let both = converted_home z.allocation kind operand home at in
+    let inner = home_there z has home both.1 in
+    record {
+      x = inner.x;
+      declared = inner.declared;
+      at = inner.at;
+      quiet = inner.quiet;
+      there = λ env s ready. inner.there env s ready ∙ conversion_kept z kind both.0 has env s ready;
+    }
+home_there z has home at = absurd (none-some home at)

@@ -1,0 +1,392 @@
+-- The pieces of emitted code that take words from slots, that put registers into the frame, and that compute in
+-- between.
+-- A list of such moves is run on registers and bytes by a function, and the machine on its code does that.
+use Rattle.std.proofs.Common.{◌≡◌, ◌≢◌, ℕ, ◌+◌, ◌*◌, ◌%◌, ◌^◌, ◌<◌, ◌≤◌, ◌==◌, Bool, true, false, not, ◌&&◌, cond}
+use Rattle.std.proofs.Common.{nat_lt, List, [], ◌∷◌, ◌++◌, length, refl, ap, ap₂, ◌∙◌, arith, eq-eqb, ne_eqb}
+use Rattle.codegen.proofs.expression_code_lemmas.Below.{address_of, all_straight, as_code, both_left, both_right, byte_count}
+use Rattle.codegen.proofs.expression_code_lemmas.Below.{ByteMap, cheaper, Contents, contents_of, fun_ext, gives, idle, Instr}
+use Rattle.codegen.proofs.expression_code_lemmas.Below.{load_code, load_size, loaded_value, LoadOperation, lower_part, lt-ltb}
+use Rattle.codegen.proofs.expression_code_lemmas.Below.{ltb-true, nat_tests, no_access_fit, no_access_met, none, number_at}
+use Rattle.codegen.proofs.expression_code_lemmas.Below.{number_or_zero, only_computes, quiet, register, registers_after}
+use Rattle.codegen.proofs.expression_code_lemmas.Below.{registers_of, sign_extended, Size, State, store_size, StoreOperation}
+use Rattle.codegen.proofs.expression_code_lemmas.Below.{StraightState, sum_of, Then, upper_part, with_number, with_register}
+use Rattle.codegen.proofs.expression_code_lemmas.Below.{with_result}
+use Rattle.codegen.proofs.expression_code_lemmas.Arithmetic.{far_address, near_address, upper_fits}
+use Rattle.codegen.proofs.expression_code_lemmas.Frame.{Setting, Before, After, Steps, Runs, setting, HeldAt, Held, frame_there}
+use Rattle.codegen.proofs.expression_code_lemmas.Frame.{frame_runs}
+use Rattle.rv_code.specs.declared.instructions.Instr.TheVariants as instr
+use Rattle.rv_code.specs.declared.operations.LoadOperation.TheVariants.{Lw}
+use Rattle.rv_code.specs.declared.operations.RegisterOperation.TheVariants.{Add}
+use Rattle.rv_code.specs.declared.operations.UpperOperation.TheVariants.{Lui}
+use Rattle.rv_machine.specs.declared.memory.Size.TheVariants.{Byte, Half, Word}
+
+-- Registers.
+
+-- a register other than x0 reads as what it has
+pub register-at : (regs : ℕ → ℕ) (r : ℕ) → r ≢ 0 → register regs r ≡ regs r
+register-at regs r h = rw (ne_eqb r 0 h)
+
+pub written : (regs : ℕ → ℕ) (rd value : ℕ) → rd ≢ 0 → with_register regs rd value rd ≡ value
+written regs rd value h = rw (ne_eqb rd 0 h, eq-eqb rd rd refl)
+
+pub unwritten : (regs : ℕ → ℕ) (rd value q : ℕ) → q ≢ rd → with_register regs rd value q ≡ regs q
+unwritten regs rd value q h = grind (arith, nat_tests)
+
+-- Moves.
+
+pub data Move : Type 0 where
+  -- a slot's word into a register
+  take : (r o : ℕ) → Move
+  -- so many low bytes of a register into the frame
+  put : (operation : StoreOperation) (r o : ℕ) → Move
+  -- instructions that only compute
+  does : (is : List Instr) → Move
+
+abbrev pub put_code : StoreOperation → ℕ → ℕ → List Instr
+put_code operation r o =
+    cond (nat_lt o 2048) (instr.Store operation r 2 o ∷ [])
+    (instr.Upper Lui 28 (upper_part o) ∷ instr.Register Add 28 28 2
+    ∷ instr.Store operation r 28 (lower_part o) ∷ [])
+
+abbrev pub move_code : Move → List Instr
+move_code (take r o) = load_code r o
+move_code (put operation r o) = put_code operation r o
+move_code (does is) = is
+
+-- registers beyond x4
+abbrev pub is_free : ℕ → Bool
+is_free r = nat_lt 4 r
+
+pub none_low : (r : ℕ) → r < 5 → is_free r ≡ false
+none_low r low = grind (arith, nat_tests)
+
+abbrev pub is_move : Move → Bool
+is_move (take r o) = is_free r && nat_lt r 32
+is_move (put operation r o) = is_free r && (nat_lt r 32 && not (r == 28))
+is_move (does is) = only_computes is_free is
+
+abbrev pub are_moves : List Move → Bool
+are_moves [] = true
+are_moves (m ∷ ms) = is_move m && are_moves ms
+
+abbrev pub move_cost : Move → ℕ
+move_cost (take r o) = 3
+move_cost (put operation r o) = 3
+move_cost (does is) = length is
+
+abbrev pub moves_cost : List Move → ℕ
+moves_cost [] = 0
+moves_cost (m ∷ ms) = move_cost m + moves_cost ms
+
+-- the code of moves behind other code
+abbrev pub behind : List Instr → List Move → List Instr
+behind xs [] = xs
+behind xs (m ∷ ms) = behind (xs ++ move_code m) ms
+
+-- what they make of registers and bytes; a far slot's address is made in x28
+
+abbrev pub moved : Setting → Move → Contents → Contents
+moved z (take r o) c = with_result r (number_or_zero (number_at c.bytes 4 (z.frame + o))) c
+moved z (put operation r o) c = record {
+  regs = with_register c.regs 28 (cond (nat_lt o 2048) (c.regs 28) (sum_of (upper_part o * 2 ^ 12) z.frame));
+  bytes = with_number c.bytes (byte_count (store_size operation)) (z.frame + o) (c.regs r);
+}
+moved z (does is) c = record { regs = registers_after is c.regs; bytes = c.bytes }
+
+abbrev pub all_moved : Setting → List Move → Contents → Contents
+all_moved z [] c = c
+all_moved z (m ∷ ms) c = all_moved z ms (moved z m c)
+
+-- where they take and put lies in the frame, and is aligned
+abbrev pub IsSlot : Setting → Move → Type 0
+IsSlot z (take r o) = (o % 4 ≡ 0) × (o + 4 ≤ z.size)
+IsSlot z (put operation r o) = (o % byte_count (store_size operation) ≡ 0)
+    × (o + byte_count (store_size operation) ≤ z.size)
+IsSlot z (does is) = Unit {0}
+
+abbrev pub AreSlots : Setting → List Move → Type 0
+AreSlots z [] = Unit {0}
+AreSlots z (m ∷ ms) = IsSlot z m × AreSlots z ms
+
+-- the state is held, and its registers and bytes are those after the moves
+pub record Moved (z : Setting) (ms : List Move) (env : StraightState) (s t : State) : Type 0 where
+  pub held : HeldAt z t
+  pub regs : t.regs ≡ (all_moved z ms (contents_of s)).regs
+  pub bytes : t.bytes ≡ (all_moved z ms (contents_of s)).bytes
+
+-- the registers are those after instructions that only compute, and nothing else has changed
+pub record Computed (z : Setting) (is : List Instr) (env : StraightState) (s t : State) : Type 0 where
+  pub held : HeldAt z t
+  pub registers : t.regs ≡ registers_after is s.regs
+  pub same : t.bytes ≡ s.bytes
+
+pub computing_within : (z : Setting) (works : ℕ → Bool) (is : List Instr) → only_computes works is ≡ true
+    → ((r : ℕ) → r < 5 → works r ≡ false) → Runs z (length is) none is (Held z) (Computed z is)
+computing_within z works is plain low =
+    gives
+    (λ env s t fine held done.
+    let c = registers_of works is (contents_of s) plain in
+    record {
+      held = done.0;
+      registers = done.1.regs ∙ ap (λ (d : Contents). d.regs) c;
+      same = done.1.bytes ∙ ap (λ (d : Contents). d.bytes) c;
+    })
+    (frame_runs z {P = Held z} works is [] (all_straight works is plain) low (no_access_fit works _ is plain)
+    (λ env s held. (held, no_access_met works is (contents_of s) plain)))
+
+even_at : (size : Size) (frame o : ℕ) → frame % 4 ≡ 0 → o % byte_count size ≡ 0 → (frame + o) % byte_count size ≡ 0
+even_at Byte frame o even aligned = omega (arith, even, aligned)
+even_at Half frame o even aligned = omega (arith, even, aligned)
+even_at Word frame o even aligned = omega (arith, even, aligned)
+
+-- a register and an offset are the address of a place in the frame
+abbrev Addresses : Setting → ℕ → ℕ → ℕ → Before
+Addresses z rs offset a env s = HeldAt z s × (address_of s.regs rs offset ≡ z.frame + a)
+
+-- An access of so many bytes at an address that a register has.
+
+module _ (z : Setting) (rs offset a : ℕ) (rs_small : rs < 32) (offset_small : offset < 4096) where
+  pub loading : (operation : LoadOperation) (rd : ℕ) → 4 < rd → rd < 32 → a % byte_count (load_size operation) ≡ 0
+      → a + byte_count (load_size operation) ≤ z.size
+      → Runs z 1 none (instr.Load operation rd rs offset ∷ []) (Addresses z rs offset a)
+      (λ env s t. HeldAt z t
+      × (t.regs ≡ with_register s.regs rd
+      (loaded_value operation
+      (number_or_zero (number_at s.bytes (byte_count (load_size operation)) (z.frame + a)))))
+      × (t.bytes ≡ s.bytes))
+  loading operation rd low small even inside =
+      gives
+      (λ env s t fine given done. (done.0, done.1.regs, done.1.bytes))
+      (frame_runs z {P = Addresses z rs offset a} is_free (instr.Load operation rd rs offset ∷ [])
+      ((z.frame + a) ∷ [])
+      (simp (lt-ltb 4 rd low, lt-ltb rd 32 small, lt-ltb rs 32 rs_small, lt-ltb offset 4096 offset_small))
+      none_low (
+        record {
+          even = even_at (load_size operation) z.frame a z.even even;
+          allowed = (omega arith, omega (arith, inside));
+        },
+        tt,
+      )
+      (λ env s given. (
+        given.0,
+        (
+          record {
+            address = given.1;
+            data_there =
+                frame_there z s given.0 (byte_count (load_size operation)) a inside;
+          },
+          tt,
+        ),
+      )))
+
+  pub storing : (operation : StoreOperation) (rs2 : ℕ) → rs2 < 32 → a % byte_count (store_size operation) ≡ 0
+      → a + byte_count (store_size operation) ≤ z.size
+      → Runs z 1 none (instr.Store operation rs2 rs offset ∷ []) (Addresses z rs offset a)
+      (λ env s t. HeldAt z t × (t.regs ≡ s.regs)
+      × (t.bytes ≡ with_number s.bytes (byte_count (store_size operation)) (z.frame + a) (register s.regs rs2)))
+  storing operation rs2 small even inside =
+      gives
+      (λ env s t fine given done. (done.0, done.1.regs, done.1.bytes))
+      (frame_runs z {P = Addresses z rs offset a} is_free (instr.Store operation rs2 rs offset ∷ [])
+      ((z.frame + a) ∷ [])
+      (simp (lt-ltb rs2 32 small, lt-ltb rs 32 rs_small, lt-ltb offset 4096 offset_small)) none_low (
+        record {
+          even = even_at (store_size operation) z.frame a z.even even;
+          allowed = (omega arith, omega (arith, inside));
+        },
+        tt,
+      )
+      (λ env s given. (
+        given.0,
+        (
+          record {
+            address = given.1;
+            data_there =
+                frame_there z s given.0 (byte_count (store_size operation)) a inside;
+          },
+          tt,
+        ),
+      )))
+
+-- An access of a slot: the address of a far one is first made in a register.
+
+abbrev far_code : ℕ → ℕ → List Instr
+far_code r o = instr.Upper Lui r (upper_part o) ∷ instr.Register Add r r 2 ∷ []
+
+slot_code : (access : ℕ → ℕ → Instr) (r o : ℕ) (near : Bool)
+    → cond near (access 2 o ∷ []) (far_code r o ++ access r (lower_part o) ∷ []) ≡ cond near [] (far_code r o)
+    ++ access (cond near 2 r) (cond near o (lower_part o)) ∷ []
+slot_code access r o true = refl
+slot_code access r o false = refl
+
+far_registers : (regs : ℕ → ℕ) (r o frame : ℕ) → 4 < r → regs 2 ≡ frame
+    → registers_after (far_code r o) regs ≡ with_register regs r (sum_of (upper_part o * 2 ^ 12) frame)
+far_registers regs r o frame low base = fun_ext (λ q. grind (arith, nat_tests))
+
+near_or_far : (regs : ℕ → ℕ) (r v : ℕ) (near : Bool)
+    → cond near regs (with_register regs r v) ≡ with_register regs r (cond near (regs r) v)
+near_or_far regs r v near = fun_ext (λ q. grind (arith, nat_tests))
+
+anew : (regs : ℕ → ℕ) (r u v : ℕ) (near : Bool)
+    → with_register (cond near regs (with_register regs r u)) r v ≡ with_register regs r v
+anew regs r u v near = fun_ext (λ q. grind (arith, nat_tests))
+
+source : (regs : ℕ → ℕ) (r v : ℕ) (near : Bool) → 4 < r → r ≢ 28
+    → register (cond near regs (with_register regs 28 v)) r ≡ regs r
+source regs r v near low other = grind (arith, nat_tests)
+
+module _ (z : Setting) where
+  reached : (r o : ℕ) → 4 < r → r < 32 → o < z.size → (near : Bool) → nat_lt o 2048 ≡ near
+      → Runs z 2 none (cond near [] (far_code r o)) (Held z)
+      (λ env s t. Addresses z (cond near 2 r) (cond near o (lower_part o)) o env t
+      × (t.regs ≡ cond near s.regs (with_register s.regs r (sum_of (upper_part o * 2 ^ 12) z.frame)))
+      × (t.bytes ≡ s.bytes))
+  reached r o low small inside true h =
+      let ends = z.ends in
+      idle (λ env s held. (
+        (
+          held,
+          ap (λ x. sum_of x (sign_extended 12 o)) held.base
+              ∙ near_address z.frame o (ltb-true o 2048 h) (omega (arith, ends, inside)),
+        ),
+        refl,
+        refl,
+      ))
+  reached r o low small inside false h =
+      let ends = z.ends in
+      gives
+      (λ env s t fine held done.
+      let regs : t.regs ≡ with_register s.regs r (sum_of (upper_part o * 2 ^ 12) z.frame) = done.registers
+      ∙ far_registers s.regs r o z.frame low held.base in (
+        (
+          done.held,
+          ap (λ (after : ℕ → ℕ). address_of after r (lower_part o)) regs
+              ∙ rw (ne_eqb r 0 (λ e. omega (arith, low, e)), eq-eqb r r refl)
+              (far_address z.frame o (omega (arith, ends, inside))),
+        ),
+        regs,
+        done.same,
+      ))
+      (computing_within z is_free (far_code r o)
+      (simp (lt-ltb 4 r low, lt-ltb r 32 small, lt-ltb (upper_part o) 1048576 (upper_fits o))) none_low)
+
+  -- one move
+  pub move_runs : (m : Move) → is_move m ≡ true → IsSlot z m
+      → Runs z (move_cost m) none (move_code m) (Held z) (Moved z (m ∷ []))
+  move_runs (take r o) ok slot =
+      let low : 4 < r = grind (arith, nat_tests, ok) in
+      let small : r < 32 = grind (arith, nat_tests, ok) in
+      let near = nat_lt o 2048 in
+      as_code (slot_code (λ rs offset. instr.Load Lw r rs offset) r o near)
+      (gives
+      (λ env s t fine held done.
+      let value = λ (b : ByteMap). number_or_zero (number_at b 4 (z.frame + o)) in
+      record {
+        held = done.second.0;
+        regs = done.second.1
+            ∙ (ap₂ (λ (regs : ℕ → ℕ) (b : ByteMap). with_register regs r (value b)) done.first.1 done.first.2
+            ∙ anew s.regs r _ _ near);
+        bytes = done.second.2 ∙ done.first.2;
+      })
+      (quiet
+      (reached r o low small (omega (arith, slot.1)) near refl)
+      (loading z (cond near 2 r) (cond near o (lower_part o)) o (grind (arith, nat_tests)) (grind (arith, nat_tests))
+      Lw r low small slot.0 slot.1)
+      (λ env s t held done. done.0)))
+  move_runs (put operation r o) ok slot =
+      let low : 4 < r = grind (arith, nat_tests, ok) in
+      let small : r < 32 = grind (arith, nat_tests, ok) in
+      let other : r ≢ 28 = λ e. absurd (grind (arith, nat_tests, ok, e)) in
+      let near = nat_lt o 2048 in
+      let v = sum_of (upper_part o * 2 ^ 12) z.frame in
+      as_code (slot_code (λ rs offset. instr.Store operation r rs offset) 28 o near)
+      (gives
+      (λ env s t fine held done. record {
+        held = done.second.0;
+        regs = done.second.1 ∙ (done.first.1 ∙ near_or_far s.regs 28 v near);
+        bytes =
+            done.second.2
+            ∙ ap₂ (λ (b : ByteMap) (w : ℕ). with_number b (byte_count (store_size operation)) (z.frame + o) w)
+            done.first.2 (ap (λ (regs : ℕ → ℕ). register regs r) done.first.1
+            ∙ source s.regs r v near low other);
+      })
+      (quiet
+      (reached 28 o (omega arith) (omega arith) (omega (arith, slot.1)) near refl)
+      (storing z (cond near 2 28) (cond near o (lower_part o)) o (grind (arith, nat_tests)) (grind (arith, nat_tests))
+      operation r small slot.0 slot.1)
+      (λ env s t held done. done.0)))
+  move_runs (does is) ok slot =
+      gives (λ env s t fine held done. record { held = done.held; regs = done.registers; bytes = done.same })
+      (computing_within z is_free is ok none_low)
+
+  -- zeros in place of so many bytes
+  pub emptied : (operation : StoreOperation) (o : ℕ) → o % byte_count (store_size operation) ≡ 0
+      → o + byte_count (store_size operation) ≤ z.size
+      → Runs z 3 none (put_code operation 0 o) (Held z)
+      (λ env s t. HeldAt z t
+      × (t.bytes ≡ with_number s.bytes (byte_count (store_size operation)) (z.frame + o) 0)
+      × ((q : ℕ) → q ≢ 28 → t.regs q ≡ s.regs q))
+  emptied operation o even inside =
+      let near = nat_lt o 2048 in
+      let v = sum_of (upper_part o * 2 ^ 12) z.frame in
+      as_code (slot_code (λ rs offset. instr.Store operation 0 rs offset) 28 o near)
+      (gives
+      (λ env s t fine held done. (
+        done.second.0,
+        done.second.2
+            ∙ ap (λ (b : ByteMap). with_number b (byte_count (store_size operation)) (z.frame + o) 0) done.first.2,
+        λ q other.
+            ap (λ (regs : ℕ → ℕ). regs q) (done.second.1 ∙ (done.first.1 ∙ near_or_far s.regs 28 v near))
+            ∙ unwritten s.regs 28 _ q other,
+      ))
+      (quiet
+      (reached 28 o (omega arith) (omega arith) (omega (arith, inside)) near refl)
+      (storing z (cond near 2 28) (cond near o (lower_part o)) o (grind (arith, nat_tests)) (grind (arith, nat_tests))
+      operation 0 (omega arith) even inside)
+      (λ env s t held done. done.0)))
+
+  one_more : (m : Move) (ms : List Move) (env : StraightState) (s u t : State) → Moved z (m ∷ []) env s u
+      → Moved z ms env u t → Moved z (m ∷ ms) env s t
+  one_more m ms env s u t one more =
+      let same : contents_of u ≡ moved z m (contents_of s) =
+      ap₂ (λ (r : ℕ → ℕ) (b : ByteMap). let c : Contents = record { regs = r; bytes = b } in
+      c) one.regs one.bytes in
+      record {
+        held = more.held;
+        regs = more.regs ∙ ap (λ (c : Contents). (all_moved z ms c).regs) same;
+        bytes = more.bytes ∙ ap (λ (c : Contents). (all_moved z ms c).bytes) same;
+      }
+
+  -- code, and then moves
+  pub then_moves : (ms : List Move) → are_moves ms ≡ true → AreSlots z ms
+      → {n : ℕ} {steps : Steps} {xs : List Instr} {P : Before} {Q : After}
+      → Runs z n steps xs P Q → ((env : StraightState) (s t : State) → P env s → Q env s t → HeldAt z t)
+      → Runs z (n + moves_cost ms) steps (behind xs ms) P (Then (setting z) Q (Moved z ms))
+  then_moves [] ok slots runs held =
+      cheaper (omega arith)
+      (gives (λ env s t fine given done. record {
+        middle = t;
+        first = done;
+        second = record { held = held env s t given done; regs = refl; bytes = refl };
+      }) runs)
+  then_moves (m ∷ ms) ok slots runs held =
+      cheaper (omega arith)
+      (gives
+      (λ env s t fine given done. record {
+        middle = done.first.middle;
+        first = done.first.first;
+        second = one_more m ms env done.first.middle done.middle t done.first.second done.second;
+      })
+      (then_moves ms (both_right (is_move m) (are_moves ms) ok) slots.1
+      (quiet runs (move_runs m (both_left (is_move m) (are_moves ms) ok) slots.0) held)
+      (λ env s t given done. done.second.held)))
+
+  -- moves alone
+  pub moves_run : (m : Move) (ms : List Move) → are_moves (m ∷ ms) ≡ true → AreSlots z (m ∷ ms)
+      → Runs z (moves_cost (m ∷ ms)) none (behind (move_code m) ms) (Held z) (Moved z (m ∷ ms))
+  moves_run m ms ok slots =
+      gives
+      (λ env s t fine held done. one_more m ms env s done.middle t done.first done.second)
+      (then_moves ms (both_right (is_move m) (are_moves ms) ok) slots.1
+      (move_runs m (both_left (is_move m) (are_moves ms) ok) slots.0)
+      (λ env s t held done. done.held))

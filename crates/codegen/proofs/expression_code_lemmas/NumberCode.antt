@@ -1,0 +1,383 @@
+-- Of the code of an operator with a number in its instruction: that it only computes, and what it makes in its
+-- target, which is what the operator means.
+use Rattle.std.proofs.Common.{◌≡◌, ℕ, ◌+◌, ◌-◌, ◌*◌, ◌/◌, ◌%◌, ◌^◌, ◌<◌, ◌==◌, Bool, true, false, cond, not, nat_lt}
+use Rattle.std.proofs.Common.{nat_le, List, [], Option, None, Some, bit_and, bit_or, bit_xor, refl, sym, ap, ◌∙◌}
+use Rattle.std.proofs.Common.{ap₂, arith, subst, ◌&&◌}
+use Rattle.std.proofs.Math.Nat.{mod-le, mul-div_cancel, mul-mod_left}
+use Rattle.std.proofs.lemmas.Nat.{and_comm, or_comm, xor_comm, mod_below, mod-pow-add, leading_top, pow_pos}
+use Rattle.std.specs.Int.Count.{count_leading_zeros}
+use Rattle.std.proofs.lemmas.Option.{cond_some, none-some, same_Some}
+use Rattle.codegen.proofs.expression_code_lemmas.Arithmetic.{lower_fits}
+use Rattle.codegen.proofs.expression_code_lemmas.Below.{Allocation, BinaryOperator, bits, element_bytes, eqb-true, Finish}
+use Rattle.codegen.proofs.expression_code_lemmas.Below.{finish_code, FlatVariable, held, HasType, is_short, kind_at, known_row}
+use Rattle.codegen.proofs.expression_code_lemmas.Below.{left_row, lt-ltb, ltb-true, marks_of, nat_tests, near_element, near_offset}
+use Rattle.codegen.proofs.expression_code_lemmas.Below.{number_code, number_of, number_row, NumberRow, of_number, of_truth}
+use Rattle.codegen.proofs.expression_code_lemmas.Below.{and_mask, only_computes, operated, path_in, Place, registers_after}
+use Rattle.codegen.proofs.expression_code_lemmas.Below.{chooses_zero, false≢true, is_known_zero, right_row, shift_value}
+use Rattle.codegen.proofs.expression_code_lemmas.Below.{sign_extended, sum_of, TermTree, turned_of, Types, value_in, Values}
+use Rattle.codegen.proofs.expression_code_lemmas.Below.{variable_offset, Width, word_of}
+use Rattle.codegen.proofs.expression_code_lemmas.OperatorCode.{cut_composed, cut_plain, cut_value, cut_whole, d0, d32, dd, q0, q32}
+use Rattle.codegen.proofs.expression_code_lemmas.OperatorCode.{truth_fits}
+use Rattle.codegen.proofs.expression_code_lemmas.Values.{kind_fits}
+use Rattle.codegen.proofs.expression_code_lemmas.WorkRegisters.{ArePair, IsFree}
+use Rattle.codegen.specs.declared.expression_code.numbers.Finish.TheVariants.{Alone, GivesZero, GivesMore, Narrowed}
+use Rattle.codegen.specs.declared.expression_code.numbers.NumberStep.TheVariants.{WithImmediate}
+use Rattle.codegen.specs.expression_code.NumberRows.{above_zero, low_bits, masked, shifted}
+use Rattle.inline.specs.Flat.{number, truth}
+use Rattle.language.specs.declared.tree.BinaryOperator.TheVariants.{Equal, Unequal, Less, LessOrEqual, Greater}
+use Rattle.language.specs.declared.tree.BinaryOperator.TheVariants.{GreaterOrEqual, BitOr, BitXor, BitAnd, ShiftLeft}
+use Rattle.language.specs.declared.tree.BinaryOperator.TheVariants.{ShiftRight, Add, Subtract, Multiply, Divide}
+use Rattle.language.specs.declared.tree.BinaryOperator.TheVariants.{Remainder}
+use Rattle.rv_code.specs.declared.operations.ImmediateOperation.{ImmediateOperation}
+use Rattle.rv_code.specs.declared.operations.ImmediateOperation.TheVariants.{Addi, Sltiu, Xori, Ori, Andi}
+use Rattle.rv_code.specs.declared.operations.ShiftOperation.TheVariants.{Slli, Srli}
+use Rattle.word.specs.Operators.{negated}
+use Rattle.word.specs.declared.width.Width.TheVariants.{W8, W32}
+
+-- Numbers.
+
+-- twelve bits give the number back that they hold
+short_held : (n : ℕ) → is_short n ≡ true → sign_extended 12 (n % 4096) ≡ n
+short_held n short = grind (arith, nat_tests, short)
+
+-- what is so of the row of an instruction that holds a number is so of the row that there is
+of_held : (P : NumberRow → Type 0) (operation : ImmediateOperation) (finish : Finish) (n : ℕ) (row : NumberRow)
+    → held operation finish n ≡ Some row
+    → (is_short n ≡ true → P (record { finish = finish; step = WithImmediate operation (n % 4096) })) → P row
+of_held P operation finish n row is there = let both = cond_some (is_short n) _ row is in
+    subst P both.1 (there both.0)
+
+of_row : (P : NumberRow → Type 0) (one row : NumberRow) → Some one ≡ Some row → P one → P row
+of_row P one row is there = subst P (same_Some one row is) there
+
+-- by whether the number is 0
+of_zero : (P : NumberRow → Type 0) (n : ℕ) (one other : Option NumberRow) (row : NumberRow)
+    → cond (n == 0) one other ≡ Some row
+    → ((n == 0) ≡ true → one ≡ Some row → P row) → (other ≡ Some row → P row) → P row
+of_zero P n one other row is zero more = by_test (n == 0) refl is
+  where
+    by_test : (b : Bool) → (n == 0) ≡ b → cond b one other ≡ Some row → P row
+    by_test true e same = zero e same
+    by_test false e same = more same
+
+is_equal : (a n : ℕ) → a < 2 ^ 32 → n < 2 ^ 32 → word_of (nat_lt (sum_of a (negated W32 n)) 1) ≡ word_of (a == n)
+is_equal a n p q = grind (arith, nat_tests)
+
+is_unequal : (a n : ℕ) → a < 2 ^ 32 → n < 2 ^ 32
+    → word_of (nat_lt 0 (sum_of a (negated W32 n))) ≡ word_of (not (a == n))
+is_unequal a n p q = grind (arith, nat_tests)
+
+at_most : (a n : ℕ) → word_of (nat_lt a (n + 1)) ≡ word_of (nat_le a n)
+at_most a n = grind (arith, nat_tests)
+
+not_at_most : (a n : ℕ) → word_of (nat_lt (word_of (nat_lt a (n + 1))) 1) ≡ word_of (nat_lt n a)
+not_at_most a n = grind (arith, nat_tests)
+
+not_less : (a n : ℕ) → word_of (nat_lt (word_of (nat_lt a n)) 1) ≡ word_of (nat_le n a)
+not_less a n = grind (arith, nat_tests)
+
+-- the low five bits of an amount, twice
+low_again : (n : ℕ) → n % 32 % 32 ≡ n % 32
+low_again n = omega arith
+
+less_by : (w : Width) (a n : ℕ) → n < 2 ^ 32
+    → (a + negated W32 n) % 2 ^ bits w ≡ (a + (2 ^ bits w - n % 2 ^ bits w)) % 2 ^ bits w
+less_by W8 a n fits = omega (arith, fits)
+less_by width a n fits = omega (arith, fits)
+
+-- a word that is moved up and back keeps its low bits
+moved_back : (v k others : ℕ) → k + others ≡ 32 → v * 2 ^ others % 2 ^ 32 / 2 ^ others ≡ v % 2 ^ k
+moved_back v k others is =
+    let up = v * 2 ^ others in
+    let alone : v % 2 ^ k * 2 ^ others + 0 ≡ v % 2 ^ k * 2 ^ others = omega arith in
+    let low : up % 2 ^ 32 ≡ v % 2 ^ k * 2 ^ others =
+    ap (λ n. up % 2 ^ n) (sym is)
+    ∙ (mod-pow-add up k others
+    ∙ (ap₂ (λ x y. x % 2 ^ k * 2 ^ others + y) (mul-div_cancel v (pow_pos others)) (mul-mod_left v (2 ^ others))
+    ∙ alone)) in
+    ap (λ n. n / 2 ^ others) low ∙ mul-div_cancel (v % 2 ^ k) (pow_pos others)
+
+-- which are those of a number that is all ones
+low_kept : (v n k others : ℕ) → v < 2 ^ 32 → k + others ≡ 32 → others < 32 → n + 1 ≡ 2 ^ k
+    → shift_value Srli (shift_value Slli v (others % 32)) (others % 32) ≡ bit_and v n
+low_kept v n k others fits is less ones =
+    let amount : others % 32 % 32 ≡ others = omega (arith, less) in
+    let number : n ≡ 2 ^ k - 1 = omega (arith, ones) in
+    let small : v % 2 ^ k % 2 ^ 32 ≡ v % 2 ^ k = omega (arith, fits, mod-le v (2 ^ k)) in
+    ap (λ x. v * 2 ^ x % 2 ^ 32 / 2 ^ x % 2 ^ 32) amount
+    ∙ (ap (λ x. x % 2 ^ 32) (moved_back v k others is) ∙ (small ∙ sym (ap (bit_and v) number ∙ and_mask v k)))
+
+-- Expressions that are known.
+
+pub known : (e : TermTree) (n : ℕ) → number_of e ≡ Some n → (m : Values) → (value_in m e ≡ n) × (path_in m e ≡ [])
+known (number value kind) n is m = (same_Some value n is, refl)
+known (truth value) n is m = (same_Some (word_of value) n is, refl)
+known e n is m = absurd (none-some n is)
+
+pub known_word : {types : Types} {e : TermTree} {word : _} → HasType types e word → (n : ℕ) → number_of e ≡ Some n
+    → n < 2 ^ 32
+known_word (of_number {value = value} {kind = kind} below) n is = let fits = kind_fits kind value below in
+    omega (arith, fits, same_Some value n is)
+known_word (of_truth {value = value}) n is = let fits = truth_fits value in
+    omega (arith, fits, same_Some (word_of value) n is)
+known_word has n is = absurd (none-some n is)
+
+-- the number that an expression is, and the row of an operator and it
+pub record Numbered (operator : BinaryOperator) (e : TermTree) (row : NumberRow) : Type 0 where
+  pub n : ℕ
+  pub is : number_of e ≡ Some n
+  pub row_is : number_row operator n ≡ Some row
+
+-- the same of the operator that makes the same of both operands turned round
+pub record Turned (operator : BinaryOperator) (e : TermTree) (row : NumberRow) : Type 0 where
+  pub other : BinaryOperator
+  pub is : turned_of operator ≡ Some other
+  pub numbered : Numbered other e row
+
+numbered_by : (operator : BinaryOperator) (e : TermTree) (row : NumberRow) (m : Option ℕ) → number_of e ≡ m
+    → known_row (Some operator) m ≡ Some row → Numbered operator e row
+numbered_by operator e row None f is = absurd (none-some row is)
+numbered_by operator e row (Some n) f is = record { n = n; is = f; row_is = is }
+
+pub right_known : (a : Allocation) (operator : BinaryOperator) (e : TermTree) (row : NumberRow)
+    → right_row a operator e ≡ Some row → Numbered operator e row
+right_known a operator e row is = by_test a.immediates is
+  where
+    by_test : (b : Bool) → cond b (known_row (Some operator) (number_of e)) None ≡ Some row → Numbered operator e row
+    by_test true same = numbered_by operator e row (number_of e) refl same
+    by_test false same = absurd (none-some row same)
+
+pub left_known : (a : Allocation) (operator : BinaryOperator) (e : TermTree) (row : NumberRow)
+    → left_row a operator e ≡ Some row → Turned operator e row
+left_known a operator e row is = by_test a.immediates (turned_of operator) refl is
+  where
+    by_test : (b : Bool) (p : Option BinaryOperator) → turned_of operator ≡ p
+        → cond b (known_row p (number_of e)) None ≡ Some row → Turned operator e row
+    by_test true (Some other) f same =
+        record { other = other; is = f; numbered = numbered_by other e row (number_of e) refl same }
+    by_test true None f same = absurd (none-some row same)
+    by_test false p f same = absurd (none-some row same)
+
+-- what the third operand is of a choice between a value and 0
+pub zero_known : (a : Allocation) (e : TermTree) → chooses_zero a e ≡ true → number_of e ≡ Some 0
+zero_known a e is = by_test a.immediates (number_of e) is
+  where
+    by_test : (b : Bool) (m : Option ℕ) → (b && is_known_zero m) ≡ true → m ≡ Some 0
+    by_test true (Some n) same = ap Some (eqb-true n 0 same)
+    by_test b m same = absurd (false≢true same)
+
+-- the index that an expression is, whose element lies at an offset that its access holds
+pub record NearElement (declared : List FlatVariable) (x : ℕ) (index : TermTree) (o : ℕ) : Type 0 where
+  pub i : ℕ
+  pub is : number_of index ≡ Some i
+  pub at : variable_offset declared x + element_bytes (kind_at declared x) * i ≡ o
+  pub near : o < 2048
+
+pub near_known : (declared : List FlatVariable) (a : Allocation) (x : ℕ) (index : TermTree) (o : ℕ)
+    → near_element declared a x index ≡ Some o → NearElement declared x index o
+near_known declared a x index o is = by_test a.immediates (number_of index) refl is
+  where
+    by_test : (b : Bool) (m : Option ℕ) → number_of index ≡ m
+        → cond b (near_offset (variable_offset declared x) (kind_at declared x) m) None ≡ Some o
+        → NearElement declared x index o
+    by_test true (Some i) f same =
+        let both = cond_some _ _ o same in
+        record { i = i; is = f; at = both.1; near = subst (λ n. n < 2048) both.1 (ltb-true _ 2048 both.0) }
+    by_test true None f same = absurd (none-some o same)
+    by_test false m f same = absurd (none-some o same)
+
+-- Operators that are turned round.
+
+equal_turned : (a b : ℕ) → word_of (b == a) ≡ word_of (a == b)
+equal_turned a b = grind (arith, nat_tests)
+
+unequal_turned : (a b : ℕ) → word_of (not (b == a)) ≡ word_of (not (a == b))
+unequal_turned a b = grind (arith, nat_tests)
+
+sum_turned : (w : Width) (a b : ℕ) → (b + a) % 2 ^ bits w ≡ (a + b) % 2 ^ bits w
+sum_turned w a b = let e : b + a ≡ a + b = omega arith in ap (λ n. n % 2 ^ bits w) e
+
+module _ (w : Width) (a b : ℕ) where
+  turned_by : (one other p : BinaryOperator) → Some other ≡ Some p → operated other w b a ≡ operated one w a b
+      → operated p w b a ≡ operated one w a b
+  turned_by one other p is same = subst (λ q. operated q w b a ≡ operated one w a b) (same_Some other p is) same
+
+  pub turned_same : (operator p : BinaryOperator) → turned_of operator ≡ Some p
+      → operated p w b a ≡ operated operator w a b
+  turned_same Equal p is = turned_by Equal Equal p is (equal_turned a b)
+  turned_same Unequal p is = turned_by Unequal Unequal p is (unequal_turned a b)
+  turned_same Less p is = turned_by Less Greater p is refl
+  turned_same LessOrEqual p is = turned_by LessOrEqual GreaterOrEqual p is refl
+  turned_same Greater p is = turned_by Greater Less p is refl
+  turned_same GreaterOrEqual p is = turned_by GreaterOrEqual LessOrEqual p is refl
+  turned_same BitOr p is = turned_by BitOr BitOr p is (or_comm b a)
+  turned_same BitXor p is = turned_by BitXor BitXor p is (xor_comm b a)
+  turned_same BitAnd p is = turned_by BitAnd BitAnd p is (and_comm b a)
+  turned_same Add p is = turned_by Add Add p is (sum_turned w a b)
+  turned_same operator p is = absurd (none-some p is)
+
+-- operators that have rows with numbers put nothing on the path
+module _ (place : Place) (a b : ℕ) where
+  pub row_quiet : (operator : BinaryOperator) (n : ℕ) (row : NumberRow) → number_row operator n ≡ Some row
+      → marks_of place operator a b ≡ []
+  row_quiet Multiply n row is = absurd (none-some row is)
+  row_quiet Divide n row is = absurd (none-some row is)
+  row_quiet Remainder n row is = absurd (none-some row is)
+  row_quiet operator n row is = refl
+
+  pub turned_quiet : (operator p : BinaryOperator) → turned_of operator ≡ Some p
+      → marks_of place operator a b ≡ []
+  turned_quiet Multiply p is = absurd (none-some p is)
+  turned_quiet Divide p is = absurd (none-some p is)
+  turned_quiet Remainder p is = absurd (none-some p is)
+  turned_quiet operator p is = refl
+
+-- Code, of the register r, into d.
+
+module _ {d t : ℕ} (pair : ArePair d t) (works : ℕ → Bool) (wd : works d ≡ true) (wt : works t ≡ true) {r : ℕ}
+    (source : IsFree r) where
+  finish_plain : (w : Width) (finish : Finish) → only_computes works (finish_code d w finish) ≡ true
+  finish_plain w Narrowed = cut_plain pair works wd wt w
+  finish_plain w Alone = refl
+  finish_plain w finish = simp (d32 pair, wd)
+
+  -- it only computes, and makes what the operator means
+  pub record Means (operator : BinaryOperator) (n : ℕ) (row : NumberRow) : Type 0 where
+    pub plain : (w : Width) → only_computes works (number_code d r w row) ≡ true
+    pub value : (w : Width) (regs : ℕ → ℕ) → regs r < 2 ^ 32
+        → registers_after (number_code d r w row) regs d ≡ operated operator w (regs r) n
+
+  immediate : (operator : BinaryOperator) (n : ℕ) (operation : ImmediateOperation) (finish : Finish) (m : ℕ)
+      (row : NumberRow) → held operation finish m ≡ Some row
+      → ((w : Width) (regs : ℕ → ℕ) → sign_extended 12 (m % 4096) ≡ m → regs r < 2 ^ 32
+      → registers_after
+      (number_code d r w (record { finish = finish; step = WithImmediate operation (m % 4096) })) regs d
+      ≡ operated operator w (regs r) n)
+      → Means operator n row
+  immediate operator n operation finish m row is made =
+      of_held (Means operator n) operation finish m row is
+      (λ short. record {
+        plain = λ w. simp (
+          wd,
+          d32 pair,
+          q32 pair source,
+          lt-ltb (m % 4096) 4096 (lower_fits m),
+          finish_plain w finish,
+        );
+        value = λ w regs below. made w regs (short_held m short) below;
+      })
+
+  above : (operator : BinaryOperator) (n : ℕ) (row : NumberRow) → Some above_zero ≡ Some row
+      → ((v : ℕ) (w : Width) → word_of (nat_lt 0 v) ≡ operated operator w v n) → Means operator n row
+  above operator n row is same =
+      of_row (Means operator n) above_zero row is
+      (record {
+        plain = λ w. simp (wd, d32 pair, q32 pair source);
+        value = λ w regs below. simp (dd pair, d0 pair, q0 pair source) (same (regs r) w);
+      })
+
+  low_means : (n : ℕ) → n < 2 ^ 32 → 0 < n → (row : NumberRow) → low_bits n ≡ Some row → Means BitAnd n row
+  low_means n fits some row is =
+      let others = count_leading_zeros 32 n in
+      let top = leading_top 32 n some fits in
+      let both = cond_some (n + 1 == 2 ^ (32 - others)) _ row is in
+      subst (Means BitAnd n) both.1
+      (record {
+        plain = λ w. simp (
+          wd,
+          d32 pair,
+          q32 pair source,
+          lt-ltb (others % 32) 32 (mod_below others 32 (omega arith)),
+        );
+        value = λ w regs below.
+            simp (dd pair, d0 pair, q0 pair source)
+            (low_kept (regs r) n (32 - others) others below (omega (arith, top.1)) (omega (arith, top.1))
+            (eqb-true (n + 1) (2 ^ (32 - others)) both.0));
+      })
+
+  bits_mean : (n : ℕ) → n < 2 ^ 32 → (row : NumberRow) → masked n ≡ Some row → Means BitAnd n row
+  bits_mean n fits row is = by_test (is_short n) refl is
+    where
+      by_test : (b : Bool) → is_short n ≡ b → cond b (held Andi Alone n) (low_bits n) ≡ Some row → Means BitAnd n row
+      by_test true short same =
+          immediate BitAnd n Andi Alone n row same (λ w regs short below.
+          simp (dd pair, d0 pair, q0 pair source) (ap (bit_and (regs r)) short))
+      by_test false long same = low_means n fits (grind (arith, nat_tests, long)) row same
+
+  pub number_means : (operator : BinaryOperator) (n : ℕ) → n < 2 ^ 32 → (row : NumberRow)
+      → number_row operator n ≡ Some row → Means operator n row
+  number_means Equal n fits row is =
+      of_zero (Means Equal n) n _ _ row is
+      (λ zero same. immediate Equal n Sltiu Alone 1 row same
+      (λ w regs short below. simp (dd pair, d0 pair, q0 pair source)
+      (grind (arith, nat_tests, eqb-true n 0 zero))))
+      (λ same. immediate Equal n Addi GivesZero (negated W32 n) row same (λ w regs short below.
+      simp (dd pair, d0 pair, q0 pair source) (ap (λ x. word_of (nat_lt (sum_of (regs r) x) 1)) short
+      ∙ is_equal (regs r) n below fits)))
+  number_means Unequal n fits row is =
+      of_zero (Means Unequal n) n _ _ row is
+      (λ zero same. above Unequal n row same (λ v w. grind (arith, nat_tests, eqb-true n 0 zero)))
+      (λ same. immediate Unequal n Addi GivesMore (negated W32 n) row same (λ w regs short below.
+      simp (dd pair, d0 pair, q0 pair source) (ap (λ x. word_of (nat_lt 0 (sum_of (regs r) x))) short
+      ∙ is_unequal (regs r) n below fits)))
+  number_means Less n fits row is =
+      immediate Less n Sltiu Alone n row is (λ w regs short below.
+      simp (dd pair, d0 pair, q0 pair source) (ap (λ x. word_of (nat_lt (regs r) x)) short))
+  number_means LessOrEqual n fits row is =
+      immediate LessOrEqual n Sltiu Alone (n + 1) row is (λ w regs short below.
+      simp (dd pair, d0 pair, q0 pair source) (ap (λ x. word_of (nat_lt (regs r) x)) short ∙ at_most (regs r) n))
+  number_means Greater n fits row is =
+      of_zero (Means Greater n) n _ _ row is
+      (λ zero same. above Greater n row same (λ v w. ap (λ x. word_of (nat_lt x v)) (sym (eqb-true n 0 zero))))
+      (λ same. immediate Greater n Sltiu GivesZero (n + 1) row same (λ w regs short below.
+      simp (dd pair, d0 pair, q0 pair source) (ap (λ x. word_of (nat_lt (word_of (nat_lt (regs r) x)) 1)) short
+      ∙ not_at_most (regs r) n)))
+  number_means GreaterOrEqual n fits row is =
+      immediate GreaterOrEqual n Sltiu GivesZero n row is (λ w regs short below.
+      simp (dd pair, d0 pair, q0 pair source) (ap (λ x. word_of (nat_lt (word_of (nat_lt (regs r) x)) 1)) short
+      ∙ not_less (regs r) n))
+  number_means BitOr n fits row is =
+      immediate BitOr n Ori Alone n row is (λ w regs short below.
+      simp (dd pair, d0 pair, q0 pair source) (ap (bit_or (regs r)) short))
+  number_means BitXor n fits row is =
+      immediate BitXor n Xori Alone n row is
+      (λ w regs short below. simp (dd pair, d0 pair, q0 pair source) (ap (bit_xor (regs r)) short))
+  number_means BitAnd n fits row is = bits_mean n fits row is
+  number_means Add n fits row is =
+      immediate Add n Addi Narrowed n row is (λ w regs short below.
+      cut_composed pair w _ ∙ simp (dd pair, d0 pair, q0 pair source) (ap (λ x. cut_value w (sum_of (regs r) x)) short
+      ∙ cut_whole w (regs r + n)))
+  number_means Subtract n fits row is =
+      immediate Subtract n Addi Narrowed (negated W32 n) row is (λ w regs short below.
+      cut_composed pair w _
+      ∙ simp (dd pair, d0 pair, q0 pair source) (ap (λ x. cut_value w (sum_of (regs r) x)) short
+      ∙ (cut_whole w (regs r + negated W32 n) ∙ less_by w (regs r) n fits)))
+  number_means ShiftLeft n fits row is =
+      of_row (Means ShiftLeft n) (shifted Slli n) row is
+      (record {
+        plain = λ w. simp (
+          wd,
+          d32 pair,
+          q32 pair source,
+          lt-ltb (n % 32) 32 (mod_below n 32 (omega arith)),
+          cut_plain pair works wd wt w,
+        );
+        value = λ w regs below.
+            cut_composed pair w _ ∙ simp (dd pair, d0 pair, q0 pair source) (cut_whole w (regs r * 2 ^ (n % 32 % 32))
+            ∙ ap (λ k. regs r * 2 ^ k % 2 ^ bits w) (low_again n));
+      })
+  number_means ShiftRight n fits row is =
+      of_row (Means ShiftRight n) (shifted Srli n) row is
+      (record {
+        plain = λ w. simp (
+          wd,
+          d32 pair,
+          q32 pair source,
+          lt-ltb (n % 32) 32 (mod_below n 32 (omega arith)),
+          cut_plain pair works wd wt w,
+        );
+        value = λ w regs below.
+            cut_composed pair w _ ∙ simp (dd pair, d0 pair, q0 pair source) (cut_whole w (regs r / 2 ^ (n % 32 % 32))
+            ∙ ap (λ k. regs r / 2 ^ k % 2 ^ bits w) (low_again n));
+      })
+  number_means operator n fits row is = absurd (none-some row is)

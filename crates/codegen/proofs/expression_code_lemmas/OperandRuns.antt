@@ -1,0 +1,249 @@
+-- Operands of an expression: each is computed into its place, unless it is at home, and is then fetched into its
+-- register.
+use Rattle.std.proofs.Common.{◌≡◌, ℕ, zero, suc, ◌+◌, ◌-◌, ◌*◌, ◌%◌, ◌<◌, ◌≤◌, List, [], ◌++◌, Option, None, Some}
+use Rattle.std.proofs.Common.{below_more, is_some, refl, ◌∙◌, arith, cond}
+use Rattle.codegen.proofs.expression_code_lemmas.Below.{along, at_home, cheaper, home_of_term, expr_code, fetch_code, gives, HasType}
+use Rattle.codegen.proofs.expression_code_lemmas.Below.{height_of, idle, Instr, into_code, keep_code, Location, none, operand, path_in}
+use Rattle.codegen.proofs.expression_code_lemmas.Below.{quiet, register_of, seq, slot_of, slots_to, State, StraightState, temporary}
+use Rattle.codegen.proofs.expression_code_lemmas.Below.{term_nodes, TermTree, types_of, value_in, WordType, working_register}
+use Rattle.codegen.proofs.expression_code_lemmas.Frame.{Setting, base_of, Steps, Before, Runs, HeldAt}
+use Rattle.codegen.proofs.expression_code_lemmas.WorkRegisters.{IsFree, IsOperand, operand_free, operand_not, is_operand, works_in}
+use Rattle.codegen.proofs.expression_code_lemmas.WorkRegisters.{works_at, higher_stays, beside_stays, own_stays}
+use Rattle.codegen.proofs.expression_code_lemmas.Operands.{Outcome, fetch_runs, operand_room, keep_runs}
+use Rattle.codegen.proofs.expression_code_lemmas.Homes.{home_there}
+use Rattle.codegen.proofs.expression_code_lemmas.TermLengths.{height}
+use Rattle.codegen.proofs.expression_code_lemmas.Values.{Ready, Valued, ValuedIn, Kept, Leaves, Holds, value_word, kept_less, kept_by}
+use Rattle.codegen.proofs.expression_code_lemmas.Values.{kept_then, leaves_then, leaves_spare, holds_lower, holds_still, homes_left}
+use Rattle.codegen.proofs.expression_code_lemmas.Values.{ready_after}
+
+-- what an expression puts on the path
+abbrev pub steps_of : TermTree → Steps
+steps_of e env = path_in env.variables e
+
+-- the place of an operand by its number, where the first has this one
+abbrev pub place_by : ℕ → ℕ → ℕ
+place_by place zero = place
+place_by place (suc j) = place + suc j
+
+pub place_is : (place j : ℕ) → place_by place j ≡ place + j
+place_is place zero = omega arith
+place_is place (suc j) = refl
+
+-- at most three operands, by number
+abbrev pub operands : TermTree → TermTree → TermTree → ℕ → TermTree
+operands a b c zero = a
+operands a b c (suc zero) = b
+operands a b c j = c
+
+-- the slots of temporaries lie from this offset on, behind all other words
+pub record Slots : Type 0 where
+  pub z : Setting
+  pub free : ℕ
+  pub aligned : free % 4 ≡ 0
+  pub above : base_of z ≤ free
+
+module _ (slots : Slots) where
+  open slots use {z, free, aligned, above}
+
+  -- how many temporaries have registers
+  abbrev count : ℕ
+  count = z.allocation.count
+
+  few : count ≤ 16
+  few = z.allocated.few
+
+  -- where the slots of a place and of higher ones begin
+  abbrev slot : ℕ → ℕ
+  slot place = slot_of count free place
+
+  abbrev pub HasSlot : ℕ → Type 0
+  HasSlot place = free + 4 * slots_to count place ≤ z.size
+
+  abbrev pub Typed : TermTree → WordType → Type 0
+  Typed e word = HasType (types_of z.code.profile z.declared) e word
+
+  -- the register of an operand
+  abbrev pub found : ℕ → TermTree → ℕ → ℕ
+  found place e spare = register_of (operand z.allocation free place e) spare
+
+  pub found_is : (place : ℕ) (e : TermTree) (spare : ℕ) → IsOperand count place spare (found place e spare)
+  found_is place e spare = is_operand z.declared z.allocation z.allocated free place spare e
+
+  pub found_free : (place : ℕ) (e : TermTree) (spare : ℕ) → 28 < spare → spare < 32 → IsFree (found place e spare)
+  found_free place e spare low high =
+      operand_free count place spare (found place e spare) few low high (found_is place e spare)
+
+  -- what is shown stays shown where temporaries change
+  pub still_ready : (place : ℕ) (env : StraightState) (s t : State) → Ready z env s → HeldAt z t
+      → Kept z (slot place) s t → Leaves (works_in count place) s t → Ready z env t
+  still_ready place env s t ready held kept lower =
+      ready_after z env s t ready held (kept_less z (base_of z) (slot place) s t (omega (arith, above)) kept)
+      (homes_left z place s t lower)
+
+  -- Operands: each is computed into its place, and then fetched into its register.
+
+  module _ (place : ℕ) (e : ℕ → TermTree) where
+    -- where an operand is
+    abbrev pub location : ℕ → Location
+    location j = operand z.allocation free (place_by place j) (e j)
+
+    -- of n operands the first k are in their registers, and the others where they are found
+    pub record Operands (k n : ℕ) (env : StraightState) (s t : State) : Type 0 where
+      pub held : HeldAt z t
+      pub fetched : (j : ℕ) → j < k → t.regs (register_of (location j) (29 + j)) ≡ value_in env.variables (e j)
+      pub waiting : (j : ℕ) → k ≤ j → j < n → Holds z (location j) t (value_in env.variables (e j))
+      pub kept : Kept z (slot place) s t
+      pub lower : Leaves (works_in count place) s t
+
+    pub none_yet : Runs z 0 none [] (Ready z) (Operands 0 0)
+    none_yet =
+        idle (λ env s ready. record {
+          held = ready.held;
+          fetched = λ j below. absurd (omega (arith, below));
+          waiting = λ j low below. absurd (omega (arith, below));
+          kept = λ o below. refl;
+          lower = λ q h. refl;
+        })
+
+    pub one_more : (n : ℕ) {m l : ℕ} {a b : Steps} {xs ys : List Instr} → Runs z m a xs (Ready z) (Operands 0 n)
+        → Runs z l b ys (Ready z) (Valued z (e n) free (place_by place n))
+        → Runs z (m + l) (λ env. a env ++ b env) (xs ++ ys) (Ready z) (Operands 0 (n + 1))
+    one_more n runs next =
+        let k = slot place in
+        let p = place_by place n in
+        let higher : place ≤ p = omega (arith, place_is place n) in
+        gives
+        (λ env s t fine ready done.
+        let u = done.middle in
+        let one = done.first in
+        let two = done.second in
+        record {
+          held = two.held;
+          fetched = λ j below. absurd (omega (arith, below));
+          waiting = λ j low.
+              below_more (λ i. Holds z (location i) t (value_in env.variables (e i))) n
+              (λ i less. holds_lower z free (place_by place i) p _ u t
+              (omega (arith, less, place_is place i, place_is place n)) two.kept two.lower (e i)
+              (one.waiting i (omega arith) less)) two.there j;
+          kept = kept_then z k s u t one.kept (kept_less z k (slot p) u t (omega (arith, higher)) two.kept);
+          lower = leaves_then (works_in count place) s u t one.lower
+              (λ q h. two.lower q (higher_stays count place p q higher h));
+        })
+        (seq runs next (λ env s t ready done. still_ready place env s t ready done.held done.kept done.lower))
+
+    pub one_fetched : (k : ℕ) {n m : ℕ} {a : Steps} {xs : List Instr} → k < n → k < 3 → HasSlot (place_by place k)
+        → Runs z m a xs (Ready z) (Operands k n)
+        → Runs z (m + 3) a (xs ++ fetch_code (location k) (29 + k)) (Ready z) (Operands (k + 1) n)
+    one_fetched k less small room runs =
+        gives
+        (λ env s t fine ready done.
+        let u = done.middle in
+        let one = done.first in
+        let two = done.second in
+        record {
+          held = two.held;
+          fetched =
+              below_more (λ j. t.regs (register_of (location j) (29 + j)) ≡ value_in env.variables (e j)) k
+              (λ j below.
+              two.others _ (operand_not count (place_by place j) (29 + j) (29 + k) _ few (omega arith)
+              (λ same. omega (arith, below, same)) (found_is (place_by place j) (e j) (29 + j)))
+              ∙ one.fetched j below) two.there;
+          waiting = λ j low below. holds_still z free (place_by place j) place _ u t (29 + k) (omega arith) two.others
+              two.same (e j) (one.waiting j (omega (arith, low)) below);
+          kept = kept_then z (slot place) s u t one.kept (kept_by z (slot place) u t two.same);
+          lower = leaves_then (works_in count place) s u t one.lower
+              (leaves_spare count place (29 + k) u t (omega arith) two.others);
+        })
+        (quiet runs
+        (fetch_runs z (29 + k) (omega arith) (omega (arith, small)) (λ env. value_in env.variables (e k)) (location k)
+        (operand_room z free aligned (place_by place k) room (e k)))
+        (λ env s t ready done. (done.held, done.waiting k (omega arith) less)))
+
+    -- what is made of them comes into a register
+    pub made : (d : ℕ) {k n m l : ℕ} {whole : TermTree} {a b : Steps} {xs ys : List Instr} {P : Before}
+        → Runs z m a xs (Ready z) (Operands k n)
+        → Runs z l b ys P (λ env s t. Outcome z (works_at count place d) d (value_in env.variables whole) s t)
+        → ((env : StraightState) (s t : State) → Ready z env s → Operands k n env s t → P env t)
+        → Runs z (m + l) (λ env. a env ++ b env) (xs ++ ys) (Ready z) (ValuedIn z whole free d place)
+    made d runs piece link =
+        let k = slot place in
+        gives
+        (λ env s t fine ready done.
+        let u = done.middle in
+        let one = done.first in
+        let two = done.second in
+        record {
+          held = two.held;
+          there = two.there;
+          kept = kept_then z k s u t one.kept (kept_by z k u t two.same);
+          lower = leaves_then (works_at count place d) s u t (λ q h. one.lower q (beside_stays count place d q h))
+              two.others;
+        })
+        (seq runs piece link)
+
+  -- A value in the register of a place is kept there, where the expression is not at home.
+
+  kept_there : {e : TermTree} {word : WordType} {n : ℕ} {steps : Steps} {is : List Instr} → Typed e word → (place : ℕ)
+      → HasSlot place
+      → Runs z n steps is (Ready z) (ValuedIn z e free (working_register count place 29) place)
+      → Runs z (n + 3) steps (is ++ keep_code (temporary count free place)) (Ready z)
+      (λ env s t. HeldAt z t × Holds z (temporary count free place) t (value_in env.variables e)
+      × Kept z (slot place) s t × Leaves (works_in count place) s t)
+  kept_there {e = e} {word = word} has place room runs =
+      let k = slot place in
+      gives
+      (λ env s t fine ready done.
+      let u = done.middle in
+      let one = done.first in
+      let two = done.second in (
+        two.0,
+        two.1,
+        kept_then z k s u t one.kept two.2,
+        leaves_then (works_in count place) s u t (λ q h. one.lower q (own_stays count place q few h))
+            (leaves_spare count place 28 u t (omega arith) two.3),
+      ))
+      (quiet runs
+      (keep_runs z free aligned place room (λ env. value_in env.variables e))
+      (λ env s t ready done. (
+        done.held,
+        done.there,
+        value_word z.code.profile z.declared e word env.variables ready.fits has,
+      )))
+
+  abbrev own_code : ℕ → TermTree → List Instr
+  own_code place e = into_code z.declared z.allocation free (working_register count place 29) place e
+
+  -- what is so of where an expression's value is, behind its code
+  abbrev Found : TermTree → ℕ → Location → StraightState → State → State → Type 0
+  Found e place l env s t = HeldAt z t × Holds z l t (value_in env.variables e) × Kept z (slot place) s t
+      × Leaves (works_in count place) s t
+
+  -- an expression is in its home, or comes into a place
+  found_there : {e : TermTree} {word : WordType} → Typed e word → (place : ℕ) → HasSlot place → {n : ℕ}
+      → Runs z n (steps_of e) (own_code place e) (Ready z) (ValuedIn z e free (working_register count place 29) place)
+      → Runs z (n + 3) (steps_of e) (expr_code z.declared z.allocation free place e) (Ready z)
+      (Found e place (operand z.allocation free place e))
+  found_there {e = e} has place room {n = n} runs = by_home (home_of_term z.allocation e) refl
+    where
+      by_home : (h : Option ℕ) → home_of_term z.allocation e ≡ h
+          → Runs z (n + 3) (steps_of e)
+          (cond (is_some h) [] (own_code place e ++ keep_code (temporary count free place))) (Ready z)
+          (Found e place (at_home h (temporary count free place)))
+      by_home None at = kept_there has place room runs
+      by_home (Some home) at =
+          let home_is = home_there z has home at in
+          along (λ env. home_is.quiet env.variables)
+          (cheaper {m = 0} (omega arith)
+          (idle (λ env s ready. (ready.held, home_is.there env s ready, λ o below. refl, λ q h. refl))))
+
+  -- so each expression is, where its code is such code behind which its value is in the register of a place
+  pub placed : {e : TermTree} {word : WordType} → Typed e word → (place : ℕ)
+      → free + 4 * slots_to count (height_of e + place) ≤ z.size
+      → Runs z (16 * term_nodes e - 3) (steps_of e) (own_code place e) (Ready z)
+      (ValuedIn z e free (working_register count place 29) place)
+      → Runs z (16 * term_nodes e) (steps_of e) (expr_code z.declared z.allocation free place e) (Ready z)
+      (Valued z e free place)
+  placed {e = e} has place room runs =
+      cheaper (omega (arith, height e))
+      (gives (λ env s t fine ready done. record { held = done.0; there = done.1; kept = done.2; lower = done.3 })
+      (found_there has place (omega (arith, room)) runs))

@@ -1,0 +1,233 @@
+-- Temporaries: how an operator's are fetched, worked on and kept.
+use Rattle.std.proofs.Common.{◌≡◌, ◌≢◌, ℕ, ◌+◌, ◌-◌, ◌*◌, ◌/◌, ◌%◌, ◌^◌, ◌<◌, ◌≤◌, ◌==◌, Bool, true, false, cond}
+use Rattle.std.proofs.Common.{nat_lt, List, [], ◌∷◌, length, Some, refl, sym, ap, ap₂, ◌∙◌, subst, arith, ne_eqb}
+use Rattle.codegen.proofs.expression_code_lemmas.Below.{Allocation, along, BinaryOperator, cheaper, cut_code, divide_value, divided}
+use Rattle.codegen.proofs.expression_code_lemmas.Below.{DivideOperation, emitted_operator, IsWithinKind, Profile, WordType}
+use Rattle.codegen.proofs.expression_code_lemmas.Below.{fetch_code, gives, idle, InRegister, InSlot, Instr, keep_code, Location}
+use Rattle.codegen.proofs.expression_code_lemmas.Below.{lt-ltb, ltb-false, marks_of, multiply_value, none, number_at, number_or_zero}
+use Rattle.codegen.proofs.expression_code_lemmas.Below.{only_computes, operand, operated, operator_code, Place, quiet, register_left}
+use Rattle.codegen.proofs.expression_code_lemmas.Below.{register_of, registers_after, row_of, slot_of, slots_to, State}
+use Rattle.codegen.proofs.expression_code_lemmas.Below.{StraightState, temporary, TermTree, weaken, Width, with_number}
+use Rattle.codegen.proofs.expression_code_lemmas.Below.{working_register}
+use Rattle.language.specs.declared.tree.BinaryOperator.TheVariants.{Multiply, Divide, Remainder}
+use Rattle.rv_code.specs.declared.instructions.Instr.TheVariants as instr
+use Rattle.rv_code.specs.declared.operations.DivideOperation.TheVariants.{Divu, Remu}
+use Rattle.rv_code.specs.declared.operations.MultiplyOperation.TheVariants.{Mul}
+use Rattle.rv_code.specs.declared.operations.StoreOperation.TheVariants.{Sw}
+use Rattle.codegen.proofs.expression_code_lemmas.Events.{Moves, multiplying, dividing}
+use Rattle.codegen.proofs.expression_code_lemmas.Frame.{Setting, Steps, Before, Runs, HeldAt, held_regs}
+use Rattle.codegen.proofs.expression_code_lemmas.WorkRegisters.{IsFree, ArePair, at_operand, not_written}
+use Rattle.codegen.proofs.expression_code_lemmas.Moves.{take, put, Moved, move_runs, written, unwritten, computing_within}
+use Rattle.codegen.proofs.expression_code_lemmas.OperatorCode.{is_plain, cut_plain, operator_plain, operator_made, product_made}
+use Rattle.codegen.proofs.expression_code_lemmas.TermLengths.{cut_length, operator_length}
+use Rattle.codegen.proofs.expression_code_lemmas.BoolCode.{emitted_marks, emitted_same}
+use Rattle.codegen.proofs.expression_code_lemmas.Values.{Kept, Leaves, Holds, kept_by, Wrote, wrote_kept, wrote_there}
+use Rattle.language.specs.ExprTyping.{operation_of}
+use Rattle.language.specs.WellTyped.{Makes}
+
+-- a temporary is in a register, and only a spare register has changed
+pub record Fetched (z : Setting) (r spare v : ℕ) (s t : State) : Type 0 where
+  pub held : HeldAt z t
+  pub there : t.regs r ≡ v
+  pub others : (q : ℕ) → q ≢ spare → t.regs q ≡ s.regs q
+  pub same : t.bytes ≡ s.bytes
+
+-- a slot's word in a register, and nothing else
+pub took : (z : Setting) (r o v : ℕ) (env : StraightState) (s t : State) → r ≢ 0
+    → number_at s.bytes 4 (z.frame + o) ≡ Some v → Moved z (take r o ∷ []) env s t → Fetched z r r v s t
+took z r o v env s t nonzero there moved = record {
+  held = moved.held;
+  there = ap (λ (regs : ℕ → ℕ). regs r) moved.regs ∙ (written s.regs r _ nonzero ∙ ap number_or_zero there);
+  others = λ q other. ap (λ (regs : ℕ → ℕ). regs q) moved.regs ∙ unwritten s.regs r _ q other;
+  same = moved.bytes;
+}
+
+-- a register has this value, and neither the registers that do not work nor any byte has changed
+pub record Outcome (z : Setting) (works : ℕ → Bool) (d v : ℕ) (s t : State) : Type 0 where
+  pub held : HeldAt z t
+  pub there : t.regs d ≡ v
+  pub others : Leaves works s t
+  pub same : t.bytes ≡ s.bytes
+
+-- a slot lies in the frame, and is aligned
+abbrev pub HasRoom : Setting → Location → Type 0
+HasRoom z (InRegister r) = Unit {0}
+HasRoom z (InSlot o) = (o % 4 ≡ 0) × (o + 4 ≤ z.size)
+
+-- A word is fetched from where it is.
+module _ (z : Setting) (spare : ℕ) (low : 4 < spare) (high : spare < 32) (v : StraightState → ℕ) where
+  pub fetch_runs : (l : Location) → HasRoom z l
+      → Runs z 3 none (fetch_code l spare) (λ env s. HeldAt z s × Holds z l s (v env))
+      (λ env s t. Fetched z (register_of l spare) spare (v env) s t)
+  fetch_runs (InRegister r) room =
+      idle (λ env s given. record { held = given.0; there = given.1; others = λ q other. refl; same = refl })
+  fetch_runs (InSlot o) room =
+      weaken
+      (λ env s fine given. given.0)
+      (λ env s t fine given moved. took z spare o (v env) env s t (λ e. omega (arith, low, e)) given.1 moved)
+      (move_runs z (take spare o) (simp (lt-ltb 4 spare (omega (arith, low)), lt-ltb spare 32 high)) room)
+
+-- A temporary in a place, where its slot lies in the frame.
+module _ (z : Setting) (free : ℕ) (aligned : free % 4 ≡ 0) (place : ℕ)
+    (room : free + 4 * slots_to z.allocation.count place ≤ z.size) where
+  abbrev count : ℕ
+  count = z.allocation.count
+
+  abbrev located : Bool → Location
+  located b = cond b (InRegister (5 + place)) (InSlot (slot_of count free place))
+
+  temporary_room : (b : Bool) → nat_lt place count ≡ b → HasRoom z (located b)
+  temporary_room true h = tt
+  temporary_room false h = (omega (arith, aligned), omega (arith, room, ltb-false _ _ h))
+
+  pub operand_room : (e : TermTree) → HasRoom z (operand z.allocation free place e)
+  operand_room = at_operand z.declared z.allocation z.allocated free place (HasRoom z)
+      (temporary_room (nat_lt place count) refl) (λ home is. tt)
+
+  -- what is in the register of a place is kept there
+  module _ (v : StraightState → ℕ) where
+    keep_by : (b : Bool) → nat_lt place count ≡ b
+        → Runs z 3 none (keep_code (located b)) (λ env s. HeldAt z s × (s.regs (cond b (5 + place) 29) ≡ v env)
+        × (v env < 2 ^ 32))
+        (λ env s t. HeldAt z t × Holds z (located b) t (v env) × Kept z (slot_of count free place) s t
+        × ((q : ℕ) → q ≢ 28 → t.regs q ≡ s.regs q))
+    keep_by true h =
+        idle (λ env s given. (given.0, given.1, kept_by z (slot_of count free place) s s refl, λ q other. refl))
+    keep_by false h =
+        let k = slot_of count free place in
+        weaken
+        (λ env s fine given. given.0)
+        (λ env s t fine given moved.
+        let wrote : Wrote z 4 k (v env) s t = record {
+          held = moved.held;
+          written = moved.bytes ∙ ap (λ w. with_number s.bytes 4 (z.frame + k) w) given.1;
+          homes = λ r home. ap (λ (regs : ℕ → ℕ). regs r) moved.regs
+              ∙ unwritten s.regs 28 _ r (λ e. omega (arith, home.1, e));
+        } in (
+          moved.held,
+          wrote_there z k (v env) s t wrote given.2,
+          wrote_kept z 4 k (v env) s t wrote,
+          λ q other. ap (λ (regs : ℕ → ℕ). regs q) moved.regs ∙ unwritten s.regs 28 _ q other,
+        ))
+        (move_runs z (put Sw 29 k) refl (omega (arith, aligned), omega (arith, room, ltb-false _ _ h)))
+
+    pub keep_runs : Runs z 3 none (keep_code (temporary count free place)) (λ env s. HeldAt z s
+        × (s.regs (working_register count place 29) ≡ v env) × (v env < 2 ^ 32))
+        (λ env s t. HeldAt z t × Holds z (temporary count free place) t (v env)
+        × Kept z (slot_of count free place) s t × ((q : ℕ) → q ≢ 28 → t.regs q ≡ s.regs q))
+    keep_runs = keep_by (nat_lt place count) refl
+
+-- Code that writes registers that work.
+module _ (z : Setting) (works : ℕ → Bool) (none_low : (q : ℕ) → q < 5 → works q ≡ false) where
+  -- code that only computes
+  pub worked : {P : Before} (d : ℕ) (is : List Instr) → only_computes works is ≡ true → (v : StraightState → ℕ)
+      → ((env : StraightState) (s : State) → P env s → HeldAt z s × (registers_after is s.regs d ≡ v env))
+      → Runs z (length is) none is P (λ env s t. Outcome z works d (v env) s t)
+  worked d is plain v value =
+      weaken
+      (λ env s fine given. (value env s given).0)
+      (λ env s t fine given done. record {
+        held = done.held;
+        there = ap (λ (regs : ℕ → ℕ). regs d) done.registers ∙ (value env s given).1;
+        others = λ q other. ap (λ (regs : ℕ → ℕ). regs q) done.registers
+            ∙ register_left works is s.regs q plain other;
+        same = done.same;
+      })
+      (computing_within z works is plain none_low)
+
+  -- An operator between two operands, in l and r, into d, which may write t.
+  module _ {d t l r : ℕ} (pair : ArePair d t) (first : IsFree l) (second : IsFree r) (apart : l ≢ t)
+      (wd : works d ≡ true) (wt : works t ≡ true) where
+    pub record Operands (a b : StraightState → ℕ) (env : StraightState) (s : State) : Type 0 where
+      pub held : HeldAt z s
+      pub left : s.regs l ≡ a env
+      pub right : s.regs r ≡ b env
+      pub left_fits : a env < 2 ^ 32
+      pub right_fits : b env < 2 ^ 32
+
+    module _ (source : Place) (width : Width) (a b : StraightState → ℕ) where
+      abbrev Operated : BinaryOperator → StraightState → State → State → Type 0
+      Operated operator env s u = Outcome z works d (operated operator width (a env) (b env)) s u
+
+      plainly : (operator : BinaryOperator) → is_plain (row_of operator).step ≡ true
+          → Runs z 4 none (operator_code d t l r operator width) (Operands a b) (Operated operator)
+      plainly operator alone =
+          cheaper (operator_length d t l r operator width)
+          (worked d (operator_code d t l r operator width)
+          (operator_plain pair works wd wt second first operator width alone)
+          (λ env. operated operator width (a env) (b env))
+          (λ env s given.
+          let fits = λ (v w : ℕ) (is : v ≡ w) (below : w < 2 ^ 32). subst (λ x. x < 2 ^ 32) (sym is) below in (
+            given.held,
+            operator_made pair second first apart operator width alone s.regs (fits _ _ given.left given.left_fits)
+                (fits _ _ given.right given.right_fits) ∙ ap₂ (operated operator width) given.left given.right,
+          )))
+
+      -- an instruction that shows its operands, and then code that only computes
+      shown : {steps : Steps} {i : Instr} (v w : StraightState → ℕ) (rest : List Instr)
+          → only_computes works rest ≡ true
+          → Runs z 1 steps (i ∷ []) (λ env s. (s.regs l ≡ a env) × (s.regs r ≡ b env))
+          (λ env s u. Moves z d (v env) s u)
+          → ((env : StraightState) (regs : ℕ → ℕ) → a env < 2 ^ 32 → b env < 2 ^ 32 → regs d ≡ v env
+          → registers_after rest regs d ≡ w env)
+          → Runs z (1 + length rest) steps (i ∷ rest) (Operands a b) (λ env s u. Outcome z works d (w env) s u)
+      shown v w rest plain one value =
+          gives
+          (λ env s u fine given done. record {
+            held = done.second.held;
+            there = done.second.there;
+            others = λ q other. done.second.others q other ∙ done.first.others q (not_written works q d other wd);
+            same = done.second.same ∙ done.first.same;
+          })
+          (quiet
+          (weaken (λ env s fine given. (given.left, given.right)) (λ env s u fine given moves. moves) one)
+          (worked {P = λ env s. HeldAt z s × (registers_after rest s.regs d ≡ w env)} d rest plain w
+          (λ env s given. given))
+          (λ env s u given moves. (
+            held_regs z s u (moves.others 2 (λ e. omega (arith, pair.one.low, e))) moves.same given.held,
+            value env u.regs given.left_fits given.right_fits moves.there,
+          )))
+
+      divided_by : (n : ℕ) (some : 0 < n) (x y : ℕ) → cond (n == 0) x y ≡ y
+      divided_by n some x y = rw (ne_eqb n 0 (λ e. omega (arith, some, e)))
+
+      quotient : (operation : DivideOperation)
+          → Runs z 1 (λ env. divided source (a env) (b env) ∷ []) (instr.Divide operation d l r ∷ []) (Operands a b)
+          (λ env s u. Outcome z works d (divide_value operation (a env) (b env)) s u)
+      quotient operation =
+          let v = λ (env : StraightState). divide_value operation (a env) (b env) in
+          shown v v [] refl (dividing z pair.one first second source a b operation) (λ env regs left right is. is)
+
+      pub operator_runs : (operator : BinaryOperator)
+          → Runs z 4 (λ env. marks_of source operator (a env) (b env)) (operator_code d t l r operator width)
+          (Operands a b) (Operated operator)
+      operator_runs Divide =
+          cheaper (omega arith)
+          (gives (λ env s u fine given done. subst (λ v. Outcome z works d v s u)
+          (divided_by (b env) fine.0 (2 ^ 32 - 1) (a env / b env)) done) (quotient Divu))
+      operator_runs Remainder =
+          cheaper (omega arith)
+          (gives (λ env s u fine given done. subst (λ v. Outcome z works d v s u)
+          (divided_by (b env) fine.0 (a env) (a env % b env)) done) (quotient Remu))
+      operator_runs Multiply =
+          cheaper (omega (arith, cut_length d width))
+          (shown (λ env. multiply_value Mul (a env) (b env)) (λ env. operated Multiply width (a env) (b env))
+          (cut_code d width) (cut_plain pair works wd wt width)
+          (multiplying z pair.one first second a b Mul)
+          (λ env regs left right is. product_made pair width regs (a env) (b env) is))
+      operator_runs operator = plainly operator refl
+
+      -- and that of the operator whose code is emitted in its place
+      pub emitted_runs : (allocation : Allocation) {profile : Profile} {one other whole : WordType}
+          (operator : BinaryOperator) → Makes profile (operation_of operator) one other whole
+          → Runs z 4 (λ env. marks_of source operator (a env) (b env))
+          (operator_code d t l r (emitted_operator allocation operator) width)
+          (λ env s. Operands a b env s × IsWithinKind one.kind (a env) × IsWithinKind other.kind (b env))
+          (Operated operator)
+      emitted_runs allocation operator makes =
+          along (λ env. emitted_marks source (a env) (b env) allocation operator)
+          (weaken
+          (λ env s fine given. given.0)
+          (λ env s u fine given done. subst (λ v. Outcome z works d v s u)
+          (emitted_same width (a env) (b env) given.1 given.2 allocation operator makes) done)
+          (operator_runs (emitted_operator allocation operator)))

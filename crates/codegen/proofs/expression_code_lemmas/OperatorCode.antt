@@ -1,0 +1,374 @@
+-- Of each piece of emitted code that only computes: that it does (`plain`), into registers that work, and what it
+-- makes in its target, which is what its node means (`made`).
+use Rattle.std.proofs.Common.{◌≡◌, ◌≢◌, ℕ, ◌+◌, ◌-◌, ◌*◌, ◌/◌, ◌%◌, ◌^◌, ◌<◌, ◌≤◌, ◌==◌, ◌||◌, nat_lt, Bool, true}
+use Rattle.std.proofs.Common.{false, cond, List, [], ◌∷◌, ◌++◌, refl, sym, ap, ap₂, ◌∙◌, arith, subst, eq-eqb, ne_eqb}
+use Rattle.std.proofs.lemmas.Nat.{and_mask, mod_below, pow_pos}
+use Rattle.codegen.proofs.expression_code_lemmas.Below.{after_append, between, BinaryOperator, bits, choice_code, choice_or_zero_code}
+use Rattle.codegen.proofs.expression_code_lemmas.Below.{constant_code, convert_code, converted, cut_code, eqb-true, false≢true, fun_ext}
+use Rattle.codegen.proofs.expression_code_lemmas.Below.{immediate_value, Instr, lt-ltb, move_code, multiply_value, narrow_code}
+use Rattle.codegen.proofs.expression_code_lemmas.Below.{narrowed_in, nat_tests, of_truths, only_computes, operated, operator_code}
+use Rattle.codegen.proofs.expression_code_lemmas.Below.{plain_append, prefix_code, prefix_value, PrefixOperator, register_left}
+use Rattle.codegen.proofs.expression_code_lemmas.Below.{register_value, registers_after, rotated_left, row_of, shift_value}
+use Rattle.codegen.proofs.expression_code_lemmas.Below.{sign_extended, Step, turned, Width, with_register, word_of}
+use Rattle.rv_code.specs.declared.instructions.Instr.TheVariants as instr
+use Rattle.rv_code.specs.declared.operations.ImmediateOperation.TheVariants.{Addi, Andi}
+use Rattle.rv_code.specs.declared.operations.ShiftOperation.TheVariants.{Slli, Srli}
+use Rattle.rv_code.specs.declared.operations.RegisterOperation.TheVariants as register
+use Rattle.rv_code.specs.declared.operations.MultiplyOperation.TheVariants.{Mul}
+use Rattle.language.specs.declared.tree.BinaryOperator.TheVariants.{Either, Both, Equal, Unequal, LessOrEqual}
+use Rattle.language.specs.declared.tree.BinaryOperator.TheVariants.{GreaterOrEqual, ShiftLeft, ShiftRight, Add}
+use Rattle.language.specs.declared.tree.BinaryOperator.TheVariants.{Subtract, Multiply, Divide, Remainder}
+use Rattle.language.specs.declared.tree.PrefixOperator.TheVariants.{Not, Complement, Negate}
+use Rattle.word.specs.declared.width.Width.TheVariants.{W8, W16, W32}
+use Rattle.codegen.proofs.expression_code_lemmas.Arithmetic.{parts, chosen, chosen_or_zero}
+use Rattle.codegen.proofs.expression_code_lemmas.WorkRegisters.{IsFree, ArePair}
+
+-- Numbers, into any register that works.
+
+pub constant_plain : (works : ℕ → Bool) (r n : ℕ) → works r ≡ true → r < 32
+    → only_computes works (constant_code r n) ≡ true
+constant_plain works r n ok small = grind (arith, nat_tests, ok)
+
+pub constant_after : (r n : ℕ) → r ≢ 0 → n < 2 ^ 32 → (regs : ℕ → ℕ)
+    → registers_after (constant_code r n) regs ≡ with_register regs r n
+constant_after r n nonzero fits regs = fun_ext (λ q. grind (arith, nat_tests, parts n fits))
+
+-- Arithmetic of widths.
+
+-- the value, cut to a width
+abbrev pub cut_value : Width → ℕ → ℕ
+cut_value W8 b = immediate_value Andi b (sign_extended 12 255)
+cut_value W16 b = shift_value Srli (shift_value Slli b 16) 16
+cut_value W32 b = b
+
+cut_computes : (w : Width) (b : ℕ) → b < 2 ^ 32 → cut_value w b ≡ converted w b
+cut_computes W8 b fits = and_mask b 8
+cut_computes width b fits = omega arith
+
+pub cut_whole : (w : Width) (n : ℕ) → cut_value w (n % 2 ^ 32) ≡ n % 2 ^ bits w
+cut_whole W8 n = and_mask (n % 2 ^ 32) 8 ∙ omega arith
+cut_whole width n = omega arith
+
+pub cut_difference : (w : Width) (a b : ℕ) → b < 2 ^ 32
+    → (a + (2 ^ 32 - b % 2 ^ 32)) % 2 ^ bits w ≡ (a + (2 ^ bits w - b % 2 ^ bits w)) % 2 ^ bits w
+cut_difference W8 a b fits = omega arith
+cut_difference width a b fits = omega arith
+
+cut_complement : (w : Width) (b : ℕ) → b < 2 ^ 32 → (2 ^ 32 - 1 - b) % 2 ^ bits w ≡ 2 ^ bits w - 1 - b % 2 ^ bits w
+cut_complement W8 b fits = omega arith
+cut_complement width b fits = omega arith
+
+one_less : (b : ℕ) → b < 2 ^ 32 → immediate_value Addi (register_value register.Sub 0 b) (sign_extended 12 4095)
+    ≡ (2 ^ 32 - 1 - b) % 2 ^ 32
+one_less b fits = omega arith
+
+narrow : (w : Width) → (0 < bits w) × (bits w ≤ 32)
+narrow W8 = (omega arith, omega arith)
+narrow width = (omega arith, omega arith)
+
+unmoved : (w : Width) (n : ℕ) → n < 2 ^ bits w → n ≡ (n * 2 ^ 0 + n / 2 ^ (bits w - 0)) % 2 ^ bits w
+unmoved W8 n fits = omega arith
+unmoved width n fits = omega arith
+
+around : (w : Width) (n j : ℕ) → 0 < j → j < bits w
+    → cut_value w (register_value register.Add (shift_value Slli n j) (shift_value Srli n (bits w - j)))
+    ≡ (n * 2 ^ j + n / 2 ^ (bits w - j)) % 2 ^ bits w
+around w n j some within =
+    let up : j % 32 ≡ j = omega (arith, (narrow w).1) in
+    let down : (bits w - j) % 32 ≡ bits w - j = omega (arith, (narrow w).1) in
+    let joined : (n * 2 ^ j % 2 ^ 32 + n / 2 ^ (bits w - j) % 2 ^ 32) % 2 ^ 32
+    ≡ (n * 2 ^ j + n / 2 ^ (bits w - j)) % 2 ^ 32 = omega arith in
+    ap (cut_value w) (ap₂ (λ x y. (n * 2 ^ x % 2 ^ 32 + n / 2 ^ y % 2 ^ 32) % 2 ^ 32) up down ∙ joined)
+    ∙ cut_whole w (n * 2 ^ j + n / 2 ^ (bits w - j))
+
+word_fits : (w : Width) (n : ℕ) → n < 2 ^ bits w → n < 2 ^ 32
+word_fits W32 n fits = fits
+word_fits width n fits = omega (arith, fits)
+
+-- a truth is a word of 32 bits
+pub truth_fits : (c : Bool) → word_of c < 2 ^ 32
+truth_fits c = grind (arith, nat_tests)
+
+-- Code.
+
+-- a step that only computes
+abbrev pub is_plain : Step → Bool
+is_plain (between operation) = true
+is_plain (turned operation) = true
+is_plain (of_truths operation) = true
+is_plain _ = false
+
+-- one of two registers
+abbrev pub either_of : ℕ → ℕ → ℕ → Bool
+either_of l r q = (q == l) || (q == r)
+
+-- Into the register d, where t may be written as well.
+module _ {d t : ℕ} (pair : ArePair d t) where
+  -- the tests that are met
+  pub dd : (d == d) ≡ true
+  dd = eq-eqb d d refl
+
+  tt' : (t == t) ≡ true
+  tt' = eq-eqb t t refl
+
+  pub td : (t == d) ≡ false
+  td = ne_eqb t d (λ e. pair.apart (sym e))
+
+  pub d0 : (d == 0) ≡ false
+  d0 = ne_eqb d 0 pair.one.nonzero
+
+  t0 : (t == 0) ≡ false
+  t0 = ne_eqb t 0 pair.other.nonzero
+
+  pub d32 : nat_lt d 32 ≡ true
+  d32 = lt-ltb d 32 pair.one.small
+
+  t32 : nat_lt t 32 ≡ true
+  t32 = lt-ltb t 32 pair.other.small
+
+  -- where these two alone work, any other register is as it was
+  pub low_beside : (q : ℕ) → q < 5 → either_of d t q ≡ false
+  low_beside q below =
+      simp (
+        ne_eqb q d (λ e. omega (arith, pair.one.low, below, e)),
+        ne_eqb q t (λ e. omega (arith, pair.other.low, below, e)),
+      )
+
+  pub kept_beside : (is : List Instr) → only_computes (either_of d t) is ≡ true → (regs : ℕ → ℕ) (q : ℕ) → q ≢ d
+      → q ≢ t → registers_after is regs q ≡ regs q
+  kept_beside is plain regs q first second =
+      register_left (either_of d t) is regs q plain (simp (ne_eqb q d first, ne_eqb q t second))
+
+  -- A cut in its place.
+
+  pub cut_composed : (w : Width) (regs : ℕ → ℕ) → registers_after (cut_code d w) regs d ≡ cut_value w (regs d)
+  cut_composed W32 regs = refl
+  cut_composed width regs = simp (dd, d0)
+
+  -- a product of 32 bits that is cut
+  pub product_made : (w : Width) (regs : ℕ → ℕ) (a b : ℕ) → regs d ≡ multiply_value Mul a b
+      → registers_after (cut_code d w) regs d ≡ operated Multiply w a b
+  product_made w regs a b is = cut_composed w regs ∙ (ap (cut_value w) is ∙ cut_whole w (a * b))
+
+  -- From a register q.
+  module _ {q : ℕ} (source : IsFree q) where
+    pub q0 : (q == 0) ≡ false
+    q0 = ne_eqb q 0 source.nonzero
+
+    pub q32 : nat_lt q 32 ≡ true
+    q32 = lt-ltb q 32 source.small
+
+    -- Moves.
+
+    abbrev move_by : Bool → List Instr
+    move_by same = cond same [] (instr.Immediate Addi d q 0 ∷ [])
+
+    move_when : (same : Bool) (regs : ℕ → ℕ) → (d == q) ≡ same → regs q < 2 ^ 32
+        → registers_after (move_by same) regs d ≡ regs q
+    move_when true regs e fits = ap regs (eqb-true d q e)
+    move_when false regs e fits = simp (dd, d0, q0) (omega (arith, fits))
+
+    pub move_made : (regs : ℕ → ℕ) → regs q < 2 ^ 32 → registers_after (move_code d q) regs d ≡ regs q
+    move_made regs fits = move_when (d == q) regs refl fits
+
+    -- Cuts.
+
+    narrow_composed : (w : Width) (regs : ℕ → ℕ)
+        → registers_after (narrow_code d q w) regs (narrowed_in d q w) ≡ cut_value w (regs q)
+    narrow_composed W32 regs = refl
+    narrow_composed width regs = simp (dd, d0, q0)
+
+    narrow_made : (w : Width) (regs : ℕ → ℕ) → regs q < 2 ^ 32
+        → registers_after (narrow_code d q w) regs (narrowed_in d q w) ≡ converted w (regs q)
+    narrow_made w regs fits = narrow_composed w regs ∙ cut_computes w (regs q) fits
+
+    pub narrowed_free : (w : Width) → IsFree (narrowed_in d q w)
+    narrowed_free W32 = source
+    narrowed_free width = pair.one
+
+    pub prefix_made : (operator : PrefixOperator) (w : Width) (regs : ℕ → ℕ) → regs q < 2 ^ 32
+        → registers_after (prefix_code d q operator w) regs d ≡ prefix_value operator w (regs q)
+    prefix_made Not w regs fits = simp (dd, d0, q0) (grind (arith, nat_tests))
+    prefix_made Complement w regs fits =
+        cut_composed w _ ∙ simp (dd, d0, q0) (ap (cut_value w) (one_less (regs q) fits)
+        ∙ cut_whole w (2 ^ 32 - 1 - regs q) ∙ cut_complement w (regs q) fits)
+    prefix_made Negate w regs fits =
+        let v = regs q in
+        let less : 0 + (2 ^ bits w - v % 2 ^ bits w) ≡ 2 ^ bits w - v % 2 ^ bits w = omega arith in
+        cut_composed w _ ∙ simp (dd, d0, q0) (cut_whole w (0 + (2 ^ 32 - v % 2 ^ 32))
+        ∙ (cut_difference w 0 v fits ∙ ap (λ x. x % 2 ^ bits w) less))
+
+    -- Rotations, with what is moved up in t.
+
+    abbrev around_by : Width → ℕ → Bool → List Instr
+    around_by w amount none =
+        cond none (move_code d q) (instr.Shift Slli t q amount ∷ instr.Shift Srli d q (bits w - amount)
+        ∷ instr.Register register.Add d t d ∷ cut_code d w)
+
+    around_made : q ≢ t → (w : Width) (amount : ℕ) (regs : ℕ → ℕ) → amount < bits w → regs q < 2 ^ bits w
+        → (none : Bool) → (amount == 0) ≡ none
+        → registers_after (around_by w amount none) regs d
+        ≡ (regs q * 2 ^ amount + regs q / 2 ^ (bits w - amount)) % 2 ^ bits w
+    around_made apart w amount regs within fits true h =
+        move_made regs (word_fits w (regs q) fits)
+        ∙ (unmoved w (regs q) fits
+        ∙ ap (λ n. (regs q * 2 ^ n + regs q / 2 ^ (bits w - n)) % 2 ^ bits w) (sym (eqb-true amount 0 h)))
+    around_made apart w amount regs within fits false h =
+        cut_composed w _ ∙ simp (dd, tt', td, d0, t0, q0, ne_eqb q t apart)
+        (around w (regs q) amount (grind (arith, nat_tests)) within)
+
+  -- Of code that writes registers that work.
+  module _ (works : ℕ → Bool) (wd : works d ≡ true) (wt : works t ≡ true) where
+    pub cut_plain : (w : Width) → only_computes works (cut_code d w) ≡ true
+    cut_plain W32 = refl
+    cut_plain width = simp (d32, wd)
+
+    module _ {q : ℕ} (source : IsFree q) where
+      move_when_plain : (same : Bool) → only_computes works (move_by source same) ≡ true
+      move_when_plain true = refl
+      move_when_plain false = simp (d32, q32 source, wd)
+
+      pub move_plain : only_computes works (move_code d q) ≡ true
+      move_plain = move_when_plain (d == q)
+
+      narrow_plain : (w : Width) → only_computes works (narrow_code d q w) ≡ true
+      narrow_plain W32 = refl
+      narrow_plain width = simp (d32, q32 source, wd)
+
+      pub prefix_plain : (operator : PrefixOperator) (w : Width)
+          → only_computes works (prefix_code d q operator w) ≡ true
+      prefix_plain Not w = simp (d32, q32 source, wd)
+      prefix_plain operator w = simp (d32, q32 source, wd, cut_plain w)
+
+      around_plain : (w : Width) (amount : ℕ) → amount < bits w → (none : Bool) → (amount == 0) ≡ none
+          → only_computes works (around_by source w amount none) ≡ true
+      around_plain w amount within true h = move_plain
+      around_plain w amount within false h =
+          let some : 0 < amount = grind (arith, nat_tests) in
+          simp (
+            wd,
+            wt,
+            d32,
+            t32,
+            q32 source,
+            lt-ltb amount 32 (omega (arith, (narrow w).1)),
+            lt-ltb (bits w - amount) 32 (omega (arith, (narrow w).1)),
+            cut_plain w,
+          )
+
+    module _ {r : ℕ} (source : IsFree r) where
+      pub convert_plain : (w : Width) → only_computes works (convert_code d r w) ≡ true
+      convert_plain w = plain_append works (narrow_code d r w) (move_code d (narrowed_in d r w))
+          (narrow_plain source w) (move_plain (narrowed_free source w))
+
+      pub rotate_plain : (w : Width) (amount : ℕ)
+          → only_computes works (narrow_code d r w
+          ++ around_by (narrowed_free source w) w (amount % bits w) (amount % bits w == 0)) ≡ true
+      rotate_plain w amount =
+          let n = amount % bits w in
+          plain_append works (narrow_code d r w) (around_by (narrowed_free source w) w n (n == 0))
+          (narrow_plain source w)
+          (around_plain (narrowed_free source w) w n (mod_below amount (bits w) (narrow w).0) (n == 0) refl)
+
+      -- Operators.
+      pub operator_plain : {l : ℕ} → IsFree l → (operator : BinaryOperator) (w : Width)
+          → is_plain (row_of operator).step ≡ true → only_computes works (operator_code d t l r operator w) ≡ true
+      operator_plain first Multiply w plain = absurd (false≢true plain)
+      operator_plain first Divide w plain = absurd (false≢true plain)
+      operator_plain first Remainder w plain = absurd (false≢true plain)
+      operator_plain first operator w plain = simp (wd, wt, d32, t32, q32 first, q32 source, cut_plain w)
+
+      -- of which the mask comes into m
+      pub choice_plain : {m c l : ℕ} → IsFree m → works m ≡ true → IsFree c → IsFree l
+          → only_computes works (choice_code d m t c l r) ≡ true
+      choice_plain mask wm condition first =
+          simp (wd, wt, wm, d32, t32, q32 mask, q32 condition, q32 first, q32 source)
+
+      pub choice_or_zero_plain : {m c : ℕ} → IsFree m → works m ≡ true → IsFree c
+          → only_computes works (choice_or_zero_code d m c r) ≡ true
+      choice_or_zero_plain mask wm condition = simp (wd, wm, d32, q32 mask, q32 condition, q32 source)
+
+  module _ {r : ℕ} (source : IsFree r) where
+    pub convert_made : (w : Width) (regs : ℕ → ℕ) → regs r < 2 ^ 32
+        → registers_after (convert_code d r w) regs d ≡ converted w (regs r)
+    convert_made w regs fits =
+        let cut = narrow_made source w regs fits in
+        ap (λ (after : ℕ → ℕ). after d) (after_append (narrow_code d r w) (move_code d (narrowed_in d r w)) regs)
+        ∙ (move_made (narrowed_free source w) (registers_after (narrow_code d r w) regs)
+        (subst (λ v. v < 2 ^ 32) (sym cut)
+        (word_fits w (converted w (regs r)) (mod_below (regs r) (2 ^ bits w) (pow_pos (bits w)))))
+        ∙ cut)
+
+    narrowed_apart : r ≢ t → (w : Width) → narrowed_in d r w ≢ t
+    narrowed_apart apart W32 = apart
+    narrowed_apart apart width = pair.apart
+
+    pub rotate_made : r ≢ t → (w : Width) (amount : ℕ) (regs : ℕ → ℕ) → regs r < 2 ^ 32
+        → registers_after (narrow_code d r w
+        ++ around_by (narrowed_free source w) w (amount % bits w) (amount % bits w == 0)) regs d
+        ≡ rotated_left w (regs r) amount
+    rotate_made apart w amount regs fits =
+        let n = amount % bits w in
+        let cut = narrow_made source w regs fits in
+        ap (λ (after : ℕ → ℕ). after d)
+        (after_append (narrow_code d r w) (around_by (narrowed_free source w) w n (n == 0)) regs)
+        ∙ (around_made (narrowed_free source w) (narrowed_apart apart w) w n
+        (registers_after (narrow_code d r w) regs) (mod_below amount (bits w) (narrow w).0)
+        (subst (λ v. v < 2 ^ bits w) (sym cut) (mod_below (regs r) (2 ^ bits w) (pow_pos (bits w)))) (n == 0) refl
+        ∙ ap (λ v. (v * 2 ^ n + v / 2 ^ (bits w - n)) % 2 ^ bits w) cut)
+
+    -- A choice between a value and 0, with the mask in m.
+    pub choice_or_zero_made : {m c : ℕ} → IsFree m → IsFree c → r ≢ m → (regs : ℕ → ℕ)
+        → registers_after (choice_or_zero_code d m c r) regs d ≡ chosen_or_zero (regs c) (regs r)
+    choice_or_zero_made {m = m} mask condition rm regs =
+        simp (dd, eq-eqb m m refl, ne_eqb r m rm, d0, q0 mask, q0 condition, q0 source)
+
+    module _ {l : ℕ} (first : IsFree l) where
+      pub operator_made : l ≢ t → (operator : BinaryOperator) (w : Width) → is_plain (row_of operator).step ≡ true
+          → (regs : ℕ → ℕ) → regs l < 2 ^ 32 → regs r < 2 ^ 32
+          → registers_after (operator_code d t l r operator w) regs d ≡ operated operator w (regs l) (regs r)
+      operator_made apart Either w plain regs left right =
+          simp (dd, tt', td, d0, t0, q0 first, q0 source, ne_eqb l t apart) (grind (arith, nat_tests))
+      operator_made apart Both w plain regs left right =
+          simp (dd, tt', td, d0, t0, q0 first, q0 source, ne_eqb l t apart) (grind (arith, nat_tests))
+      operator_made apart Equal w plain regs left right =
+          simp (dd, d0, q0 first, q0 source) (grind (arith, nat_tests))
+      operator_made apart Unequal w plain regs left right =
+          simp (dd, d0, q0 first, q0 source) (grind (arith, nat_tests))
+      operator_made apart LessOrEqual w plain regs left right =
+          simp (dd, d0, q0 first, q0 source) (grind (arith, nat_tests))
+      operator_made apart GreaterOrEqual w plain regs left right =
+          simp (dd, d0, q0 first, q0 source) (grind (arith, nat_tests))
+      operator_made apart ShiftLeft w plain regs left right = cut_composed w _
+          ∙ simp (dd, d0, q0 first, q0 source) (cut_whole w (regs l * 2 ^ (regs r % 32)))
+      operator_made apart ShiftRight w plain regs left right = cut_composed w _
+          ∙ simp (dd, d0, q0 first, q0 source) (cut_whole w (regs l / 2 ^ (regs r % 32)))
+      operator_made apart Add w plain regs left right = cut_composed w _
+          ∙ simp (dd, d0, q0 first, q0 source) (cut_whole w (regs l + regs r))
+      operator_made apart Subtract w plain regs left right =
+          cut_composed w _ ∙ simp (dd, d0, q0 first, q0 source) (cut_whole w (regs l + (2 ^ 32 - regs r % 2 ^ 32))
+          ∙ cut_difference w (regs l) (regs r) right)
+      operator_made apart Multiply w plain regs left right = absurd (false≢true plain)
+      operator_made apart Divide w plain regs left right = absurd (false≢true plain)
+      operator_made apart Remainder w plain regs left right = absurd (false≢true plain)
+      operator_made apart operator w plain regs left right = simp (dd, d0, q0 first, q0 source)
+
+      -- Choices, with the mask in m.
+      pub choice_made : {m c : ℕ} → IsFree m → IsFree c → m ≢ t → l ≢ m → r ≢ m → r ≢ t → (regs : ℕ → ℕ)
+          → registers_after (choice_code d m t c l r) regs d ≡ chosen (regs c) (regs l) (regs r)
+      choice_made {m = m} {c = c} mask condition mt lm rm rt regs =
+          simp (
+            dd,
+            tt',
+            eq-eqb m m refl,
+            ne_eqb m t mt,
+            ne_eqb l m lm,
+            ne_eqb r m rm,
+            ne_eqb r t rt,
+            d0,
+            t0,
+            q0 mask,
+            q0 condition,
+            q0 first,
+            q0 source,
+          )

@@ -1,0 +1,91 @@
+-- The law of expressions: the code of one, at a site.
+use Rattle.std.proofs.Common.{◌≡◌, ℕ, ◌+◌, ◌<◌, true, List, [], Some, refl, sym, ap, arith, Bool, append-nil}
+use Rattle.std.proofs.Common.{false, cond, nat_lt, subst, All}
+use Rattle.codegen.proofs.expression_code_lemmas.Below.{HasType, InRegister, InSlot, IsComputed, IsInside, IsSiteOf, Leads, Location}
+use Rattle.codegen.proofs.expression_code_lemmas.Below.{ltb-false, ltb-true, Observation, operand, Path, path_in, Site, slot_of}
+use Rattle.codegen.proofs.expression_code_lemmas.Below.{State, StraightState, TermTree, types_of, value_in, Values, word_in}
+use Rattle.codegen.proofs.expression_code_lemmas.Below.{WordType, ends_on}
+use Rattle.codegen.proofs.expression_code_lemmas.Frame.{Setting, seen_by}
+use Rattle.codegen.proofs.expression_code_lemmas.WorkRegisters.{works_in, lower_stays}
+use Rattle.codegen.proofs.expression_code_lemmas.Values.{Ready, Kept, Leaves, Holds, homes_left, kept_number}
+use Rattle.codegen.proofs.expression_code_lemmas.ExpressionRuns.{expr_runs}
+
+-- no control value and no loop
+abbrev setting_of : (e : TermTree) (site : Site) → IsSiteOf e site → Setting
+setting_of e site fit = record {
+  code = site.code;
+  frame = site.frame;
+  size = site.size;
+  counts = [];
+  declared = site.declared;
+  controls = 0;
+  depths = 0;
+  allocation = site.allocation;
+  allocated = fit.allocated;
+  even = fit.even;
+  ends = fit.ends;
+  room = omega (arith, fit.above, fit.room);
+}
+
+abbrev state_of : Values → StraightState
+state_of m = record { variables = m; controls = λ c. false }
+
+module _ (e : TermTree) (site : Site) (fit : IsSiteOf e site) where
+  -- what a location holds, as it is read
+  read : (l : Location) (v : ℕ) (t : State) → Holds (setting_of e site fit) l t v → word_in site t l ≡ Some v
+  read (InRegister r) v t there = ap Some there
+  read (InSlot o) v t there = there
+
+  -- and that it is the same where lower places are kept
+  stays : (place top : ℕ) (s t : State) → place < top
+      → Kept (setting_of e site fit) (slot_of site.allocation.count site.free top) s t
+      → Leaves (works_in site.allocation.count top) s t → (b : Bool) → nat_lt place site.allocation.count ≡ b
+      → word_in site t (cond b (InRegister (5 + place)) (InSlot (slot_of site.allocation.count site.free place)))
+      ≡ word_in site s (cond b (InRegister (5 + place)) (InSlot (slot_of site.allocation.count site.free place)))
+  stays place top s t less kept lower true h =
+      ap Some
+      (lower (5 + place) (lower_stays site.allocation.count top place less (ltb-true place site.allocation.count h)
+      fit.allocated.few))
+  stays place top s t less kept lower false h =
+      kept_number (setting_of e site fit) (slot_of site.allocation.count site.free top) s t kept 4
+      (slot_of site.allocation.count site.free place)
+      (omega (arith, less, ltb-false place site.allocation.count h))
+
+pub expressions_are_computed : (e : TermTree) (word : WordType) (site : Site)
+    → HasType (types_of site.code.profile site.declared) e word → IsSiteOf e site → IsComputed e site
+expressions_are_computed e word site has fit =
+    let z = setting_of e site fit in
+    let piece = (expr_runs z site.free fit.aligned (omega (arith, fit.above)) has site.place fit.room).placed_at
+    site.start fit.placed in
+    record {
+      shown = λ path. (piece.leak path).0;
+      runs = λ m s at there fine.
+          let path = seen_by z (path_in m e) in
+          let ready : Ready z (state_of m) s = record {
+            held = record { base = there.base; data_there = there.data_there };
+            fits = there.fits;
+            homes_there = there.homes_there;
+            variables_there = there.variables_there;
+            controls_there = λ c below read. absurd (omega (arith, below));
+          } in
+          let run = ends_on (piece.runs (state_of m) s [] at fine ready) (sym (append-nil path)) in
+          let same : run.seen ≡ (piece.leak path).0 = sym (ap (λ (r : List Observation × Path). r.0) run.shown) in
+          record {
+            turns = run.turns;
+            end = run.end;
+            leads = subst (λ (seen : List Observation). Leads site.code run.turns s seen run.end) same run.leads;
+            few = run.within;
+            inside =
+                subst (λ (seen : List Observation). All (λ (o : Observation). IsInside site.frame site.size o.event)
+                seen) same run.inside;
+            behind = run.at;
+            value = read e site fit (operand site.allocation site.free site.place e) (value_in m e) run.end
+                run.done.there;
+            homes = λ x home is. homes_left z site.place s run.end run.done.lower home
+                (fit.allocated.allowed x home is);
+            lower = λ place less. stays e site fit place site.place s run.end less run.done.kept run.done.lower
+                (nat_lt place site.allocation.count) refl;
+            base = run.done.held.base;
+            kept = λ o below. run.done.kept o (omega (arith, below));
+          };
+    }

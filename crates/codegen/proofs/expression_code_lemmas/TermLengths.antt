@@ -1,0 +1,296 @@
+-- What is known of a term: how many temporaries it has at once, how many instructions it is, and which variables it
+-- names.
+use Rattle.std.proofs.Common.{◌≡◌, ℕ, ◌+◌, ◌*◌, ◌%◌, ◌<◌, ◌≤◌, ◌==◌, Bool, true, false, cond, nat_lt, List, ◌++◌}
+use Rattle.std.proofs.Common.{length, Option, None, Some, ◌-◌, arith, length-append}
+use Rattle.std.proofs.lemmas.Option.{slice_get_within}
+use Rattle.codegen.proofs.expression_code_lemmas.Below.{address_code, Allocation, around_code, binary, BinaryOperator, bits, code_by}
+use Rattle.codegen.proofs.expression_code_lemmas.Below.{choice_code, choice_or_zero_code, chooses_zero}
+use Rattle.codegen.proofs.expression_code_lemmas.Below.{constant_code, convert, convert_code, copy_code, cut_code, element}
+use Rattle.codegen.proofs.expression_code_lemmas.Below.{element_code, emitted_operator, expr_code, fetch_code, Finish, finish_code}
+use Rattle.codegen.proofs.expression_code_lemmas.Below.{FlatVariable, HasType, height_of, InRegister, InSlot, Instr, into_code}
+use Rattle.codegen.proofs.expression_code_lemmas.Below.{IsAmong, is_at_home, keep_code, keeps_words, Kind, kind_at, left_row}
+use Rattle.codegen.proofs.expression_code_lemmas.Below.{load_code, Location, move_code, narrow_code, narrowed_in, near_code}
+use Rattle.codegen.proofs.expression_code_lemmas.Below.{near_element, number_code, NumberRow, NumberStep, number_step_code, of_binary}
+use Rattle.codegen.proofs.expression_code_lemmas.Below.{of_conversion, of_element, of_number, of_prefix, of_rotation, of_selection}
+use Rattle.codegen.proofs.expression_code_lemmas.Below.{of_truth, of_truths, of_variable, operand, operator_code, placed_code, prefix}
+use Rattle.codegen.proofs.expression_code_lemmas.Below.{prefix_code, PrefixOperator, Profile, raise_code, register_of, right_row}
+use Rattle.codegen.proofs.expression_code_lemmas.Below.{rotate, rotate_code, row_of, scale_code, select, Step, step_code, store_code}
+use Rattle.codegen.proofs.expression_code_lemmas.Below.{temporary, term_nodes, TermTree, Types, types_of, variable, variable_location}
+use Rattle.codegen.proofs.expression_code_lemmas.Below.{variable_offset, Width, width_of, WordType, working_register}
+use Rattle.language.specs.declared.signature.Kind.TheVariants.{Boolean}
+use Rattle.codegen.specs.declared.expression_code.numbers.Finish.TheVariants.{Narrowed}
+use Rattle.codegen.specs.declared.expression_code.numbers.NumberStep.TheVariants.{KeepsLow}
+use Rattle.language.specs.declared.tree.BinaryOperator.TheVariants.{Either, Both, Multiply}
+use Rattle.language.specs.declared.tree.PrefixOperator.TheVariants as prefixes
+use Rattle.word.specs.declared.width.Width.TheVariants.{W8}
+
+-- Variables.
+
+-- all that a well-typed expression names are known, where the variables that are known are
+pub typed_within : (count : ℕ) (types : Types) → ((x : ℕ) (d : FlatVariable) → types.at x ≡ Some d → x < count)
+    → {e : TermTree} {word : WordType} → HasType types e word → IsAmong count e
+typed_within count types known (of_number below) = tt
+typed_within count types known of_truth = tt
+typed_within count types known (of_variable {x = x} is) = known x _ is
+typed_within count types known (of_prefix has takes same) = typed_within count types known has
+typed_within count types known (of_binary has more makes same) =
+    (typed_within count types known has, typed_within count types known more)
+typed_within count types known (of_rotation has numeric low high same) = typed_within count types known has
+typed_within count types known (of_conversion has numeric) = typed_within count types known has
+typed_within count types known (of_selection has chooses more) =
+    (typed_within count types known has, typed_within count types known chooses, typed_within count types known more)
+typed_within count types known (of_element {x = x} is has) = (known x _ is, typed_within count types known has)
+
+pub typed_among : (profile : Profile) (declared : List FlatVariable) {e : TermTree} {word : WordType}
+    → HasType (types_of profile declared) e word → IsAmong (length declared) e
+typed_among profile declared has =
+    typed_within (length declared) (types_of profile declared) (λ x d is. slice_get_within declared x d is) has
+
+-- Temporaries.
+
+pub height : (e : TermTree) → height_of e + 1 ≤ term_nodes e
+height (prefix operator width operand) = omega (arith, height operand)
+height (binary place operator width one other) = omega (arith, height one, height other)
+height (rotate width operand amount) = omega (arith, height operand)
+height (convert kind operand) = omega (arith, height operand)
+height (select condition accepted otherwise) = omega (arith, height condition, height accepted, height otherwise)
+height (element place x size index) = omega (arith, height index)
+height e = omega arith
+
+-- Instructions.
+
+pub one_of : (b : Bool) (xs ys : List Instr) (n : ℕ) → length xs ≤ n → length ys ≤ n → length (cond b xs ys) ≤ n
+one_of true xs ys n h k = h
+one_of false xs ys n h k = k
+
+-- of what there may be of a code, each is short, and so is the other one
+pub code_length : {T : Type 0} (o : Option T) (code : T → List Instr) (other : List Instr) (n : ℕ)
+    → ((x : T) → length (code x) ≤ n) → length other ≤ n → length (code_by o code other) ≤ n
+code_length None code other n some more = more
+code_length (Some x) code other n some more = some x
+
+pub load_length : (r o : ℕ) → length (load_code r o) ≤ 3
+load_length r o = one_of (nat_lt o 2048) _ _ 3 (omega arith) (omega arith)
+
+pub store_length : (r o : ℕ) → length (store_code r o) ≤ 3
+store_length r o = one_of (nat_lt o 2048) _ _ 3 (omega arith) (omega arith)
+
+pub constant_length : (r n : ℕ) → length (constant_code r n) ≤ 2
+constant_length r n = one_of (nat_lt n 2048) _ _ 2 (omega arith) (omega arith)
+
+pub move_length : (d r : ℕ) → length (move_code d r) ≤ 1
+move_length d r = one_of (d == r) _ _ 1 (omega arith) (omega arith)
+
+copy_length : (d : ℕ) (l : Location) → length (copy_code d l) ≤ 3
+copy_length d (InRegister r) = omega (arith, move_length d r)
+copy_length d (InSlot o) = load_length d o
+
+pub fetch_length : (l : Location) (spare : ℕ) → length (fetch_code l spare) ≤ 3
+fetch_length (InRegister r) spare = omega arith
+fetch_length (InSlot o) spare = load_length spare o
+
+keep_length : (l : Location) → length (keep_code l) ≤ 3
+keep_length (InRegister r) = omega arith
+keep_length (InSlot o) = store_length 29 o
+
+narrow_length : (d r : ℕ) (w : Width) → length (narrow_code d r w) ≤ 2
+narrow_length d r W8 = omega arith
+narrow_length d r width = omega arith
+
+pub cut_length : (r : ℕ) (w : Width) → length (cut_code r w) ≤ 2
+cut_length r w = narrow_length r r w
+
+pub convert_length : (d r : ℕ) (w : Width) → length (convert_code d r w) ≤ 3
+convert_length d r w = simp length-append (omega (arith, narrow_length d r w, move_length d (narrowed_in d r w)))
+
+step_length : (d t l r : ℕ) (step : Step) → length (step_code d t l r step) ≤ 3
+step_length d t l r (of_truths operation) = omega arith
+step_length d t l r step = omega arith
+
+pub finish_length : (d : ℕ) (w : Width) (finish : Finish) → length (finish_code d w finish) ≤ 2
+finish_length d w Narrowed = omega (arith, cut_length d w)
+finish_length d w finish = omega arith
+
+-- of the rows there are, the longest
+row_length : (d t l r : ℕ) (w : Width) (o : BinaryOperator)
+    → length (step_code d t l r (row_of o).step) + length (finish_code d w (row_of o).finish) ≤ 4
+row_length d t l r w Either = omega arith
+row_length d t l r w Both = omega arith
+row_length d t l r w Multiply = omega (arith, cut_length d w)
+row_length d t l r w o = omega (arith, finish_length d w (row_of o).finish)
+
+pub operator_length : (d t l r : ℕ) (o : BinaryOperator) (w : Width) → length (operator_code d t l r o w) ≤ 4
+operator_length d t l r o w = simp length-append (row_length d t l r w o)
+
+number_step_length : (d r : ℕ) (step : NumberStep) → length (number_step_code d r step) ≤ 2
+number_step_length d r (KeepsLow others) = omega arith
+number_step_length d r step = omega arith
+
+pub number_length : (d r : ℕ) (w : Width) (row : NumberRow) → length (number_code d r w row) ≤ 4
+number_length d r w row = simp length-append (omega (
+  arith,
+  number_step_length d r row.step,
+  finish_length d w row.finish,
+))
+
+pub prefix_length : (d r : ℕ) (o : PrefixOperator) (w : Width) → length (prefix_code d r o w) ≤ 4
+prefix_length d r prefixes.Not w = omega arith
+prefix_length d r operator w = omega (arith, cut_length d w)
+
+pub rotate_length : (d r : ℕ) (w : Width) (amount : ℕ) → length (rotate_code d r w amount) ≤ 7
+rotate_length d r w amount =
+    let around : length (around_code d (narrowed_in d r w) w (amount % bits w)) ≤ 5 =
+    one_of (amount % bits w == 0) _ _ 5 (omega (arith, move_length d (narrowed_in d r w)))
+    (omega (arith, cut_length d w)) in
+    simp length-append (omega (arith, narrow_length d r w, around))
+
+scale_length : (d r : ℕ) (kind : Kind) → length (scale_code d r kind) ≤ 2
+scale_length d r Boolean = omega arith
+scale_length d r kind = omega arith
+
+pub address_length : (d r : ℕ) (kind : Kind) (o : ℕ) → length (address_code d r kind o) ≤ 4
+address_length d r kind o =
+    let raise : length (raise_code d o) ≤ 2 = one_of (nat_lt o 2048) _ _ 2 (omega arith) (omega arith) in
+    simp length-append (omega (arith, scale_length d r kind, raise))
+
+-- at most 16 instructions a node, three fewer where none keep the value in its place
+module _ (declared : List FlatVariable) (a : Allocation) (free : ℕ) where
+  abbrev own : ℕ → ℕ
+  own place = working_register a.count place 29
+
+  placed_length : (place : ℕ) (e : TermTree) (is : List Instr) (n : ℕ) → length is + 3 ≤ n
+      → length (placed_code declared a free place e is) ≤ n
+  placed_length place e is n few =
+      one_of (is_at_home a e) _ _ n (omega arith)
+      (simp length-append (omega (arith, few, keep_length (temporary a.count free place))))
+
+  -- the code of an operator of one operand and of two, of a conversion, of a choice, of one between a value and 0, and
+  -- of an element at an index in a register
+
+  abbrev pub one_code : ℕ → ℕ → TermTree → Width → NumberRow → List Instr
+  one_code d place e width row =
+      placed_code declared a free place e (into_code declared a free (own place) place e)
+      ++ fetch_code (operand a free place e) 29
+      ++ number_code d (register_of (operand a free place e) 29) width row
+
+  abbrev pub both_code : ℕ → ℕ → TermTree → TermTree → BinaryOperator → Width → List Instr
+  both_code d place one other operator width =
+      placed_code declared a free place one (into_code declared a free (own place) place one)
+      ++ placed_code declared a free (place + 1) other (into_code declared a free (own (place + 1)) (place + 1) other)
+      ++ fetch_code (operand a free place one) 29 ++ fetch_code (operand a free (place + 1) other) 30
+      ++ operator_code d (working_register a.count (place + 1) 30) (register_of (operand a free place one) 29)
+      (register_of (operand a free (place + 1) other) 30) (emitted_operator a operator) width
+
+  abbrev pub converted_code : ℕ → ℕ → Kind → TermTree → List Instr
+  converted_code d place kind e =
+      placed_code declared a free place e (into_code declared a free (own place) place e)
+      ++ fetch_code (operand a free place e) 29
+      ++ convert_code d (register_of (operand a free place e) 29) (width_of kind)
+
+  abbrev pub chosen_code : ℕ → ℕ → TermTree → TermTree → TermTree → List Instr
+  chosen_code d place condition accepted otherwise =
+      placed_code declared a free place condition (into_code declared a free (own place) place condition)
+      ++ placed_code declared a free (place + 1) accepted
+      (into_code declared a free (own (place + 1)) (place + 1) accepted)
+      ++ placed_code declared a free (place + 2) otherwise
+      (into_code declared a free (own (place + 2)) (place + 2) otherwise)
+      ++ fetch_code (operand a free place condition) 29 ++ fetch_code (operand a free (place + 1) accepted) 30
+      ++ fetch_code (operand a free (place + 2) otherwise) 31
+      ++ choice_code d (own place) (working_register a.count (place + 1) 30)
+      (register_of (operand a free place condition) 29) (register_of (operand a free (place + 1) accepted) 30)
+      (register_of (operand a free (place + 2) otherwise) 31)
+
+  abbrev pub masked_code : ℕ → ℕ → TermTree → TermTree → List Instr
+  masked_code d place condition accepted =
+      placed_code declared a free place condition (into_code declared a free (own place) place condition)
+      ++ placed_code declared a free (place + 1) accepted
+      (into_code declared a free (own (place + 1)) (place + 1) accepted)
+      ++ fetch_code (operand a free place condition) 29 ++ fetch_code (operand a free (place + 1) accepted) 30
+      ++ choice_or_zero_code d (own place) (register_of (operand a free place condition) 29)
+      (register_of (operand a free (place + 1) accepted) 30)
+
+  abbrev pub picked_code : ℕ → ℕ → ℕ → TermTree → List Instr
+  picked_code d place x index =
+      placed_code declared a free place index (into_code declared a free (own place) place index)
+      ++ fetch_code (operand a free place index) 29
+      ++ element_code d (register_of (operand a free place index) 29) (kind_at declared x)
+      (variable_offset declared x)
+
+  pub into_length : (d place : ℕ) (e : TermTree)
+      → length (into_code declared a free d place e) + 3 ≤ 16 * term_nodes e
+  into_length d place (variable x) = omega (arith, copy_length d (variable_location declared a x))
+  into_length d place (prefix operator width e) =
+      omega (
+        arith,
+        length-append {A = Instr},
+        placed_length place e _ _ (into_length (own place) place e),
+        fetch_length,
+        prefix_length,
+      )
+  into_length d place (binary source operator width one other) =
+      let n = 16 * (1 + term_nodes one + term_nodes other) - 3 in
+      let left = placed_length place one _ _ (into_length (own place) place one) in
+      let right = placed_length place other _ _ (into_length (own place) place other) in
+      let next = placed_length (place + 1) other _ _ (into_length (own (place + 1)) (place + 1) other) in
+      let few : length (code_by (right_row a operator other) (one_code d place one width)
+      (code_by (left_row a operator one) (one_code d place other width)
+      (both_code d place one other operator width))) ≤ n =
+      code_length (right_row a operator other) (one_code d place one width) _ n
+      (λ row. omega (
+        arith,
+        length-append {A = Instr},
+        left,
+        fetch_length,
+        number_length d (register_of (operand a free place one) 29) width row,
+      ))
+      (code_length (left_row a operator one) (one_code d place other width)
+      (both_code d place one other operator width) n
+      (λ row. omega (
+        arith,
+        length-append {A = Instr},
+        right,
+        fetch_length,
+        number_length d (register_of (operand a free place other) 29) width row,
+      ))
+      (omega (arith, length-append {A = Instr}, left, next, fetch_length, operator_length))) in
+      omega (arith, few)
+  into_length d place (rotate width e amount) =
+      omega (
+        arith,
+        length-append {A = Instr},
+        placed_length place e _ _ (into_length (own place) place e),
+        fetch_length,
+        rotate_length,
+      )
+  into_length d place (convert kind e) =
+      let n = 16 * (1 + term_nodes e) - 3 in
+      let placed = placed_length place e _ _ (into_length (own place) place e) in
+      let few : length (cond (keeps_words a kind) (into_code declared a free d place e)
+      (converted_code d place kind e)) ≤ n =
+      one_of (keeps_words a kind) _ _ n (omega (arith, into_length d place e))
+      (omega (arith, length-append {A = Instr}, placed, fetch_length, convert_length)) in
+      omega (arith, few)
+  into_length d place (select condition accepted otherwise) =
+      let n = 16 * (1 + term_nodes condition + term_nodes accepted + term_nodes otherwise) - 3 in
+      let first = placed_length place condition _ _ (into_length (own place) place condition) in
+      let second = placed_length (place + 1) accepted _ _ (into_length (own (place + 1)) (place + 1) accepted) in
+      let third = placed_length (place + 2) otherwise _ _ (into_length (own (place + 2)) (place + 2) otherwise) in
+      let few : length (cond (chooses_zero a otherwise) (masked_code d place condition accepted)
+      (chosen_code d place condition accepted otherwise)) ≤ n =
+      one_of (chooses_zero a otherwise) _ _ n
+      (omega (arith, length-append {A = Instr}, first, second, fetch_length))
+      (omega (arith, length-append {A = Instr}, first, second, third, fetch_length)) in
+      omega (arith, few)
+  into_length d place (element source x size index) =
+      let n = 16 * (1 + term_nodes index) - 3 in
+      let placed = placed_length place index _ _ (into_length (own place) place index) in
+      let few : length (code_by (near_element declared a x index) (near_code d (kind_at declared x))
+      (picked_code d place x index)) ≤ n =
+      code_length (near_element declared a x index) (near_code d (kind_at declared x)) (picked_code d place x index) n
+      (λ o. omega arith)
+      (omega (arith, length-append {A = Instr}, placed, fetch_length, address_length)) in
+      omega (arith, few)
+  into_length d place e = omega (arith, constant_length)
+
+  pub expr_length : (place : ℕ) (e : TermTree) → length (expr_code declared a free place e) ≤ 16 * term_nodes e
+  expr_length place e = placed_length place e _ _ (into_length (own place) place e)

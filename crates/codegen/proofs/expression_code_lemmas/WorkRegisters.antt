@@ -1,0 +1,201 @@
+-- The registers that operators work on: those of temporaries, the homes of variables, and the spare ones; and which
+-- of them the code for a place may write.
+use Rattle.std.proofs.Common.{◌≡◌, ◌≢◌, ◌⊎◌, inl, inr, ℕ, ◌+◌, ◌<◌, ◌≤◌, ◌==◌, ◌&&◌, ◌||◌, not, cond, nat_lt, nat_le}
+use Rattle.std.proofs.Common.{Bool, true, false, List, Option, None, Some, if◌then◌else◌, refl, sym, ap, ◌∙◌, arith}
+use Rattle.std.proofs.lemmas.Option.{none-some}
+use Rattle.codegen.proofs.expression_code_lemmas.Below.{Allocation, at_home as at_home_of, convert, FlatVariable, home_of_term}
+use Rattle.codegen.proofs.expression_code_lemmas.Below.{InRegister, InSlot, keeps_words, Kind}
+use Rattle.codegen.proofs.expression_code_lemmas.Below.{IsAllocation, Location, nat_tests, operand, register_of, slot_of, temporary}
+use Rattle.codegen.proofs.expression_code_lemmas.Below.{TermTree, true≢false, variable, working_register}
+
+-- a register that code may work on
+pub record IsFree (r : ℕ) : Type 0 where
+  pub small : r < 32
+  pub low : 4 < r
+  pub nonzero : r ≢ 0
+
+pub free_from : (r : ℕ) → 4 < r → r < 32 → IsFree r
+free_from r low high = record { small = high; low = omega (arith, low); nonzero = λ e. omega (arith, low, e) }
+
+-- two of them
+pub record ArePair (l r : ℕ) : Type 0 where
+  pub one : IsFree l
+  pub other : IsFree r
+  pub apart : l ≢ r
+
+-- Registers that are written. So many temporaries have one.
+
+-- by the code for a place and higher ones: no temporary of a lower place, and no home
+abbrev pub works_in : ℕ → ℕ → ℕ → Bool
+works_in count place q = not (nat_lt q 28 && (nat_lt q (5 + place) || nat_le (5 + count) q))
+
+-- and by such code whose value comes into a register
+abbrev pub works_at : ℕ → ℕ → ℕ → ℕ → Bool
+works_at count place d q = (q == d) || works_in count place q
+
+pub low_in : (count place q : ℕ) → q < 5 → works_in count place q ≡ false
+low_in count place q low = grind (arith, nat_tests)
+
+pub low_at : (count place d q : ℕ) → 4 < d → q < 5 → works_at count place d q ≡ false
+low_at count place d q free low = grind (arith, nat_tests)
+
+pub home_stays : (count place q : ℕ) → 5 + count ≤ q → q < 28 → works_in count place q ≡ false
+home_stays count place q low high = grind (arith, nat_tests)
+
+pub lower_stays : (count place q : ℕ) → q < place → q < count → count ≤ 16 → works_in count place (5 + q) ≡ false
+lower_stays count place q less small few = grind (arith, nat_tests)
+
+-- so a higher place writes no more
+pub higher_stays : (count less place q : ℕ) → less ≤ place → works_in count less q ≡ false
+    → works_in count place q ≡ false
+higher_stays count less place q few h = grind (arith, nat_tests)
+
+pub beside_stays : (count place d q : ℕ) → works_at count place d q ≡ false → works_in count place q ≡ false
+beside_stays count place d q h = grind (arith, nat_tests)
+
+-- where the value comes into a register, other homes stay
+pub home_beside : (count place d q : ℕ) → 5 + count ≤ q → q < 28 → q ≢ d → works_at count place d q ≡ false
+home_beside count place d q low high other = grind (arith, nat_tests, other)
+
+-- where the value comes into the register of a place
+pub own_stays : (count place q : ℕ) → count ≤ 16 → works_in count place q ≡ false
+    → works_at count place (working_register count place 29) q ≡ false
+own_stays count place q few h = grind (arith, nat_tests)
+
+pub target_works : (count place d : ℕ) → works_at count place d d ≡ true
+target_works count place d = grind (arith, nat_tests)
+
+pub own_works : (count place d spare : ℕ) → 28 < spare
+    → works_at count place d (working_register count place spare) ≡ true
+own_works count place d spare low = grind (arith, nat_tests)
+
+pub next_works : (count place d spare : ℕ) → 28 < spare
+    → works_at count place d (working_register count (place + 1) spare) ≡ true
+next_works count place d spare low = grind (arith, nat_tests)
+
+pub spare_works : (count place d q : ℕ) → 27 < q → works_at count place d q ≡ true
+spare_works count place d q low = grind (arith, nat_tests)
+
+pub stays_spare : (count place q : ℕ) → works_in count place q ≡ false → q < 28
+stays_spare count place q h = grind (arith, nat_tests)
+
+pub not_written : (works : ℕ → Bool) (q r : ℕ) → works q ≡ false → works r ≡ true → q ≢ r
+not_written works q r h k e = true≢false (sym k ∙ (ap works (sym e) ∙ h))
+
+-- Working registers.
+
+pub working_free : (count place spare : ℕ) → count ≤ 16 → 28 < spare → spare < 32
+    → IsFree (working_register count place spare)
+working_free count place spare few low high =
+    free_from (working_register count place spare) (grind (arith, nat_tests)) (grind (arith, nat_tests))
+
+pub working_apart : (count p q s t : ℕ) → count ≤ 16 → p < q → 28 < s → s < t
+    → working_register count p s ≢ working_register count q t
+working_apart count p q s t few less low more e = absurd (grind (arith, nat_tests, e))
+
+pub working_not : (count place spare other : ℕ) → count ≤ 16 → 27 < other → spare ≢ other
+    → working_register count place spare ≢ other
+working_not count place spare other few low apart e = absurd (grind (arith, nat_tests, e, apart))
+
+-- Operands: in a home, or in the register of a place, or in a spare one.
+
+abbrev pub IsHome : ℕ → ℕ → Type 0
+IsHome count r = (5 + count ≤ r) × (r < 28)
+
+abbrev pub IsOperand : ℕ → ℕ → ℕ → ℕ → Type 0
+IsOperand count place spare r = (r ≡ working_register count place spare) ⊎ IsHome count r
+
+pub operand_free : (count place spare r : ℕ) → count ≤ 16 → 28 < spare → spare < 32
+    → IsOperand count place spare r → IsFree r
+operand_free count place spare r few low high (inl e) =
+    free_from r (grind (arith, nat_tests, e)) (grind (arith, nat_tests, e))
+operand_free count place spare r few low high (inr home) = free_from r (omega (arith, home.0)) (omega (arith, home.1))
+
+-- an operand is not in a register that another place works in
+pub operand_apart : (count p q s t r : ℕ) → count ≤ 16 → p ≢ q → 28 < s → 28 < t → s ≢ t → IsOperand count p s r
+    → r ≢ working_register count q t
+operand_apart count p q s t r few other low high apart (inl e) f =
+    absurd (grind (arith, nat_tests, e, f, other, apart))
+operand_apart count p q s t r few other low high apart (inr home) f =
+    absurd (grind (arith, nat_tests, home.0, home.1, f))
+
+-- or in another spare one
+pub operand_not : (count place spare other r : ℕ) → count ≤ 16 → 27 < other → spare ≢ other
+    → IsOperand count place spare r → r ≢ other
+operand_not count place spare other r few low apart (inl e) f = absurd (grind (arith, nat_tests, e, f, apart))
+operand_not count place spare other r few low apart (inr home) f = absurd (omega (arith, home.1, f, low))
+
+-- The register that a value may come into: that of a place, or a home.
+pub record IsTarget (count place d : ℕ) : Type 0 where
+  pub free : IsFree d
+  pub no_address : d ≢ 28
+  pub no_spare : d ≢ 30
+  pub no_next : d ≢ working_register count (place + 1) 30
+
+pub own_target : (count place : ℕ) → count ≤ 16 → IsTarget count place (working_register count place 29)
+own_target count place few = record {
+  free = working_free count place 29 few (omega arith) (omega arith);
+  no_address = working_not count place 29 28 few (omega arith) (λ e. omega (arith, e));
+  no_spare = working_not count place 29 30 few (omega arith) (λ e. omega (arith, e));
+  no_next = working_apart count place (place + 1) 29 30 few (omega arith) (omega arith) (omega arith);
+}
+
+-- the register of a place that has one
+pub place_target : (count place : ℕ) → count ≤ 16 → place < count → IsTarget count place (5 + place)
+place_target count place few less = record {
+  free = free_from (5 + place) (omega arith) (omega (arith, few, less));
+  no_address = λ e. omega (arith, few, less, e);
+  no_spare = λ e. omega (arith, few, less, e);
+  no_next = λ e. absurd (grind (arith, nat_tests, few, less, e));
+}
+
+pub home_target : (count place d : ℕ) → count ≤ 16 → IsHome count d → IsTarget count place d
+home_target count place d few home = record {
+  free = free_from d (omega (arith, home.0)) (omega (arith, home.1));
+  no_address = λ e. omega (arith, home.1, e);
+  no_spare = λ e. omega (arith, home.1, e);
+  no_next = λ e. absurd (grind (arith, nat_tests, home.0, home.1, e));
+}
+
+-- a conversion that has a home keeps words, and its operand has the same
+pub converted_home : (a : Allocation) (kind : Kind) (e : TermTree) (home : ℕ)
+    → home_of_term a (convert kind e) ≡ Some home
+    → (keeps_words a kind ≡ true) × (home_of_term a e ≡ Some home)
+converted_home a kind e home at = by_test (keeps_words a kind) refl at
+  where
+    by_test : (b : Bool) → keeps_words a kind ≡ b → (if b then home_of_term a e else None) ≡ Some home
+        → (keeps_words a kind ≡ true) × (home_of_term a e ≡ Some home)
+    by_test true keeps at' = (keeps, at')
+    by_test false keeps at' = absurd (none-some home at')
+
+-- the home of an expression is that of a variable
+pub home_allowed : (declared : List FlatVariable) (a : Allocation) → IsAllocation declared a → (e : TermTree) (home : ℕ)
+    → home_of_term a e ≡ Some home → IsHome a.count home
+home_allowed declared a allocated (variable x) home at = allocated.allowed x home at
+home_allowed declared a allocated (convert kind e) home at =
+    home_allowed declared a allocated e home (converted_home a kind e home at).1
+home_allowed declared a allocated e home at = absurd (none-some home at)
+
+-- Where an expression's value is.
+module _ (declared : List FlatVariable) (a : Allocation) (allocated : IsAllocation declared a) (free place : ℕ) where
+  -- what is so of the temporary of a place and of each home is so of where any expression is
+  pub at_operand : (P : Location → Type 0) → P (temporary a.count free place)
+      → ((home : ℕ) → IsHome a.count home → P (InRegister home)) → (e : TermTree) → P (operand a free place e)
+  at_operand P there at_home e =
+      by_home (home_of_term a e) (λ home is. at_home home (home_allowed declared a allocated e home is))
+    where
+      by_home : (h : Option ℕ) → ((home : ℕ) → h ≡ Some home → P (InRegister home))
+          → P (at_home_of h (temporary a.count free place))
+      by_home None at = there
+      by_home (Some home) at = at home refl
+
+  temporary_register : (spare : ℕ) (b : Bool)
+      → register_of (cond b (InRegister (5 + place)) (InSlot (slot_of a.count free place))) spare
+      ≡ cond b (5 + place) spare
+  temporary_register spare true = refl
+  temporary_register spare false = refl
+
+  pub is_operand : (spare : ℕ) (e : TermTree)
+      → IsOperand a.count place spare (register_of (operand a free place e) spare)
+  is_operand spare e = at_operand (λ location. IsOperand a.count place spare (register_of location spare))
+      (inl (temporary_register spare (nat_lt place a.count))) (λ home is. inr is) e

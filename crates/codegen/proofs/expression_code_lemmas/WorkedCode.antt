@@ -1,0 +1,180 @@
+-- Code that is worked out by hand: of expressions over two words, a and b, with homes x13 and x14, with one, and with
+-- none.
+use Rattle.std.proofs.Common.{◌≡◌, ℕ, List, [], ◌∷◌, true, false, None, Some, refl}
+use Rattle.std.specs.Int.Count.{count_leading_zeros}
+use Rattle.codegen.proofs.expression_code_lemmas.Below.{Allocation, binary, convert, element, expr_code, FlatVariable, Instr}
+use Rattle.codegen.proofs.expression_code_lemmas.Below.{into_code, Place, rotate, select, TermTree, variable, word_as, WordType}
+use Rattle.codegen.specs.expression_code.Allocation.{plain}
+use Rattle.inline.specs.Flat.{array_as, number}
+use Rattle.language.specs.declared.signature.Kind.TheVariants.{Uint8, Uint32}
+use Rattle.language.specs.declared.signature.Label.TheVariants.{Public}
+use Rattle.language.specs.declared.tree.BinaryOperator.TheVariants.{Add, BitAnd, Both, LessOrEqual, Multiply, ShiftLeft}
+use Rattle.language.specs.declared.tree.BinaryOperator.TheVariants.{Subtract, Unequal}
+use Rattle.rv_code.specs.declared.instructions.Instr.TheVariants as instr
+use Rattle.rv_code.specs.declared.operations.ImmediateOperation.TheVariants.{Addi, Andi, Sltiu}
+use Rattle.rv_code.specs.declared.operations.LoadOperation.TheVariants.{Lw}
+use Rattle.rv_code.specs.declared.operations.MultiplyOperation.TheVariants.{Mul}
+use Rattle.rv_code.specs.declared.operations.RegisterOperation.TheVariants as register
+use Rattle.rv_code.specs.declared.operations.ShiftOperation.TheVariants.{Slli, Srli}
+use Rattle.rv_code.specs.declared.operations.UpperOperation.TheVariants.{Lui}
+use Rattle.word.specs.declared.width.Width.TheVariants.{W32}
+
+abbrev uint32 : WordType
+uint32 = record { kind = Uint32; label = Public }
+
+-- a, b, and an array of four words
+abbrev declared : List FlatVariable
+declared = word_as uint32 false ∷ word_as uint32 false ∷ array_as uint32 false 4 ∷ []
+
+abbrev both_home : Allocation
+both_home = record { count = 8; homes = Some 13 ∷ Some 14 ∷ []; immediates = false; unread = [] }
+
+abbrev one_home : Allocation
+one_home = record { count = 8; homes = None ∷ Some 14 ∷ []; immediates = false; unread = [] }
+
+-- with homes, and with numbers in instructions
+abbrev with_numbers : Allocation
+with_numbers = record { count = 8; homes = Some 13 ∷ Some 14 ∷ []; immediates = true; unread = [] }
+
+abbrev a : TermTree
+a = variable 0
+
+abbrev b : TermTree
+b = variable 1
+
+abbrev code : Allocation → TermTree → List Instr
+code allocation e = expr_code declared allocation 100 0 e
+
+module _ (place : Place) where
+  abbrev sum : TermTree
+  sum = binary place Add W32 a b
+
+  sum_at_home : code both_home sum ≡ instr.Register register.Add 5 13 14 ∷ []
+  sum_at_home = refl
+
+  sum_of_one : code one_home sum ≡ instr.Load Lw 5 2 0 ∷ instr.Register register.Add 5 5 14 ∷ []
+  sum_of_one = refl
+
+  sum_plain : code plain sum ≡ instr.Load Lw 5 2 0 ∷ instr.Load Lw 6 2 4 ∷ instr.Register register.Add 5 5 6 ∷ []
+  sum_plain = refl
+
+  -- into the home of one of both
+  sum_into_home : into_code declared both_home 100 13 0 sum ≡ instr.Register register.Add 13 13 14 ∷ []
+  sum_into_home = refl
+
+  -- a variable at home is no code, and into another register it is a move
+  variable_at_home : code both_home a ≡ []
+  variable_at_home = refl
+
+  variable_moved : into_code declared both_home 100 5 0 a ≡ instr.Immediate Addi 5 13 0 ∷ []
+  variable_moved = refl
+
+  -- what is overwritten are temporaries
+
+  conjunction : code both_home (binary place Both W32 a b) ≡ instr.Register register.Sltu 6 0 14
+      ∷ instr.Register register.Sltu 5 0 13 ∷ instr.Register register.And 5 5 6 ∷ []
+  conjunction = refl
+
+  choice : code both_home (select a a b) ≡ instr.Register register.Sub 5 0 13 ∷ instr.Register register.Xor 6 13 14
+      ∷ instr.Register register.And 6 6 5 ∷ instr.Register register.Xor 5 14 6 ∷ []
+  choice = refl
+
+  narrowed : code both_home (convert Uint8 a) ≡ instr.Immediate Andi 5 13 255 ∷ []
+  narrowed = refl
+
+  widened : code both_home (convert Uint32 a) ≡ instr.Immediate Addi 5 13 0 ∷ []
+  widened = refl
+
+  -- where numbers go into instructions, no code is needed for a word that is kept
+  kept_at_home : code with_numbers (convert Uint32 (convert Uint32 a)) ≡ []
+  kept_at_home = refl
+
+  kept_of_sum : code with_numbers (convert Uint32 sum) ≡ instr.Register register.Add 5 13 14 ∷ []
+  kept_of_sum = refl
+
+  kept_in_sum : code with_numbers (binary place Add W32 (convert Uint32 a) (convert Uint32 b))
+      ≡ instr.Register register.Add 5 13 14 ∷ []
+  kept_in_sum = refl
+
+  cut_at_home : code with_numbers (convert Uint8 a) ≡ instr.Immediate Andi 5 13 255 ∷ []
+  cut_at_home = refl
+
+  -- and a choice between a value and 0 needs the mask alone
+  choice_or_zero : code with_numbers (select a b (number 0 Uint32)) ≡ instr.Register register.Sub 5 0 13
+      ∷ instr.Register register.And 5 14 5 ∷ []
+  choice_or_zero = refl
+
+  choice_of_zero : code both_home (select a b (number 0 Uint32)) ≡ instr.Immediate Addi 7 0 0
+      ∷ instr.Register register.Sub 5 0 13 ∷ instr.Register register.Xor 6 14 7 ∷ instr.Register register.And 6 6 5
+      ∷ instr.Register register.Xor 5 7 6 ∷ []
+  choice_of_zero = refl
+
+  rotated : code both_home (rotate W32 a 7) ≡ instr.Shift Slli 30 13 7 ∷ instr.Shift Srli 5 13 25
+      ∷ instr.Register register.Add 5 30 5 ∷ []
+  rotated = refl
+
+  picked : code both_home (element place 2 4 b) ≡ instr.Shift Slli 5 14 2 ∷ instr.Register register.Add 5 5 2
+      ∷ instr.Load Lw 5 5 8 ∷ []
+  picked = refl
+
+  -- numbers in instructions
+
+  abbrev n : ℕ → TermTree
+  n value = number value Uint32
+
+  increment : code with_numbers (binary place Add W32 a (n 1)) ≡ instr.Immediate Addi 5 13 1 ∷ []
+  increment = refl
+
+  increment_turned : code with_numbers (binary place Add W32 (n 1) a) ≡ instr.Immediate Addi 5 13 1 ∷ []
+  increment_turned = refl
+
+  decrement : code with_numbers (binary place Subtract W32 a (n 1)) ≡ instr.Immediate Addi 5 13 4095 ∷ []
+  decrement = refl
+
+  -- 2048 is too large, but can be taken away
+  too_large : code with_numbers (binary place Add W32 a (n 2048)) ≡ instr.Upper Lui 6 1
+      ∷ instr.Immediate Addi 6 6 2048 ∷ instr.Register register.Add 5 13 6 ∷ []
+  too_large = refl
+
+  least : code with_numbers (binary place Subtract W32 a (n 2048)) ≡ instr.Immediate Addi 5 13 2048 ∷ []
+  least = refl
+
+  -- an amount at the width is none, as it is in a register
+  shifted : code with_numbers (binary place ShiftLeft W32 a (n 32)) ≡ instr.Shift Slli 5 13 0 ∷ []
+  shifted = refl
+
+  zero_tested : code with_numbers (binary place Unequal W32 a (n 0)) ≡ instr.Register register.Sltu 5 0 13 ∷ []
+  zero_tested = refl
+
+  at_least : code with_numbers (binary place LessOrEqual W32 (n 7) a) ≡ instr.Immediate Sltiu 5 13 7
+      ∷ instr.Immediate Sltiu 5 5 1 ∷ []
+  at_least = refl
+
+  -- the low 13 bits, and the low 31
+  low_bits : code with_numbers (binary place BitAnd W32 a (n 8191)) ≡ instr.Shift Slli 5 13 19
+      ∷ instr.Shift Srli 5 5 19 ∷ []
+  unfolding count_leading_zeros
+  low_bits = refl
+
+  low_bits_turned : code with_numbers (binary place BitAnd W32 (n 2147483647) a) ≡ instr.Shift Slli 5 13 1
+      ∷ instr.Shift Srli 5 5 1 ∷ []
+  unfolding count_leading_zeros
+  low_bits_turned = refl
+
+  -- other bits than the low ones are in a register
+  high_bits : code with_numbers (binary place BitAnd W32 a (n 8190)) ≡ instr.Upper Lui 6 2
+      ∷ instr.Immediate Addi 6 6 4094 ∷ instr.Register register.And 5 13 6 ∷ []
+  unfolding count_leading_zeros
+  high_bits = refl
+
+  -- bools are 0 or 1, so both are true where their AND is 1
+  bits_taken : code with_numbers (binary place Both W32 a b) ≡ instr.Register register.And 5 13 14 ∷ []
+  bits_taken = refl
+
+  -- a product shows its factors, which stay in registers
+  product : code with_numbers (binary place Multiply W32 a (n 5)) ≡ instr.Immediate Addi 6 0 5
+      ∷ instr.Multiply Mul 5 13 6 ∷ []
+  product = refl
+
+  picked_at : code with_numbers (element place 2 4 (n 3)) ≡ instr.Load Lw 5 2 20 ∷ []
+  picked_at = refl

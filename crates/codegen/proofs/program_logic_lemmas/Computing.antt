@@ -1,0 +1,140 @@
+-- Code that only computes: straight-line code without accesses. What it makes of the registers is a function of them.
+use Rattle.std.proofs.Common.{◌≡◌, ℕ, ◌*◌, ◌^◌, Bool, true, false, ◌&&◌, cond, List, [], ◌∷◌, ◌++◌, Option, None}
+use Rattle.std.proofs.Common.{refl, sym, ap, ap₂, ◌∙◌, subst}
+use Rattle.std.proofs.lemmas.Bool.{false≢true}
+use Rattle.codegen.proofs.program_logic_lemmas.StraightRuns.{both_left, both_right}
+use Rattle.codegen.proofs.program_logic_lemmas.Symbols.{register_kept}
+use Rattle.codegen.specs.program_logic.StraightCode.{Contents, is_straight, are_straight, left_by, after, after_all, fit_and}
+use Rattle.codegen.specs.program_logic.StraightCode.{AreFit, met_and, AreMet}
+use Rattle.rv_code.specs.declared.instructions.Instr.{Instr}
+use Rattle.rv_code.specs.declared.instructions.Instr.TheVariants.{Upper, Immediate, Shift, Register, Load, Store}
+use Rattle.rv_code.specs.declared.operations.UpperOperation.TheVariants.{Lui}
+use Rattle.rv_machine.specs.Effects.{sign_extended, immediate_value, shift_value, register_value}
+use Rattle.rv_machine.specs.Registers.{register, with_register}
+use Rattle.rv_machine.specs.declared.observation.Event.{Event}
+
+-- the register that an instruction writes, where it only computes
+abbrev pub written_register : Instr → ℕ
+written_register (Upper operation rd immediate) = rd
+written_register (Immediate operation rd rs1 immediate) = rd
+written_register (Shift operation rd rs1 amount) = rd
+written_register (Register operation rd rs1 rs2) = rd
+written_register _ = 0
+
+-- what it writes there
+abbrev pub computed_value : Instr → (ℕ → ℕ) → ℕ
+computed_value (Upper operation rd immediate) regs = immediate * 2 ^ 12
+computed_value (Immediate operation rd rs1 immediate) regs =
+    immediate_value operation (register regs rs1) (sign_extended 12 immediate)
+computed_value (Shift operation rd rs1 amount) regs = shift_value operation (register regs rs1) amount
+computed_value (Register operation rd rs1 rs2) regs = register_value operation (register regs rs1) (register regs rs2)
+computed_value _ regs = 0
+
+-- the registers after instructions that only compute
+abbrev pub registers_after : List Instr → (ℕ → ℕ) → ℕ → ℕ
+registers_after [] regs = regs
+registers_after (i ∷ is) regs = registers_after is (with_register regs (written_register i) (computed_value i regs))
+
+abbrev pub is_access : Instr → Bool
+is_access (Load operation rd rs1 offset) = true
+is_access (Store operation rs2 rs1 offset) = true
+is_access _ = false
+
+-- an instruction that only computes into registers that work, with its fields in range
+abbrev pub computes : (ℕ → Bool) → Instr → Bool
+computes works i = cond (is_access i) false (is_straight works i)
+
+abbrev pub only_computes : (ℕ → Bool) → List Instr → Bool
+only_computes works [] = true
+only_computes works (i ∷ is) = computes works i && only_computes works is
+
+pub computing_straight : (works : ℕ → Bool) (i : Instr) → computes works i ≡ true → is_straight works i ≡ true
+computing_straight works (Load operation rd rs1 offset) h = absurd (false≢true h)
+computing_straight works (Store operation rs2 rs1 offset) h = absurd (false≢true h)
+computing_straight works i h = h
+
+pub all_straight : (works : ℕ → Bool) (is : List Instr) → only_computes works is ≡ true → are_straight works is ≡ true
+all_straight works [] h = refl
+all_straight works (i ∷ is) h =
+    ap₂ (λ a b. a && b) (computing_straight works i (both_left (computes works i) (only_computes works is) h))
+    (all_straight works is (both_right (computes works i) (only_computes works is) h))
+
+-- Instructions that compute have no access, and their results are those that are written.
+
+module _ (works : ℕ → Bool) where
+  unread : (i : Instr) → computes works i ≡ true → left_by i [] ≡ []
+  unread (Load operation rd rs1 offset) h = refl
+  unread (Store operation rs2 rs1 offset) h = refl
+  unread i h = refl
+
+  after_one : (i : Instr) (c : Contents) → computes works i ≡ true
+      → after i 0 c ≡ record {
+        regs = with_register c.regs (written_register i) (computed_value i c.regs);
+        bytes = c.bytes;
+      }
+  after_one (Upper Lui rd immediate) c h = refl
+  after_one (Immediate operation rd rs1 immediate) c h = refl
+  after_one (Shift operation rd rs1 amount) c h = refl
+  after_one (Register operation rd rs1 rs2) c h = refl
+  after_one i c h = absurd (false≢true h)
+
+  fit_one : (Allows : Option Event → Type 0) (i : Instr) (F : Type 0) → computes works i ≡ true → F
+      → fit_and Allows i 0 F
+  fit_one Allows (Load operation rd rs1 offset) F h rest = absurd (false≢true h)
+  fit_one Allows (Store operation rs2 rs1 offset) F h rest = absurd (false≢true h)
+  fit_one Allows i F h rest = rest
+
+  met_one : (i : Instr) (c : Contents) (M : Type 0) → computes works i ≡ true → M → met_and i 0 c M
+  met_one (Load operation rd rs1 offset) c M h rest = absurd (false≢true h)
+  met_one (Store operation rs2 rs1 offset) c M h rest = absurd (false≢true h)
+  met_one i c M h rest = rest
+
+  pub registers_of : (is : List Instr) (c : Contents) → only_computes works is ≡ true
+      → after_all is [] c ≡ record { regs = registers_after is c.regs; bytes = c.bytes }
+  registers_of [] c h = refl
+  registers_of (i ∷ is) c h =
+      let ok = both_left (computes works i) (only_computes works is) h in
+      ap₂ (λ (places : List ℕ) (d : Contents). after_all is places d) (unread i ok) (after_one i c ok)
+      ∙ registers_of is (record {
+        regs = with_register c.regs (written_register i) (computed_value i c.regs);
+        bytes = c.bytes;
+      }) (both_right (computes works i) (only_computes works is) h)
+
+  pub no_access_fit : (Allows : Option Event → Type 0) (is : List Instr) → only_computes works is ≡ true
+      → AreFit Allows is []
+  no_access_fit Allows [] h = tt
+  no_access_fit Allows (i ∷ is) h =
+      let ok = both_left (computes works i) (only_computes works is) h in
+      fit_one Allows i (AreFit Allows is (left_by i [])) ok
+      (subst (λ (places : List ℕ). AreFit Allows is places) (sym (unread i ok))
+      (no_access_fit Allows is (both_right (computes works i) (only_computes works is) h)))
+
+  pub no_access_met : (is : List Instr) (c : Contents) → only_computes works is ≡ true → AreMet is [] c
+  no_access_met [] c h = tt
+  no_access_met (i ∷ is) c h =
+      let ok = both_left (computes works i) (only_computes works is) h in
+      met_one i c (AreMet is (left_by i []) (after i 0 c)) ok
+      (subst (λ (places : List ℕ). AreMet is places (after i 0 c)) (sym (unread i ok))
+      (no_access_met is (after i 0 c) (both_right (computes works i) (only_computes works is) h)))
+
+-- a register that none of them may write is as it was
+pub register_left : (works : ℕ → Bool) (is : List Instr) (regs : ℕ → ℕ) (q : ℕ) → only_computes works is ≡ true
+    → works q ≡ false → registers_after is regs q ≡ regs q
+register_left works is regs q h other =
+    let c : Contents = record { regs = regs; bytes = λ a. None } in
+    ap (λ (d : Contents). d.regs q) (sym (registers_of works is c h))
+    ∙ register_kept works is [] c q (all_straight works is h) other
+
+-- One list, and then another.
+
+pub plain_append : (works : ℕ → Bool) (xs ys : List Instr) → only_computes works xs ≡ true
+    → only_computes works ys ≡ true → only_computes works (xs ++ ys) ≡ true
+plain_append works [] ys one two = two
+plain_append works (x ∷ xs) ys one two =
+    ap₂ (λ a b. a && b) (both_left (computes works x) (only_computes works xs) one)
+    (plain_append works xs ys (both_right (computes works x) (only_computes works xs) one) two)
+
+pub after_append : (xs ys : List Instr) (regs : ℕ → ℕ)
+    → registers_after (xs ++ ys) regs ≡ registers_after ys (registers_after xs regs)
+after_append [] ys regs = refl
+after_append (x ∷ xs) ys regs = after_append xs ys (registers_after (x ∷ []) regs)

@@ -1,0 +1,239 @@
+-- Jumps: over instructions and back, and of two pieces one.
+use Rattle.std.proofs.Common.{◌≡◌, ◌≢◌, ℕ, ◌+◌, ◌-◌, ◌*◌, ◌%◌, ◌^◌, ◌<◌, ◌≤◌, ◌==◌, Bool, true, false, not, cond}
+use Rattle.std.proofs.Common.{if◌then◌else◌, List, [], ◌∷◌, ◌++◌, length, None, refl, sym, ap, ◌∙◌, arith}
+use Rattle.std.proofs.Common.{length-append, eq-eqb, ne_eqb}
+use Rattle.std.proofs.Math.Path.{fun_ext}
+use Rattle.std.proofs.lemmas.Bool.{eqb-true, eqb-false}
+use Rattle.std.proofs.lemmas.Bool.Decides.{nat_tests}
+use Rattle.codegen.proofs.program_logic_lemmas.Pieces.{turn_ends, then_ends, ends_as, ends_to, along_fit}
+use Rattle.codegen.proofs.program_logic_lemmas.PlacedLaws.{Placed-left, Placed-right, Placed-below, stands}
+use Rattle.codegen.specs.program_logic.Jumps.{skip, over, back, branch_code}
+use Rattle.codegen.specs.program_logic.Pieces.{Setting, Before, After, Steps, always, both, Ends, Straight, Runs, Still}
+use Rattle.codegen.specs.program_logic.Placed.{Placed}
+use Rattle.rv_code.specs.declared.instructions.Instr.{Instr}
+use Rattle.rv_code.specs.declared.instructions.Instr.TheVariants as instr
+use Rattle.rv_code.specs.declared.operations.BranchTest.TheVariants.{Bne}
+use Rattle.codegen.proofs.program_logic_lemmas.Below.{with_link-pc, with_link-regs, with_link-bytes, moved_to-pc, moved_to-regs}
+use Rattle.codegen.proofs.program_logic_lemmas.Below.{moved_to-bytes, jump_leads, branch_leads, branch_passes}
+use Rattle.rv_machine.specs.Effects.{jump_target, branch_target, sign_extended, sum_of}
+use Rattle.rv_machine.specs.Machine.{State, with_link, moved_to, next}
+use Rattle.rv_machine.specs.Registers.{register, with_register}
+use Rattle.rv_machine.specs.declared.observation.Observation.{Observation}
+
+dropped : (regs : ℕ → ℕ) (v : ℕ) → with_register regs 0 v ≡ regs
+dropped regs v = fun_ext (λ r. by_register r (r == 0))
+  where
+    by_register : (r : ℕ) (b : Bool) → cond b (regs r) (cond b v (regs r)) ≡ regs r
+    by_register r true = refl
+    by_register r false = refl
+
+multiple : (t q : ℕ) → t ≡ q + 8 → q % 4 ≡ 0 → t % 4 ≡ 0
+multiple t q to even = omega (arith, to, even)
+
+-- what a jump shows
+abbrev pub shown_at : ℕ → List Observation
+shown_at p = record { pc = p; event = None } ∷ []
+
+-- whether a register other than x0 is 0
+some_in : (regs : ℕ → ℕ) (r : ℕ) → r ≢ 0 → regs r ≢ 0 → not (register regs r == 0) ≡ true
+some_in regs r nonzero some = rw (ne_eqb r 0 nonzero, ne_eqb (regs r) 0 some) refl
+
+none_in : (regs : ℕ → ℕ) (r : ℕ) → r ≢ 0 → regs r ≡ 0 → not (register regs r == 0) ≡ false
+none_in regs r nonzero none' = rw (ne_eqb r 0 nonzero, eq-eqb (regs r) 0 none') refl
+
+forward : (p n : ℕ) → 2 * n + 2 < 2 ^ 19 → p + 4 + 4 * n < 2 ^ 32 → jump_target p (2 * n + 2) ≡ p + 4 + 4 * n
+forward p n near below =
+    let same : sign_extended 21 ((2 * n + 2) * 2) ≡ (2 * n + 2) * 2 = grind (arith, nat_tests) in
+    ap (λ x. sum_of p x) same ∙ (omega (arith, below))
+
+backward : (p n : ℕ) → 0 < n → 2 * n ≤ 2 ^ 19 → 4 * n ≤ p → p < 2 ^ 32 → jump_target p (2 ^ 20 - 2 * n) ≡ p - 4 * n
+backward p n some near low below =
+    let same : sign_extended 21 ((2 ^ 20 - 2 * n) * 2) ≡ (2 ^ 20 - 2 * n) * 2 + (2 ^ 32 - 2 ^ 21) =
+    grind (arith, nat_tests) in
+    ap (λ x. sum_of p x) same ∙ (omega (arith, some, near, low, below))
+
+record Between (z : Setting) (Q : After z) (env : z.Beside) (s u : State) : Type 0 where
+  start : State
+  still : Still s start
+  done : Q env start u
+
+-- what a branch makes of a state
+pub moved_still : (s : State) (target : ℕ) → Still s (moved_to s target)
+moved_still s target = record { regs = moved_to-regs s target; bytes = moved_to-bytes s target }
+
+module _ {z : Setting} where
+  jump_ends : (p halves target : ℕ) (rest : List z.Mark) → Placed z.code p (instr.Jump 0 halves ∷ [])
+      → halves < 2 ^ 20 → jump_target p halves ≡ target → target % 4 ≡ 0
+      → (s : State) → s.pc ≡ p → Ends z 1 target (always (shown_at p)) rest rest (λ t. Still s t) s
+  jump_ends p halves target rest placed small to even s at =
+      let there : jump_target s.pc halves ≡ target = ap (λ q. jump_target q halves) at ∙ to in
+      let t = with_link s 0 (jump_target s.pc halves) in
+      let still : Still s t = record {
+        regs = with_link-regs s 0 (jump_target s.pc halves) ∙ dropped s.regs (next s);
+        bytes = with_link-bytes s 0 (jump_target s.pc halves);
+      } in
+      turn_ends None None t at
+      (jump_leads z.code s 0 halves (stands z.code p _ [] placed (omega arith, small) s at) (ap (λ q. q % 4) there
+      ∙ even)) refl z.silence (z.keeps_still s t still) refl
+      (with_link-pc s 0 (jump_target s.pc halves) ∙ there) still
+
+  -- over so many instructions
+  pub over_ends : (p n : ℕ) (rest : List z.Mark) → Placed z.code p (over n ∷ []) → 2 * n + 2 < 2 ^ 19
+      → p + 4 + 4 * n < 2 ^ 32
+      → (s : State) → s.pc ≡ p → Ends z 1 (p + 4 + 4 * n) (always (shown_at p)) rest rest (λ t. Still s t) s
+  over_ends p n rest placed near below s at =
+      let even = placed.0 in
+      jump_ends p (2 * n + 2) (p + 4 + 4 * n) rest placed (omega (arith, near)) (forward p n near below)
+      (omega (arith, even)) s at
+
+  pub back_ends : (p n q : ℕ) (rest : List z.Mark) → Placed z.code q (back n ∷ []) → 0 < n → 2 * n ≤ 2 ^ 19
+      → q ≡ p + 4 * n
+      → (s : State) → s.pc ≡ q → Ends z 1 p (always (shown_at q)) rest rest (λ t. Still s t) s
+  back_ends p n q rest placed some near is s at =
+      let even = placed.0 in
+      let below = placed.1 in
+      let to : q - 4 * n ≡ p = omega (arith, is) in
+      jump_ends q (2 ^ 20 - 2 * n) p rest placed (omega (arith, some))
+      (backward q n some near (omega (arith, is)) (omega (arith, below)) ∙ to) (omega (arith, even, is)) s at
+
+  module _ (r : ℕ) (small : r < 32) (nonzero : r ≢ 0) where
+    -- the register is not 0, so the next instruction is not run
+    pub skip_ends : (p : ℕ) (rest : List z.Mark) → Placed z.code p (skip r ∷ []) → p + 8 < 2 ^ 32 → (s : State)
+        → s.pc ≡ p → s.regs r ≢ 0
+        → Ends z 1 (p + 8) (always (shown_at p)) rest rest (λ t. Still s t) s
+    skip_ends p rest placed below s at some =
+        let even = placed.0 in
+        let to : branch_target p 4 ≡ p + 8 = omega (arith, below) in
+        let there : branch_target s.pc 4 ≡ p + 8 = ap (λ q. branch_target q 4) at ∙ to in
+        turn_ends None None (moved_to s (branch_target s.pc 4)) at
+        (branch_leads z.code s Bne r 0 4 (stands z.code p _ [] placed (small, omega arith, omega arith) s at)
+        (some_in s.regs r nonzero some) (multiple _ p there even)) refl z.silence
+        (z.keeps_still s _ (moved_still s _)) refl
+        (moved_to-pc s (branch_target s.pc 4) ∙ there) (moved_still s _)
+
+    -- the register is 0
+    pub pass_ends : (p : ℕ) (rest : List z.Mark) → Placed z.code p (skip r ∷ []) → (s : State) → s.pc ≡ p
+        → s.regs r ≡ 0
+        → Ends z 1 (p + 4) (always (shown_at p)) rest rest (λ t. Still s t) s
+    pass_ends p rest placed s at zero' =
+        let below = placed.1 in
+        let to : next s ≡ p + 4 = omega (arith, at, below) in
+        turn_ends None None (moved_to s (next s)) at
+        (branch_passes z.code s Bne r 0 4 (stands z.code p _ [] placed (small, omega arith, omega arith) s at)
+        (none_in s.regs r nonzero zero')) refl z.silence (z.keeps_still s _ (moved_still s _)) refl
+        (moved_to-pc s (next s) ∙ to) (moved_still s _)
+
+    -- Of two pieces one.
+
+    module _ {m n : ℕ} {a b : Steps z} {xs ys : List Instr} {P P1 P2 : Before z} {Q R S : After z}
+        (value : z.Beside → ℕ)
+        (near : 2 * (length xs + length ys) + 8 < 2 ^ 19)
+        (tested : (env : z.Beside) (s : State) → P env s → s.regs r ≡ value env)
+        (accepts : (env : z.Beside) (s t : State) → value env ≢ 0 → P env s → Still s t → P1 env t)
+        (accepted : (env : z.Beside) (s t u v : State) → value env ≢ 0 → P env s → Still s t → Q env t u → Still u v
+        → S env s v)
+        (rejects : (env : z.Beside) (s t : State) → value env ≡ 0 → P env s → Still s t → P2 env t)
+        (rejected : (env : z.Beside) (s t u : State) → value env ≡ 0 → P env s → Still s t → R env t u → S env s u)
+        (one : Runs z m a xs P1 Q) (two : Runs z n b ys P2 R) where
+      module _ (p : ℕ) (placed : Placed z.code p (branch_code r xs ys)) where
+        -- where the second jump stands
+        abbrev middle : ℕ
+        middle = p + 4 + 4 + 4 * length xs
+
+        after_first : Placed z.code (p + 4 + 4) (xs ++ over (length ys) ∷ ys)
+        after_first = placed.3.3
+
+        after_arm : Placed z.code middle (over (length ys) ∷ ys)
+        after_arm = Placed-right z.code (p + 4 + 4) xs (over (length ys) ∷ ys) after_first
+
+        last : p + 4 + 4 + 4 * length xs + 4 + 4 * length ys ≡ p + 4 * length (branch_code r xs ys)
+        last = let e = length-append xs (over (length ys) ∷ ys) in omega (arith, e)
+
+        first_arm : Straight z (p + 4 + 4) m a xs P1 Q
+        first_arm = one.placed_at (p + 4 + 4) (Placed-left z.code (p + 4 + 4) xs (over (length ys) ∷ ys) after_first)
+
+        second_arm : Straight z (middle + 4) n b ys P2 R
+        second_arm = two.placed_at (middle + 4) after_arm.3
+
+        rejects_ends : (env : z.Beside) (s : State) (rest : List z.Mark) → value env ≡ 0 → s.pc ≡ p
+            → z.Fine (b env) → P env s
+            → Ends z (2 + m + n) (p + 4 * length (branch_code r xs ys))
+            (both (both (always (shown_at p)) (always (shown_at (p + 4)))) second_arm.leak)
+            (z.seen (b env) ++ rest) rest (S env s) s
+        rejects_ends env s rest none' at fine fit =
+            let arm = after_arm.1 in
+            let e = last in
+            let past : p + 4 + 4 + 4 * (length xs + 1) ≡ middle + 4 = omega arith in
+            ends_as
+            (then_ends
+            (then_ends
+            (pass_ends p (z.seen (b env) ++ rest) (placed.0, placed.1, placed.2, tt) s at (tested env s fit ∙ none'))
+            (λ t there still.
+            ends_to (over_ends (p + 4) (length xs + 1) (z.seen (b env) ++ rest)
+            (placed.3.0, placed.3.1, placed.3.2, tt) (omega (arith, near)) (omega (arith, arm, past)) t there)
+            past
+            (λ u again. record { regs = again.regs ∙ still.regs; bytes = again.bytes ∙ still.bytes })))
+            (λ u there still. ends_to {R = λ v. S env s v}
+            (second_arm.runs env u rest there fine (rejects env s u none' fit still)) refl
+            (λ v done. rejected env s u v none' fit still done)))
+            (omega arith) (omega (arith, e)) (λ v done. done)
+
+        accepts_ends : (env : z.Beside) (s : State) (rest : List z.Mark) → value env ≢ 0 → s.pc ≡ p
+            → z.Fine (a env) → P env s
+            → Ends z (2 + m + n) (p + 4 * length (branch_code r xs ys))
+            (both (both (always (shown_at p)) first_arm.leak) (always (shown_at middle)))
+            (z.seen (a env) ++ rest) rest (S env s) s
+        accepts_ends env s rest some at fine fit =
+            let arm = after_arm.1 in
+            let e = last in
+            let below = Placed-below z.code (middle + 4) ys after_arm.3 arm in
+            ends_as
+            (then_ends
+            (then_ends
+            (ends_to (skip_ends p (z.seen (a env) ++ rest) (placed.0, placed.1, placed.2, tt) (omega (arith, arm)) s
+            at (λ e. some (sym (tested env s fit) ∙ e))) (omega arith) (λ t still. still))
+            (λ t there still. ends_to {R = λ u. Between z Q env s u}
+            (first_arm.runs env t rest there fine (accepts env s t some fit still)) refl
+            (λ u done. record { start = t; still = still; done = done })))
+            (λ u there done.
+            ends_to {R = λ v. S env s v}
+            (over_ends middle (length ys) rest (after_arm.0, after_arm.1, after_arm.2, tt) (omega (arith, near))
+            below u there) refl
+            (λ v still. accepted env s done.start u v some fit done.still done.done still)))
+            (omega arith) (omega (arith, e)) (λ v done. done)
+
+      -- where the value is known to be 0
+      pub second_runs : ((env : z.Beside) (s : State) → P env s → value env ≡ 0)
+          → Runs z (2 + m + n) b (branch_code r xs ys) P S
+      second_runs none' = record {
+        placed_at = λ p placed. record {
+          leak = both (both (always (shown_at p)) (always (shown_at (p + 4)))) (second_arm p placed).leak;
+          runs = λ env s rest at fine fit. rejects_ends p placed env s rest (none' env s fit) at fine fit;
+        };
+      }
+
+      -- or known not to be
+      pub first_runs : ((env : z.Beside) (s : State) → P env s → value env ≢ 0)
+          → Runs z (2 + m + n) a (branch_code r xs ys) P S
+      first_runs some = record {
+        placed_at = λ p placed. record {
+          leak = both (both (always (shown_at p)) (first_arm p placed).leak) (always (shown_at (middle p placed)));
+          runs = λ env s rest at fine fit. accepts_ends p placed env s rest (some env s fit) at fine fit;
+        };
+      }
+
+      -- where the value is known, the first piece where it is not 0, and else the second
+      pub branching_at : (v : ℕ) → ((env : z.Beside) (s : State) → P env s → value env ≡ v)
+          → Runs z (2 + m + n) (λ env. if value env == 0 then b env else a env) (branch_code r xs ys) P S
+      branching_at v is = by_case (v == 0) refl
+        where
+          by_case : (c : Bool) → (v == 0) ≡ c
+              → Runs z (2 + m + n) (λ env. if value env == 0 then b env else a env) (branch_code r xs ys) P S
+          by_case true e =
+              along_fit (λ env s fit. ap (λ (x : ℕ). if x == 0 then b env else a env) (is env s fit)
+              ∙ ap (λ (c : Bool). cond c (b env) (a env)) e)
+              (second_runs (λ env s fit. is env s fit ∙ eqb-true v 0 e))
+          by_case false e =
+              along_fit (λ env s fit. ap (λ (x : ℕ). if x == 0 then b env else a env) (is env s fit)
+              ∙ ap (λ (c : Bool). cond c (b env) (a env)) e)
+              (first_runs (λ env s fit same. eqb-false v 0 e (sym (is env s fit) ∙ same)))

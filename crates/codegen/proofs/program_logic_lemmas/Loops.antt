@@ -1,0 +1,293 @@
+-- A piece that is run again and again. What holds before each turn is said of how many are left, of the number that
+-- the turn is for, and of the states at the loop's begin and now, beside what the piece is run beside now.
+use Rattle.std.proofs.Common.{◌≡◌, ◌≢◌, ℕ, zero, suc, ◌+◌, ◌-◌, ◌*◌, ◌^◌, ◌<◌, ◌≤◌, ◌==◌, true, false, not, List, []}
+use Rattle.std.proofs.Common.{◌∷◌, ◌++◌, length, None, refl, sym, ap, ◌∙◌, arith, length-append, append-nil, eq-eqb}
+use Rattle.std.proofs.Common.{ne_eqb}
+use Rattle.std.proofs.lemmas.Bool.Decides.{nat_tests}
+use Rattle.codegen.proofs.program_logic_lemmas.Jumps.{shown_at, moved_still, over_ends, back_ends, skip_ends, pass_ends}
+use Rattle.codegen.proofs.program_logic_lemmas.Pieces.{seen_then, seen_nothing, turn_ends, then_ends, ends_as, ends_to, ends_on}
+use Rattle.codegen.proofs.program_logic_lemmas.PlacedLaws.{Placed-left, Placed-right, stands}
+use Rattle.codegen.specs.program_logic.Jumps.{skip, over, back, loop_code, again_code}
+use Rattle.codegen.specs.program_logic.Pieces.{Setting, Before, After, Steps, none, Leak, always, both, Ends, Straight, Runs}
+use Rattle.codegen.specs.program_logic.Pieces.{Still, turns_after, turns_path}
+use Rattle.codegen.specs.program_logic.Placed.{Placed}
+use Rattle.rv_code.specs.declared.instructions.Instr.{Instr}
+use Rattle.rv_code.specs.declared.instructions.Instr.TheVariants as instr
+use Rattle.rv_code.specs.declared.operations.BranchTest.TheVariants.{Bne}
+use Rattle.codegen.proofs.program_logic_lemmas.Below.{moved_to-pc, branch_leads, branch_passes}
+use Rattle.rv_machine.specs.Effects.{branch_target, sign_extended, sum_of}
+use Rattle.rv_machine.specs.Machine.{State, moved_to, next}
+use Rattle.rv_machine.specs.Registers.{register}
+
+-- A loop that tests first, and goes on as long as a register is not 0.
+
+module _ {z : Setting} (r : ℕ) (small : r < 32) (nonzero : r ≢ 0) {m n : ℕ} {test body : List Instr} {A : ℕ → ℕ
+    → Before z} {B : ℕ → ℕ → After z} {C : ℕ → ℕ → Before z} {D : ℕ → ℕ → After z}
+    (path : ℕ → Steps z) (turn : ℕ → z.Beside → z.Beside)
+    (Inv : ℕ → ℕ → z.Beside → State → State → Type 0)
+    (Over : z.Beside → State → State → Type 0)
+    (near : 2 * (length test + length body) + 8 < 2 ^ 19)
+    (enters : (left i : ℕ) (env : z.Beside) (o s : State) → Inv left i env o s → A left i env s)
+    (goes : (left i : ℕ) (env : z.Beside) (o s t : State) → Inv (suc left) i env o s → B (suc left) i env s t
+    → t.regs r ≢ 0)
+    (ends' : (i : ℕ) (env : z.Beside) (o s t : State) → Inv 0 i env o s → B 0 i env s t → t.regs r ≡ 0)
+    (prepares : (left i : ℕ) (env : z.Beside) (o s t u : State) → Inv (suc left) i env o s → B (suc left) i env s t
+    → Still t u → C left i env u)
+    (turned : (left i : ℕ) (env : z.Beside) (o s t u v w : State) → Inv (suc left) i env o s → B (suc left) i env s t
+    → Still t u → D left i env u v → Still v w → Inv left (i + 1) (turn i env) o w)
+    (leaves : (i : ℕ) (env : z.Beside) (o s t u : State) → Inv 0 i env o s → B 0 i env s t → Still t u → Over env o u)
+    (tests : (left i : ℕ) → Runs z m none test (A left i) (B left i))
+    (bodies : (left i : ℕ) → Runs z n (path i) body (C left i) (D left i)) where
+  module _ (p : ℕ) (placed : Placed z.code p (loop_code r test body)) where
+    -- where the test has ended
+    abbrev tested_at : ℕ
+    tested_at = p + 4 * length test
+
+    -- where the jump back stands
+    abbrev back_at : ℕ
+    back_at = tested_at + 4 + 4 + 4 * length body
+
+    from_skip : Placed z.code tested_at (skip r ∷ over (length body + 1)
+        ∷ (body ++ back (length test + 2 + length body) ∷ []))
+    from_skip = Placed-right z.code p test (skip r ∷ over (length body + 1)
+        ∷ (body ++ back (length test + 2 + length body) ∷ [])) placed
+
+    from_back : Placed z.code back_at (back (length test + 2 + length body) ∷ [])
+    from_back = Placed-right z.code (tested_at + 4 + 4) body (back (length test + 2 + length body) ∷ []) from_skip.3.3
+
+    ended : back_at + 4 ≡ p + 4 * length (loop_code r test body)
+    ended =
+        let e = length-append test (skip r ∷ over (length body + 1)
+        ∷ (body ++ back (length test + 2 + length body) ∷ [])) in
+        let f = length-append body (back (length test + 2 + length body) ∷ []) in
+        omega (arith, e, f)
+
+    test_at : (left i : ℕ) → Straight z p m none test (A left i) (B left i)
+    test_at left i =
+        (tests left i).placed_at p
+        (Placed-left z.code p test (skip r ∷ over (length body + 1)
+        ∷ (body ++ back (length test + 2 + length body) ∷ [])) placed)
+
+    body_at : (left i : ℕ) → Straight z (tested_at + 4 + 4) n (path i) body (C left i) (D left i)
+    body_at left i = (bodies left i).placed_at (tested_at + 4 + 4)
+        (Placed-left z.code (tested_at + 4 + 4) body (back (length test + 2 + length body) ∷ []) from_skip.3.3)
+
+    leak_at : ℕ → ℕ → Leak z
+    leak_at zero i = both (both (test_at 0 i).leak (always (shown_at tested_at))) (always (shown_at (tested_at + 4)))
+    leak_at (suc left) i =
+        both (both (both (both (test_at (suc left) i).leak (always (shown_at tested_at))) (body_at left i).leak)
+        (always (shown_at back_at))) (leak_at left (i + 1))
+
+    -- the test on a path that it puts nothing on
+    test_ends : (left i : ℕ) (env : z.Beside) (s : State) (rest : List z.Mark) → s.pc ≡ p → A left i env s
+        → Ends z m tested_at (test_at left i).leak rest rest (B left i env s) s
+    test_ends left i env s rest at fit =
+        ends_on ((test_at left i).runs env s rest at z.fine_none fit) (sym (seen_nothing z rest))
+
+    record Tested (left i : ℕ) (env : z.Beside) (s u : State) : Type 0 where
+      between : State
+      done : B left i env s between
+      still : Still between u
+
+    record Turned (left i : ℕ) (env : z.Beside) (s v : State) : Type 0 where
+      between : State
+      tested : Tested (suc left) i env s between
+      done : D left i env between v
+
+    last_ends : (i : ℕ) (env : z.Beside) (o s : State) (rest : List z.Mark) → s.pc ≡ p → Inv 0 i env o s
+        → Ends z (m + n + 2) (p + 4 * length (loop_code r test body)) (leak_at 0 i) rest rest (Over env o) s
+    unfolding leak_at
+    last_ends i env o s rest at inv =
+        let e = ended in
+        let b = from_back.1 in
+        let past : tested_at + 4 + 4 + 4 * (length body + 1) ≡ back_at + 4 = omega arith in
+        ends_as
+        (then_ends
+        (then_ends
+        (test_ends 0 i env s rest at (enters 0 i env o s inv))
+        (λ t there done.
+        ends_to {R = Tested 0 i env s}
+        (pass_ends r small nonzero tested_at rest (from_skip.0, from_skip.1, from_skip.2, tt) t there
+        (ends' i env o s t inv done)) refl
+        (λ u still. record { between = t; done = done; still = still })))
+        (λ u there tested.
+        ends_to {R = Over env o}
+        (over_ends (tested_at + 4) (length body + 1) rest (from_skip.3.0, from_skip.3.1, from_skip.3.2, tt)
+        (omega (arith, near)) (omega (arith, b, past)) u there) past
+        (λ v still. leaves i env o s tested.between v inv tested.done
+        (record { regs = still.regs ∙ tested.still.regs; bytes = still.bytes ∙ tested.still.bytes }))))
+        (omega arith) e (λ t done. done)
+
+    runs_at : (left i : ℕ) (env : z.Beside) (o s : State) (rest : List z.Mark) → s.pc ≡ p
+        → z.Fine (turns_path left i turn path env) → Inv left i env o s
+        → Ends z ((left + 1) * (m + n + 2)) (p + 4 * length (loop_code r test body)) (leak_at left i)
+        (z.seen (turns_path left i turn path env) ++ rest) rest (Over (turns_after left i turn env) o) s
+    unfolding leak_at
+    runs_at zero i env o s rest at fine inv =
+        ends_as (ends_on (last_ends i env o s rest at inv) (seen_nothing z rest)) (omega arith) refl (λ t done. done)
+    runs_at (suc left) i env o s rest at fine inv =
+        let tail = turns_path left (i + 1) turn path (turn i env) in
+        let more = z.seen tail ++ rest in
+        let e = ended in
+        let b = from_back.1 in
+        let there' : back_at ≡ p + 4 * (length test + 2 + length body) = omega arith in
+        ends_as
+        (ends_on
+        (then_ends
+        (then_ends
+        (then_ends
+        (then_ends
+        (test_ends (suc left) i env s (z.seen (path i env) ++ more) at (enters (suc left) i env o s inv))
+        (λ t there done.
+        ends_to {R = Tested (suc left) i env s}
+        (skip_ends r small nonzero tested_at (z.seen (path i env) ++ more)
+        (from_skip.0, from_skip.1, from_skip.2, tt) (omega (arith, b)) t there
+        (goes left i env o s t inv done)) (omega arith)
+        (λ u still. record { between = t; done = done; still = still })))
+        (λ u there tested.
+        ends_to {R = Turned left i env s}
+        ((body_at left i).runs env u more there (z.fine_left (path i env) tail fine)
+        (prepares left i env o s tested.between u inv tested.done tested.still)) refl
+        (λ v done. record { between = u; tested = tested; done = done })))
+        (λ v there done.
+        ends_to {R = Inv left (i + 1) (turn i env) o}
+        (back_ends p (length test + 2 + length body) back_at more from_back (omega arith) (omega (arith, near))
+        there' v there) refl
+        (λ w still. turned left i env o s done.tested.between done.between v w inv done.tested.done done.tested.still
+        done.done still)))
+        (λ w there again. runs_at left (i + 1) (turn i env) o w rest there
+        (z.fine_right (path i env) tail fine) again))
+        (seen_then z (path i env) tail rest))
+        (omega arith) refl (λ t done. done)
+
+  -- so many turns, the first at this number
+  pub looping : (left i : ℕ)
+      → Runs z ((left + 1) * (m + n + 2)) (λ env. turns_path left i turn path env) (loop_code r test body)
+      (λ env s. Inv left i env s s) (λ env s t. Over (turns_after left i turn env) s t)
+  looping left i = record {
+    placed_at = λ p placed. record {
+      leak = leak_at p placed left i;
+      runs = λ env s rest at fine inv. runs_at p placed left i env s s rest at fine inv;
+    };
+  }
+
+-- A loop that goes back by a branch, as long as two registers differ.
+
+back_target : (p n : ℕ) → 0 < n → 2 * n ≤ 2 ^ 11 → 4 * n ≤ p → p < 2 ^ 32
+    → branch_target p (2 ^ 12 - 2 * n) ≡ p - 4 * n
+back_target p n some near low below =
+    let same : sign_extended 13 ((2 ^ 12 - 2 * n) * 2) ≡ (2 ^ 12 - 2 * n) * 2 + (2 ^ 32 - 2 ^ 13) =
+    grind (arith, nat_tests) in
+    ap (λ x. sum_of p x) same ∙ (omega (arith, some, near, low, below))
+
+module _ {z : Setting} (r q : ℕ) (small : r < 32) (small' : q < 32) {n : ℕ} {body : List Instr} {C : ℕ → ℕ
+    → Before z} {D : ℕ → ℕ → After z}
+    (path : ℕ → Steps z) (turn : ℕ → z.Beside → z.Beside)
+    (Inv : ℕ → ℕ → z.Beside → State → State → Type 0)
+    (Over : z.Beside → State → State → Type 0)
+    (some : 0 < length body) (near : 2 * length body ≤ 2 ^ 11)
+    (enters : (left i : ℕ) (env : z.Beside) (o s : State) → Inv left i env o s → C left i env s)
+    (goes : (left i : ℕ) (env : z.Beside) (o s t : State) → Inv (suc left) i env o s → D (suc left) i env s t
+    → register t.regs r ≢ register t.regs q)
+    (ends' : (i : ℕ) (env : z.Beside) (o s t : State) → Inv 0 i env o s → D 0 i env s t
+    → register t.regs r ≡ register t.regs q)
+    (turned : (left i : ℕ) (env : z.Beside) (o s t u : State) → Inv (suc left) i env o s → D (suc left) i env s t
+    → Still t u → Inv left (i + 1) (turn i env) o u)
+    (leaves : (i : ℕ) (env : z.Beside) (o s t u : State) → Inv 0 i env o s → D 0 i env s t → Still t u
+    → Over (turn i env) o u)
+    (bodies : (left i : ℕ) → Runs z n (path i) body (C left i) (D left i)) where
+  module _ (p : ℕ) (placed : Placed z.code p (again_code r q body)) where
+    -- where the branch stands
+    abbrev branch_at : ℕ
+    branch_at = p + 4 * length body
+
+    abbrev branch : Instr
+    branch = instr.Branch Bne r q (2 ^ 12 - 2 * length body)
+
+    from_branch : Placed z.code branch_at (branch ∷ [])
+    from_branch = Placed-right z.code p body (branch ∷ []) placed
+
+    behind : branch_at + 4 ≡ p + 4 * length (again_code r q body)
+    behind = let e = length-append body (branch ∷ []) in omega (arith, e)
+
+    round_at : (left i : ℕ) → Straight z p n (path i) body (C left i) (D left i)
+    round_at left i = (bodies left i).placed_at p (Placed-left z.code p body (branch ∷ []) placed)
+
+    -- back to the first instruction
+    returns_ends : (rest : List z.Mark) (s : State) → s.pc ≡ branch_at → register s.regs r ≢ register s.regs q
+        → Ends z 1 p (always (shown_at branch_at)) rest rest (λ t. Still s t) s
+    returns_ends rest s at differ =
+        let even = from_branch.0 in
+        let below = from_branch.1 in
+        let target : branch_target s.pc (2 ^ 12 - 2 * length body) ≡ p =
+        ap (λ x. branch_target x (2 ^ 12 - 2 * length body)) at
+        ∙ (back_target branch_at (length body) some near (omega arith) (omega (arith, below)) ∙ omega arith) in
+        let taken : not (register s.regs r == register s.regs q) ≡ true =
+        ap not (ne_eqb (register s.regs r) (register s.regs q) differ) in
+        turn_ends None None (moved_to s (branch_target s.pc (2 ^ 12 - 2 * length body))) at
+        (branch_leads z.code s Bne r q (2 ^ 12 - 2 * length body)
+        (stands z.code branch_at _ [] from_branch (small, small', omega (arith, some)) s at) taken
+        (omega (arith, target, even))) refl z.silence (z.keeps_still s _ (moved_still s _)) refl
+        (moved_to-pc s (branch_target s.pc (2 ^ 12 - 2 * length body)) ∙ target) (moved_still s _)
+
+    -- or on to what follows
+    falls_ends : (rest : List z.Mark) (s : State) → s.pc ≡ branch_at → register s.regs r ≡ register s.regs q
+        → Ends z 1 (branch_at + 4) (always (shown_at branch_at)) rest rest (λ t. Still s t) s
+    falls_ends rest s at alike =
+        let below = from_branch.1 in
+        let to : next s ≡ branch_at + 4 = omega (arith, at, below) in
+        let untaken : not (register s.regs r == register s.regs q) ≡ false =
+        ap not (eq-eqb (register s.regs r) (register s.regs q) alike) in
+        turn_ends None None (moved_to s (next s)) at
+        (branch_passes z.code s Bne r q (2 ^ 12 - 2 * length body)
+        (stands z.code branch_at _ [] from_branch (small, small', omega (arith, some)) s at) untaken) refl
+        z.silence (z.keeps_still s _ (moved_still s _)) refl
+        (moved_to-pc s (next s) ∙ to) (moved_still s _)
+
+    again_leak : ℕ → ℕ → Leak z
+    again_leak zero i = both (round_at 0 i).leak (always (shown_at branch_at))
+    again_leak (suc left) i = both (both (round_at (suc left) i).leak (always (shown_at branch_at)))
+        (again_leak left (i + 1))
+
+    again_at : (left i : ℕ) (env : z.Beside) (o s : State) (rest : List z.Mark) → s.pc ≡ p
+        → z.Fine (turns_path (suc left) i turn path env) → Inv left i env o s
+        → Ends z ((left + 1) * (n + 1)) (p + 4 * length (again_code r q body)) (again_leak left i)
+        (z.seen (turns_path (suc left) i turn path env) ++ rest) rest
+        (Over (turns_after (suc left) i turn env) o) s
+    unfolding again_leak
+    again_at zero i env o s rest at fine inv =
+        ends_as
+        (ends_on
+        (then_ends ((round_at 0 i).runs env s rest at (z.fine_left (path i env) [] fine) (enters 0 i env o s inv))
+        (λ t there done.
+        ends_to {R = Over (turn i env) o} (falls_ends rest t there (ends' i env o s t inv done)) behind
+        (λ u still. leaves i env o s t u inv done still)))
+        (ap (λ (marks : List z.Mark). z.seen marks ++ rest) (append-nil (path i env))))
+        (omega arith) refl (λ t done. done)
+    again_at (suc left) i env o s rest at fine inv =
+        let tail = turns_path (suc left) (i + 1) turn path (turn i env) in
+        let more = z.seen tail ++ rest in
+        ends_as
+        (ends_on
+        (then_ends
+        (then_ends ((round_at (suc left) i).runs env s more at (z.fine_left (path i env) tail fine)
+        (enters (suc left) i env o s inv))
+        (λ t there done.
+        ends_to {R = Inv left (i + 1) (turn i env) o}
+        (returns_ends more t there (goes left i env o s t inv done)) refl
+        (λ u still. turned left i env o s t u inv done still)))
+        (λ w there again. again_at left (i + 1) (turn i env) o w rest there
+        (z.fine_right (path i env) tail fine) again))
+        (seen_then z (path i env) tail rest))
+        (omega arith) refl (λ t done. done)
+
+  -- one turn more than so many, the first at this number
+  pub repeating : (left i : ℕ)
+      → Runs z ((left + 1) * (n + 1)) (λ env. turns_path (suc left) i turn path env) (again_code r q body)
+      (λ env s. Inv left i env s s) (λ env s t. Over (turns_after (suc left) i turn env) s t)
+  repeating left i = record {
+    placed_at = λ p placed. record {
+      leak = again_leak p placed left i;
+      runs = λ env s rest at fine inv. again_at p placed left i env s s rest at fine inv;
+    };
+  }

@@ -1,0 +1,271 @@
+-- Pieces of code, put together.
+use Rattle.std.proofs.Common.{◌≡◌, ℕ, zero, suc, ◌+◌, ◌*◌, ◌≤◌, List, [], ◌∷◌, ◌++◌, length, All, Option, refl, sym}
+use Rattle.std.proofs.Common.{ap, ◌∙◌, subst, arith, length-append, append_assoc, append-nil}
+use Rattle.std.proofs.lemmas.List.Elements.{All-append}
+use Rattle.codegen.proofs.program_logic_lemmas.PlacedLaws.{Placed-left, Placed-right}
+use Rattle.codegen.specs.program_logic.Pieces.{Setting, Before, After, Steps, none, Leak, always, both, Ends, Runs, Then}
+use Rattle.rv_code.specs.declared.instructions.Instr.{Instr}
+use Rattle.codegen.proofs.program_logic_lemmas.Below.{Leads-append}
+use Rattle.rv_machine.specs.Leakage.{Leads, stays}
+use Rattle.rv_machine.specs.Machine.{State}
+use Rattle.rv_machine.specs.declared.observation.Event.{Event}
+use Rattle.rv_machine.specs.declared.observation.Observation.{Observation}
+
+-- what is seen of two parts, and then more
+pub seen_then : (z : Setting) (one other rest : List z.Mark)
+    → z.seen (one ++ other) ++ rest ≡ z.seen one ++ (z.seen other ++ rest)
+seen_then z one other rest =
+    ap (λ (front : List z.Mark). front ++ rest) (z.seen_append one other)
+    ∙ append_assoc (z.seen one) (z.seen other) rest
+
+pub seen_nothing : (z : Setting) (rest : List z.Mark) → z.seen [] ++ rest ≡ rest
+seen_nothing z rest = ap (λ (front : List z.Mark). front ++ rest) z.seen_none
+
+both_seen : {M : Type 0} (one two : List M → List Observation × List M) (path middle rest : List M)
+    (seen more : List Observation) → one path ≡ (seen, middle) → two middle ≡ (more, rest)
+    → both one two path ≡ (seen ++ more, rest)
+both_seen {M = M} one two path middle rest seen more a b =
+    ap (λ (r : List Observation × List M). (r.0 ++ (two r.1).0, (two r.1).1)) a
+    ∙ ap (λ (r : List Observation × List M). (seen ++ r.0, r.1)) b
+
+all_none : (P : Observation → Type 0) → All P []
+all_none P k d below = absurd (omega (arith, below))
+
+pub All-one : (P : Observation → Type 0) (x : Observation) → P x → All P (x ∷ [])
+All-one P x h zero d below = h
+All-one P x h (suc k) d below = absurd (omega arith)
+
+module _ {z : Setting} where
+  -- Turns from one state.
+
+  -- none
+  pub stop_here : {n q : ℕ} {path : List z.Mark} {Q : State → Type 0} (s : State) → s.pc ≡ q → Q s
+      → Ends z n q (always []) path path Q s
+  stop_here s at done = record {
+    turns = 0;
+    end = s;
+    seen = [];
+    leads = stays;
+    within = omega arith;
+    shown = refl;
+    inside = all_none (λ (o : Observation). z.Allows o.event);
+    keeps = z.keeps_still s s (record { regs = refl; bytes = refl });
+    at = at;
+    done = done;
+  }
+
+  -- one, which shows this event
+  pub turn_ends : {p q : ℕ} {leak : Leak z} {path rest : List z.Mark} {Q : State
+      → Type 0} {s : State} (shows known : Option Event) (t : State)
+      → s.pc ≡ p → Leads z.code 1 s (record { pc = s.pc; event = shows } ∷ []) t → shows ≡ known → z.Allows known
+      → z.Keeps s t
+      → leak path ≡ (record { pc = p; event = known } ∷ [], rest) → t.pc ≡ q → Q t → Ends z 1 q leak path rest Q s
+  turn_ends {p = p} {s = s} shows known t at leads same inside keeps shown there done = record {
+    turns = 1;
+    end = t;
+    seen = record { pc = p; event = known } ∷ [];
+    leads =
+        subst (λ e. Leads z.code 1 s (record { pc = p; event = e } ∷ []) t) same
+        (subst (λ x. Leads z.code 1 s (record { pc = x; event = shows } ∷ []) t) at leads);
+    within = omega arith;
+    shown = shown;
+    inside = All-one (λ (o : Observation). z.Allows o.event) (record { pc = p; event = known }) inside;
+    keeps = keeps;
+    at = there;
+    done = done;
+  }
+
+  -- some, and then more from where they end
+  pub then_ends : {m n q r : ℕ} {one two : Leak z} {path middle rest : List z.Mark} {Q R : State → Type 0} {s : State}
+      → Ends z m q one path middle Q s
+      → ((t : State) → t.pc ≡ q → Q t → Ends z n r two middle rest R t)
+      → Ends z (m + n) r (both one two) path rest R s
+  then_ends {one = one} {two = two} {path = path} {middle = middle} {rest = rest} {s = s} e next =
+      let f = next e.end e.at e.done in
+      let i = e.within in
+      let j = f.within in
+      record {
+        turns = e.turns + f.turns;
+        end = f.end;
+        seen = e.seen ++ f.seen;
+        leads = Leads-append e.leads f.leads;
+        within = omega (arith, i, j);
+        shown = both_seen one two path middle rest e.seen f.seen e.shown f.shown;
+        inside = All-append (λ (o : Observation). z.Allows o.event) e.seen f.seen e.inside f.inside;
+        keeps = z.keeps_then s e.end f.end e.keeps f.keeps;
+        at = f.at;
+        done = f.done;
+      }
+
+  -- the same turns, with more room, to the same address, and giving less
+  pub ends_as : {m n q r : ℕ} {leak : Leak z} {path rest : List z.Mark} {Q R : State → Type 0} {s : State}
+      → Ends z m q leak path rest Q s → m ≤ n → q ≡ r → ((t : State) → Q t → R t) → Ends z n r leak path rest R s
+  ends_as e more same give =
+      let i = e.within in
+      record {
+        turns = e.turns;
+        end = e.end;
+        seen = e.seen;
+        leads = e.leads;
+        within = omega (arith, i, more);
+        shown = e.shown;
+        inside = e.inside;
+        keeps = e.keeps;
+        at = e.at ∙ same;
+        done = give e.end e.done;
+      }
+
+  -- the same turns, to the same address, and giving less
+  pub ends_to : {m q r : ℕ} {leak : Leak z} {path rest : List z.Mark} {Q R : State → Type 0} {s : State}
+      → Ends z m q leak path rest Q s → q ≡ r → ((t : State) → Q t → R t) → Ends z m r leak path rest R s
+  ends_to e same give = ends_as e (omega arith) same give
+
+  -- on another path, off which the same is read otherwise
+  pub ends_by : {m q : ℕ} {leak leak' : Leak z} {path path' rest : List z.Mark} {Q : State → Type 0} {s : State}
+      → Ends z m q leak path rest Q s → leak' path' ≡ leak path → Ends z m q leak' path' rest Q s
+  ends_by e same = record {
+    turns = e.turns;
+    end = e.end;
+    seen = e.seen;
+    leads = e.leads;
+    within = e.within;
+    shown = same ∙ e.shown;
+    inside = e.inside;
+    keeps = e.keeps;
+    at = e.at;
+    done = e.done;
+  }
+
+  -- on the same path, otherwise written
+  pub ends_on : {m q : ℕ} {leak : Leak z} {path other rest : List z.Mark} {Q : State → Type 0} {s : State}
+      → Ends z m q leak path rest Q s → other ≡ path → Ends z m q leak other rest Q s
+  ends_on {m = m} {q = q} {leak = leak} {rest = rest} {Q = Q} {s = s} e same =
+      subst (λ (front : List z.Mark). Ends z m q leak front rest Q s) (sym same) e
+
+  -- Pieces.
+
+  -- no instruction
+  pub idle : {n : ℕ} {P : Before z} {Q : After z} → ((env : z.Beside) (s : State) → P env s → Q env s s)
+      → Runs z n none [] P Q
+  idle still = record {
+    placed_at = λ p placed. record {
+      leak = always [];
+      runs = λ env s rest at fine fit. ends_on (stop_here s (omega (arith, at)) (still env s fit))
+          (seen_nothing z rest);
+    };
+  }
+
+  -- two pieces of code, one after the other
+  pub seq : {m n : ℕ} {a b : Steps z} {xs ys : List Instr} {P P' : Before z} {Q R : After z}
+      → Runs z m a xs P Q → Runs z n b ys P' R
+      → ((env : z.Beside) (s t : State) → P env s → Q env s t → P' env t)
+      → Runs z (m + n) (λ env. a env ++ b env) (xs ++ ys) P (Then z Q R)
+  seq {m = m} {n = n} {a = a} {b = b} {xs = xs} {ys = ys} {P = P} {P' = P'} {Q = Q} {R = R} one two link = record {
+    placed_at = λ p placed.
+        let x = one.placed_at p (Placed-left z.code p xs ys placed) in
+        let y = two.placed_at (p + 4 * length xs) (Placed-right z.code p xs ys placed) in
+        let e = length-append xs ys in
+        record {
+          leak = both x.leak y.leak;
+          runs = λ env s rest at fine fit.
+              ends_on
+              (then_ends (x.runs env s (z.seen (b env) ++ rest) at (z.fine_left (a env) (b env) fine) fit)
+              (λ t there done.
+              ends_as (y.runs env t rest there (z.fine_right (a env) (b env) fine) (link env s t fit done))
+              (omega arith) (omega (arith, e)) (λ u made. record { middle = t; first = done; second = made })))
+              (seen_then z (a env) (b env) rest);
+        };
+  }
+
+  -- the same code, asked more and giving less
+  pub weaken : {n : ℕ} {steps : Steps z} {is : List Instr} {P P' : Before z} {Q R : After z}
+      → ((env : z.Beside) (s : State) → z.Fine (steps env) → P' env s → P env s)
+      → ((env : z.Beside) (s t : State) → z.Fine (steps env) → P' env s → Q env s t → R env s t)
+      → Runs z n steps is P Q → Runs z n steps is P' R
+  weaken before after one = record {
+    placed_at = λ p placed.
+        let a = one.placed_at p placed in
+        record {
+          leak = a.leak;
+          runs = λ env s rest at fine fit.
+              ends_as (a.runs env s rest at fine (before env s fine fit)) (omega arith) refl
+              (λ t done. after env s t fine fit done);
+        };
+  }
+
+  -- the same code, giving less
+  pub gives : {n : ℕ} {steps : Steps z} {is : List Instr} {P : Before z} {Q R : After z}
+      → ((env : z.Beside) (s t : State) → z.Fine (steps env) → P env s → Q env s t → R env s t)
+      → Runs z n steps is P Q → Runs z n steps is P R
+  gives after one = weaken (λ env s fine given. given) after one
+
+  -- the same code, with a greater cost
+  pub cheaper : {m n : ℕ} {steps : Steps z} {is : List Instr} {P : Before z} {Q : After z}
+      → m ≤ n → Runs z m steps is P Q → Runs z n steps is P Q
+  cheaper more one = record {
+    placed_at = λ p placed.
+        let a = one.placed_at p placed in
+        record {
+          leak = a.leak;
+          runs = λ env s rest at fine fit. ends_as (a.runs env s rest at fine fit) more refl (λ t done. done);
+        };
+  }
+
+  -- the same code, beside something else
+  pub beside : {n : ℕ} {steps : Steps z} {is : List Instr} {P : Before z} {Q : After z} (move : z.Beside → z.Beside)
+      → Runs z n steps is P Q
+      → Runs z n (λ env. steps (move env)) is (λ env s. P (move env) s) (λ env s t. Q (move env) s t)
+  beside move one = record {
+    placed_at = λ p placed.
+        let a = one.placed_at p placed in
+        record { leak = a.leak; runs = λ env s rest at fine fit. a.runs (move env) s rest at fine fit };
+  }
+
+  -- the same code, with the same steps otherwise written, where it is run
+  pub along_fit : {n : ℕ} {a b : Steps z} {is : List Instr} {P : Before z} {Q : After z}
+      → ((env : z.Beside) (s : State) → P env s → b env ≡ a env) → Runs z n a is P Q → Runs z n b is P Q
+  along_fit {a = a} {b = b} same one = record {
+    placed_at = λ p placed.
+        let x = one.placed_at p placed in
+        record {
+          leak = x.leak;
+          runs = λ env s rest at fine fit.
+              ends_on (x.runs env s rest at (subst z.Fine (same env s fit) fine) fit)
+              (ap (λ (path : List z.Mark). z.seen path ++ rest) (same env s fit));
+        };
+  }
+
+  -- or everywhere
+  pub along : {n : ℕ} {a b : Steps z} {is : List Instr} {P : Before z} {Q : After z}
+      → ((env : z.Beside) → b env ≡ a env) → Runs z n a is P Q → Runs z n b is P Q
+  along same one = along_fit (λ env s fit. same env) one
+
+  -- the same instructions, otherwise written
+  pub as_code : {n : ℕ} {steps : Steps z} {is js : List Instr} {P : Before z} {Q : After z}
+      → js ≡ is → Runs z n steps is P Q → Runs z n steps js P Q
+  as_code {n = n} {steps = steps} {P = P} {Q = Q} same one =
+      subst (λ (is : List Instr). Runs z n steps is P Q) (sym same) one
+
+  -- and then code that puts nothing on the path
+  pub quiet : {m n : ℕ} {a : Steps z} {xs ys : List Instr} {P P' : Before z} {Q R : After z}
+      → Runs z m a xs P Q → Runs z n none ys P' R
+      → ((env : z.Beside) (s t : State) → P env s → Q env s t → P' env t)
+      → Runs z (m + n) a (xs ++ ys) P (Then z Q R)
+  quiet {a = a} one two link = along (λ env. sym (append-nil (a env))) (seq one two link)
+
+  -- code that puts nothing on the path, and then other code
+  pub quietly : {m n : ℕ} {b : Steps z} {xs ys : List Instr} {P P' : Before z} {Q R : After z}
+      → Runs z m none xs P Q → Runs z n b ys P' R
+      → ((env : z.Beside) (s t : State) → P env s → Q env s t → P' env t)
+      → Runs z (m + n) b (xs ++ ys) P (Then z Q R)
+  quietly one two link = along (λ env. refl) (seq one two link)
+
+  -- code that is never run
+  pub never : {n : ℕ} {steps : Steps z} {is : List Instr} {P : Before z} {Q : After z}
+      → ((env : z.Beside) (s : State) → P env s → ⊥) → Runs z n steps is P Q
+  never none_fits = record {
+    placed_at = λ p placed. record {
+      leak = always [];
+      runs = λ env s rest at fine fit. absurd (none_fits env s fit);
+    };
+  }

@@ -1,0 +1,217 @@
+-- The machine leads from any state through placed straight-line code to the state that the code is run to by symbols,
+-- and shows the list that is read off the code and the addresses of its accesses.
+use Rattle.std.specs.Prelude.{is_some}
+use Rattle.std.proofs.Common.{◌≡◌, ℕ, zero, suc, ◌+◌, ◌*◌, ◌%◌, ◌^◌, ◌<◌, Bool, true, false, ◌&&◌, nat_lt, List, []}
+use Rattle.std.proofs.Common.{◌∷◌, length, All, Option, Some, None, refl, ap, ◌∙◌, subst, arith}
+use Rattle.std.proofs.lemmas.Bool.{false≢true, ltb-true}
+use Rattle.codegen.specs.program_logic.Placed.{Placed}
+use Rattle.codegen.specs.program_logic.StraightCode.{Contents, state_at, is_straight, are_straight, next_of, left_by}
+use Rattle.codegen.specs.program_logic.StraightCode.{with_result, number_or_zero, after, after_all, event_of, shown_by}
+use Rattle.codegen.specs.program_logic.StraightCode.{fit_and, AreFit, IsMet, met_and, AreMet}
+use Rattle.rv_code.specs.Words.{IsInstr}
+use Rattle.rv_code.specs.declared.instructions.Instr.{Instr}
+use Rattle.rv_code.specs.declared.instructions.Instr.TheVariants.{Upper, Immediate, Shift, Register, Load, Store}
+use Rattle.rv_code.specs.declared.operations.LoadOperation.{LoadOperation}
+use Rattle.rv_code.specs.declared.operations.StoreOperation.{StoreOperation}
+use Rattle.rv_code.specs.declared.operations.UpperOperation.TheVariants.{Lui}
+use Rattle.codegen.proofs.program_logic_lemmas.Below.{Leads-append, upper_leads, immediate_leads, shift_leads, register_leads}
+use Rattle.codegen.proofs.program_logic_lemmas.Below.{load_leads, store_leads}
+use Rattle.rv_machine.specs.Bytes.{number_at, with_number}
+use Rattle.rv_machine.specs.Effects.{load_size, loaded_value, store_size, address_of}
+use Rattle.rv_machine.specs.Leakage.{Leads, stays}
+use Rattle.rv_machine.specs.Machine.{State, Code, IsAt, with_value, with_stored}
+use Rattle.rv_machine.specs.Registers.{register}
+use Rattle.rv_machine.specs.Sizes.{byte_count}
+use Rattle.rv_machine.specs.declared.observation.Event.{Event}
+use Rattle.rv_machine.specs.declared.observation.Event.TheVariants as event
+use Rattle.rv_machine.specs.declared.observation.Observation.{Observation}
+
+pub both_left : (a b : Bool) → (a && b) ≡ true → a ≡ true
+both_left true b h = refl
+both_left false b h = absurd (false≢true h)
+
+pub both_right : (a b : Bool) → (a && b) ≡ true → b ≡ true
+both_right true b h = h
+both_right false b h = absurd (false≢true h)
+
+-- the number that is found
+pub found : (o : Option ℕ) → is_some o ≡ true → o ≡ Some (number_or_zero o)
+found (Some v) h = refl
+found None h = absurd (false≢true h)
+
+three : (n : ℕ) (a b c : Bool) → (a && (b && c)) ≡ true → (a ≡ true) × (b ≡ true) × (c ≡ true)
+three n a b c h =
+    let rest = both_right a (b && c) h in
+    (both_left a (b && c) h, both_left b c rest, both_right b c rest)
+
+range : (works : ℕ → Bool) (i : Instr) → is_straight works i ≡ true → IsInstr i
+range works (Upper Lui rd immediate) h =
+    let t = three 0 (works rd) (nat_lt rd 32) (nat_lt immediate 1048576) h in
+    (ltb-true rd 32 t.1, ltb-true immediate 1048576 t.2)
+range works (Immediate operation rd rs1 immediate) h =
+    let t = three 0 (works rd) (nat_lt rd 32) (nat_lt rs1 32 && nat_lt immediate 4096) h in (
+      ltb-true rd 32 t.1,
+      ltb-true rs1 32 (both_left (nat_lt rs1 32) (nat_lt immediate 4096) t.2),
+      ltb-true immediate 4096 (both_right (nat_lt rs1 32) (nat_lt immediate 4096) t.2),
+    )
+range works (Shift operation rd rs1 amount) h =
+    let t = three 0 (works rd) (nat_lt rd 32) (nat_lt rs1 32 && nat_lt amount 32) h in (
+      ltb-true rd 32 t.1,
+      ltb-true rs1 32 (both_left (nat_lt rs1 32) (nat_lt amount 32) t.2),
+      ltb-true amount 32 (both_right (nat_lt rs1 32) (nat_lt amount 32) t.2),
+    )
+range works (Register operation rd rs1 rs2) h =
+    let t = three 0 (works rd) (nat_lt rd 32) (nat_lt rs1 32 && nat_lt rs2 32) h in (
+      ltb-true rd 32 t.1,
+      ltb-true rs1 32 (both_left (nat_lt rs1 32) (nat_lt rs2 32) t.2),
+      ltb-true rs2 32 (both_right (nat_lt rs1 32) (nat_lt rs2 32) t.2),
+    )
+range works (Load operation rd rs1 offset) h =
+    let t = three 0 (works rd) (nat_lt rd 32) (nat_lt rs1 32 && nat_lt offset 4096) h in (
+      ltb-true rd 32 t.1,
+      ltb-true rs1 32 (both_left (nat_lt rs1 32) (nat_lt offset 4096) t.2),
+      ltb-true offset 4096 (both_right (nat_lt rs1 32) (nat_lt offset 4096) t.2),
+    )
+range works (Store operation rs2 rs1 offset) h =
+    let t = three 0 (nat_lt rs2 32) (nat_lt rs1 32) (nat_lt offset 4096) h in
+    (ltb-true rs2 32 t.0, ltb-true rs1 32 t.1, ltb-true offset 4096 t.2)
+range works i h = absurd (false≢true h)
+
+module _ (code : Code) (p : ℕ) (below : p + 4 < 2 ^ 32) (c : Contents) where
+  -- at the next instruction
+  valued : (rd value : ℕ) → with_value (state_at p c) rd value ≡ state_at (p + 4) (with_result rd value c)
+  unfolding with_value
+  valued rd value =
+      let e : (p + 4) % 2 ^ 32 ≡ p + 4 = omega (arith, below) in
+      ap (λ q. state_at q (with_result rd value c)) e
+
+  stored : (operation : StoreOperation) (a value : ℕ)
+      → with_stored (state_at p c) (store_size operation) a value
+      ≡ state_at (p + 4) (record {
+        regs = c.regs;
+        bytes = with_number c.bytes (byte_count (store_size operation)) a value;
+      })
+  unfolding with_stored
+  stored operation a value =
+      let e : (p + 4) % 2 ^ 32 ≡ p + 4 = omega (arith, below) in
+      ap
+      (λ q. state_at q (record {
+        regs = c.regs;
+        bytes = with_number c.bytes (byte_count (store_size operation)) a value;
+      })) e
+
+  -- one turn that shows an event, to a state that is otherwise written
+  arrives : (e e' : Option Event) (t t' : State) → Leads code 1 (state_at p c) (record { pc = p; event = e } ∷ []) t
+      → e ≡ e' → t ≡ t' → Leads code 1 (state_at p c) (record { pc = p; event = e' } ∷ []) t'
+  arrives e e' t t' leads same there =
+      subst (λ x. Leads code 1 (state_at p c) (record { pc = p; event = x } ∷ []) t') same
+      (subst (λ (u : State). Leads code 1 (state_at p c) (record { pc = p; event = e } ∷ []) u) there leads)
+
+  loads : (operation : LoadOperation) (rd rs1 offset a : ℕ) → IsAt code p (Load operation rd rs1 offset)
+      → a % byte_count (load_size operation) ≡ 0 → IsMet (byte_count (load_size operation)) rs1 offset a c
+      → Leads code 1 (state_at p c) (record { pc = p; event = Some (event.Load a (load_size operation)) } ∷ [])
+      (state_at (p + 4) (after (Load operation rd rs1 offset) a c))
+  loads operation rd rs1 offset a at even met =
+      let n = byte_count (load_size operation) in
+      let v = number_or_zero (number_at c.bytes n a) in
+      let there = ap (λ x. number_at c.bytes n x) met.address ∙ found (number_at c.bytes n a) met.data_there in
+      arrives _ _ _ _
+      (load_leads code (state_at p c) operation rd rs1 offset v at (ap (λ x. x % n) met.address ∙ even) there)
+      (ap (λ x. Some (event.Load x (load_size operation))) met.address) (valued rd (loaded_value operation v))
+
+  stores : (operation : StoreOperation) (rs2 rs1 offset a : ℕ) → IsAt code p (Store operation rs2 rs1 offset)
+      → a % byte_count (store_size operation) ≡ 0 → IsMet (byte_count (store_size operation)) rs1 offset a c
+      → Leads code 1 (state_at p c) (record { pc = p; event = Some (event.Store a (store_size operation)) } ∷ [])
+      (state_at (p + 4) (after (Store operation rs2 rs1 offset) a c))
+  stores operation rs2 rs1 offset a at even met =
+      let n = byte_count (store_size operation) in
+      let v = register c.regs rs2 in
+      arrives _ _ _ _
+      (store_leads code (state_at p c) operation rs2 rs1 offset at (ap (λ x. x % n) met.address
+      ∙ even) (ap (λ x. is_some (number_at c.bytes n x)) met.address ∙ met.data_there))
+      (ap (λ x. Some (event.Store x (store_size operation))) met.address)
+      (stored operation (address_of c.regs rs1 offset) v
+      ∙ ap (λ x. state_at (p + 4) (record { regs = c.regs; bytes = with_number c.bytes n x v })) met.address)
+
+  -- of an access its own premises, and those of the rest
+  one_leads : (works : ℕ → Bool) (Allows : Option Event → Type 0) (i : Instr) (a : ℕ) (F M : Type 0)
+      → is_straight works i ≡ true → IsAt code p i → fit_and Allows i a F → met_and i a c M
+      → Leads code 1 (state_at p c) (record { pc = p; event = event_of i a } ∷ []) (state_at (p + 4) (after i a c))
+  one_leads works Allows (Upper Lui rd immediate) a F M ok at fit met =
+      arrives _ _ _ _ (upper_leads code (state_at p c) Lui rd immediate at) refl (valued rd _)
+  one_leads works Allows (Immediate operation rd rs1 immediate) a F M ok at fit met =
+      arrives _ _ _ _ (immediate_leads code (state_at p c) operation rd rs1 immediate at) refl (valued rd _)
+  one_leads works Allows (Shift operation rd rs1 amount) a F M ok at fit met =
+      arrives _ _ _ _ (shift_leads code (state_at p c) operation rd rs1 amount at) refl (valued rd _)
+  one_leads works Allows (Register operation rd rs1 rs2) a F M ok at fit met =
+      arrives _ _ _ _ (register_leads code (state_at p c) operation rd rs1 rs2 at) refl (valued rd _)
+  one_leads works Allows (Load operation rd rs1 offset) a F M ok at fit met =
+      loads operation rd rs1 offset a at fit.0.even met.0
+  one_leads works Allows (Store operation rs2 rs1 offset) a F M ok at fit met =
+      stores operation rs2 rs1 offset a at fit.0.even met.0
+  one_leads works Allows i a F M ok at fit met = absurd (false≢true ok)
+
+-- what is asked of the rest
+
+pub rest_fit : (works : ℕ → Bool) (Allows : Option Event → Type 0) (i : Instr) (a : ℕ) (F : Type 0)
+    → is_straight works i ≡ true → fit_and Allows i a F → F
+rest_fit works Allows (Load operation rd rs1 offset) a F ok fit = fit.1
+rest_fit works Allows (Store operation rs2 rs1 offset) a F ok fit = fit.1
+rest_fit works Allows i a F ok fit = fit
+
+pub rest_met : (works : ℕ → Bool) (i : Instr) (a : ℕ) (c : Contents) (M : Type 0) → is_straight works i ≡ true
+    → met_and i a c M → M
+rest_met works (Load operation rd rs1 offset) a c M ok met = met.1
+rest_met works (Store operation rs2 rs1 offset) a c M ok met = met.1
+rest_met works i a c M ok met = met
+
+-- The machine on straight-line code.
+pub straight_code_leads : (works : ℕ → Bool) (Allows : Option Event
+    → Type 0) (code : Code) (p : ℕ) (is : List Instr) (places : List ℕ) (c : Contents)
+    → are_straight works is ≡ true → Placed code p is → AreFit Allows is places → AreMet is places c
+    → Leads code (length is) (state_at p c) (shown_by p is places)
+    (state_at (p + 4 * length is) (after_all is places c))
+straight_code_leads works Allows code p [] places c plain placed fit met =
+    let e : p ≡ p + 4 * 0 = omega arith in
+    subst (λ q. Leads code 0 (state_at p c) [] (state_at q c)) e stays
+straight_code_leads works Allows code p (i ∷ is) places c plain placed fit met =
+    let ok = both_left (is_straight works i) (are_straight works is) plain in
+    let a = next_of places in
+    let one = one_leads code p placed.1 c works Allows i a _ _ ok
+    (record { aligned = placed.0; word = placed.2; in_range = range works i ok }) fit met in
+    let more = straight_code_leads works Allows code (p + 4) is (left_by i places) (after i a c)
+    (both_right (is_straight works i) (are_straight works is) plain) placed.3
+    (rest_fit works Allows i a _ ok fit) (rest_met works i a c _ ok met) in
+    let behind : p + 4 + 4 * length is ≡ p + 4 * suc (length is) = omega arith in
+    let count : 1 + length is ≡ suc (length is) = omega arith in
+    let to = after_all is (left_by i places) (after i a c) in
+    let list = shown_by p (i ∷ is) places in
+    subst (λ n. Leads code n (state_at p c) list (state_at (p + 4 * suc (length is)) to)) count
+    (subst (λ q. Leads code (1 + length is) (state_at p c) list (state_at q to)) behind (Leads-append one more))
+
+-- What it shows is allowed.
+
+all_none : (P : Observation → Type 0) → All P []
+all_none P k d below = absurd (omega (arith, below))
+
+all_more : (P : Observation → Type 0) (o : Observation) (rest : List Observation) → P o → All P rest
+    → All P (o ∷ rest)
+all_more P o rest h more zero d below = h
+all_more P o rest h more (suc k) d below = more k d (omega (arith, below))
+
+one_allowed : (works : ℕ → Bool) (Allows : Option Event → Type 0) → Allows None → (i : Instr) (a : ℕ) (F : Type 0)
+    → is_straight works i ≡ true → fit_and Allows i a F → Allows (event_of i a)
+one_allowed works Allows silence (Load operation rd rs1 offset) a F ok fit = fit.0.allowed
+one_allowed works Allows silence (Store operation rs2 rs1 offset) a F ok fit = fit.0.allowed
+one_allowed works Allows silence i a F ok fit = silence
+
+pub shown_allowed : (works : ℕ → Bool) (Allows : Option Event → Type 0) → Allows None
+    → (p : ℕ) (is : List Instr) (places : List ℕ) → are_straight works is ≡ true → AreFit Allows is places
+    → All (λ (o : Observation). Allows o.event) (shown_by p is places)
+shown_allowed works Allows silence p [] places plain fit = all_none (λ (o : Observation). Allows o.event)
+shown_allowed works Allows silence p (i ∷ is) places plain fit =
+    let ok = both_left (is_straight works i) (are_straight works is) plain in
+    all_more (λ (o : Observation). Allows o.event) _ _ (one_allowed works Allows silence i (next_of places) _ ok fit)
+    (shown_allowed works Allows silence (p + 4) is (left_by i places)
+    (both_right (is_straight works i) (are_straight works is) plain)
+    (rest_fit works Allows i (next_of places) _ ok fit))

@@ -1,0 +1,93 @@
+-- What the machine does on the code of an expression, wherever that stands and whichever the place of its value: the
+-- value is then where the expression is, in the home of a variable or in its place, the homes and the temporaries of
+-- lower places stay, and what is shown is decided by what the code's observer sees of the path.
+use Rattle.std.specs.Prelude.{◌≡◌, ℕ, ◌+◌, ◌*◌, ◌%◌, ◌^◌, ◌<◌, ◌≤◌, true, List, [], length, Option, None, Some, All}
+use Rattle.std.specs.Prelude.{is_some, slice_get, slice_index}
+use Rattle.codegen.specs.expression_code.Allocation.{Allocation, IsAllocation, home_of, temporary, slots_to}
+use Rattle.codegen.specs.expression_code.Inside.{IsInside}
+use Rattle.codegen.specs.expression_code.Layout.{bytes_of, place_of, result_offset}
+use Rattle.codegen.specs.expression_code.Registers.{frame_register}
+use Rattle.codegen.specs.expression_code.TermCode.{expr_code, operand}
+use Rattle.branch_removal.specs.Heights.{height_of}
+use Rattle.codegen.specs.declared.expression_code.locations.Location.{Location}
+use Rattle.codegen.specs.declared.expression_code.locations.Location.TheVariants.{InRegister, InSlot}
+use Rattle.inline.specs.declared.flat.FlatVariable.{FlatVariable}
+use Rattle.inline.specs.Fitting.{Fits}
+use Rattle.inline.specs.Flat.{TermTree, numbers_in}
+use Rattle.inline.specs.FlatMeaning.{Values, value_in, path_in}
+use Rattle.inline.specs.FlatSize.{term_nodes}
+use Rattle.inline.specs.FlatTyping.{types_of}
+use Rattle.inline.specs.Path.{Path, AreFine, seen}
+pub use Rattle.codegen.specs.program_logic.Placed.{Placed}
+use Rattle.rv_code.specs.declared.instructions.Instr.{Instr}
+use Rattle.rv_machine.specs.Bytes.{number_at}
+use Rattle.rv_machine.specs.Leakage.{Leads}
+use Rattle.rv_machine.specs.Machine.{State, Code}
+use Rattle.rv_machine.specs.declared.observation.Observation.{Observation}
+
+-- where code begins, where the frame lies and how many bytes it has, the variables in it and how registers are given
+-- out, where the slots of temporaries begin, and the place that the value comes into
+pub record Site : Type 0 where
+  pub code : Code
+  pub start : ℕ
+  pub frame : ℕ
+  pub size : ℕ
+  pub declared : List FlatVariable
+  pub allocation : Allocation
+  pub free : ℕ
+  pub place : ℕ
+
+abbrev pub code_of : Site → TermTree → List Instr
+code_of site e = expr_code site.declared site.allocation site.free site.place e
+
+-- the expression's code stands there, and the slots of its temporaries lie in the frame, behind the variables and the
+-- result
+pub record IsSiteOf (e : TermTree) (site : Site) : Type 0 where
+  pub placed : Placed site.code site.start (code_of site e)
+  pub allocated : IsAllocation site.declared site.allocation
+  pub even : site.frame % 4 ≡ 0
+  pub ends : site.frame + site.size < 2 ^ 32
+  pub aligned : site.free % 4 ≡ 0
+  pub above : result_offset site.declared + 4 ≤ site.free
+  pub room : site.free + 4 * slots_to site.allocation.count (height_of e + site.place) ≤ site.size
+
+-- the word at a location
+abbrev pub word_in : Site → State → Location → Option ℕ
+word_in site s (InRegister register) = Some (s.regs register)
+word_in site s (InSlot offset) = number_at s.bytes 4 (site.frame + offset)
+
+-- the temporary of a place
+abbrev pub temporary_in : Site → State → ℕ → Option ℕ
+temporary_in site s place = word_in site s (temporary site.allocation.count site.free place)
+
+-- x2 has the frame's base, the frame's bytes are data, and the variables have these values, which are within their
+-- kinds, in their homes or in the frame
+pub record Has (site : Site) (m : Values) (s : State) : Type 0 where
+  pub base : s.regs frame_register ≡ site.frame
+  pub data_there : (o : ℕ) → o < site.size → is_some (s.bytes (site.frame + o)) ≡ true
+  pub fits : Fits (types_of site.code.profile site.declared) m
+  pub homes_there : (x home : ℕ) (d : FlatVariable) → slice_get site.declared x ≡ Some d
+      → home_of site.allocation.homes x ≡ Some home → s.regs home ≡ slice_index (m x) 0
+  pub variables_there : (x : ℕ) (d : FlatVariable) (i : ℕ) → slice_get site.declared x ≡ Some d
+      → home_of site.allocation.homes x ≡ None → i < numbers_in d.elements
+      → number_at s.bytes (bytes_of d) (site.frame + place_of site.declared x d i) ≡ Some (slice_index (m x) i)
+
+-- a run from a state to behind the code, which shows this list
+pub record RunsThrough (e : TermTree) (site : Site) (m : Values) (s : State) (list : List Observation) : Type 0 where
+  pub turns : ℕ
+  pub end : State
+  pub leads : Leads site.code turns s list end
+  pub few : turns ≤ 16 * term_nodes e
+  pub inside : All (λ (o : Observation). IsInside site.frame site.size o.event) list
+  pub behind : end.pc ≡ site.start + 4 * length (code_of site e)
+  pub value : word_in site end (operand site.allocation site.free site.place e) ≡ Some (value_in m e)
+  pub homes : (x home : ℕ) → home_of site.allocation.homes x ≡ Some home → end.regs home ≡ s.regs home
+  pub lower : (place : ℕ) → place < site.place → temporary_in site end place ≡ temporary_in site s place
+  pub base : end.regs frame_register ≡ site.frame
+  pub kept : (o : ℕ) → o < site.free → end.bytes (site.frame + o) ≡ s.bytes (site.frame + o)
+
+-- one list for what is seen of each path, whatever the values
+pub record IsComputed (e : TermTree) (site : Site) : Type 0 where
+  pub shown : Path → List Observation
+  pub runs : (m : Values) (s : State) → s.pc ≡ site.start → Has site m s → AreFine [] (path_in m e)
+      → RunsThrough e site m s (shown (seen site.code.profile (path_in m e)))

@@ -1,0 +1,77 @@
+-- Where a program's words lie in the frame: the variables, of which the parameters are the first, then the result,
+-- the control values, two words for each loop that others are in, and the temporaries. All these offsets are
+-- multiples of 4.
+use Rattle.std.specs.Prelude.{ℕ, ◌+◌, ◌-◌, ◌*◌, List, [], ◌∷◌, Option, None, Some, length, nat_lt, take}
+use Rattle.std.specs.Prelude.{if◌then◌else◌}
+use Rattle.codegen.specs.expression_code.Allocation.{Allocation, home_of, at_home}
+use Rattle.codegen.specs.declared.expression_code.locations.Location.{Location}
+use Rattle.codegen.specs.declared.expression_code.locations.Location.TheVariants.{InSlot}
+use Rattle.codegen.specs.declared.image_fields.slot.Slot.{Slot}
+use Rattle.inline.specs.declared.flat.FlatVariable.{FlatVariable}
+use Rattle.inline.specs.Flat.{declaration_of}
+use Rattle.inline.specs.FlatSize.{words_of, declared_words}
+use Rattle.language.specs.Size.{element_bytes}
+use Rattle.language.specs.declared.signature.Kind.{Kind}
+use Rattle.language.specs.declared.signature.Param.{Param}
+
+-- what is laid out: variables, control values, and loops one in the other; and how registers are given out
+pub record Frame : Type 0 where
+  pub declared : List FlatVariable
+  pub controls : ℕ
+  pub depths : ℕ
+  pub allocation : Allocation
+
+-- a variable, behind all of lower numbers
+abbrev pub variable_offset : List FlatVariable → ℕ → ℕ
+variable_offset declared x = 4 * declared_words (take x declared)
+
+-- where a variable is
+abbrev pub variable_location : List FlatVariable → Allocation → ℕ → Location
+variable_location declared allocation x = at_home (home_of allocation.homes x) (InSlot (variable_offset declared x))
+
+-- how many bytes a word takes, or an element
+abbrev pub bytes_by : Kind → Option ℕ → ℕ
+bytes_by kind None = 4
+bytes_by kind (Some size) = element_bytes kind
+
+abbrev pub bytes_of : FlatVariable → ℕ
+bytes_of d = bytes_by d.word.kind d.elements
+
+-- where the i-th number of a variable lies
+abbrev pub place_of : List FlatVariable → ℕ → FlatVariable → ℕ → ℕ
+place_of declared x d i = variable_offset declared x + bytes_of d * i
+
+-- behind all variables
+abbrev pub result_offset : List FlatVariable → ℕ
+result_offset declared = 4 * declared_words declared
+
+abbrev pub control_offset : List FlatVariable → ℕ → ℕ
+control_offset declared control = result_offset declared + 4 + 4 * control
+
+-- where a control value is
+abbrev pub control_location : List FlatVariable → Allocation → ℕ → Location
+control_location declared allocation control =
+    at_home (home_of allocation.homes (length declared + control)) (InSlot (control_offset declared control))
+
+-- the slot of a word that may have a home: a variable, and behind all variables a control value
+abbrev pub word_offset : List FlatVariable → ℕ → ℕ
+word_offset declared number = if nat_lt number (length declared) then variable_offset declared number
+    else control_offset declared (number - length declared)
+
+-- behind so many control values, for the loop that so many others are around: the number that its counter is next
+abbrev pub next_offset : List FlatVariable → ℕ → ℕ → ℕ
+next_offset declared controls depth = result_offset declared + 4 + 4 * controls + 8 * depth
+
+-- behind so many control values and loops
+abbrev pub temporaries_offset : List FlatVariable → ℕ → ℕ → ℕ
+temporaries_offset declared controls depths = result_offset declared + 4 + 4 * controls + 8 * depths
+
+-- the parameters with their slots, the first at `low`
+abbrev pub slots_from : ℕ → List Param → List Slot
+slots_from low [] = []
+slots_from low (p ∷ ps) = record { param = p; offset = low } ∷ slots_from (low + 4 * words_of (declaration_of p)) ps
+
+-- where variables lie, the first at `low`, and behind them what comes next
+abbrev pub offsets_from : ℕ → List FlatVariable → List ℕ
+offsets_from low [] = low ∷ []
+offsets_from low (d ∷ ds) = low ∷ offsets_from (low + 4 * words_of d) ds

@@ -1,0 +1,411 @@
+-- The instructions that are emitted for slots, numbers, operators and expressions.
+use Rattle.std.specs.Prelude.{ℕ, zero, suc, ◌+◌, ◌-◌, ◌*◌, ◌/◌, ◌%◌, ◌^◌, ◌==◌, ◌<◌, ◌&&◌, Bool, true, false, List, []}
+use Rattle.std.specs.Prelude.{◌∷◌, ◌++◌, nat_lt, Option, None, Some, is_some, if◌then◌else◌}
+use Rattle.codegen.specs.expression_code.Layout.{variable_offset, variable_location}
+use Rattle.codegen.specs.expression_code.Allocation.{register_of, Allocation, home_of, temporary, working_register, at_home}
+use Rattle.codegen.specs.expression_code.NumberRows.{number_of, right_row, left_row, chooses_zero}
+use Rattle.codegen.specs.declared.expression_code.numbers.Finish.{Finish}
+use Rattle.codegen.specs.declared.expression_code.numbers.Finish.TheVariants.{Alone, GivesZero, GivesMore, Narrowed}
+use Rattle.codegen.specs.declared.expression_code.numbers.NumberRow.{NumberRow}
+use Rattle.codegen.specs.declared.expression_code.numbers.NumberStep.{NumberStep}
+use Rattle.codegen.specs.declared.expression_code.numbers.NumberStep.TheVariants.{WithImmediate, ByAmount, AboveZero, KeepsLow}
+use Rattle.codegen.specs.declared.expression_code.locations.Location.{Location}
+use Rattle.codegen.specs.declared.expression_code.locations.Location.TheVariants.{InRegister, InSlot}
+use Rattle.codegen.specs.expression_code.Registers.{zero_register, frame_register, address_register, first_spare}
+use Rattle.codegen.specs.expression_code.Registers.{second_spare, third_spare}
+use Rattle.inline.specs.declared.flat.FlatVariable.{FlatVariable}
+use Rattle.inline.specs.Flat.{TermTree, number, truth, variable, prefix, binary, rotate, convert, select, element}
+use Rattle.rv_code.specs.declared.instructions.Instr.{Instr}
+use Rattle.rv_code.specs.declared.instructions.Instr.TheVariants.{Upper, Immediate, Shift, Register, Multiply, Divide}
+use Rattle.rv_code.specs.declared.instructions.Instr.TheVariants.{Load, Store}
+use Rattle.rv_code.specs.declared.operations.UpperOperation.TheVariants.{Lui}
+use Rattle.rv_code.specs.declared.operations.ImmediateOperation.TheVariants.{Addi, Sltiu, Andi}
+use Rattle.rv_code.specs.declared.operations.ShiftOperation.TheVariants.{Slli, Srli}
+use Rattle.rv_code.specs.declared.operations.RegisterOperation.{RegisterOperation}
+use Rattle.rv_code.specs.declared.operations.RegisterOperation.TheVariants.{Add, Sub, Sll, Sltu, Xor, Srl, Or, And}
+use Rattle.rv_code.specs.declared.operations.MultiplyOperation.TheVariants.{Mul}
+use Rattle.rv_code.specs.declared.operations.DivideOperation.{DivideOperation}
+use Rattle.rv_code.specs.declared.operations.DivideOperation.TheVariants.{Divu, Remu}
+use Rattle.rv_code.specs.declared.operations.LoadOperation.{LoadOperation}
+use Rattle.rv_code.specs.declared.operations.LoadOperation.TheVariants.{Lw, Lbu, Lhu}
+use Rattle.rv_code.specs.declared.operations.StoreOperation.TheVariants.{Sw}
+use Rattle.language.specs.declared.signature.Kind.{Kind}
+use Rattle.language.specs.declared.signature.Kind.TheVariants.{Boolean, Uint8, Uint16, Uint32}
+use Rattle.language.specs.declared.tree.BinaryOperator.{BinaryOperator}
+use Rattle.language.specs.declared.tree.BinaryOperator.TheVariants as operators
+use Rattle.language.specs.declared.tree.PrefixOperator.{PrefixOperator}
+use Rattle.language.specs.declared.tree.PrefixOperator.TheVariants as prefixes
+use Rattle.language.specs.Operators.{width_of}
+use Rattle.language.specs.Size.{element_bytes}
+use Rattle.word.specs.declared.width.Width.{Width}
+use Rattle.word.specs.declared.width.Width.TheVariants.{W8, W16, W32}
+use Rattle.word.specs.Operators.{word_of}
+use Rattle.word.specs.Widths.{bits}
+
+-- A number as an upper part, in units of 4096, and a lower part that is sign-extended.
+
+abbrev pub upper_part : ℕ → ℕ
+upper_part n = (n + 2048) / 4096 % 2 ^ 20
+
+abbrev pub lower_part : ℕ → ℕ
+lower_part n = n % 4096
+
+-- what 12 bits hold as a number that is not negative
+abbrev pub is_near : ℕ → Bool
+is_near n = nat_lt n 2048
+
+-- a slot's word into a register
+abbrev pub load_code : ℕ → ℕ → List Instr
+load_code register offset =
+    if is_near offset
+    then Load Lw register frame_register offset ∷ []
+    else Upper Lui register (upper_part offset) ∷ Register Add register register frame_register
+    ∷ Load Lw register register (lower_part offset) ∷ []
+
+-- a register into a slot
+abbrev pub store_code : ℕ → ℕ → List Instr
+store_code register offset =
+    if is_near offset
+    then Store Sw register frame_register offset ∷ []
+    else Upper Lui address_register (upper_part offset)
+    ∷ Register Add address_register address_register frame_register
+    ∷ Store Sw register address_register (lower_part offset) ∷ []
+
+-- a number into a register
+abbrev pub constant_code : ℕ → ℕ → List Instr
+constant_code register n =
+    if is_near n
+    then Immediate Addi register zero_register n ∷ []
+    else Upper Lui register (upper_part n) ∷ Immediate Addi register register (lower_part n) ∷ []
+
+-- a register into another
+abbrev pub move_code : ℕ → ℕ → List Instr
+move_code d r = if d == r then [] else Immediate Addi d r 0 ∷ []
+
+-- a word into a register
+abbrev pub copy_code : ℕ → Location → List Instr
+copy_code d (InRegister r) = move_code d r
+copy_code d (InSlot offset) = load_code d offset
+
+-- a word that lies in a slot into a spare register
+abbrev pub fetch_code : Location → ℕ → List Instr
+fetch_code (InRegister r) spare = []
+fetch_code (InSlot offset) spare = load_code spare offset
+
+-- what is in the register of a location whose spare one is the first, kept there
+abbrev pub keep_code : Location → List Instr
+keep_code (InRegister r) = []
+keep_code (InSlot offset) = store_code first_spare offset
+
+-- Operators, on the register r of one operand, or on l and r of two, into a register d. These may be any registers,
+-- and no other is written but one that the operator is given for that.
+
+-- cut to a width, where a narrow one is into d
+abbrev pub narrow_code : ℕ → ℕ → Width → List Instr
+narrow_code d r W8 = Immediate Andi d r 255 ∷ []
+narrow_code d r W16 = Shift Slli d r 16 ∷ Shift Srli d d 16 ∷ []
+narrow_code d r W32 = []
+
+-- the register that the cut is in then
+abbrev pub narrowed_in : ℕ → ℕ → Width → ℕ
+narrowed_in d r W8 = d
+narrowed_in d r W16 = d
+narrowed_in d r W32 = r
+
+-- a register cut to a width, in its place
+abbrev pub cut_code : ℕ → Width → List Instr
+cut_code r w = narrow_code r r w
+
+-- cut to a width
+abbrev pub convert_code : ℕ → ℕ → Width → List Instr
+convert_code d r w = narrow_code d r w ++ move_code d (narrowed_in d r w)
+
+-- 1 where it is 0, and else 0
+abbrev pub is_zero_code : ℕ → ℕ → List Instr
+is_zero_code d r = Immediate Sltiu d r 1 ∷ []
+
+-- 0 where a register is 0, and else 1, in its place
+abbrev pub is_not_zero_code : ℕ → List Instr
+is_not_zero_code r = Register Sltu r zero_register r ∷ []
+
+-- 0 where the right operand is 0, and else 1, into t; and so of the left one into d
+abbrev pub both_truths_code : ℕ → ℕ → ℕ → ℕ → List Instr
+both_truths_code d t l r = Register Sltu t zero_register r ∷ Register Sltu d zero_register l ∷ []
+
+-- 0 less it
+abbrev pub negation_code : ℕ → ℕ → List Instr
+negation_code d r = Register Sub d zero_register r ∷ []
+
+-- Each operator between two operands is a row: a step between them, and what is made of its outcome.
+
+-- into d: of both, of both turned round, of what they are as truths, the lower half of their product, or their
+-- quotient or remainder
+pub data Step : Type 0 where
+  between : (operation : RegisterOperation) → Step
+  turned : (operation : RegisterOperation) → Step
+  of_truths : (operation : RegisterOperation) → Step
+  product : Step
+  division : (operation : DivideOperation) → Step
+
+abbrev pub step_code : ℕ → ℕ → ℕ → ℕ → Step → List Instr
+step_code d t l r (between operation) = Register operation d l r ∷ []
+step_code d t l r (turned operation) = Register operation d r l ∷ []
+step_code d t l r (of_truths operation) = both_truths_code d t l r ++ Register operation d d t ∷ []
+step_code d t l r product = Multiply Mul d l r ∷ []
+step_code d t l r (division operation) = Divide operation d l r ∷ []
+
+-- nothing, whether it is 0, whether it is not, or its cut
+abbrev pub finish_code : ℕ → Width → Finish → List Instr
+finish_code d w Alone = []
+finish_code d w GivesZero = is_zero_code d d
+finish_code d w GivesMore = is_not_zero_code d
+finish_code d w Narrowed = cut_code d w
+
+pub record Row : Type 0 where
+  pub finish : Finish
+  pub step : Step
+
+-- Whether numbers are equal is read off their difference, and an order that takes equal numbers too is the other
+-- order, turned round.
+abbrev pub row_of : BinaryOperator → Row
+row_of operators.Either = record { finish = Alone; step = of_truths Or }
+row_of operators.Both = record { finish = Alone; step = of_truths And }
+row_of operators.Equal = record { finish = GivesZero; step = between Sub }
+row_of operators.Unequal = record { finish = GivesMore; step = between Sub }
+row_of operators.Less = record { finish = Alone; step = between Sltu }
+row_of operators.LessOrEqual = record { finish = GivesZero; step = turned Sltu }
+row_of operators.Greater = record { finish = Alone; step = turned Sltu }
+row_of operators.GreaterOrEqual = record { finish = GivesZero; step = between Sltu }
+row_of operators.BitOr = record { finish = Alone; step = between Or }
+row_of operators.BitXor = record { finish = Alone; step = between Xor }
+row_of operators.BitAnd = record { finish = Alone; step = between And }
+row_of operators.ShiftLeft = record { finish = Narrowed; step = between Sll }
+row_of operators.ShiftRight = record { finish = Narrowed; step = between Srl }
+row_of operators.Add = record { finish = Narrowed; step = between Add }
+row_of operators.Subtract = record { finish = Narrowed; step = between Sub }
+row_of operators.Multiply = record { finish = Narrowed; step = product }
+row_of operators.Divide = record { finish = Alone; step = division Divu }
+row_of operators.Remainder = record { finish = Alone; step = division Remu }
+
+-- an operator between two operands, where t may be written as well
+abbrev pub operator_code : ℕ → ℕ → ℕ → ℕ → BinaryOperator → Width → List Instr
+operator_code d t l r operator w = step_code d t l r (row_of operator).step
+    ++ finish_code d w (row_of operator).finish
+
+-- of words that are 0 or 1 the operator of their bits that makes the same
+abbrev pub of_bits : BinaryOperator → BinaryOperator
+of_bits operators.Either = operators.BitOr
+of_bits operators.Both = operators.BitAnd
+of_bits operator = operator
+
+-- the operator whose code is emitted: bools are 0 or 1, so better code takes their bits as they are
+abbrev pub emitted_operator : Allocation → BinaryOperator → BinaryOperator
+emitted_operator allocation operator = if allocation.immediates then of_bits operator else operator
+
+-- Each operator between an operand and a number in the instruction is a row as well.
+
+abbrev pub number_step_code : ℕ → ℕ → NumberStep → List Instr
+number_step_code d r (WithImmediate operation field) = Immediate operation d r field ∷ []
+number_step_code d r (ByAmount operation amount) = Shift operation d r amount ∷ []
+number_step_code d r AboveZero = Register Sltu d zero_register r ∷ []
+number_step_code d r (KeepsLow others) = Shift Slli d r others ∷ Shift Srli d d others ∷ []
+
+abbrev pub number_code : ℕ → ℕ → Width → NumberRow → List Instr
+number_code d r w row = number_step_code d r row.step ++ finish_code d w row.finish
+
+-- The complement is one less than the number's negative.
+abbrev pub prefix_code : ℕ → ℕ → PrefixOperator → Width → List Instr
+prefix_code d r prefixes.Not w = is_zero_code d r
+prefix_code d r prefixes.Complement w = negation_code d r ++ Immediate Addi d d 4095 ∷ cut_code d w
+prefix_code d r prefixes.Negate w = negation_code d r ++ cut_code d w
+
+-- its bits moved up by an amount below the width, and those that go past its end back in at the bottom
+abbrev pub around_code : ℕ → ℕ → Width → ℕ → List Instr
+around_code d r w amount =
+    if amount == 0 then move_code d r else
+    Shift Slli second_spare r amount ∷ Shift Srli d r (bits w - amount) ∷ Register Add d second_spare d ∷ cut_code d w
+
+abbrev pub rotate_code : ℕ → ℕ → Width → ℕ → List Instr
+rotate_code d r w amount = narrow_code d r w ++ around_code d (narrowed_in d r w) w (amount % bits w)
+
+-- of three operands, the second where the first is 1 and the third where it is 0; m gets the mask, and t what differs
+abbrev pub choice_code : ℕ → ℕ → ℕ → ℕ → ℕ → ℕ → List Instr
+choice_code d m t c l r =
+    Register Sub m zero_register c ∷ Register Xor t l r ∷ Register And t t m ∷ Register Xor d r t ∷ []
+
+-- of two operands, the second where the first is 1, and else 0; m gets the mask
+abbrev pub choice_or_zero_code : ℕ → ℕ → ℕ → ℕ → List Instr
+choice_or_zero_code d m c l = Register Sub m zero_register c ∷ Register And d l m ∷ []
+
+-- Elements of arrays. An index in a register becomes the address of its element but for the lower part of the array's
+-- offset, which the access adds.
+
+-- an index times the bytes of an element, on the frame's base
+abbrev pub scale_code : ℕ → ℕ → Kind → List Instr
+scale_code d r Boolean = Register Add d r frame_register ∷ []
+scale_code d r Uint8 = Register Add d r frame_register ∷ []
+scale_code d r Uint16 = Shift Slli d r 1 ∷ Register Add d d frame_register ∷ []
+scale_code d r Uint32 = Shift Slli d r 2 ∷ Register Add d d frame_register ∷ []
+
+-- the upper part of an offset added to a register, where it has one
+abbrev pub raise_code : ℕ → ℕ → List Instr
+raise_code register offset =
+    if is_near offset then [] else
+    Upper Lui address_register (upper_part offset) ∷ Register Add register register address_register ∷ []
+
+-- an index in a register into its element's address
+abbrev pub address_code : ℕ → ℕ → Kind → ℕ → List Instr
+address_code d r kind offset = scale_code d r kind ++ raise_code d offset
+
+-- an element's load is as wide as the element
+abbrev pub load_by : Kind → LoadOperation
+load_by Boolean = Lbu
+load_by Uint8 = Lbu
+load_by Uint16 = Lhu
+load_by Uint32 = Lw
+
+-- the element at the index in a register, of an array of this kind at an offset
+abbrev pub element_code : ℕ → ℕ → Kind → ℕ → List Instr
+element_code d r kind offset = address_code d r kind offset ++ Load (load_by kind) d d (lower_part offset) ∷ []
+
+-- the kind of a variable, or of its elements
+abbrev pub kind_at : List FlatVariable → ℕ → Kind
+kind_at [] x = Uint32
+kind_at (d ∷ ds) zero = d.word.kind
+kind_at (d ∷ ds) (suc x) = kind_at ds x
+
+-- the offset of an array's element at an index that is known, where its access holds that
+abbrev pub near_offset : ℕ → Kind → Option ℕ → Option ℕ
+near_offset base kind None = None
+near_offset base kind (Some i) = let offset = base + element_bytes kind * i in if is_near offset then Some offset else None
+
+-- the same of an index that is this expression, where numbers go into instructions
+abbrev pub near_element : List FlatVariable → Allocation → ℕ → TermTree → Option ℕ
+near_element declared allocation x index =
+    if allocation.immediates then near_offset (variable_offset declared x) (kind_at declared x) (number_of index)
+    else None
+
+-- the element at an offset that is near
+abbrev pub near_code : ℕ → Kind → ℕ → List Instr
+near_code d kind offset = Load (load_by kind) d frame_register offset ∷ []
+
+-- Expressions.
+
+-- the code for what there is, and else other code
+abbrev pub code_by : {T : Type 0} → Option T → (T → List Instr) → List Instr → List Instr
+code_by None code otherwise = otherwise
+code_by (Some x) code otherwise = code x
+
+-- whether a kind is that of whole words
+abbrev pub is_word : Kind → Bool
+is_word Uint32 = true
+is_word kind = false
+
+-- whether a conversion to a kind leaves each value as it is, so that better code has none for it
+abbrev pub keeps_words : Allocation → Kind → Bool
+keeps_words allocation kind = allocation.immediates && is_word kind
+
+-- the home of an expression: that of a variable, also where a conversion keeps its value
+abbrev pub home_of_term : Allocation → TermTree → Option ℕ
+home_of_term allocation (variable x) = home_of allocation.homes x
+home_of_term allocation (convert kind e) = if keeps_words allocation kind then home_of_term allocation e else None
+home_of_term allocation e = None
+
+-- whether an expression has a home: no code is needed for its value
+abbrev pub is_at_home : Allocation → TermTree → Bool
+is_at_home allocation e = is_some (home_of_term allocation e)
+
+-- where its value is behind its code: in that home, and else in its place
+abbrev pub operand : Allocation → ℕ → ℕ → TermTree → Location
+operand allocation free place e = at_home (home_of_term allocation e) (temporary allocation.count free place)
+
+-- Over these variables, with registers given out so, and the slots of temporaries from an offset on.
+module _ (declared : List FlatVariable) (allocation : Allocation) (free : ℕ) where
+  -- the registers that the value of a place is computed in, and that of the next one
+  abbrev pub own_register : ℕ → ℕ
+  own_register place = working_register allocation.count place first_spare
+
+  abbrev pub next_register : ℕ → ℕ
+  next_register place = working_register allocation.count (place + 1) second_spare
+
+  -- the register that an operand is in, or a spare one
+  abbrev pub operand_register : ℕ → TermTree → ℕ → ℕ
+  operand_register place e spare = register_of (operand allocation free place e) spare
+
+  -- an operand into a spare register, where it lies in a slot
+  abbrev pub fetch_operand : ℕ → TermTree → ℕ → List Instr
+  fetch_operand place e spare = fetch_code (operand allocation free place e) spare
+
+  -- code that brings an expression into the register of a place, with which it comes there, unless it is at home
+  abbrev pub placed_code : ℕ → TermTree → List Instr → List Instr
+  placed_code place e into =
+      if is_at_home allocation e then [] else into ++ keep_code (temporary allocation.count free place)
+
+  -- An expression into a register, with its operands in the places from this one on. None is fetched before the code
+  -- of all of them is through. Where the instruction holds an operand that is a number, the other one is the only
+  -- operand, and a choice between a value and 0 has two.
+  abbrev pub into_code : ℕ → ℕ → TermTree → List Instr
+  into_code d place (number value kind) = constant_code d value
+  into_code d place (truth value) = constant_code d (word_of value)
+  into_code d place (variable x) = copy_code d (variable_location declared allocation x)
+  into_code d place (prefix operator width e) =
+      placed_code place e (into_code (own_register place) place e) ++ fetch_operand place e first_spare
+      ++ prefix_code d (operand_register place e first_spare) operator width
+  into_code d place (binary source operator width left right) =
+      code_by (right_row allocation operator right)
+      (λ row.
+      placed_code place left (into_code (own_register place) place left) ++ fetch_operand place left first_spare
+      ++ number_code d (operand_register place left first_spare) width row)
+      (code_by (left_row allocation operator left)
+      (λ row.
+      placed_code place right (into_code (own_register place) place right) ++ fetch_operand place right first_spare
+      ++ number_code d (operand_register place right first_spare) width row)
+      (placed_code place left (into_code (own_register place) place left)
+      ++ placed_code (place + 1) right (into_code (own_register (place + 1)) (place + 1) right)
+      ++ fetch_operand place left first_spare ++ fetch_operand (place + 1) right second_spare
+      ++ operator_code d (next_register place)
+      (operand_register place left first_spare) (operand_register (place + 1) right second_spare)
+      (emitted_operator allocation operator) width))
+  into_code d place (rotate width e amount) =
+      placed_code place e (into_code (own_register place) place e) ++ fetch_operand place e first_spare
+      ++ rotate_code d (operand_register place e first_spare) width amount
+  into_code d place (convert kind e) =
+      if keeps_words allocation kind then into_code d place e else
+      placed_code place e (into_code (own_register place) place e) ++ fetch_operand place e first_spare
+      ++ convert_code d (operand_register place e first_spare) (width_of kind)
+  into_code d place (select condition accepted otherwise) =
+      if chooses_zero allocation otherwise
+      then placed_code place condition (into_code (own_register place) place condition)
+      ++ placed_code (place + 1) accepted (into_code (own_register (place + 1)) (place + 1) accepted)
+      ++ fetch_operand place condition first_spare ++ fetch_operand (place + 1) accepted second_spare
+      ++ choice_or_zero_code d (own_register place) (operand_register place condition first_spare)
+      (operand_register (place + 1) accepted second_spare)
+      else placed_code place condition (into_code (own_register place) place condition)
+      ++ placed_code (place + 1) accepted (into_code (own_register (place + 1)) (place + 1) accepted)
+      ++ placed_code (place + 2) otherwise (into_code (own_register (place + 2)) (place + 2) otherwise)
+      ++ fetch_operand place condition first_spare ++ fetch_operand (place + 1) accepted second_spare
+      ++ fetch_operand (place + 2) otherwise third_spare
+      ++ choice_code d (own_register place) (next_register place)
+      (operand_register place condition first_spare) (operand_register (place + 1) accepted second_spare)
+      (operand_register (place + 2) otherwise third_spare)
+  into_code d place (element source x size index) =
+      code_by (near_element declared allocation x index) (near_code d (kind_at declared x))
+      (placed_code place index (into_code (own_register place) place index) ++ fetch_operand place index first_spare
+      ++ element_code d (operand_register place index first_spare) (kind_at declared x) (variable_offset declared x))
+
+  -- an expression into a place, unless it is at home
+  abbrev pub expr_code : ℕ → TermTree → List Instr
+  expr_code place e = placed_code place e (into_code (own_register place) place e)
+
+-- the variables that an expression names are among the first so many
+abbrev pub IsAmong : ℕ → TermTree → Type 0
+IsAmong count (number value kind) = Unit {0}
+IsAmong count (truth value) = Unit {0}
+IsAmong count (variable x) = x < count
+IsAmong count (prefix operator width operand) = IsAmong count operand
+IsAmong count (binary place operator width left right) = IsAmong count left × IsAmong count right
+IsAmong count (rotate width operand amount) = IsAmong count operand
+IsAmong count (convert kind operand) = IsAmong count operand
+IsAmong count (select condition accepted otherwise) = IsAmong count condition × IsAmong count accepted
+    × IsAmong count otherwise
+IsAmong count (element place x size index) = (x < count) × IsAmong count index

@@ -1,0 +1,21 @@
+// The code of expressions: variables in registers of their own or at fixed offsets of the frame, and the instructions
+// that compute an expression from them, with temporaries in registers and beyond these in slots. Its law: the machine on
+// them has the expression's value where it is found, and what it shows is decided by what the code's observer sees of the
+// path. It stands on the numbered variables of inlined programs, the instructions and the machine.
+
+mod allocation;
+pub mod emit;
+mod expressions;
+mod laws;
+mod layout;
+mod locations;
+mod numbers;
+mod operators;
+mod truths;
+
+pub use allocation::{Allocation, REGISTER_COUNT};
+pub use expressions::{expression, height, into};
+pub use laws::expressions_are_computed;
+pub use layout::{Layout, WORD_BYTES, offsets, slots};
+pub use locations::{Location, fetch, move_register};
+pub use numbers::number;

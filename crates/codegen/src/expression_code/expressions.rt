@@ -1,0 +1,273 @@
+// An expression's code, and how many temporaries it has at once.
+
+ghost use Rattle.std.specs.Prelude.{◌≡◌, ◌++◌, ◌+◌, ◌*◌, ◌≤◌, length, OnOk, IfOk};
+ghost use Rattle.codegen.specs.expression_code.Layout.{temporaries_offset};
+ghost use Rattle.codegen.specs.expression_code.Allocation.{register_of, slots_to, working_register};
+ghost use Rattle.codegen.specs.expression_code.Registers.{first_spare, second_spare, third_spare};
+ghost use Rattle.codegen.specs.expression_code.TermCode.{into_code, expr_code, operand, fetch_code, choice_or_zero_code, IsAmong};
+ghost use Rattle.branch_removal.specs.Heights.{height_of};
+ghost use Rattle.inline.specs.Flat.{term_tree};
+
+use crate::expression_code::layout::Layout;
+use crate::expression_code::locations::{
+    FIRST_SPARE, SECOND_SPARE, THIRD_SPARE, copy, fetch, keep,
+};
+use crate::expression_code::numbers::{chooses_zero, left_row, right_row};
+use crate::expression_code::operators::{ChoiceOperands, Operands};
+use crate::expression_code::truths::emitted;
+use crate::expression_code::{emit, operators};
+use inline::Term;
+use rv_code::{Instr, Reg};
+use std::alloc::AllocError;
+
+/// How many temporaries an expression has at once, beside the one that it comes into.
+pub fn height(term: &Term) -> u32
+    requires { height_of (term_tree term.now) ≤ 6001 }
+    ensures { result ≡ height_of (term_tree term.now) }
+{
+    match term {
+        Term::Number(_, _) | Term::Truth(_) | Term::Variable(_) => 0,
+        Term::Prefix(_, _, operand)
+        | Term::Rotate(_, operand, _)
+        | Term::Convert(_, operand)
+        | Term::Element(_, _, _, operand) => height(operand),
+        Term::Binary(_, _, _, left, right) => {
+            let left = height(left);
+            let right = height(right);
+            left.max(1 + right)
+        }
+        Term::Select(condition, accepted, otherwise) => {
+            let condition = height(condition);
+            let accepted = height(accepted);
+            let otherwise = height(otherwise);
+            condition.max(1 + accepted.max(1 + otherwise))
+        }
+    }
+}
+
+/// The register of an operand, which is fetched into the spare one where it lies in a slot.
+fn fetched(
+    layout: &Layout<'_>,
+    code: &mut Vec<Instr>,
+    place: u32,
+    term: &Term,
+    spare: Reg,
+) -> Result<Reg, AllocError>
+    requires { temporaries_offset layout.now.declared layout.now.controls layout.now.depths + 4 * slots_to layout.now.allocation.count place ≤ 65536 }
+    ensures code { OnOk result (code.new.items ≡ code.old.items ++ fetch_code (operand layout.now.allocation (temporaries_offset layout.now.declared layout.now.controls layout.now.depths) place (term_tree term.now)) spare) }
+    ensures register { IfOk result (λ r. r ≡ register_of (operand layout.now.allocation (temporaries_offset layout.now.declared layout.now.controls layout.now.depths) place (term_tree term.now)) spare) }
+{
+    let operand = layout.operand(place, term);
+    fetch(code, &operand, spare)?;
+    Ok(operand.register(spare))
+}
+
+/// The registers of a choice between expressions, whose operands are fetched where they lie in slots.
+fn fetched_choice(
+    layout: &Layout<'_>,
+    code: &mut Vec<Instr>,
+    place: u32,
+    condition: &Term,
+    accepted: &Term,
+    otherwise: &Term,
+) -> Result<ChoiceOperands, AllocError>
+    requires { temporaries_offset layout.now.declared layout.now.controls layout.now.depths + 4 * slots_to layout.now.allocation.count (place + 2) ≤ 65536 }
+    ensures code { let free = temporaries_offset layout.now.declared layout.now.controls layout.now.depths in let a = layout.now.allocation in OnOk result (code.new.items ≡ code.old.items ++ fetch_code (operand a free place (term_tree condition.now)) first_spare ++ fetch_code (operand a free (place + 1) (term_tree accepted.now)) second_spare ++ fetch_code (operand a free (place + 2) (term_tree otherwise.now)) third_spare) }
+    ensures registers { let free = temporaries_offset layout.now.declared layout.now.controls layout.now.depths in let a = layout.now.allocation in IfOk result (λ registers. registers ≡ record { mask = working_register a.count place first_spare; scratch = working_register a.count (place + 1) second_spare; condition = register_of (operand a free place (term_tree condition.now)) first_spare; accepted = register_of (operand a free (place + 1) (term_tree accepted.now)) second_spare; otherwise = register_of (operand a free (place + 2) (term_tree otherwise.now)) third_spare }) }
+{
+    let second = layout.place_behind(place, 1);
+    let third = layout.place_behind(place, 2);
+    let condition = fetched(layout, code, place, condition, FIRST_SPARE)?;
+    let accepted = fetched(layout, code, second, accepted, SECOND_SPARE)?;
+    let otherwise = fetched(layout, code, third, otherwise, THIRD_SPARE)?;
+    Ok(ChoiceOperands {
+        mask: layout.working_register(place, FIRST_SPARE),
+        scratch: layout.working_register(second, SECOND_SPARE),
+        condition,
+        accepted,
+        otherwise,
+    })
+}
+
+/// The registers of an operator between expressions, whose operands are fetched where they lie in slots.
+fn fetched_operands(
+    layout: &Layout<'_>,
+    code: &mut Vec<Instr>,
+    target: Reg,
+    place: u32,
+    left: &Term,
+    right: &Term,
+) -> Result<Operands, AllocError>
+    requires { temporaries_offset layout.now.declared layout.now.controls layout.now.depths
+        + 4 * slots_to layout.now.allocation.count (place + 1) ≤ 65536 }
+    ensures code { let free = temporaries_offset layout.now.declared layout.now.controls layout.now.depths in
+        let a = layout.now.allocation in
+        OnOk result (code.new.items ≡ code.old.items ++ fetch_code (operand a free place (term_tree left.now))
+        first_spare ++ fetch_code (operand a free (place + 1) (term_tree right.now)) second_spare) }
+    ensures registers { let free = temporaries_offset layout.now.declared layout.now.controls layout.now.depths in
+        let a = layout.now.allocation in
+        IfOk result (λ registers. registers ≡ record {
+          target = target;
+          scratch = working_register a.count (place + 1) second_spare;
+          left = register_of
+              (operand a free place (term_tree left.now)) first_spare;
+          right = register_of
+              (operand a free (place + 1) (term_tree right.now)) second_spare;
+        }) }
+{
+    let next = layout.place_behind(place, 1);
+    let left = fetched(layout, code, place, left, FIRST_SPARE)?;
+    let right = fetched(layout, code, next, right, SECOND_SPARE)?;
+    let scratch = layout.working_register(next, SECOND_SPARE);
+    Ok(Operands {
+        target,
+        scratch,
+        left,
+        right,
+    })
+}
+
+/// A choice between a value and 0, which are in their places, into a register. Both operands are fetched where they lie in
+/// slots.
+fn fetched_or_zero(
+    layout: &Layout<'_>,
+    code: &mut Vec<Instr>,
+    target: Reg,
+    place: u32,
+    condition: &Term,
+    accepted: &Term,
+) -> Result<(), AllocError>
+    requires { temporaries_offset layout.now.declared layout.now.controls layout.now.depths
+        + 4 * slots_to layout.now.allocation.count (place + 1) ≤ 65536 }
+    ensures { let free = temporaries_offset layout.now.declared layout.now.controls layout.now.depths in
+        let a = layout.now.allocation in
+        let c = operand a free place (term_tree condition.now) in
+        let l = operand a free (place + 1) (term_tree accepted.now) in
+        OnOk result (code.new.items ≡ code.old.items ++ fetch_code c first_spare ++ fetch_code l second_spare
+        ++ choice_or_zero_code target (working_register a.count place first_spare) (register_of c first_spare)
+        (register_of l second_spare)) }
+{
+    let second = layout.place_behind(place, 1);
+    let condition = fetched(layout, code, place, condition, FIRST_SPARE)?;
+    let accepted = fetched(layout, code, second, accepted, SECOND_SPARE)?;
+    let mask = layout.working_register(place, FIRST_SPARE);
+    operators::choice_or_zero(code, target, mask, condition, accepted)
+}
+
+/// An expression into a place, and the register of what is there, which is fetched where it lies in a slot.
+#[cycle(expressions)]
+fn evaluated(
+    layout: &Layout<'_>,
+    code: &mut Vec<Instr>,
+    place: u32,
+    term: &Term,
+) -> Result<Reg, AllocError>
+    requires among { IsAmong (length layout.now.declared) (term_tree term.now) }
+    requires room { temporaries_offset layout.now.declared layout.now.controls layout.now.depths + 4 * slots_to layout.now.allocation.count (height_of (term_tree term.now) + place) ≤ 65536 }
+    ensures code { let free = temporaries_offset layout.now.declared layout.now.controls layout.now.depths in let a = layout.now.allocation in OnOk result (code.new.items ≡ code.old.items ++ expr_code layout.now.declared a free place (term_tree term.now) ++ fetch_code (operand a free place (term_tree term.now)) first_spare) }
+    ensures register { IfOk result (λ r. r ≡ register_of (operand layout.now.allocation (temporaries_offset layout.now.declared layout.now.controls layout.now.depths) place (term_tree term.now)) first_spare) }
+{
+    expression(layout, code, place, term)?;
+    fetched(layout, code, place, term, FIRST_SPARE)
+}
+
+/// An expression into a register, with its operands in the places from this one on. No operand is fetched before the
+/// code of all of them is through.
+#[cycle(expressions)]
+pub fn into(
+    layout: &Layout<'_>,
+    code: &mut Vec<Instr>,
+    target: Reg,
+    place: u32,
+    term: &Term,
+) -> Result<(), AllocError>
+    requires among { IsAmong (length layout.now.declared) (term_tree term.now) }
+    requires room { temporaries_offset layout.now.declared layout.now.controls layout.now.depths + 4 * slots_to layout.now.allocation.count (height_of (term_tree term.now) + place) ≤ 65536 }
+    ensures { OnOk result (code.new.items ≡ code.old.items ++ into_code layout.now.declared layout.now.allocation (temporaries_offset layout.now.declared layout.now.controls layout.now.depths) target place (term_tree term.now)) }
+{
+    match term {
+        Term::Number(value, _) => emit::constant(code, target, *value),
+        Term::Truth(value) => emit::constant(code, target, u32::from(*value)),
+        Term::Variable(number) => copy(code, target, &layout.variable_location(*number)),
+        Term::Prefix(operator, width, operand) => {
+            let register = evaluated(layout, code, place, operand)?;
+            operators::prefix(code, target, register, *operator, *width)
+        }
+        Term::Binary(_, operator, width, left, right) => {
+            if let Some(row) = right_row(layout, *operator, right) {
+                let register = evaluated(layout, code, place, left)?;
+                return operators::with_number(code, target, register, *width, row);
+            }
+            if let Some(row) = left_row(layout, *operator, left) {
+                let register = evaluated(layout, code, place, right)?;
+                return operators::with_number(code, target, register, *width, row);
+            }
+            let next = layout.place_behind(place, 1);
+            expression(layout, code, place, left)?;
+            expression(layout, code, next, right)?;
+            let registers = fetched_operands(layout, code, target, place, left, right)?;
+            operators::operator(code, &registers, emitted(layout, *operator), *width)
+        }
+        Term::Rotate(width, operand, amount) => {
+            let register = evaluated(layout, code, place, operand)?;
+            operators::rotate(code, target, register, *width, *amount)
+        }
+        Term::Convert(kind, operand) => {
+            if layout.keeps_words(*kind) {
+                return into(layout, code, target, place, operand);
+            }
+            let register = evaluated(layout, code, place, operand)?;
+            operators::convert(code, target, register, *kind)
+        }
+        Term::Select(condition, accepted, otherwise) => {
+            let second = layout.place_behind(place, 1);
+            let third = layout.place_behind(place, 2);
+            expression(layout, code, place, condition)?;
+            expression(layout, code, second, accepted)?;
+            if chooses_zero(layout, otherwise) {
+                return fetched_or_zero(layout, code, target, place, condition, accepted);
+            }
+            expression(layout, code, third, otherwise)?;
+            let registers = fetched_choice(layout, code, place, condition, accepted, otherwise)?;
+            operators::choice(code, target, &registers)
+        }
+        Term::Element(_, array, _, index) => {
+            if let Some(offset) = layout.near_element(*array, index) {
+                return emit::near(code, target, layout.kind(*array), offset);
+            }
+            let register = evaluated(layout, code, place, index)?;
+            emit::element(
+                code,
+                target,
+                register,
+                layout.kind(*array),
+                layout.variable(*array),
+            )
+        }
+    }
+}
+
+/// An expression into a place, where temporaries live in all lower ones. What has a home needs no code.
+#[cycle(expressions)]
+pub fn expression(
+    layout: &Layout<'_>,
+    code: &mut Vec<Instr>,
+    place: u32,
+    term: &Term,
+) -> Result<(), AllocError>
+    requires among { IsAmong (length layout.now.declared) (term_tree term.now) }
+    requires room { temporaries_offset layout.now.declared layout.now.controls layout.now.depths + 4 * slots_to layout.now.allocation.count (height_of (term_tree term.now) + place) ≤ 65536 }
+    ensures { OnOk result (code.new.items ≡ code.old.items ++ expr_code layout.now.declared layout.now.allocation (temporaries_offset layout.now.declared layout.now.controls layout.now.depths) place (term_tree term.now)) }
+{
+    if layout.is_at_home(term) {
+        return Ok(());
+    }
+    into(
+        layout,
+        code,
+        layout.working_register(place, FIRST_SPARE),
+        place,
+        term,
+    )?;
+    keep(code, &layout.temporary(place))
+}

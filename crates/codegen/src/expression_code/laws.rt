@@ -1,0 +1,14 @@
+// The law, which holds of the definitions alone.
+
+ghost use Rattle.codegen.specs.expression_code.Computed.{Site, IsSiteOf, IsComputed};
+ghost use Rattle.inline.specs.Flat.{TermTree};
+ghost use Rattle.inline.specs.FlatTyping.{types_of, HasType};
+ghost use Rattle.language.specs.declared.typing.WordType.{WordType};
+
+/// The machine computes a well-typed expression, wherever its code stands, whichever variables have homes and whichever
+/// the place of its value. The value is then in the variable's home or comes into the place, within so many turns. What is
+/// shown is a list that the part of the path which the code's observer sees decides alone. The homes, the temporaries of
+/// lower places and what lies before all temporaries stay.
+pub fn expressions_are_computed()
+    ensures { (e : TermTree) (word : WordType) (site : Site) → HasType (types_of site.code.profile site.declared) e word → IsSiteOf e site → IsComputed e site }
+{}

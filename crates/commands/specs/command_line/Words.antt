@@ -1,0 +1,41 @@
+-- Which words of a command line are arguments, and which profile is named.
+use Rattle.std.specs.Prelude.{ℕ, Bool, ◌||◌, if◌then◌else◌, List, [], ◌∷◌, drop, codes, Option, Some, None}
+use Rattle.std.specs.Prelude.{slice_index_or, map}
+use Rattle.std.specs.Str.{bytes_eq}
+use Rattle.word.specs.declared.profile.Profile.{Profile}
+use Rattle.word.specs.declared.profile.Profile.TheVariants.{P1, P2}
+use Rattle.commands.specs.declared.command_line.words.Request.{Request}
+use Rattle.commands.specs.declared.command_line.words.Request.TheVariants.{Eval, Run, Leak, Pair, Certify, Picture}
+
+-- whether a word is a flag that may stand between a command that takes arguments and its path
+abbrev pub is_flag : List ℕ → Bool
+is_flag word =
+    bytes_eq word (codes "--explain") || bytes_eq word (codes "--shifts") || bytes_eq word (codes "--progress")
+
+-- the words from the first on that is no flag
+abbrev pub behind_flags : List (List ℕ) → List (List ℕ)
+behind_flags [] = []
+behind_flags (word ∷ words) = if is_flag word then behind_flags words else word ∷ words
+
+-- the words behind a path; `--` may stand before the path
+abbrev pub behind_path : List (List ℕ) → List (List ℕ)
+behind_path words = drop (if bytes_eq (slice_index_or words 0 []) (codes "--") then 2 else 1) words
+
+-- the words behind the program's name, a command, flags and a path
+abbrev pub after_path : List (List ℕ) → List (List ℕ)
+after_path words = behind_path (behind_flags (drop 2 words))
+
+-- the profile of the number that is named; without one it is the first
+abbrev pub profile_named : Option (List ℕ) → Profile
+profile_named (Some text) = if bytes_eq text (codes "2") then P2 else P1
+profile_named None = P1
+
+-- the arguments that are asked for
+abbrev pub arguments_of : Request → Option (List (List ℕ))
+arguments_of (Eval file arguments explain) = Some (map (λ word. word.now) arguments.now)
+arguments_of (Run image arguments progress) = Some (map (λ word. word.now) arguments.now)
+arguments_of (Leak image arguments) = Some (map (λ word. word.now) arguments.now)
+arguments_of (Pair image arguments options) = Some (map (λ word. word.now) arguments.now)
+arguments_of (Certify image arguments shifts progress) = Some (map (λ word. word.now) arguments.now)
+arguments_of (Picture image arguments) = Some (map (λ word. word.now) arguments.now)
+arguments_of request = None

@@ -1,0 +1,212 @@
+// What each command asks for, by its words as `clap` matched them.
+
+ghost use Rattle.std.specs.Prelude.{◌≡◌, None, Some, codes, map, IfOk, IfSome};
+ghost use Rattle.clap.specs.Matches.{first_value, found_of, one_text};
+ghost use Rattle.commands.specs.command_line.Words.{arguments_of, profile_named};
+
+use crate::command_line::options::{CompileOptions, PairOptions};
+use crate::command_line::words::Request;
+use clap::ArgMatches;
+use clap::error::ErrorKind;
+use explanations::explanation;
+use hepurita::Optimisation;
+use word::Profile;
+
+/// What the words ask for, where these are the arguments behind a path; else the kind of what is wrong, and its text.
+pub(crate) fn request_of<'a>(
+    matches: &ArgMatches<'a>,
+    arguments: &'a [&'a str],
+) -> Result<Request<'a>, (ErrorKind, &'static str)>
+    ensures { IfOk result (λ request. IfSome (arguments_of request) (λ given. given ≡ map (λ word. word.now) arguments.now)) }
+{
+    let Some((name, given)) = matches.subcommand() else {
+        return Err((ErrorKind::MissingSubcommand, "a command is required"));
+    };
+    match request_with(name, given, arguments) {
+        Some(request) => Ok(request),
+        None => request_without(name, given),
+    }
+}
+
+/// The request of a command that takes arguments of a run.
+fn request_with<'a>(
+    name: &str,
+    given: &ArgMatches<'a>,
+    arguments: &'a [&'a str],
+) -> Option<Request<'a>>
+    ensures { IfSome result (λ request. IfSome (arguments_of request) (λ given. given ≡ map (λ word. word.now) arguments.now)) }
+{
+    match name {
+        "eval" => Some(Request::Eval {
+            file: text_of(given, "FILE"),
+            arguments,
+            explain: given.get_flag("explain"),
+        }),
+        "run" => Some(Request::Run {
+            image: text_of(given, "IMAGE"),
+            arguments,
+            progress: given.get_flag("progress"),
+        }),
+        "leak" => Some(Request::Leak {
+            image: text_of(given, "IMAGE"),
+            arguments,
+        }),
+        "pair" => Some(Request::Pair {
+            image: text_of(given, "IMAGE"),
+            arguments,
+            options: PairOptions {
+                explain: given.get_flag("explain"),
+                progress: given.get_flag("progress"),
+            },
+        }),
+        "certify" => Some(Request::Certify {
+            image: text_of(given, "IMAGE"),
+            arguments,
+            shifts: given.get_flag("shifts"),
+            progress: given.get_flag("progress"),
+        }),
+        "picture" => Some(Request::Picture {
+            image: text_of(given, "IMAGE"),
+            arguments,
+        }),
+        _ => None,
+    }
+}
+
+/// The request of a command that takes none.
+fn request_without<'a>(
+    name: &str,
+    given: &ArgMatches<'a>,
+) -> Result<Request<'a>, (ErrorKind, &'static str)>
+    ensures { IfOk result (λ request. arguments_of request ≡ None) }
+{
+    match name {
+        "check" => Ok(check(given)),
+        "build" => Ok(build(given)),
+        "stat" => Ok(stat(given)),
+        "function" => Ok(function(given)),
+        "list" => Ok(Request::List {
+            image: text_of(given, "IMAGE"),
+        }),
+        "wrap" => Ok(wrap(given)),
+        "harts" => Ok(Request::Harts {
+            file: text_of(given, "FILE"),
+        }),
+        "vectors" => Ok(vectors(given)),
+        "explain" => explain(given),
+        _ => Err((ErrorKind::MissingSubcommand, "a command is required")),
+    }
+}
+
+fn check<'a>(given: &ArgMatches<'a>) -> Request<'a>
+    ensures { arguments_of result ≡ None }
+{
+    Request::Check {
+        file: text_of(given, "FILE"),
+        profile: profile_of(given),
+        explain: given.get_flag("explain"),
+    }
+}
+
+fn build<'a>(given: &ArgMatches<'a>) -> Request<'a>
+    ensures { arguments_of result ≡ None }
+{
+    Request::Build {
+        file: text_of(given, "FILE"),
+        image: text_of(given, "IMAGE"),
+        options: options_of(given),
+    }
+}
+
+fn stat<'a>(given: &ArgMatches<'a>) -> Request<'a>
+    ensures { arguments_of result ≡ None }
+{
+    Request::Stat {
+        file: text_of(given, "FILE"),
+        profile: profile_of(given),
+    }
+}
+
+fn function<'a>(given: &ArgMatches<'a>) -> Request<'a>
+    ensures { arguments_of result ≡ None }
+{
+    Request::Function {
+        file: text_of(given, "FILE"),
+        assembler: text_of(given, "ASM"),
+        header: text_of(given, "HEADER"),
+        options: options_of(given),
+    }
+}
+
+fn wrap<'a>(given: &ArgMatches<'a>) -> Request<'a>
+    ensures { arguments_of result ≡ None }
+{
+    Request::Wrap {
+        file: text_of(given, "FILE"),
+        code: text_of(given, "CODE"),
+        image: text_of(given, "IMAGE"),
+        frame: number_of(given, "frame"),
+        steps: number_of(given, "steps"),
+        profile: profile_of(given),
+    }
+}
+
+fn vectors<'a>(given: &ArgMatches<'a>) -> Request<'a>
+    ensures { arguments_of result ≡ None }
+{
+    Request::Vectors {
+        file: text_of(given, "FILE"),
+        vectors: text_of(given, "VECTORS"),
+        profile: profile_of(given),
+    }
+}
+
+fn explain<'a>(given: &ArgMatches<'_>) -> Result<Request<'a>, (ErrorKind, &'static str)>
+    ensures { IfOk result (λ request. arguments_of request ≡ None) }
+{
+    match explanation(text_of(given, "CODE")) {
+        Some(explanation) => Ok(Request::Explain { explanation }),
+        None => Err((ErrorKind::InvalidValue, "no such code")),
+    }
+}
+
+/// The value of a required argument.
+fn text_of<'a>(matches: &ArgMatches<'a>, id: &str) -> &'a str {
+    matches.get_str(id).unwrap_or("")
+}
+
+/// The value of a required option that is a number.
+fn number_of(matches: &ArgMatches<'_>, id: &str) -> u64 {
+    matches.get_one(id).unwrap_or(0)
+}
+
+/// The profile of this number, which is 1 where none is given.
+fn profile_of(matches: &ArgMatches<'_>) -> Profile
+    ensures { result ≡ profile_named (first_value (found_of matches.now) (codes "profile")) }
+{
+    match matches.get_str("profile") {
+        Some("2") => Profile::P2,
+        _ => Profile::P1,
+    }
+}
+
+/// Optimised code where it is asked for, else plain code.
+fn optimisation_of(matches: &ArgMatches<'_>) -> Optimisation
+    ensures plain { one_text (found_of matches.now) (codes "optimise") ≡ None → result ≡ Optimisation.Off }
+    ensures optimised { one_text (found_of matches.now) (codes "optimise") ≡ Some (codes "true") → result ≡ Optimisation.On }
+{
+    if matches.get_flag("optimise") {
+        Optimisation::On
+    } else {
+        Optimisation::Off
+    }
+}
+
+/// How a source is to be compiled.
+fn options_of(matches: &ArgMatches<'_>) -> CompileOptions {
+    CompileOptions {
+        profile: profile_of(matches),
+        optimisation: optimisation_of(matches),
+        explain: matches.get_flag("explain"),
+    }
+}

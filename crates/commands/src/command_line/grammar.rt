@@ -1,0 +1,106 @@
+// The commands of `factc`, a row for each, and what `clap` makes of the rows.
+
+use crate::command_line::commands::{COMMANDS, CommandRow, Word};
+use clap::{Arg, ArgAction, Command, value_parser};
+use explanations::codes;
+use std::alloc::{AllocError, Global};
+
+/// The commands of `factc` and their words, as `clap` reads them.
+pub fn factc<'a>(alloc: Global) -> Result<Command<'a>, AllocError> {
+    let mut factc = Command::new(alloc, "factc")
+        .version("0.1.0")
+        .about(
+            "Compiles a core of FaCT, a language for code whose timing does not depend on secrets, to RISC-V (RV32IM), \
+             runs what it compiled, and shows what an observer sees of the run",
+        )
+        .subcommand_required(true);
+    for row in &COMMANDS {
+        factc = factc.subcommand(command(alloc, row)?)?;
+    }
+    Ok(factc)
+}
+
+/// The command of a row.
+fn command<'a>(alloc: Global, row: &CommandRow) -> Result<Command<'a>, AllocError> {
+    let mut command = Command::new(alloc, row.name).about(row.about);
+    for word in row.words {
+        command = command.arg(argument(alloc, word))?;
+    }
+    Ok(command)
+}
+
+/// What `clap` reads as this word.
+fn argument<'a>(alloc: Global, word: &Word) -> Arg<'a> {
+    match *word {
+        Word::Path(name, help) => path(alloc, name, help),
+        Word::Code(name, help) => path(alloc, name, help).value_parser(codes()),
+        Word::Number(name, help) => number(alloc, name, help),
+        Word::Profile => profile(alloc),
+        Word::Optimisation => optimisation(alloc),
+        Word::Flag(name, help) => flag(alloc, name, help),
+        Word::Arguments(help) => arguments(alloc, help),
+    }
+}
+
+fn path<'a>(alloc: Global, name: &'static str, help: &'static str) -> Arg<'a> {
+    Arg::new(alloc, name)
+        .action(ArgAction::Set)
+        .required(true)
+        .help(help)
+}
+
+/// A number that is to be given after its name.
+fn number<'a>(alloc: Global, name: &'static str, help: &'static str) -> Arg<'a> {
+    Arg::new(alloc, name)
+        .long(name)
+        .value_name("N")
+        .action(ArgAction::Set)
+        .required(true)
+        .value_parser(value_parser!(u64))
+        .help(help)
+}
+
+/// The numbers of the profiles.
+static PROFILES: [&str; 2] = ["1", "2"];
+
+/// For which observer a source is judged or compiled.
+fn profile<'a>(alloc: Global) -> Arg<'a> {
+    Arg::new(alloc, "profile")
+        .long("profile")
+        .value_name("N")
+        .action(ArgAction::Set)
+        .value_parser(PROFILES.as_slice())
+        .default_value("1")
+        .help(
+            "From whom secrets are kept: from an observer to whom multiplications show nothing of their operands \
+             (1), or from one who sees the operands of multiplications too (2)",
+        )
+}
+
+/// Whether optimised code is asked for.
+fn optimisation<'a>(alloc: Global) -> Arg<'a> {
+    flag(
+        alloc,
+        "optimise",
+        "Makes optimised code: fewer steps in most routines, the same guarantees",
+    )
+    .short('O')
+}
+
+/// A flag that is given or not.
+fn flag<'a>(alloc: Global, name: &'static str, help: &'static str) -> Arg<'a> {
+    Arg::new(alloc, name)
+        .long(name)
+        .action(ArgAction::SetTrue)
+        .help(help)
+}
+
+/// Every word after a path, also one that begins with a hyphen.
+fn arguments<'a>(alloc: Global, help: &'static str) -> Arg<'a> {
+    Arg::new(alloc, "ARG")
+        .action(ArgAction::Append)
+        .num_args(0..)
+        .allow_hyphen_values(true)
+        .trailing_var_arg(true)
+        .help(help)
+}

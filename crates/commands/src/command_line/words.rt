@@ -1,0 +1,167 @@
+ghost use Rattle.std.specs.Prelude.{◌≡◌, map, IfOk, IfSome};
+ghost use Rattle.commands.specs.command_line.Words.{is_flag, behind_flags, after_path, arguments_of};
+
+use crate::command_line::asked::request_of;
+use crate::command_line::grammar::factc;
+use crate::command_line::options::{CompileOptions, PairOptions};
+use clap::Error;
+use clap::error::ErrorKind;
+use explanations::Explanation;
+use std::alloc::Global;
+use word::Profile;
+
+/// What the words ask for.
+pub enum Request<'a> {
+    Check {
+        file: &'a str,
+        profile: Profile,
+        explain: bool,
+    },
+    Build {
+        file: &'a str,
+        image: &'a str,
+        options: CompileOptions,
+    },
+    Stat {
+        file: &'a str,
+        profile: Profile,
+    },
+    Function {
+        file: &'a str,
+        assembler: &'a str,
+        header: &'a str,
+        options: CompileOptions,
+    },
+    Eval {
+        file: &'a str,
+        arguments: &'a [&'a str],
+        explain: bool,
+    },
+    Run {
+        image: &'a str,
+        arguments: &'a [&'a str],
+        progress: bool,
+    },
+    Leak {
+        image: &'a str,
+        arguments: &'a [&'a str],
+    },
+    Pair {
+        image: &'a str,
+        arguments: &'a [&'a str],
+        options: PairOptions,
+    },
+    Certify {
+        image: &'a str,
+        arguments: &'a [&'a str],
+        shifts: bool,
+        progress: bool,
+    },
+    Picture {
+        image: &'a str,
+        arguments: &'a [&'a str],
+    },
+    List {
+        image: &'a str,
+    },
+    Wrap {
+        file: &'a str,
+        code: &'a str,
+        image: &'a str,
+        frame: u64,
+        steps: u64,
+        profile: Profile,
+    },
+    Harts {
+        file: &'a str,
+    },
+    Vectors {
+        file: &'a str,
+        vectors: &'a str,
+        profile: Profile,
+    },
+    Explain {
+        explanation: Explanation,
+    },
+}
+
+/// Why the words ask for no command, with the text that is to be printed.
+#[derive(Debug, Drop)]
+pub enum NoRequest {
+    /// They ask for help or for the version.
+    Help(String),
+    /// They are no command line.
+    Wrong(String),
+    /// A growth was refused.
+    Memory,
+}
+
+/// Reads the words, of which the first is the program's own name. The arguments of a request are the words behind its path.
+pub fn parse<'a>(alloc: Global, words: &'a [&'a str]) -> Result<Request<'a>, NoRequest>
+    ensures { IfOk result (λ request. IfSome (arguments_of request) (λ arguments. arguments ≡ after_path (map (λ word. word.now) words.now))) }
+{
+    match asked(alloc, words) {
+        Ok(request) => Ok(request),
+        Err(error) => Err(said(alloc, &error)),
+    }
+}
+
+/// What is to be said of an error, as which `clap` gives help and the version too.
+fn said(alloc: Global, error: &Error) -> NoRequest {
+    if error.kind() == ErrorKind::OutOfMemory {
+        return NoRequest::Memory;
+    }
+    match format!(in alloc; "{error}") {
+        Ok(text) if error.use_stderr() => NoRequest::Wrong(text),
+        Ok(text) => NoRequest::Help(text),
+        Err(_) => NoRequest::Memory,
+    }
+}
+
+/// What the words ask for, as `clap` reads them.
+fn asked<'a>(alloc: Global, words: &'a [&'a str]) -> Result<Request<'a>, Error>
+    ensures { IfOk result (λ request. IfSome (arguments_of request) (λ arguments. arguments ≡ after_path (map (λ word. word.now) words.now))) }
+{
+    let mut command = factc(alloc)?;
+    let matches = command.try_get_matches_from_mut(words)?;
+    match request_of(&matches, after_path(words)) {
+        Ok(request) => Ok(request),
+        Err((kind, why)) => Err(command.error(kind, why)?),
+    }
+}
+
+/// The words after a command, its flags and its FILE or IMAGE. Each of them is an argument, also `--` and what looks like a
+/// flag; before the path, behind the flags, `--` says that the path may begin with a hyphen.
+fn after_path<'a>(words: &'a [&'a str]) -> &'a [&'a str]
+    ensures { map (λ word. word.now) result.now ≡ after_path (map (λ word. word.now) words.now) }
+{
+    let [_, _, rest @ ..] = words else {
+        return &[];
+    };
+    match behind_flags(rest) {
+        [dashes, _, arguments @ ..] if *dashes == "--" => arguments,
+        [_, arguments @ ..] => arguments,
+        [] => &[],
+    }
+}
+
+/// The words from the first on that is no flag.
+fn behind_flags<'a>(words: &'a [&'a str]) -> &'a [&'a str]
+    ensures { map (λ word. word.now) result.now ≡ behind_flags (map (λ word. word.now) words.now) }
+{
+    let mut rest = words;
+    while let [word, more @ ..] = rest {
+        if !is_flag(word) {
+            break;
+        }
+        rest = more;
+    }
+    rest
+}
+
+/// Whether a word is a flag that may stand between a command that takes arguments and its path.
+fn is_flag(word: &str) -> bool
+    ensures { result ≡ is_flag word.now }
+{
+    word == "--explain" || word == "--shifts" || word == "--progress"
+}

@@ -1,6 +1,0 @@
-use Rattle.constants.specs.Exact.{simplified_of}
-use Rattle.constants.proofs.simplification.simplify.Goals as goal
-
-pub returns-clause-exact : goal.returns-clause-exact
-unfolding simplified_of
-returns-clause-exact c = c.in_ok-simpler.ensures.exact

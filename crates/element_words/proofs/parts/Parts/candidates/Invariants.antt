@@ -1,8 +1,0 @@
-use Rattle.std.proofs.Common.{◌≡◌, ◌++◌, None, map, take, drop, replicate}
-use Rattle.element_words.specs.private.Parts.{candidate}
-use Rattle.element_words.proofs.parts.Parts.candidates.Given as goal
-
--- the variables before this one are looked at
-abbrev pub invariant-loop-variable : goal.invariant-loop-variable
-invariant-loop-variable l = l.arrays.items
-    ≡ replicate l.parameters None ++ map candidate (take l.variable-index (drop l.parameters l.declared))

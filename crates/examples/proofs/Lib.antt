@@ -1,0 +1,2 @@
+pub mod machine_lemmas
+pub mod sources_lemmas

@@ -1,0 +1,6 @@
+// TODO examples
+#![tactic(auto)]
+
+pub mod library;
+pub mod machine;
+pub mod sources;

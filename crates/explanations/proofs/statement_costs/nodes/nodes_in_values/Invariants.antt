@@ -1,0 +1,12 @@
+use Rattle.std.proofs.Common.{◌≡◌, ◌≤◌, ◌+◌, drop, map}
+use Rattle.language.specs.Size.{nodes_in_all}
+use Rattle.language.specs.Tree.{expr_tree}
+use Rattle.explanations.specs.statement_costs.Counts.{counted, most_counted}
+use Rattle.explanations.proofs.statement_costs.nodes.nodes_in_values.Given as goal
+
+-- the sum is a count, and with what the values left have it is the count of all
+abbrev pub invariant-loop-value : goal.invariant-loop-value
+invariant-loop-value l =
+    (l.sum ≤ most_counted)
+    × (counted (l.sum + nodes_in_all (map expr_tree (drop l.value-index l.values)))
+    ≡ counted (nodes_in_all (map expr_tree l.values)))

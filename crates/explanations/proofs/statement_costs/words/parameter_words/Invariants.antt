@@ -1,0 +1,12 @@
+use Rattle.std.proofs.Common.{◌≡◌, ◌≤◌, ◌+◌, drop, map}
+use Rattle.language.specs.Size.{parameter_words}
+use Rattle.language.specs.Tree.{parameter_tree}
+use Rattle.explanations.specs.statement_costs.Counts.{counted, most_counted}
+use Rattle.explanations.proofs.statement_costs.words.parameter_words.Given as goal
+
+-- the sum is a count, and with what the parameters left take it is the count of all
+abbrev pub invariant-loop-parameter : goal.invariant-loop-parameter
+invariant-loop-parameter l =
+    (l.sum ≤ most_counted)
+    × (counted (l.sum + parameter_words (map parameter_tree (drop l.parameter-index l.parameters)))
+    ≡ counted (parameter_words (map parameter_tree l.parameters)))

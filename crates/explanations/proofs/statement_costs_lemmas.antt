@@ -1,0 +1,4 @@
+pub mod Below
+pub mod TreeLemmas
+pub mod PartLemmas
+pub mod GreatestLemmas

@@ -1,0 +1,14 @@
+use Rattle.std.proofs.Common.{◌≡◌, ◌≤◌, ◌+◌, drop, length, map}
+use Rattle.language.specs.Meaning.{word_arguments}
+use Rattle.language.specs.Tree.{expr_tree, parameter_tree}
+use Rattle.explanations.specs.statement_costs.Counts.{counted, most_counted}
+use Rattle.explanations.proofs.statement_work.lengths.words_passed.Given as goal
+
+-- the sum is a count, and with what is left to pass it is the count of all
+abbrev pub invariant-loop-index : goal.invariant-loop-index
+invariant-loop-index l =
+    (l.sum ≤ most_counted)
+    × (counted
+    (l.sum + length (word_arguments (map parameter_tree (drop l.index l.parameters))
+    (map expr_tree (drop l.index l.arguments))))
+    ≡ counted (length (word_arguments (map parameter_tree l.parameters) (map expr_tree l.arguments))))

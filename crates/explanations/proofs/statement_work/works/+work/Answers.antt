@@ -1,0 +1,57 @@
+use Rattle.std.proofs.Common.{◌≡◌, ◌+◌, ◌*◌, slice_index, ap, ap₂, ◌∙◌, arith}
+use Rattle.inline.specs.Flat.{flat_block}
+use Rattle.intervals.specs.Work.{body_work}
+use Rattle.explanations.specs.statement_costs.Counts.{counted}
+use Rattle.explanations.proofs.statement_work_lemmas.Below.{branch_work, loop_work}
+use Rattle.explanations.proofs.statement_work_lemmas.CountedWork.{times_counted}
+use Rattle.explanations.proofs.statement_work.works.+work.Goals as goal
+
+pub work_of-returns-in-Branch : goal.work_of-returns-in-Branch
+work_of-returns-in-Branch t c =
+    let turns = c.args.turns.now in
+    let whole = branch_work turns c.args.statement.now _ c.in-Branch.condition c.in-Branch.accepted
+    c.in-Branch.otherwise c.in-Branch.is in
+    let one = ap (λ xs. body_work turns (flat_block xs)) c.as_slice-in-Branch.ensures.value in
+    let other = ap (λ xs. body_work turns (flat_block xs)) c.as_slice-in-Branch-2.ensures.value in
+    omega (
+      arith,
+      whole,
+      one,
+      other,
+      c.nodes_in-in-Branch.ensures,
+      c.work_of_all.ensures,
+      c.work_of_all-in-Branch.ensures,
+      c.saturating_add-in-Branch.ensures,
+      c.saturating_add-in-Branch-2.ensures,
+      c.saturating_add-in-Branch-3.ensures,
+    )
+
+pub work_of-returns-in-Loop : goal.work_of-returns-in-Loop
+work_of-returns-in-Loop t c =
+    let turns = c.args.turns.now in
+    let whole = loop_work turns c.args.statement.now c.in-Loop.counter c.in-Loop.low c.in-Loop.high c.in-Loop.body
+    c.in-Loop.is in
+    let one = ap (λ xs. (slice_index turns c.in-Loop.counter + 1) * (1 + body_work turns (flat_block xs)))
+    c.as_slice-in-Loop.ensures.value in
+    omega (
+      arith,
+      whole,
+      one,
+      c.nodes_in-in-Loop.ensures,
+      c.nodes_in-in-Loop-2.ensures,
+      c.work_of_turns.ensures,
+      c.saturating_add-in-Loop.ensures,
+      c.saturating_add-in-Loop-2.ensures,
+    )
+
+pub work_of_turns-returns : goal.work_of_turns-returns
+work_of_turns-returns t c =
+    let turns = c.args.turns.now in
+    let body = body_work turns (flat_block c.args.body.now) in
+    let times : c.from-times.result + 1 ≡ slice_index turns c.args.counter + 1 =
+    ap (λ n. n + 1) (c.from-times.ensures ∙ c.turns_at.ensures) in
+    let turn : c.saturating_add-turn.result ≡ counted (1 + body) =
+    omega (arith, c.saturating_add-turn.ensures, c.work_of_all.ensures) in
+    c.saturating_mul.ensures
+    ∙ (ap₂ (λ t n. counted (t * n)) times turn
+    ∙ times_counted (slice_index turns c.args.counter + 1) (1 + body) (omega arith))

@@ -1,0 +1,12 @@
+use Rattle.std.proofs.Common.{◌≡◌, ◌≤◌, ◌+◌, drop}
+use Rattle.inline.specs.Flat.{flat_block}
+use Rattle.intervals.specs.Work.{body_work}
+use Rattle.explanations.specs.statement_costs.Counts.{counted, most_counted}
+use Rattle.explanations.proofs.statement_work.works.+work.Given as goal
+
+-- the sum is a count, and with the work of the statements left it is the count of all
+abbrev pub invariant-work_of_all-loop-statement : goal.invariant-work_of_all-loop-statement
+invariant-work_of_all-loop-statement l =
+    (l.sum ≤ most_counted)
+    × (counted (l.sum + body_work l.turns (flat_block (drop l.statement-index l.body)))
+    ≡ counted (body_work l.turns (flat_block l.body)))

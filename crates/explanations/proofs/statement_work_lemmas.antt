@@ -1,0 +1,7 @@
+pub mod Below
+pub mod Callees
+pub mod CountedWork
+pub mod Counts
+pub mod MostWork
+pub mod Splits
+pub mod WholeWork

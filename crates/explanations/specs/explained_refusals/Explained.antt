@@ -1,0 +1,22 @@
+-- What is printed below a refusal's line.
+use Rattle.std.specs.Prelude.{◌≡◌, ℕ, List, [], ◌++◌, Option, None, Some}
+use Rattle.explanations.specs.declared.row.Explanation.{Explanation}
+use Rattle.language.specs.Rules.{code_of}
+use Rattle.language.specs.declared.refusal.Refusal.{Refusal}
+use Rattle.explanations.specs.refusal_details.Details.{Says}
+use Rattle.diagnostics.specs.source_excerpts.Excerpt.{excerpt_text}
+use Rattle.word.specs.declared.place.Place.{Place}
+
+-- the line of a source at a place, marked
+abbrev pub place_lines : List ℕ → Option Place → List ℕ
+place_lines source None = []
+place_lines source (Some place) = excerpt_text source place
+
+-- the place in the source, what is said of what there is, and the text of the rule that has the refusal's code,
+-- without its last line's end
+pub record Explains (source : List ℕ) (refusal : Refusal) (lines : List ℕ) : Type 0 where
+  pub row : Explanation
+  pub details : List ℕ
+  pub of_rule : row.code.now ≡ code_of refusal.rule
+  pub said : Says source refusal details
+  pub printed : lines ≡ place_lines source refusal.place ++ (details ++ row.rule.now)

@@ -1,0 +1,22 @@
+-- What is said where a token is unexpected: which kinds of tokens may stand there.
+use Rattle.std.specs.Prelude.{ℕ, List, [], ◌∷◌, ◌++◌, take, codes}
+use Rattle.std.specs.Str.{IsCharBoundary}
+use Rattle.diagnostics.specs.expected_tokens.Candidates.{candidates}
+use Rattle.diagnostics.specs.expected_tokens.Expected.{Expects}
+
+-- names, each behind a comma
+abbrev pub more_names : List (List ℕ) → List ℕ
+more_names [] = []
+more_names (name ∷ names) = codes ", " ++ (name ++ more_names names)
+
+abbrev pub expected_line : List (List ℕ) → List ℕ
+expected_line [] = []
+expected_line (name ∷ names) = codes "  expected: " ++ (name ++ (more_names names ++ codes "\n"))
+
+-- at a place behind so many bytes of a text, unless that is inside a character
+pub data SaysExpected (text : List ℕ) (at : ℕ) : List ℕ → Type 0 where
+  tried : {names : List (List ℕ)}
+      → IsCharBoundary text at
+      → Expects (take at text) candidates names
+      → SaysExpected text at (expected_line names)
+  inside : ¬ IsCharBoundary text at → SaysExpected text at []

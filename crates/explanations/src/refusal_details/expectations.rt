@@ -1,0 +1,50 @@
+// A token that is unexpected.
+
+ghost use Rattle.std.specs.Prelude.{◌≡◌, ◌++◌, map, IfOk, IfErr, OnOk};
+ghost use Rattle.std.specs.String.{string_bytes};
+ghost use Rattle.language.specs.WantOfMemory.{IsWantOfMemory};
+ghost use Rattle.explanations.specs.refusal_details.ExpectedLines.{SaysExpected, expected_line, more_names};
+
+use diagnostics::expected_tokens::expected;
+use language::Refusal;
+use std::alloc::{AllocError, Global};
+
+/// What is said of the token that stands behind so many bytes of a text, or of its end there.
+pub fn expected_lines(alloc: Global, at: u32, text: &str) -> Result<String, Refusal>
+    ensures said { IfOk result (λ lines. SaysExpected text.now at (string_bytes lines)) }
+    ensures memory { IfErr result (λ refusal. IsWantOfMemory refusal.rule refusal.place) }
+{
+    match text.split_at_checked(at as usize) {
+        Some((front, _)) => {
+            let names = expected(alloc, front)?;
+            Ok(expected_line(alloc, names.as_slice())?)
+        }
+        None => Ok(String::new(alloc)),
+    }
+}
+
+/// The names of what may stand there, as a line.
+fn expected_line(alloc: Global, names: &[&str]) -> Result<String, AllocError>
+    ensures { IfOk result (λ line. string_bytes line ≡ expected_line (map (λ name. name.now) names.now)) }
+{
+    match names.split_first() {
+        Some((first, others)) => {
+            let mut line = format!(in alloc; "  expected: {first}")?;
+            push_names(&mut line, others)?;
+            line.push_str("\n")?;
+            Ok(line)
+        }
+        None => Ok(String::new(alloc)),
+    }
+}
+
+/// Puts names at the end of a text, each behind a comma.
+fn push_names(text: &mut String, names: &[&str]) -> Result<(), AllocError>
+    ensures { OnOk result (string_bytes text.new ≡ string_bytes text.old ++ more_names (map (λ name. name.now) names.now)) }
+{
+    for name in names {
+        text.push_str(", ")?;
+        text.push_str(name)?;
+    }
+    Ok(())
+}

@@ -1,8 +1,0 @@
-use Rattle.std.proofs.Common.{◌≡◌, ◌++◌, drop}
-use Rattle.linked_calls.specs.FunctionCode.{clear_registers_code}
-use Rattle.function_code.proofs.pieces.clear_registers.Given as goal
-
-abbrev pub invariant-loop-register : goal.invariant-loop-register
-invariant-loop-register l =
-    l.code.items ++ clear_registers_code (drop l.register-index l.registers) ≡ l.fn.code.items
-    ++ clear_registers_code l.fn.registers

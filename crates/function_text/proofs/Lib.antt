@@ -1,6 +1,0 @@
-mod Below
-pub mod AssembledLemmas
-pub mod FunctionLemmas
-pub mod TextLaws
-pub mod WordLines
-pub mod LinkedLemmas

@@ -1,8 +1,0 @@
-use Rattle.std.proofs.Common.{take}
-use Rattle.std.specs.String.{string_bytes}
-use Rattle.function_text.specs.AssemblerText.{ListsWords}
-use Rattle.function_text.proofs.assembler.body_lines.Given as goal
-
--- the words so far are listed
-abbrev pub invariant-loop-word : goal.invariant-loop-word
-invariant-loop-word l = ListsWords (take l.word-index l.words) (string_bytes l.lines)

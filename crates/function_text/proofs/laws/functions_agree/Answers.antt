@@ -1,8 +1,0 @@
-use Rattle.function_text.proofs.TextLaws.{one_function, one_pair}
-use Rattle.function_text.proofs.laws.functions_agree.Goals as goal
-
-pub returns : goal.returns
-returns c = record {
-  parts = one_function c.one_answer_for_a_text.ensures;
-  texts = one_pair c.words_differ.ensures c.one_answer_for_a_text.ensures;
-}

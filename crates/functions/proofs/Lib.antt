@@ -1,0 +1,2 @@
+pub mod function_code_lemmas
+pub mod function_text_lemmas

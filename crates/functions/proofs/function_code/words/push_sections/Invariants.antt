@@ -1,0 +1,9 @@
+use Rattle.std.proofs.Common.{◌≡◌, ◌++◌, map, drop}
+use Rattle.linked_calls.specs.Sections.{code_of}
+use Rattle.rv_code.specs.Words.{word_of}
+use Rattle.functions.proofs.function_code.words.push_sections.Given as goal
+
+abbrev pub invariant-loop-section : goal.invariant-loop-section
+invariant-loop-section l =
+    l.words.items ++ map word_of (code_of l.image (drop l.section-index l.sections)) ≡ l.fn.words.items
+    ++ map word_of (code_of l.fn.image l.fn.sections)

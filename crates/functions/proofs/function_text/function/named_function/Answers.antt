@@ -1,0 +1,20 @@
+use Rattle.std.proofs.Common.{ℕ, List, map, refl, ap, ◌∙◌}
+use Rattle.functions.specs.function_text.Functions.{written_parameter}
+use Rattle.language.specs.Tree.{parameter_tree}
+use Rattle.language.specs.declared.tree.Parameter.{Parameter}
+use Rattle.functions.proofs.function_text.function.named_function.Goals as goal
+
+pub returns-clause-made : goal.returns-clause-made
+returns-clause-made c =
+    let given = c.as_slice.result.now in
+    record {
+      allowed = c.in_ok-image.ensures.allowed;
+      spelled = c.in_ok-image.ensures.spelled;
+      name = refl;
+      free = c.requires.free;
+      parameters =
+          c.in_ok-parameters.ensures
+          ∙ ap (λ (name : List ℕ). map (written_parameter name) (map parameter_tree given)) c.in_ok-macros.ensures
+          ∙ ap (λ (ps : List Parameter). map (written_parameter c.args.export.now.name.now) (map parameter_tree ps))
+          c.as_slice.ensures.value;
+    }

@@ -1,0 +1,6 @@
+pub mod Below
+pub mod AssembledLemmas
+pub mod FunctionLemmas
+pub mod TextLaws
+pub mod WordLines
+pub mod LinkedLemmas

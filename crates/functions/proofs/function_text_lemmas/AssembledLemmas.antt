@@ -1,0 +1,25 @@
+-- The parts of a text for an assembler, put behind one another.
+use Rattle.std.proofs.Common.{◌≡◌, ℕ, List, [], ◌++◌, codes, ap, ◌∙◌}
+use Rattle.codegen.specs.Anywhere.{body_words}
+use Rattle.linked_calls.specs.Sections.{enter_sections, leave_sections}
+use Rattle.functions.specs.function_text.AssemblerText.{ListsWords, IsAssemblerText, head_lines, tail_lines, sections_lines}
+use Rattle.functions.specs.function_text.AssemblerText.{title_line}
+use Rattle.functions.specs.function_text.Functions.{Parts}
+
+pub assembled : (f : Parts) (start headed entered embodied left whole : List ℕ) → start ≡ []
+    → headed ≡ start ++ head_lines f
+    → entered ≡ headed ++ sections_lines f.image (enter_sections f.image)
+    → (body : (lines : List ℕ) × ListsWords (body_words f.image.words) lines
+    × (embodied ≡ entered ++ (title_line (codes "the body") ++ lines)))
+    → left ≡ embodied ++ sections_lines f.image (leave_sections f.image) → whole ≡ left ++ tail_lines f
+    → IsAssemblerText f whole
+assembled f start headed entered embodied left whole empty head enter body leave tail = record {
+  body = body.0;
+  listed = body.1;
+  whole =
+      tail ∙ ap (λ (t : List ℕ). t ++ tail_lines f)
+      (leave ∙ ap (λ (t : List ℕ). t ++ sections_lines f.image (leave_sections f.image))
+      (body.2 ∙ ap (λ (t : List ℕ). t ++ (title_line (codes "the body") ++ body.0))
+      (enter ∙ ap (λ (t : List ℕ). t ++ sections_lines f.image (enter_sections f.image))
+      (head ∙ ap (λ (t : List ℕ). t ++ head_lines f) empty))));
+}

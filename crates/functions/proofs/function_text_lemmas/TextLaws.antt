@@ -1,0 +1,78 @@
+-- Of a text there is one function, and of a function one text for an assembler.
+use Rattle.std.proofs.Common.{◌≡◌, ℕ, List, ◌++◌, map, codes, refl, sym, ap, subst, ◌∙◌}
+use Rattle.linked_calls.specs.Sections.{enter_sections, leave_sections}
+use Rattle.functions.specs.function_text.AssemblerText.{ListsWords, nothing, line, IsAssemblerText, word_line, head_lines}
+use Rattle.functions.specs.function_text.AssemblerText.{tail_lines, sections_lines, title_line}
+use Rattle.functions.specs.function_text.Functions.{Named, Parts, IsFunctionOf, written_parameter}
+use Rattle.functions.specs.function_text.HeaderText.{header_text}
+use Rattle.functions.specs.function_text.Texts.{AreTextsOf}
+use Rattle.functions.proofs.function_text_lemmas.Below.{one_export, one_build}
+use Rattle.hepurita.specs.declared.optimisation.Optimisation.{Optimisation}
+use Rattle.hepurita.specs.image.Reading.{Spells}
+use Rattle.codegen.specs.image_fields.Fields.{Fields}
+use Rattle.language.specs.Tree.{ProcedureTree}
+use Rattle.listing.specs.Code.{IsTextOf, of_instruction, of_no_instruction}
+use Rattle.rv_code.specs.Text.{text_of}
+use Rattle.rv_code.specs.Words.{word_of, IsInstr}
+use Rattle.rv_code.specs.declared.instructions.Instr.{Instr}
+use Rattle.syntax.specs.Reading.{OneAnswer}
+use Rattle.word.specs.declared.profile.Profile.{Profile}
+
+same_parts : (name name' : List ℕ) (parameters parameters' : List Named) (image image' : Fields) → name ≡ name'
+    → parameters ≡ parameters' → image ≡ image'
+    → ◌≡◌ {A = Parts} (record { name = name; parameters = parameters; image = image })
+    (record { name = name'; parameters = parameters'; image = image' })
+same_parts name name' parameters parameters' image image' names params images = cc
+
+same_fields : (bytes : List ℕ) (f g : Fields) → Spells bytes f → Spells bytes g → f ≡ g
+same_fields bytes f g one other =
+    let both = sym one ∙ other in
+    cc
+
+pub one_function : OneAnswer → (optimisation : Optimisation) (profile : Profile) (text : List ℕ) (one other : Parts)
+    → IsFunctionOf optimisation profile text one → IsFunctionOf optimisation profile text other → one ≡ other
+one_function answer optimisation profile text one other a b =
+    let same = one_export profile answer text a.program b.program a.before b.before a.export b.export a.builds.judged
+    b.builds.judged in
+    let bytes = one_build answer optimisation profile text a.bytes b.bytes a.builds.built b.builds.built in
+    let spelled = subst (λ (bytes : List ℕ). Spells bytes one.image) bytes a.builds.spelled in
+    same_parts one.name other.name one.parameters other.parameters one.image other.image
+    (a.name ∙ ap (λ (p : ProcedureTree). p.name) same.2 ∙ sym b.name)
+    (a.parameters ∙ ap (λ (p : ProcedureTree). map (written_parameter p.name) p.parameters) same.2 ∙ sym b.parameters)
+    (same_fields b.bytes one.image other.image spelled b.builds.spelled)
+
+-- Texts.
+
+module _ (differ : (i j : Instr) → IsInstr i → IsInstr j → word_of i ≡ word_of j → i ≡ j) where
+  same_comment : {word : ℕ} {one other : List ℕ} → IsTextOf word one → IsTextOf word other → one ≡ other
+  same_comment (of_instruction i in_range is) (of_instruction j in_range' is') =
+      ap text_of (differ i j in_range in_range' (is ∙ sym is'))
+  same_comment (of_instruction i in_range is) (of_no_instruction none) = absurd (none i in_range is)
+  same_comment (of_no_instruction none) (of_instruction j in_range is) = absurd (none j in_range is)
+  same_comment (of_no_instruction none) (of_no_instruction none') = refl
+
+  same_lines : {words one other : List ℕ} → ListsWords words one → ListsWords words other → one ≡ other
+  same_lines nothing nothing = refl
+  same_lines (line {word = word} {text = one} {rest = rest} of listed)
+      (line {text = other} {rest = rest'} of' listed') =
+      ap (λ (text : List ℕ). word_line word text ++ rest) (same_comment of of')
+      ∙ ap (λ (lines : List ℕ). word_line word other ++ lines) (same_lines listed listed')
+
+  one_text : (f : Parts) (one other : List ℕ) → IsAssemblerText f one → IsAssemblerText f other → one ≡ other
+  one_text f one other a b =
+      a.whole
+      ∙ ap (λ (body : List ℕ). head_lines f ++ sections_lines f.image (enter_sections f.image)
+      ++ (title_line (codes "the body") ++ body)
+      ++ sections_lines f.image (leave_sections f.image) ++ tail_lines f) (same_lines a.listed b.listed)
+      ∙ sym b.whole
+
+  pub one_pair : OneAnswer
+      → (optimisation : Optimisation) (profile : Profile) (text assembler header assembler' header' : List ℕ)
+      → AreTextsOf optimisation profile text assembler header
+      → AreTextsOf optimisation profile text assembler' header' → (assembler ≡ assembler') × (header ≡ header')
+  one_pair answer optimisation profile text assembler header assembler' header' a b =
+      let same = one_function answer optimisation profile text a.parts b.parts a.function b.function in (
+        one_text b.parts assembler assembler' (subst (λ (f : Parts). IsAssemblerText f assembler) same a.assembled)
+            b.assembled,
+        a.declared ∙ ap header_text same ∙ sym b.declared,
+      )

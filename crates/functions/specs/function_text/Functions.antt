@@ -1,0 +1,72 @@
+-- The function of a text, or why there is none.
+use Rattle.std.specs.Prelude.{◌≡◌, ℕ, true, false, List, map}
+use Rattle.std.specs.String.{string_bytes}
+use Rattle.functions.specs.function_text.Names.{is_taken_name, written_name}
+use Rattle.functions.specs.declared.function_text.fault.FunctionFault.{FunctionFault}
+use Rattle.functions.specs.declared.function_text.fault.FunctionFault.TheVariants.{Text, Name}
+use Rattle.functions.specs.declared.function_text.function.Function.{Function}
+use Rattle.functions.specs.declared.function_text.function.NamedParam.{NamedParam}
+use Rattle.hepurita.specs.Answers.{Builds}
+use Rattle.hepurita.specs.Built.{Judges, accepts, IsRefusal}
+use Rattle.hepurita.specs.declared.optimisation.Optimisation.{Optimisation}
+use Rattle.codegen.specs.image_fields.Fields.{Fields}
+use Rattle.language.specs.Signature.{param_of}
+use Rattle.language.specs.Tree.{ParameterTree, ProcedureTree, ProgramTree}
+use Rattle.language.specs.WantOfMemory.{IsWantOfMemory}
+use Rattle.language.specs.declared.refusal.Refusal.{Refusal}
+use Rattle.language.specs.declared.signature.Param.{Param}
+use Rattle.word.specs.declared.place.Place.{Place}
+use Rattle.word.specs.declared.profile.Profile.{Profile}
+
+-- a parameter under the name that is written for it
+pub record Named : Type 0 where
+  pub name : List ℕ
+  pub param : Param
+
+-- what decides the texts of a function: its name, its parameters, and the image whose code it has
+pub record Parts : Type 0 where
+  pub name : List ℕ
+  pub parameters : List Named
+  pub image : Fields
+
+abbrev pub named : NamedParam → Named
+named p = record { name = string_bytes p.name; param = p.param }
+
+abbrev pub parts_of : Function → Parts
+parts_of f = record { name = f.name.now; parameters = map named f.parameters.items; image = f.image }
+
+-- a parameter of the source, in a function of this name
+abbrev pub written_parameter : List ℕ → ParameterTree → Named
+written_parameter function p = record { name = written_name function p.name; param = param_of p }
+
+-- the function of a text that is accepted for an observer: the code of its plain or its optimised image, under the
+-- names of its export
+pub record IsFunctionOf (optimisation : Optimisation) (profile : Profile) (text : List ℕ) (parts : Parts) :
+    Type 0 where
+  pub bytes : List ℕ
+  pub program : ProgramTree
+  pub before : List ProcedureTree
+  pub export : ProcedureTree
+  pub builds : Builds optimisation profile text bytes program before export parts.image
+  pub name : parts.name ≡ export.name
+  pub free : is_taken_name export.name ≡ false
+  pub parameters : parts.parameters ≡ map (written_parameter export.name) export.parameters
+
+-- the text is accepted, and its export, which stands at this place, has a name that is taken
+pub record HasTakenName (profile : Profile) (text : List ℕ) (place : Place) : Type 0 where
+  pub program : ProgramTree
+  pub before : List ProcedureTree
+  pub export : ProcedureTree
+  pub judged : Judges profile text (accepts program before export)
+  pub taken : is_taken_name export.name ≡ true
+  pub stands : place ≡ export.place
+
+-- the text's refusal, or the export's name
+abbrev pub IsFaultOf : Profile → List ℕ → FunctionFault Refusal → Type 0
+IsFaultOf profile text (Text refusal) = IsRefusal (Judges profile text) refusal
+IsFaultOf profile text (Name place) = HasTakenName profile text place
+
+-- out of memory, or a place of which this holds
+abbrev pub IsUnlessMemory : FunctionFault Refusal → (Place → Type 0) → Type 0
+IsUnlessMemory (Text refusal) P = IsWantOfMemory refusal.rule refusal.place
+IsUnlessMemory (Name place) P = P place

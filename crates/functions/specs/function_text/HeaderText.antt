@@ -1,0 +1,81 @@
+-- The C header of a function: its prototype with the names of the source, and what it needs of its caller.
+use Rattle.std.specs.Prelude.{ℕ, List, [], ◌∷◌, ◌++◌, codes, Option, Some, None}
+use Rattle.std.specs.Fmt.{decimal}
+use Rattle.std.specs.List.{flat_map}
+use Rattle.linked_calls.specs.FunctionCode.{room_of}
+use Rattle.functions.specs.function_text.AssemblerText.{profile_text}
+use Rattle.functions.specs.function_text.Functions.{Named, Parts}
+use Rattle.functions.specs.function_text.Names.{guard_name, stack_name}
+use Rattle.codegen.specs.declared.image_fields.slot.ResultSlot.{ResultSlot}
+use Rattle.language.specs.declared.signature.Form.{Form}
+use Rattle.language.specs.declared.signature.Form.TheVariants.{SingleWord, FixedArray, MutableArray}
+use Rattle.language.specs.declared.signature.Kind.{Kind}
+use Rattle.language.specs.declared.signature.Kind.TheVariants.{Boolean, Uint8, Uint16, Uint32}
+use Rattle.language.specs.declared.signature.Label.{Label}
+use Rattle.language.specs.declared.signature.Label.TheVariants.{Public, Secret}
+
+abbrev pub type_text : Kind → List ℕ
+type_text Boolean = codes "bool"
+type_text Uint8 = codes "uint8_t"
+type_text Uint16 = codes "uint16_t"
+type_text Uint32 = codes "uint32_t"
+
+abbrev pub label_text : Label → List ℕ
+label_text Public = codes "/* public */"
+label_text Secret = codes "/* secret */"
+
+-- an array that is not changed
+abbrev pub const_text : Form → List ℕ
+const_text SingleWord = []
+const_text FixedArray = codes "const "
+const_text MutableArray = []
+
+-- how many elements an array has
+abbrev pub length_text : Form → ℕ → List ℕ
+length_text SingleWord count = []
+length_text FixedArray count = codes "[" ++ decimal count ++ codes "]"
+length_text MutableArray count = codes "[" ++ decimal count ++ codes "]"
+
+abbrev pub parameter_text : Named → List ℕ
+parameter_text p =
+    const_text p.param.form ++ type_text p.param.kind ++ codes " " ++ p.name
+    ++ length_text p.param.form p.param.length
+    ++ codes " " ++ label_text p.param.label
+
+-- a line each, behind another one
+abbrev pub later_text : List Named → List ℕ
+later_text later = flat_map (λ next. codes ",\n    " ++ parameter_text next) later
+
+abbrev pub parameters_text : List Named → List ℕ
+parameters_text [] = codes "void"
+parameters_text (p ∷ later) = parameter_text p ++ later_text later
+
+abbrev pub result_text : Option ResultSlot → List ℕ
+result_text None = codes "void"
+result_text (Some slot) = type_text slot.kind ++ codes " " ++ label_text slot.label
+
+-- what is premised, and what is promised
+abbrev pub comment_lines : Parts → List ℕ
+comment_lines f =
+    codes "/* " ++ f.name ++ codes ": made by factc function.\n"
+    ++ codes
+    "   Arrays are aligned by their elements, lie outside the stack below the caller, and no two that are not const overlap.\n"
+    ++ codes "   Neither the time it takes nor the addresses it accesses depend on secrets, for an observer of profile "
+    ++ profile_text f.image.profile ++ codes ". */\n"
+
+abbrev pub guard_lines : List ℕ → List ℕ
+guard_lines name = codes "#ifndef " ++ guard_name name ++ codes "\n#define " ++ guard_name name ++ codes "\n"
+
+abbrev pub stack_lines : Parts → List ℕ
+stack_lines f =
+    codes "#include <stdbool.h>\n#include <stdint.h>\n#define " ++ stack_name f.name ++ codes " "
+    ++ decimal (room_of f.image) ++ codes "\n"
+
+abbrev pub prototype_lines : Parts → List ℕ
+prototype_lines f =
+    codes "#ifdef __cplusplus\nextern \"C\" {\n#endif\n" ++ result_text f.image.returned ++ codes " " ++ f.name
+    ++ codes "(\n    "
+    ++ parameters_text f.parameters ++ codes ");\n#ifdef __cplusplus\n}\n#endif\n#endif\n"
+
+abbrev pub header_text : Parts → List ℕ
+header_text f = comment_lines f ++ guard_lines f.name ++ stack_lines f ++ prototype_lines f

@@ -1,0 +1,15 @@
+// Makes the words of a function for C: the code of an image, between code that takes arguments as C passes them for RV32
+// and code that hands results back. Which words these are, and what a call of them does, is said in `linked_calls`.
+
+mod copying;
+mod entering;
+mod leaving;
+mod pieces;
+mod registers;
+mod room;
+mod sections;
+mod words;
+
+pub use room::{ABOVE_FRAME, room_of};
+pub use sections::{enter_sections, leave_sections, section_code};
+pub use words::{body, function_words};

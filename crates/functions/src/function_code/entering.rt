@@ -1,0 +1,104 @@
+// Instructions of the sections before the body.
+
+ghost use Rattle.std.specs.Prelude.{◌≡◌, ◌-◌, ◌++◌, ◌∷◌, [], OnOk};
+ghost use Rattle.codegen.specs.expression_code.TermCode.{constant_code};
+ghost use Rattle.linked_calls.specs.Convention.{stack_register};
+ghost use Rattle.linked_calls.specs.FunctionCode.{above_frame, until_equal, added, zeros_code, meant_code, word_code, argument_code};
+ghost use Rattle.rv_code.specs.declared.instructions.Instr.TheVariants.{Register};
+ghost use Rattle.rv_code.specs.declared.operations.RegisterOperation.TheVariants.{Sub};
+
+use crate::function_code::copying::copy_in;
+use crate::function_code::pieces::{added, until_equal, zeros};
+use crate::function_code::room::{ABOVE_FRAME, BLOCK, argument_offset};
+use codegen::expression_code::emit::{constant, load, store};
+use codegen::image_fields::{ImageFields, Slot};
+use language::{Form, Kind};
+use rv_code::{
+    Immediate12, ImmediateOperation, Instr, Reg, RegisterOperation, ShiftAmount, ShiftOperation,
+};
+use std::alloc::{AllocError, Global};
+
+/// How far immediates go before they begin again.
+const IMMEDIATES: u32 = 4096;
+
+/// Room above the frame.
+pub fn room_above(code: &mut Vec<Instr>) -> Result<(), AllocError>
+    ensures { OnOk result (code.new.items ≡ code.old.items ++ added stack_register (4096 - above_frame) ∷ []) }
+{
+    code.push(added(Reg::X2, IMMEDIATES - ABOVE_FRAME))?;
+    Ok(())
+}
+
+/// The frame's base into x5.
+pub fn frame_base(code: &mut Vec<Instr>, room: u32) -> Result<(), AllocError>
+    ensures { OnOk result (code.new.items ≡ code.old.items ++ (constant_code 5 room ++ Register Sub 5 stack_register 5 ∷ [])) }
+{
+    constant(code, Reg::X5, room)?;
+    code.push(Instr::Register(RegisterOperation::Sub, Reg::X5, Reg::X2, Reg::X5))?;
+    Ok(())
+}
+
+/// The frame, zeroed block by block downward.
+pub fn cleared_frame(alloc: Global, code: &mut Vec<Instr>) -> Result<(), AllocError>
+    ensures { OnOk result (code.new.items ≡ code.old.items ++ until_equal stack_register 5 (added stack_register (4096 - 16) ∷ zeros_code)) }
+{
+    let mut block = Vec::new(alloc);
+    block.push(added(Reg::X2, IMMEDIATES - BLOCK))?;
+    zeros(&mut block)?;
+    until_equal(code, Reg::X2, Reg::X5, block.as_slice())
+}
+
+/// What a raw word in x5 means by its kind.
+fn meant(code: &mut Vec<Instr>, kind: Kind) -> Result<(), AllocError>
+    ensures { OnOk result (code.new.items ≡ code.old.items ++ meant_code 5 kind) }
+{
+    let r = Reg::X5;
+    match kind {
+        Kind::Boolean => {
+            code.push(Instr::Register(RegisterOperation::Sltu, r, Reg::X0, r))?;
+            Ok(())
+        }
+        Kind::Uint8 => {
+            let low = Immediate12::from_bits(255);
+            code.push(Instr::Immediate(ImmediateOperation::Andi, r, r, low))?;
+            Ok(())
+        }
+        Kind::Uint16 => {
+            let half = ShiftAmount::from_bits(16);
+            code.push(Instr::Shift(ShiftOperation::Slli, r, r, half))?;
+            code.push(Instr::Shift(ShiftOperation::Srli, r, r, half))?;
+            Ok(())
+        }
+        Kind::Uint32 => Ok(()),
+    }
+}
+
+/// An argument that is a word into its slot.
+fn word(
+    code: &mut Vec<Instr>,
+    image: &ImageFields,
+    index: u16,
+    slot: Slot,
+) -> Result<(), AllocError>
+    ensures { OnOk result (code.new.items ≡ code.old.items ++ word_code image.now index slot) }
+{
+    load(code, Reg::X5, argument_offset(image, index))?;
+    meant(code, slot.param.kind)?;
+    store(code, Reg::X5, slot.offset)
+}
+
+/// An argument into its slot.
+pub fn argument(
+    alloc: Global,
+    code: &mut Vec<Instr>,
+    image: &ImageFields,
+    index: u16,
+    slot: Slot,
+) -> Result<(), AllocError>
+    ensures { OnOk result (code.new.items ≡ code.old.items ++ argument_code image.now index slot slot.param.form) }
+{
+    match slot.param.form {
+        Form::SingleWord => word(code, image, index, slot),
+        Form::FixedArray | Form::MutableArray => copy_in(alloc, code, image, index, slot),
+    }
+}

@@ -1,0 +1,85 @@
+// Instructions of the sections behind the body.
+
+ghost use Rattle.std.specs.Prelude.{◌≡◌, ◌++◌, ◌∷◌, [], OnOk};
+ghost use Rattle.codegen.specs.expression_code.TermCode.{constant_code};
+ghost use Rattle.linked_calls.specs.Convention.{link_register, stack_register};
+ghost use Rattle.linked_calls.specs.FunctionCode.{above_frame, added, result_code, copy_out_code, wipe_code};
+ghost use Rattle.rv_code.specs.declared.instructions.Instr.TheVariants.{Register, JumpRegister};
+ghost use Rattle.rv_code.specs.declared.operations.RegisterOperation.TheVariants.{Add};
+
+use crate::function_code::copying::copy_out;
+use crate::function_code::pieces::{added, until_equal, zeros};
+use crate::function_code::registers;
+use crate::function_code::room::{ABOVE_FRAME, BLOCK};
+use codegen::expression_code::emit::{constant, load};
+use codegen::image_fields::{ImageFields, ResultSlot, Slot};
+use language::Form;
+use rv_code::{Immediate12, ImmediateOperation, Instr, Reg, RegisterOperation};
+use std::alloc::{AllocError, Global};
+
+/// The result into a0, which becomes 0 where there is none.
+pub fn result(code: &mut Vec<Instr>, returned: Option<ResultSlot>) -> Result<(), AllocError>
+    ensures { OnOk result (code.new.items ≡ code.old.items ++ result_code returned) }
+{
+    match returned {
+        Some(slot) => load(code, registers::result(), slot.offset),
+        None => {
+            let none = Immediate12::from_bits(0);
+            let a0 = registers::result();
+            code.push(Instr::Immediate(ImmediateOperation::Addi, a0, Reg::X0, none))?;
+            Ok(())
+        }
+    }
+}
+
+/// An array that may be changed back to the caller.
+pub fn array(
+    alloc: Global,
+    code: &mut Vec<Instr>,
+    image: &ImageFields,
+    index: u16,
+    slot: Slot,
+) -> Result<(), AllocError>
+    ensures { OnOk result (code.new.items ≡ code.old.items ++ copy_out_code image.now index slot slot.param.form) }
+{
+    match slot.param.form {
+        Form::SingleWord | Form::FixedArray => Ok(()),
+        Form::MutableArray => copy_out(alloc, code, image, index, slot),
+    }
+}
+
+/// The frame's end into x5.
+pub fn frame_top(code: &mut Vec<Instr>, room: u32) -> Result<(), AllocError>
+    ensures { OnOk result (code.new.items ≡ code.old.items ++ (constant_code 5 room ++ Register Add 5 5 stack_register ∷ [])) }
+{
+    constant(code, Reg::X5, room)?;
+    code.push(Instr::Register(RegisterOperation::Add, Reg::X5, Reg::X5, Reg::X2))?;
+    Ok(())
+}
+
+/// The caller's x2 into x5.
+pub fn callers_stack(code: &mut Vec<Instr>) -> Result<(), AllocError>
+    ensures { OnOk result (code.new.items ≡ code.old.items ++ added 5 above_frame ∷ []) }
+{
+    code.push(added(Reg::X5, ABOVE_FRAME))?;
+    Ok(())
+}
+
+/// All the room, zeroed block by block upward.
+pub fn wiped_room(alloc: Global, code: &mut Vec<Instr>) -> Result<(), AllocError>
+    ensures { OnOk result (code.new.items ≡ code.old.items ++ wipe_code) }
+{
+    let mut block = Vec::new(alloc);
+    zeros(&mut block)?;
+    block.push(added(Reg::X2, BLOCK))?;
+    until_equal(code, Reg::X2, Reg::X5, block.as_slice())
+}
+
+/// Back to the caller.
+pub fn go_back(code: &mut Vec<Instr>) -> Result<(), AllocError>
+    ensures { OnOk result (code.new.items ≡ code.old.items ++ JumpRegister 0 link_register 0 ∷ []) }
+{
+    let here = Immediate12::from_bits(0);
+    code.push(Instr::JumpRegister(Reg::X0, registers::link(), here))?;
+    Ok(())
+}

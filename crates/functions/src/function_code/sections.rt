@@ -1,0 +1,137 @@
+// The sections of a function's code: one list of them is what its words, its text and its turns are made of.
+
+ghost use Rattle.std.specs.Prelude.{◌≡◌, ◌≤◌, ◌++◌, length, OnOk, IfOk};
+ghost use Rattle.linked_calls.specs.Sections.{frame_sections, argument_sections, array_section, array_sections, enter_sections, leave_sections, section_code};
+
+use crate::function_code::entering::{argument, cleared_frame, frame_base, room_above};
+use crate::function_code::leaving::{array, callers_stack, frame_top, go_back, result, wiped_room};
+use crate::function_code::pieces::{clear_registers, loads, stores};
+use crate::function_code::registers;
+use crate::function_code::room::{FIRST_ARGUMENT, frame_room};
+use codegen::image_fields::{ImageFields, Slot};
+use language::Form;
+use linked_calls::Section;
+use rv_code::{Instr, Reg};
+use std::alloc::{AllocError, Global};
+
+/// Puts the sections of arguments at the end.
+fn push_arguments(sections: &mut Vec<Section>, slots: &[Slot]) -> Result<(), AllocError>
+    requires { length slots.now ≤ 8192 }
+    ensures { OnOk result (sections.new.items ≡ sections.old.items ++ argument_sections 0 slots.now) }
+{
+    let mut index = 0;
+    for slot in slots {
+        sections.push(Section::ArgumentIn(index, *slot))?;
+        index += 1;
+    }
+    Ok(())
+}
+
+/// Puts the section of an array at the end, where it goes back.
+fn push_array(sections: &mut Vec<Section>, index: u16, slot: Slot) -> Result<(), AllocError>
+    ensures { OnOk result (sections.new.items ≡ sections.old.items ++ array_section index slot slot.param.form) }
+{
+    match slot.param.form {
+        Form::SingleWord | Form::FixedArray => Ok(()),
+        Form::MutableArray => {
+            sections.push(Section::ArrayOut(index, slot))?;
+            Ok(())
+        }
+    }
+}
+
+/// Puts those of arrays that go back at the end.
+fn push_arrays(sections: &mut Vec<Section>, slots: &[Slot]) -> Result<(), AllocError>
+    requires { length slots.now ≤ 8192 }
+    ensures { OnOk result (sections.new.items ≡ sections.old.items ++ array_sections 0 slots.now) }
+{
+    let mut index = 0;
+    for slot in slots {
+        push_array(sections, index, *slot)?;
+        index += 1;
+    }
+    Ok(())
+}
+
+/// Puts those of a frame that has room at the end.
+fn push_frame(sections: &mut Vec<Section>, room: u32) -> Result<(), AllocError>
+    ensures { OnOk result (sections.new.items ≡ sections.old.items ++ frame_sections room) }
+{
+    if room == 0 {
+        return Ok(());
+    }
+    sections.push(Section::FrameBase)?;
+    sections.push(Section::ClearedFrame)?;
+    Ok(())
+}
+
+/// The sections before the body.
+pub fn enter_sections(alloc: Global, image: &ImageFields) -> Result<Vec<Section>, AllocError>
+    ensures { IfOk result (λ sections. sections.items ≡ enter_sections image.now) }
+{
+    let mut sections = Vec::new(alloc);
+    sections.push(Section::RoomAboveFrame)?;
+    sections.push(Section::SavedRegisters)?;
+    sections.push(Section::ArgumentRegisters)?;
+    push_frame(&mut sections, frame_room(image))?;
+    push_arguments(&mut sections, image.slots())?;
+    Ok(sections)
+}
+
+/// The sections behind the body.
+pub fn leave_sections(alloc: Global, image: &ImageFields) -> Result<Vec<Section>, AllocError>
+    ensures { IfOk result (λ sections. sections.items ≡ leave_sections image.now) }
+{
+    let mut sections = Vec::new(alloc);
+    sections.push(Section::ResultOut)?;
+    push_arrays(&mut sections, image.slots())?;
+    sections.push(Section::FrameTop)?;
+    sections.push(Section::RestoredRegisters)?;
+    sections.push(Section::CallersStack)?;
+    sections.push(Section::WipedRoom)?;
+    sections.push(Section::ClearedRegisters)?;
+    sections.push(Section::Return)?;
+    Ok(sections)
+}
+
+/// Puts the instructions of a section of an image's function at the end.
+fn push_code(
+    alloc: Global,
+    code: &mut Vec<Instr>,
+    image: &ImageFields,
+    section: Section,
+) -> Result<(), AllocError>
+    ensures { OnOk result (code.new.items ≡ code.old.items ++ section_code image.now section) }
+{
+    match section {
+        Section::RoomAboveFrame => room_above(code),
+        Section::SavedRegisters => stores(code, Reg::X2, 0, &registers::saved()),
+        Section::ArgumentRegisters => {
+            stores(code, Reg::X2, FIRST_ARGUMENT, &registers::arguments())
+        }
+        Section::FrameBase => frame_base(code, frame_room(image)),
+        Section::ClearedFrame => cleared_frame(alloc, code),
+        Section::ArgumentIn(index, slot) => argument(alloc, code, image, index, slot),
+        Section::ResultOut => result(code, image.returned()),
+        Section::ArrayOut(index, slot) => array(alloc, code, image, index, slot),
+        Section::FrameTop => frame_top(code, frame_room(image)),
+        Section::RestoredRegisters => loads(code, Reg::X5, 0, &registers::saved()),
+        Section::CallersStack => callers_stack(code),
+        Section::WipedRoom => wiped_room(alloc, code),
+        Section::ClearedRegisters => clear_registers(code, &registers::scratch()),
+        Section::Return => go_back(code),
+    }
+}
+
+/// The instructions of a section of an image's function.
+pub fn section_code(
+    alloc: Global,
+    image: &ImageFields,
+    section: Section,
+) -> Result<Vec<Instr>, AllocError>
+    ensures { IfOk result (λ code. code.items ≡ section_code image.now section) }
+{
+    let mut code = Vec::new(alloc);
+    push_code(alloc, &mut code, image, section)?;
+    Ok(code)
+}

@@ -1,0 +1,149 @@
+// The function of a text.
+
+ghost use Rattle.std.specs.Prelude.{◌≡◌, false, List, [], Some, map, IfOk, IfErr};
+ghost use Rattle.functions.specs.function_text.Functions.{IsFunctionOf, IsFaultOf, IsUnlessMemory, named, parts_of, written_parameter};
+ghost use Rattle.functions.specs.function_text.Names.{is_taken_name};
+ghost use Rattle.functions.specs.function_text.private.OfExport.{IsOfExport, IsTaken};
+ghost use Rattle.hepurita.specs.image.Reading.{Spells};
+ghost use Rattle.codegen.specs.image_fields.Fields.{Fields, IsImage};
+ghost use Rattle.language.specs.Signature.{exported};
+ghost use Rattle.language.specs.Tree.{ProcedureTree, parameter_tree, procedure_tree, program_tree};
+ghost use Rattle.language.specs.WantOfMemory.{IsWantOfMemory};
+
+use crate::function_text::fault::FunctionFault;
+use crate::function_text::naming::{Macros, is_taken_name, macros_of, written_name};
+use codegen::image_fields::ImageFields;
+use hepurita::image::{Image, ImageFault, read};
+use hepurita::{Optimisation, build_with};
+use language::{Param, Parameter, Procedure, Profile, Program, Refusal};
+use std::alloc::{AllocError, Global};
+use syntax::{one_answer_for_a_text, parse};
+
+/// A parameter under the name that is written for it.
+#[derive(Drop)]
+pub struct NamedParam {
+    pub name: String,
+    pub param: Param,
+}
+
+/// A function for C: the code of the image of an accepted text, under the names of its export.
+#[derive(Drop)]
+pub struct Function<'a> {
+    pub name: &'a str,
+    pub parameters: Vec<NamedParam>,
+    pub image: ImageFields,
+}
+
+/// The fields of an image that was read.
+fn fields_of(alloc: Global, image: &Image) -> Result<ImageFields, AllocError>
+    ensures { IfOk result (λ fields. fields ≡ image.now) }
+{
+    let slots = image.slots().to_vec(alloc)?;
+    let words = image.words().to_vec(alloc)?;
+    Ok(ImageFields::new(
+        image.profile(),
+        slots,
+        image.returned(),
+        image.frame_bytes(),
+        image.max_steps(),
+        words,
+    ))
+}
+
+/// Parameters under the names that are written for them.
+fn named_params(
+    alloc: Global,
+    macros: &Macros<'_>,
+    parameters: &[Parameter<'_>],
+) -> Result<Vec<NamedParam>, AllocError>
+    ensures { IfOk result (λ params. map named params.items ≡ map (written_parameter macros.now.function.now) (map parameter_tree parameters.now)) }
+{
+    let mut params = Vec::with_capacity(alloc, parameters.len())?;
+    for parameter in parameters {
+        let name = written_name(alloc, macros, parameter.name)?;
+        params.push(NamedParam {
+            name,
+            param: parameter.param(),
+        })?;
+    }
+    Ok(params)
+}
+
+/// The export of a program that has one.
+fn export_of<'p, 'a>(program: &'p Program<'a>) -> &'p Procedure<'a>
+    requires { (before : List ProcedureTree) × (export : ProcedureTree) × (exported [] (program_tree program.now).procedures ≡ Some (before, export)) }
+    ensures { (before : List ProcedureTree) × (exported [] (program_tree program.now).procedures ≡ Some (before, procedure_tree result.now)) }
+{
+    match program.exported() {
+        Some((_, export)) => export,
+        None => unreachable!(),
+    }
+}
+
+/// The image that bytes spell.
+fn image_of(alloc: Global, bytes: &[u8]) -> Result<ImageFields, Refusal>
+    requires { (image : Fields) × Spells bytes.now image }
+    ensures spelled { IfOk result (λ image. Spells bytes.now image) }
+    ensures allowed { IfOk result IsImage }
+    ensures memory { IfErr result (λ refusal. IsWantOfMemory refusal.rule refusal.place) }
+{
+    match read(alloc, bytes) {
+        Ok(image) => Ok(fields_of(alloc, &image)?),
+        Err(ImageFault::Memory) => Err(Refusal::memory()),
+        Err(ImageFault::Field { .. }) => unreachable!(),
+    }
+}
+
+/// The function of an export whose name is free, and whose image the bytes spell.
+fn named_function<'a>(
+    alloc: Global,
+    export: &Procedure<'a>,
+    bytes: &[u8],
+) -> Result<Function<'a>, Refusal>
+    requires free { is_taken_name export.now.name.now ≡ false }
+    requires spelled { (image : Fields) × Spells bytes.now image }
+    ensures made { IfOk result (λ function. IsOfExport (procedure_tree export.now) bytes.now (parts_of function)) }
+    ensures memory { IfErr result (λ refusal. IsWantOfMemory refusal.rule refusal.place) }
+{
+    let image = image_of(alloc, bytes)?;
+    let macros = macros_of(alloc, export.name)?;
+    let parameters = named_params(alloc, &macros, export.parameters.as_slice())?;
+    Ok(Function {
+        name: export.name,
+        parameters,
+        image,
+    })
+}
+
+/// The function of an export, whose image the bytes spell.
+fn of_export<'a>(
+    alloc: Global,
+    export: &Procedure<'a>,
+    bytes: &[u8],
+) -> Result<Function<'a>, FunctionFault<Refusal>>
+    requires { (image : Fields) × Spells bytes.now image }
+    ensures made { IfOk result (λ function. IsOfExport (procedure_tree export.now) bytes.now (parts_of function)) }
+    ensures fault { IfErr result (λ fault. IsUnlessMemory fault (IsTaken (procedure_tree export.now))) }
+{
+    if is_taken_name(export.name) {
+        return Err(FunctionFault::Name(export.place));
+    }
+    Ok(named_function(alloc, export, bytes)?)
+}
+
+/// The function of a text that is accepted for an observer of this profile, with plain or optimised code. A text that is not
+/// is refused as by `build_with`, before its names are looked at; then an export's name that C, C++ or an assembler cannot take.
+pub fn function_of<'a>(
+    alloc: Global,
+    text: &'a str,
+    profile: Profile,
+    optimisation: Optimisation,
+) -> Result<Function<'a>, FunctionFault<Refusal>>
+    ensures made { IfOk result (λ function. IsFunctionOf optimisation profile text.now (parts_of function)) }
+    ensures fault { IfErr result (IsFaultOf profile text.now) }
+{
+    let bytes = build_with(alloc, text, profile, optimisation)?;
+    let program = parse(alloc, text)?;
+    one_answer_for_a_text();
+    of_export(alloc, export_of(&program), bytes.as_slice())
+}

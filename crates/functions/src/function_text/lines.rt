@@ -1,0 +1,202 @@
+// Lines of a function's text for an assembler, each put at the end of a text.
+
+ghost use Rattle.std.specs.Prelude.{◌≡◌, ◌++◌, OnOk, List, ℕ, codes};
+ghost use Rattle.std.specs.Fmt.{decimal};
+ghost use Rattle.std.specs.String.{string_bytes};
+ghost use Rattle.functions.specs.function_text.AssemblerText.{eight_digits, word_line, title_line, frame_line, argument_title, section_title, kept_line, restored_line, change_lines, end_line, instruction_lines};
+ghost use Rattle.listing.specs.Code.{IsTextOf};
+ghost use Rattle.rv_code.specs.Text.{text_of};
+
+use crate::function_code::{ABOVE_FRAME, room_of};
+use codegen::image_fields::ImageFields;
+use language::Form;
+use linked_calls::Section;
+use rv_code::{Instr, decode, encode};
+use std::alloc::{AllocError, Global};
+use std::fmt::Write;
+
+/// A word with its instruction as a comment.
+fn push_told(text: &mut String, word: u32, instruction: &Instr) -> Result<(), AllocError>
+    ensures { OnOk result (string_bytes text.new ≡ string_bytes text.old ++ word_line word (text_of instruction.now)) }
+{
+    writeln!(text, "    .word 0x{word:08x}  # {instruction}")?;
+    Ok(())
+}
+
+/// A number in decimal.
+pub fn push_number(text: &mut String, number: u64) -> Result<(), AllocError>
+    ensures { OnOk result (string_bytes text.new ≡ string_bytes text.old ++ decimal number) }
+{
+    write!(text, "{number}")?;
+    Ok(())
+}
+
+/// A word in eight hexadecimal digits.
+fn push_digits(text: &mut String, word: u32) -> Result<(), AllocError>
+    ensures { OnOk result (string_bytes text.new ≡ string_bytes text.old ++ eight_digits word) }
+{
+    write!(text, "{word:08x}")?;
+    Ok(())
+}
+
+/// A word that is no instruction's.
+fn push_illegal(text: &mut String, word: u32) -> Result<(), AllocError>
+    ensures { OnOk result (string_bytes text.new ≡ string_bytes text.old ++ word_line word (codes "illegal")) }
+{
+    text.push_str("    .word 0x")?;
+    push_digits(text, word)?;
+    text.push_str("  # ")?;
+    text.push_str("illegal")?;
+    text.push_str("\n")
+}
+
+/// A word of an image.
+pub fn push_word(text: &mut String, word: u32) -> Result<(), AllocError>
+    ensures { OnOk result ((told : List ℕ) × IsTextOf word told × (string_bytes text.new ≡ string_bytes text.old ++ word_line word told)) }
+{
+    match decode(word) {
+        Some(instruction) => push_told(text, word, &instruction),
+        None => push_illegal(text, word),
+    }
+}
+
+/// Where the caller's x2 is, from a register on.
+fn push_frame(text: &mut String, register: u32, distance: u32) -> Result<(), AllocError>
+    ensures { OnOk result (string_bytes text.new ≡ string_bytes text.old ++ frame_line register distance) }
+{
+    text.push_str("    .cfi_def_cfa ")?;
+    push_number(text, u64::from(register))?;
+    text.push_str(", ")?;
+    push_number(text, u64::from(distance))?;
+    text.push_str("\n")
+}
+
+/// What the form of an argument is called.
+fn argument_title(form: Form) -> &'static str
+    ensures { result.now ≡ argument_title form }
+{
+    match form {
+        Form::SingleWord => ": a word",
+        Form::FixedArray | Form::MutableArray => ": an array",
+    }
+}
+
+/// What the section of an argument is for.
+fn push_argument(text: &mut String, index: u16, form: Form) -> Result<(), AllocError>
+    ensures { OnOk result (string_bytes text.new ≡ string_bytes text.old ++ (codes "parameter " ++ decimal index ++ argument_title form)) }
+{
+    let what = argument_title(form);
+    write!(text, "parameter {index}{what}")?;
+    Ok(())
+}
+
+/// What the section of an array is for that goes back.
+fn push_array(text: &mut String, index: u16) -> Result<(), AllocError>
+    ensures { OnOk result (string_bytes text.new ≡ string_bytes text.old ++ (codes "parameter " ++ decimal index ++ codes ": the array, back")) }
+{
+    write!(text, "parameter {index}: the array, back")?;
+    Ok(())
+}
+
+/// What a section is for.
+fn push_section_title(text: &mut String, section: Section) -> Result<(), AllocError>
+    ensures { OnOk result (string_bytes text.new ≡ string_bytes text.old ++ section_title section) }
+{
+    match section {
+        Section::RoomAboveFrame => text.push_str("room above the frame"),
+        Section::SavedRegisters => text.push_str("the caller's registers"),
+        Section::ArgumentRegisters => text.push_str("the arguments, below those on the stack"),
+        Section::FrameBase => text.push_str("the frame's base"),
+        Section::ClearedFrame => text.push_str("the frame, zeroed downward"),
+        Section::ArgumentIn(index, slot) => push_argument(text, index, slot.param.form),
+        Section::ResultOut => text.push_str("the result"),
+        Section::ArrayOut(index, _) => push_array(text, index),
+        Section::FrameTop => text.push_str("above the frame"),
+        Section::RestoredRegisters => text.push_str("the caller's registers"),
+        Section::CallersStack => text.push_str("the caller's x2"),
+        Section::WipedRoom => text.push_str("all the room, wiped upward"),
+        Section::ClearedRegisters => text.push_str("temporaries, wiped"),
+        Section::Return => text.push_str("back"),
+    }
+}
+
+/// The title of a section.
+pub fn push_title(text: &mut String, section: Section) -> Result<(), AllocError>
+    ensures { OnOk result (string_bytes text.new ≡ string_bytes text.old ++ title_line (section_title section)) }
+{
+    text.push_str("    # ")?;
+    push_section_title(text, section)?;
+    text.push_str("\n")
+}
+
+/// Where a register of the caller is kept, below the caller's x2.
+fn push_kept(text: &mut String, instruction: &Instr) -> Result<(), AllocError>
+    ensures { OnOk result (string_bytes text.new ≡ string_bytes text.old ++ kept_line instruction.now) }
+{
+    match *instruction {
+        Instr::Store(_, register, _, offset) => {
+            let register = register.number();
+            let below = ABOVE_FRAME.saturating_sub(u32::from(offset.field()));
+            writeln!(text, "    .cfi_offset {register}, -{below}")?;
+            Ok(())
+        }
+        _ => Ok(()),
+    }
+}
+
+/// That the register of a number is the caller's again.
+fn push_back(text: &mut String, register: u8) -> Result<(), AllocError>
+    ensures { OnOk result (string_bytes text.new ≡ string_bytes text.old ++ (codes "    .cfi_restore " ++ decimal register ++ codes "\n")) }
+{
+    text.push_str("    .cfi_restore ")?;
+    push_number(text, u64::from(register))?;
+    text.push_str("\n")
+}
+
+/// That a register is the caller's again, where the instruction loads one.
+fn push_restored(text: &mut String, instruction: &Instr) -> Result<(), AllocError>
+    ensures { OnOk result (string_bytes text.new ≡ string_bytes text.old ++ restored_line instruction.now) }
+{
+    match *instruction {
+        Instr::Load(_, register, _, _) => push_back(text, register.number()),
+        _ => Ok(()),
+    }
+}
+
+/// What changes for a debugger by an instruction of a section.
+fn push_change(text: &mut String, section: Section, instruction: &Instr) -> Result<(), AllocError>
+    ensures { OnOk result (string_bytes text.new ≡ string_bytes text.old ++ change_lines section instruction.now) }
+{
+    match section {
+        Section::SavedRegisters => push_kept(text, instruction),
+        Section::RestoredRegisters => push_restored(text, instruction),
+        _ => Ok(()),
+    }
+}
+
+/// An instruction of a section, and what changes by it.
+pub fn push_instruction(
+    text: &mut String,
+    section: Section,
+    instruction: &Instr,
+) -> Result<(), AllocError>
+    ensures { OnOk result (string_bytes text.new ≡ string_bytes text.old ++ instruction_lines section instruction.now) }
+{
+    let word = encode(*instruction);
+    push_told(text, word, instruction)?;
+    push_change(text, section, instruction)
+}
+
+/// What has changed for a debugger at the end of a section.
+pub fn push_end(text: &mut String, image: &ImageFields, section: Section) -> Result<(), AllocError>
+    ensures { OnOk result (string_bytes text.new ≡ string_bytes text.old ++ end_line image.now section) }
+{
+    match section {
+        Section::RoomAboveFrame => text.push_str("    .cfi_def_cfa_offset 80\n"),
+        Section::FrameBase => push_frame(text, 5, room_of(image)),
+        Section::ClearedFrame => push_frame(text, 2, room_of(image)),
+        Section::CallersStack => push_frame(text, 5, 0),
+        Section::WipedRoom => push_frame(text, 2, 0),
+        _ => Ok(()),
+    }
+}

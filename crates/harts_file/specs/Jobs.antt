@@ -1,8 +1,0 @@
--- Harts of a plan as values.
-use Rattle.std.specs.Prelude.{List, map}
-use Rattle.harts_file.specs.Lines.{PlannedHart}
-use Rattle.harts_file.specs.declared.jobs.Job.{Job}
-
--- the hart that a job names
-abbrev pub hart_of : Job → PlannedHart
-hart_of job = record { path = job.path.now; arguments = map (λ text. text.now) job.arguments.items }

@@ -1,0 +1,77 @@
+ghost use Rattle.std.specs.Prelude.{◌≡◌};
+ghost use Rattle.codegen.specs.image_fields.Fields.{Fields, IsImage};
+
+use codegen::image_fields::{ImageFields, ResultSlot, Slot};
+use language::Profile;
+use std::marker::Model;
+
+/// A program for the machine, as it was read: its code, and where its words lie in the frame.
+#[derive(Debug, Drop)]
+pub struct Image {
+    fields: ImageFields,
+}
+
+impl Model for Image {
+    ghost use Rattle.codegen.specs.image_fields.Fields.{Fields};
+
+    ghost Value = { Fields };
+
+    ghost view = { λ i. i.fields };
+}
+
+impl Image {
+    /// The image of these fields.
+    pub(crate) fn new(fields: ImageFields) -> Self
+        ensures { result ≡ fields }
+    {
+        Image { fields }
+    }
+
+    /// For which observer it is.
+    pub fn profile(&self) -> Profile
+        ensures profile { result ≡ self.now.profile }
+        ensures allowed { IsImage self.now }
+    {
+        self.fields.profile()
+    }
+
+    /// Where each parameter lies, in parameter order.
+    pub fn slots(&self) -> &[Slot]
+        ensures slots { result.now ≡ self.now.slots }
+        ensures allowed { IsImage self.now }
+    {
+        self.fields.slots()
+    }
+
+    /// Where the result lies, where there is one.
+    pub fn returned(&self) -> Option<ResultSlot>
+        ensures returned { result ≡ self.now.returned }
+        ensures allowed { IsImage self.now }
+    {
+        self.fields.returned()
+    }
+
+    /// How many bytes the frame has.
+    pub fn frame_bytes(&self) -> u32
+        ensures bytes { result ≡ self.now.frame_bytes }
+        ensures allowed { IsImage self.now }
+    {
+        self.fields.frame_bytes()
+    }
+
+    /// How many instructions a run takes at most.
+    pub fn max_steps(&self) -> u64
+        ensures steps { result ≡ self.now.max_steps }
+        ensures allowed { IsImage self.now }
+    {
+        self.fields.max_steps()
+    }
+
+    /// The code words.
+    pub fn words(&self) -> &[u32]
+        ensures words { result.now ≡ self.now.words }
+        ensures allowed { IsImage self.now }
+    {
+        self.fields.words()
+    }
+}

@@ -1,0 +1,83 @@
+use Rattle.std.proofs.Common.{◌≡◌, ℕ, List, Option, Err, subst, ap, sym, ◌∙◌, arith}
+use Rattle.std.proofs.lemmas.Result.{err_from_is_err_and}
+use Rattle.certified_runs.specs.Known.{Known}
+use Rattle.certified_runs.specs.Parts.{known_of}
+use Rattle.certified_runs.specs.declared.shifts.Shifts.{Shifts}
+use Rattle.codegen.specs.Loaded.{code_at}
+use Rattle.hepurita.specs.Bases.{code_base, frame_base}
+use Rattle.codegen.specs.image_fields.Fields.{Fields}
+use Rattle.language.specs.declared.values.Arg.{Arg}
+use Rattle.run_reports.specs.progress.Certified.{GoesOnKnown}
+use Rattle.run_reports.specs.progress.GoingOn.{Counting, HasLines, IsTold}
+use Rattle.rv_machine.specs.Machine.{Code}
+use Rattle.image_reports.specs.certificates.KnownImage.{known_at}
+use Rattle.codegen.specs.declared.image_fields.slot.Slot.{Slot}
+use Rattle.rv_machine.specs.Harts.{state_of}
+use Rattle.rv_machine.specs.Paged.{paged_bytes}
+use Rattle.rv_machine.specs.Regions.{code_of}
+use Rattle.image_reports.specs.certificates.Given.{fault_of_given}
+use Rattle.image_reports.proofs.certificates_lemmas.AnswerLemmas.{refused_certified, memory_certified, run_certified}
+use Rattle.image_reports.proofs.certificates_lemmas.LoadedLemmas.{params_in}
+use Rattle.image_reports.proofs.certificates.certifying.certify_telling.Goals as goal
+
+pub returns-in-Some-clause-certified : goal.returns-in-Some-clause-certified
+returns-in-Some-clause-certified g c =
+    let given = c.args.given.now in
+    refused_certified c.args.image.now given c.args.shifts c.in-Some.fault c.from.result c.from.ensures
+    (ap (λ (slots : List Slot). fault_of_given (params_in slots) given) (sym c.slots.ensures.slots)
+    ∙ (sym c.first_fault.ensures ∙ c.in-Some.is))
+
+pub load_given-requires : goal.load_given-requires
+load_given-requires g c =
+    let given = c.args.given.now in
+    ap (λ (slots : List Slot). fault_of_given (params_in slots) given) (sym c.slots.ensures.slots)
+    ∙ (sym c.first_fault.ensures ∙ c.in_default.is)
+
+pub returns-in_err-code-clause-certified : goal.returns-in_err-code-clause-certified
+returns-in_err-code-clause-certified g c =
+    let given = c.args.given.now in
+    let none = ap (λ (slots : List Slot). fault_of_given (params_in slots) given) (sym c.slots.ensures.slots)
+    ∙ (sym c.first_fault.ensures ∙ c.in_default.is) in
+    let p = err_from_is_err_and c.from_residual.result c.from_residual.ensures.1 in
+    memory_certified c.args.image.now given c.args.shifts c.from_residual.result none (p.1 ∙ ap Err p.2)
+
+pub returns-in_err-loaded-clause-certified : goal.returns-in_err-loaded-clause-certified
+returns-in_err-loaded-clause-certified g c =
+    let given = c.args.given.now in
+    let none = ap (λ (slots : List Slot). fault_of_given (params_in slots) given) (sym c.slots.ensures.slots)
+    ∙ (sym c.first_fault.ensures ∙ c.in_default.is) in
+    let p = err_from_is_err_and c.from_residual-in_err-loaded.result c.from_residual-in_err-loaded.ensures.1 in
+    memory_certified c.args.image.now given c.args.shifts c.from_residual-in_err-loaded.result none (p.1 ∙ ap Err p.2)
+
+pub certify_in_pieces-requires-clause-few : goal.certify_in_pieces-requires-clause-few
+certify_in_pieces-requires-clause-few g c = omega (arith, c.in_ok-loaded.ensures.steps, c.slots.ensures.allowed.steps)
+
+pub returns-clause-certified : goal.returns-clause-certified
+returns-clause-certified g c =
+    let given = c.args.given.now in
+    let loaded = c.in_ok-loaded.loaded in
+    let none = ap (λ (slots : List Slot). fault_of_given (params_in slots) given) (sym c.slots.ensures.slots)
+    ∙ (sym c.first_fault.ensures ∙ c.in_default.is) in
+    let run = c.certify_in_pieces.ensures.certified in
+    run_certified c.args.image.now given c.args.shifts (code_of c.in_ok-code.code) loaded.run.turns_left
+    (known_of (state_of loaded.run.hart (paged_bytes loaded.run.memory)) loaded.known.registers
+    (paged_bytes loaded.known.marks) loaded.known.shifts) run.0 run.1 c.certify_in_pieces.result
+    none c.in_ok-code.ensures c.in_ok-loaded.ensures.steps c.in_ok-loaded.ensures.known run.2 run.3
+
+-- the lines of the run are those of the image's
+told_of_image : (Has : Counting) {code : Code} {steps : ℕ} {k : Known} {before after : List ℕ} (image : Fields)
+    (given : List (Option Arg)) (shifts : Shifts) → code ≡ code_at code_base image → steps ≡ image.max_steps
+    → k ≡ known_at code_base frame_base image given shifts → IsTold Has (GoesOnKnown code steps k) before after
+    → IsTold Has
+    (GoesOnKnown (code_at code_base image) image.max_steps (known_at code_base frame_base image given shifts)) before
+    after
+told_of_image Has {code} {steps} {k} {before} {after} image given shifts code_is steps_is known_is told =
+    subst (λ (x : Known). IsTold Has (GoesOnKnown (code_at code_base image) image.max_steps x) before after) known_is
+    (subst (λ (x : ℕ). IsTold Has (GoesOnKnown (code_at code_base image) x k) before after) steps_is
+    (subst (λ (x : Code). IsTold Has (GoesOnKnown x steps k) before after) code_is told))
+
+pub returns-clause-told : goal.returns-clause-told
+returns-clause-told g c = λ tells.
+    told_of_image HasLines c.args.image.now c.args.given.now c.args.shifts c.in_ok-code.ensures
+    c.in_ok-loaded.ensures.steps
+    c.in_ok-loaded.ensures.known (c.certify_in_pieces.ensures.told tells)

@@ -1,0 +1,69 @@
+use Rattle.std.proofs.Common.{◌≡◌, ℕ, Bool, List, All, is_some, ap, sym, subst, ◌∙◌, arith}
+use Rattle.std.proofs.lemmas.List.Elements.{All-from_recursion}
+use Rattle.certified_runs.specs.Parts.{known_registers, known_bytes}
+use Rattle.hepurita.specs.Bases.{code_base, frame_base}
+use Rattle.hepurita.specs.Frames.{HoldsSlot}
+use Rattle.image_reports.proofs.certificates_lemmas.Below.{slots_hold}
+use Rattle.codegen.specs.image_fields.Fields.{Fields, IsImage}
+use Rattle.codegen.specs.declared.image_fields.slot.Slot.{Slot}
+use Rattle.rv_machine.specs.Bytes.{ByteMap, zeros}
+use Rattle.rv_machine.specs.Harts.{pc_of, regs_of}
+use Rattle.rv_machine.specs.Paged.{paged_bytes}
+use Rattle.rv_machine.specs.Registers.{initial_registers}
+use Rattle.image_reports.specs.certificates.KnownImage.{with_given, known_with_given}
+use Rattle.image_reports.proofs.certificates_lemmas.LoadedLemmas.{fresh_known, same_known}
+use Rattle.image_reports.proofs.certificates.loading.load_given.Goals as goal
+
+-- each slot lies in a new frame
+held : (image : Fields) → IsImage image → (bytes : ByteMap) (slots : List Slot)
+    → bytes ≡ zeros frame_base image.frame_bytes → slots ≡ image.slots → All (HoldsSlot frame_base bytes) slots
+held image allowed bytes slots fresh are =
+    subst (λ (xs : List Slot). All (HoldsSlot frame_base bytes) xs) (sym are)
+    (subst (λ (b : ByteMap). All (HoldsSlot frame_base b) image.slots) (sym fresh)
+    (All-from_recursion (HoldsSlot frame_base (zeros frame_base image.frame_bytes)) image.slots
+    (slots_hold frame_base image.frame_bytes image.slots allowed.slots_inside (omega (arith, allowed.frame_size)))))
+
+pub put_given-requires-clause-data : goal.put_given-requires-clause-data
+put_given-requires-clause-data c =
+    held c.args.image.now c.slots.ensures.allowed (paged_bytes c.in_ok-memory.memory) c.slots.result.now
+    c.in_ok-memory.ensures c.slots.ensures.slots
+
+pub forget_unknown-requires-clause-data : goal.forget_unknown-requires-clause-data
+forget_unknown-requires-clause-data c =
+    held c.args.image.now c.slots.ensures.allowed (paged_bytes c.new-known.result.marks) c.slots-2.result.now
+    (ap paged_bytes c.new-known.ensures.marks ∙ c.in_ok-frame.ensures) c.slots-2.ensures.slots
+
+pub returns-clause-known : goal.returns-clause-known
+returns-clause-known c =
+    let image = c.args.image.now in
+    let given = c.args.given.now in
+    let begun = zeros frame_base image.frame_bytes in
+    let bytes =
+    c.put_given.ensures.put
+    ∙ (ap (λ (b : ByteMap). with_given frame_base b c.slots.result.now given) c.in_ok-memory.ensures
+    ∙ ap (λ (xs : List Slot). with_given frame_base begun xs given) c.slots.ensures.slots) in
+    let marks : paged_bytes c.new-known.result.marks ≡ begun = ap paged_bytes c.new-known.ensures.marks
+    ∙ c.in_ok-frame.ensures in
+    let known =
+    c.forget_unknown.ensures.bytes
+    ∙ (ap (λ (b : ByteMap). known_with_given frame_base (known_bytes b) c.slots-2.result.now given) marks
+    ∙ (ap (λ (k : ℕ → Bool). known_with_given frame_base k c.slots-2.result.now given)
+    (fresh_known frame_base image.frame_bytes)
+    ∙ ap (λ (xs : List Slot). known_with_given frame_base (λ a. is_some (begun a)) xs given)
+    c.slots-2.ensures.slots)) in
+    let flags = ap (λ (f : List Bool). known_registers f) c.forget_unknown.ensures.registers
+    ∙ c.new-known.ensures.registers in
+    same_known (pc_of c.new.result) code_base (regs_of c.new.result) (initial_registers frame_base)
+    (paged_bytes c.put_given.new.memory) _ (known_registers c.forget_unknown.new.known.registers) _
+    (known_bytes (paged_bytes c.forget_unknown.new.known.marks)) _
+    c.forget_unknown.new.known.shifts c.args.shifts c.new.ensures.pc c.new.ensures.registers bytes flags known
+    (c.forget_unknown.ensures.shifts ∙ c.new-known.ensures.shifts)
+
+pub returns-clause-extent : goal.returns-clause-extent
+returns-clause-extent c = λ a.
+    let begun = zeros frame_base c.args.image.now.frame_bytes in
+    let marks : paged_bytes c.new-known.result.marks ≡ begun = ap paged_bytes c.new-known.ensures.marks
+    ∙ c.in_ok-frame.ensures in
+    c.forget_unknown.ensures.extent a
+    ∙ (ap (λ (b : ByteMap). is_some (b a)) (marks ∙ sym c.in_ok-memory.ensures)
+    ∙ sym (c.put_given.ensures.extent a))

@@ -1,0 +1,46 @@
+-- What is answered to what is given, case by case.
+use Rattle.std.proofs.Common.{◌≡◌, ℕ, List, Option, None, Some, Result, Ok, Err, sym, subst}
+use Rattle.language.specs.declared.arguments.fault.ArgumentFault.{ArgumentFault}
+use Rattle.certified_runs.specs.Certified.{RunEnding, CertifiedRun}
+use Rattle.certified_runs.specs.End.{end_of}
+use Rattle.certified_runs.specs.Known.{Known}
+use Rattle.certified_runs.specs.declared.shifts.Shifts.{Shifts}
+use Rattle.codegen.specs.Loaded.{params_of, code_at}
+use Rattle.hepurita.specs.Bases.{code_base, frame_base}
+use Rattle.hepurita.specs.declared.fault.RunFault.{RunFault}
+use Rattle.hepurita.specs.declared.fault.RunFault.TheVariants.{Argument, Memory}
+use Rattle.codegen.specs.image_fields.Fields.{Fields}
+use Rattle.language.specs.declared.values.Arg.{Arg}
+use Rattle.rv_machine.specs.Machine.{Code}
+use Rattle.rv_machine.specs.declared.observation.Observation.{Observation}
+use Rattle.image_reports.specs.certificates.Certified.{Certified, refused, out_of_memory, certified}
+use Rattle.image_reports.specs.certificates.Given.{fault_of_given}
+use Rattle.image_reports.specs.certificates.KnownImage.{known_at}
+use Rattle.certified_runs.specs.declared.certifying.CertifiedEnd.{CertifiedEnd}
+
+-- the first fault
+pub refused_certified : (image : Fields) (given : List (Option Arg)) (shifts : Shifts) (fault : ArgumentFault)
+    (e : RunFault) → e ≡ Argument fault.rule fault.index → fault_of_given (params_of image) given ≡ Some fault
+    → Certified image given shifts (Err e)
+refused_certified image given shifts fault e is first =
+    subst (λ (x : RunFault). Certified image given shifts (Err x)) (sym is) (refused first)
+
+-- out of memory
+pub memory_certified : (image : Fields) (given : List (Option Arg)) (shifts : Shifts)
+    (answer : Result CertifiedEnd RunFault) → fault_of_given (params_of image) given ≡ None → answer ≡ Err Memory
+    → Certified image given shifts answer
+memory_certified image given shifts answer none is =
+    subst (λ (x : Result CertifiedEnd RunFault). Certified image given shifts x) (sym is) (out_of_memory none)
+
+-- a run
+pub run_certified : (image : Fields) (given : List (Option Arg)) (shifts : Shifts) (code : Code) (steps : ℕ)
+    (k : Known) (seen : List Observation) (ending : RunEnding) (end : CertifiedEnd)
+    → fault_of_given (params_of image) given ≡ None → code ≡ code_at code_base image → steps ≡ image.max_steps
+    → k ≡ known_at code_base frame_base image given shifts → CertifiedRun code steps k seen ending
+    → end ≡ end_of seen ending → Certified image given shifts (Ok end)
+run_certified image given shifts code steps k seen ending end none code_is steps_is known_is run is =
+    subst (λ (x : CertifiedEnd). Certified image given shifts (Ok x)) (sym is)
+    (certified none
+    (subst (λ (x : Known). CertifiedRun (code_at code_base image) image.max_steps x seen ending) known_is
+    (subst (λ (x : ℕ). CertifiedRun (code_at code_base image) x k seen ending) steps_is
+    (subst (λ (x : Code). CertifiedRun x steps k seen ending) code_is run))))

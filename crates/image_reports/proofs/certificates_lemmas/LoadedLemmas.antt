@@ -1,0 +1,188 @@
+-- What is given is put, and what is not is marked, one argument after another.
+use Rattle.std.specs.Prelude.{not, is_some, nat_le, nat_lt, ◌&&◌}
+use Rattle.std.proofs.Math.Path.{fun_ext}
+use Rattle.std.proofs.Common.{◌≡◌, ◌≢◌, ℕ, suc, ◌+◌, ◌<◌, ◌≤◌, Bool, true, false, cond, List, ◌∷◌, length, map, drop}
+use Rattle.std.proofs.Common.{slice_index_or, Option, Some, None, refl, sym, ap, ap₂, ◌∙◌, ⊎_elim, arith, drop-cons}
+use Rattle.std.proofs.Common.{add-one}
+use Rattle.std.proofs.lemmas.Bool.{cases_eq, cases_lt, le-leb, lt-leb, lt-ltb, le-ltb, false≢true}
+use Rattle.std.proofs.lemmas.List.{length-map}
+use Rattle.std.proofs.Math.ListN.{get_or-map}
+use Rattle.image_reports.proofs.certificates_lemmas.Below.{fault_from-left, fault_by-None, IsWithin-from_rule_of, bytes_within}
+use Rattle.image_reports.proofs.certificates_lemmas.Below.{is_some-with_argument, no_slot}
+use Rattle.language.specs.arguments.Faults.{fault_from}
+use Rattle.language.specs.arguments.Within.{HasShape}
+use Rattle.certified_runs.specs.Known.{Known, with_bytes_known}
+use Rattle.certified_runs.specs.Parts.{is_known_mark, known_bytes}
+use Rattle.certified_runs.specs.declared.shifts.Shifts.{Shifts}
+use Rattle.hepurita.specs.Frames.{HoldsSlot}
+use Rattle.codegen.specs.image_fields.Fields.{slot_bytes}
+use Rattle.codegen.specs.declared.image_fields.slot.Slot.{Slot}
+use Rattle.language.specs.declared.signature.Form.{Form}
+use Rattle.language.specs.declared.signature.Form.TheVariants.{SingleWord, FixedArray, MutableArray}
+use Rattle.language.specs.declared.signature.Kind.{Kind}
+use Rattle.language.specs.declared.signature.Param.{Param}
+use Rattle.language.specs.declared.values.Arg.{Arg}
+use Rattle.rv_machine.specs.Bytes.{ByteMap, zeros}
+use Rattle.image_reports.specs.certificates.Given.{rule_of_given, fault_of_given}
+use Rattle.image_reports.specs.certificates.KnownImage.{argument_bytes, with_one, known_with_one, with_given, known_with_given}
+
+-- Unknown bytes.
+
+-- one more, behind those that are unknown already
+module _ (known : ℕ → Bool) (at i x : ℕ) where
+  abbrev now : ℕ → Bool
+  now = with_bytes_known (with_bytes_known known i at false) 1 (at + i) false
+
+  below_all : x < at → now x ≡ with_bytes_known known (i + 1) at false x
+  below_all below =
+      let low : x < at + i = omega arith in
+      rw (lt-leb (at + i) x low, lt-leb at x below) refl
+
+  among_old : at ≤ x → x < at + i → now x ≡ with_bytes_known known (i + 1) at false x
+  among_old low high =
+      let more : x < at + (i + 1) = omega arith in
+      rw (lt-leb (at + i) x high, le-leb at x low, lt-ltb x (at + i) high, lt-ltb x (at + (i + 1)) more) refl
+
+  at_new : x ≡ at + i → now x ≡ with_bytes_known known (i + 1) at false x
+  at_new is =
+      let low : at ≤ x = omega arith in
+      let from : at + i ≤ x = omega arith in
+      let to : x < at + i + 1 = omega arith in
+      let more : x < at + (i + 1) = omega arith in
+      rw (le-leb (at + i) x from, lt-ltb x (at + i + 1) to, le-leb at x low, lt-ltb x (at + (i + 1)) more) refl
+
+  above_all : at + i < x → now x ≡ with_bytes_known known (i + 1) at false x
+  above_all above =
+      let low : at ≤ x = omega arith in
+      let from : at + i ≤ x = omega arith in
+      let past : at + i + 1 ≤ x = omega arith in
+      let past' : at + (i + 1) ≤ x = omega arith in
+      rw (
+        le-leb (at + i) x from,
+        le-ltb x (at + i + 1) past,
+        le-leb at x low,
+        le-ltb x (at + i) from,
+        le-ltb x (at + (i + 1)) past',
+      ) refl
+
+  one_more : now x ≡ with_bytes_known known (i + 1) at false x
+  one_more =
+      ⊎_elim below_all
+      (λ (low : at ≤ x). ⊎_elim (among_old low)
+      (λ (from : at + i ≤ x). ⊎_elim at_new (λ (n : x ≢ at + i). above_all (omega (arith, n))) (cases_eq x (at + i)))
+      (cases_lt x (at + i)))
+      (cases_lt x at)
+
+pub one_more_unknown : (known : ℕ → Bool) (at i : ℕ)
+    → with_bytes_known (with_bytes_known known i at false) 1 (at + i) false ≡ with_bytes_known known (i + 1) at false
+one_more_unknown known at i = fun_ext (one_more known at i)
+
+-- none is unknown yet
+pub none_unknown : (known : ℕ → Bool) (at : ℕ) → with_bytes_known known 0 at false ≡ known
+none_unknown known at =
+    fun_ext (λ x. ⊎_elim
+    (λ (below : x < at). let is : with_bytes_known known 0 at false x ≡ known x = rw (lt-leb at x below) refl in is)
+    (λ (low : at ≤ x). let past : at + 0 ≤ x = omega arith in
+    let is : with_bytes_known known 0 at false x ≡ known x =
+    rw (le-leb at x low, le-ltb x (at + 0) past) refl in is)
+    (cases_lt x at))
+
+-- an argument's bytes lie in its slot
+pub argument_inside : (form : Form) (kind : Kind) (n : ℕ) → argument_bytes form kind n ≤ slot_bytes form kind n
+argument_inside SingleWord kind n = omega arith
+argument_inside FixedArray kind n = bytes_within kind n
+argument_inside MutableArray kind n = bytes_within kind n
+
+-- Arguments.
+
+pub with_given-next : (frame : ℕ) (bytes : ByteMap) (slots : List Slot) (given : List (Option Arg)) (i : ℕ)
+    (slot : Slot) (one : Option Arg) → i < length slots → i < length given
+    → with_given frame bytes (drop i slots) (drop i given)
+    ≡ with_given frame (with_one frame bytes (slice_index_or slots i slot) (slice_index_or given i one))
+    (drop (i + 1) slots) (drop (i + 1) given)
+with_given-next frame bytes slots given i slot one below below' =
+    let next = with_one frame bytes (slice_index_or slots i slot) (slice_index_or given i one) in
+    ap (λ (s : List Slot). with_given frame bytes s (drop i given)) (drop-cons slots i slot below)
+    ∙ (ap (λ (g : List (Option Arg)). with_given frame bytes (slice_index_or slots i slot ∷ drop (suc i) slots) g)
+    (drop-cons given i one below')
+    ∙ ap (λ (k : ℕ). with_given frame next (drop k slots) (drop k given)) (sym (add-one i)))
+
+pub known_with_given-next : (frame : ℕ) (known : ℕ → Bool) (slots : List Slot) (given : List (Option Arg)) (i : ℕ)
+    (slot : Slot) (one : Option Arg) → i < length slots → i < length given
+    → known_with_given frame known (drop i slots) (drop i given)
+    ≡ known_with_given frame (known_with_one frame known (slice_index_or slots i slot) (slice_index_or given i one))
+    (drop (i + 1) slots) (drop (i + 1) given)
+known_with_given-next frame known slots given i slot one below below' =
+    let next = known_with_one frame known (slice_index_or slots i slot) (slice_index_or given i one) in
+    ap (λ (s : List Slot). known_with_given frame known s (drop i given)) (drop-cons slots i slot below)
+    ∙ (ap (λ (g : List (Option Arg)). known_with_given frame known (slice_index_or slots i slot ∷ drop (suc i) slots)
+    g) (drop-cons given i one below')
+    ∙ ap (λ (k : ℕ). known_with_given frame next (drop k slots) (drop k given)) (sym (add-one i)))
+
+pub is_some-with_one : (frame : ℕ) (bytes : ByteMap) (slot : Slot) → HoldsSlot frame bytes slot → (one : Option Arg)
+    → ((arg : Arg) → one ≡ Some arg → HasShape slot.param.form slot.param.length arg) → (x : ℕ)
+    → is_some (with_one frame bytes slot one x) ≡ is_some (bytes x)
+is_some-with_one frame bytes slot holds (Some arg) shape x =
+    is_some-with_argument frame bytes slot holds arg (shape arg refl) x
+is_some-with_one frame bytes slot holds None shape x = refl
+
+-- what is known after one argument, where its bytes became unknown and where nothing was done
+pub forgotten : (frame : ℕ) (known : ℕ → Bool) (slot : Slot) (one : Option Arg) (none : Bool) → is_some one ≡ not none
+    → none ≡ true → with_bytes_known known (argument_bytes slot.param.form slot.param.kind slot.param.length)
+    (frame + slot.offset) false ≡ known_with_one frame known slot one
+forgotten frame known slot (Some arg) none is gone = absurd (false≢true (sym (is ∙ ap not gone)))
+forgotten frame known slot None none is gone = refl
+
+pub left_known : (frame : ℕ) (known : ℕ → Bool) (slot : Slot) (one : Option Arg) (none : Bool)
+    → is_some one ≡ not none → none ≡ false → known ≡ known_with_one frame known slot one
+left_known frame known slot (Some arg) none is there = refl
+left_known frame known slot None none is there = absurd (false≢true (is ∙ ap not there))
+
+abbrev pub params_in : List Slot → List Param
+params_in slots = map (λ (slot : Slot). slot.param) slots
+
+-- what is given without fault has its parameter's shape
+pub shape_given : (slots : List Slot) (given : List (Option Arg)) (i : ℕ) (one : Option Arg) (arg : Arg)
+    → i < length slots → i < length given → fault_from rule_of_given i (drop i (params_in slots)) (drop i given)
+    ≡ None → one ≡ slice_index_or given i one → one ≡ Some arg
+    → HasShape (slice_index_or slots i no_slot).param.form (slice_index_or slots i no_slot).param.length arg
+shape_given slots given i one arg below below' none is some =
+    let here =
+    (fault_from-left rule_of_given i (params_in slots) given no_slot.param one
+    (omega (arith, below, length-map slots (λ (slot : Slot). slot.param))) below' none).0 in
+    let right : rule_of_given (slice_index_or slots i no_slot).param (Some arg) ≡ None =
+    ap₂ rule_of_given (sym (get_or-map (λ (slot : Slot). slot.param) slots i no_slot)) (sym some ∙ is) ∙ here in
+    (IsWithin-from_rule_of (slice_index_or slots i no_slot).param arg right).shape
+
+-- one for each
+pub as_many : (slots : List Slot) (given : List (Option Arg)) → fault_of_given (params_in slots) given ≡ None
+    → length given ≡ length slots
+as_many slots given none = (fault_by-None rule_of_given (params_in slots) given none).0
+    ∙ length-map slots (λ (slot : Slot). slot.param)
+
+-- The frame.
+
+-- all of a new frame is known
+pub fresh_known : (frame n : ℕ) → known_bytes (zeros frame n) ≡ (λ a. is_some (zeros frame n a))
+fresh_known frame n =
+    fun_ext (λ a. elim (nat_le frame a && nat_lt a (frame + n)) as
+    (λ t. is_known_mark (cond t (Some 0) None) ≡ is_some {T = ℕ} (cond t (Some 0) None)) [
+      | true ↦
+          refl
+      | false ↦ refl
+    ])
+
+pub same_known : (p p' : ℕ) (r r' : ℕ → ℕ) (b b' : ByteMap) (f f' k k' : ℕ → Bool) (w w' : Shifts) → p ≡ p' → r ≡ r'
+    → b ≡ b' → f ≡ f' → k ≡ k' → w ≡ w'
+    → ◌≡◌ {A = Known} (record {
+      state = record { pc = p; regs = r; bytes = b };
+      registers = f;
+      bytes = k;
+      shifts = w;
+    }) (record {
+      state = record { pc = p'; regs = r'; bytes = b' };
+      registers = f';
+      bytes = k';
+      shifts = w';
+    })
+same_known p p' r r' b b' f f' k k' w w' pcs regs bytes flags known shifts = cc

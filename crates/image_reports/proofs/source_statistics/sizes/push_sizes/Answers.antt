@@ -1,0 +1,12 @@
+use Rattle.std.proofs.Common.{map, IfSome, Option, List, sym, ap, subst, ◌≡◌, ◌∙◌}
+use Rattle.std.specs.Option.{option_map}
+use Rattle.inline.specs.Numbering.{flattened}
+use Rattle.language.specs.Tree.{ProcedureTree, procedure_tree}
+use Rattle.image_reports.proofs.source_statistics.sizes.push_sizes.Goals as goal
+
+pub push_export-requires : goal.push_export-requires
+push_export-requires c =
+    let is = sym c.exported.ensures ∙ ap (option_map _) c.in-Some.is in
+    subst (λ (o : Option (List ProcedureTree × ProcedureTree)).
+    IfSome o (λ export. c.args.ranged.now.flat ≡ flattened c.args.ranged.now.flat.profile export.0 export.1))
+    is c.requires

@@ -1,0 +1,57 @@
+-- What a source costs, as lines.
+use Rattle.std.specs.Prelude.{◌≡◌, ℕ, List, [], ◌++◌, codes, Option, None, Some}
+use Rattle.std.specs.Fmt.{decimal}
+use Rattle.hepurita.specs.Built.{Judges, accepts}
+use Rattle.hepurita.specs.Exact.{image_for}
+use Rattle.hepurita.specs.declared.optimisation.Optimisation.TheVariants.{Off}
+use Rattle.codegen.specs.image_fields.Fields.{Fields}
+use Rattle.inline.specs.Numbering.{flattened}
+use Rattle.intervals.specs.Ranged.{RangedProgram}
+use Rattle.intervals.specs.Work.{ranged}
+use Rattle.language.specs.Tree.{ProcedureTree, ProgramTree}
+use Rattle.explanations.specs.statement_costs.Costs.{cost_of}
+use Rattle.explanations.specs.declared.statement_costs.costs.Cost.{Cost}
+use Rattle.explanations.specs.declared.statement_costs.costs.Limit.TheVariants.{Nodes, Bodies, DeclaredBytes}
+use Rattle.explanations.specs.declared.statement_costs.costs.Part.{Part}
+use Rattle.explanations.specs.statement_work.WorkCosts.{work_cost}
+use Rattle.image_reports.specs.statistics.FieldsText.{fields_text}
+use Rattle.word.specs.declared.profile.Profile.{Profile}
+use Rattle.word.specs.Places.{place_text}
+
+-- the nodes of a body, its work, and the fields of an image
+abbrev pub costs_text : RangedProgram → Fields → List ℕ
+costs_text body fields =
+    codes "nodes " ++ decimal body.flat.nodes ++ codes "\nwork " ++ decimal body.work ++ codes "\n"
+    ++ fields_text fields
+
+-- the first of the parts that have most of something: how much, and where it stands
+abbrev pub most_line : List ℕ → Option Part → List ℕ
+most_line name None = []
+most_line name (Some p) =
+    codes "most " ++ (name ++ (codes " " ++ (decimal p.cost ++ (codes " at " ++ (place_text p.place ++ codes "\n")))))
+
+-- of an export behind the procedures that it may call: the bodies that are open at once, the declared bytes, and the
+-- parts with most nodes, most declared bytes and most work
+abbrev pub size_text : Cost → Cost → Cost → Cost → List ℕ
+size_text nodes bodies bytes work =
+    codes "bodies " ++ (decimal bodies.whole ++ (codes "\ndeclared_bytes " ++ (decimal bytes.whole ++ (codes "\n"
+    ++ (most_line (codes "nodes") nodes.costliest
+    ++ (most_line (codes "declared_bytes") bytes.costliest ++ most_line (codes "work") work.costliest))))))
+
+abbrev pub size_lines : List ProcedureTree → ProcedureTree → List ℕ
+size_lines before p = size_text (cost_of Nodes before p) (cost_of Bodies before p) (cost_of DeclaredBytes before p)
+    (work_cost before p)
+
+abbrev pub export_lines : Option (List ProcedureTree × ProcedureTree) → List ℕ
+export_lines None = []
+export_lines (Some export) = size_lines export.0 export.1
+
+-- the source is accepted, and the text has what its passes counted, the fields of its plain image and the sizes of
+-- its export
+pub record SaysCosts (profile : Profile) (source text : List ℕ) : Type 0 where
+  pub program : ProgramTree
+  pub before : List ProcedureTree
+  pub export : ProcedureTree
+  pub judged : Judges profile source (accepts program before export)
+  pub printed : text ≡ costs_text (ranged (flattened profile before export)) (image_for Off profile before export)
+      ++ size_lines before export

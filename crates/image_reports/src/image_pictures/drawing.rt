@@ -1,0 +1,129 @@
+// An image's runs, loaded and drawn.
+
+ghost use Rattle.std.specs.Prelude.{◌≡◌, None, IfOk};
+ghost use Rattle.language.specs.arguments.Within.{AreWithin};
+ghost use Rattle.image_reports.specs.certificates.Given.{fault_of_given};
+ghost use Rattle.image_reports.specs.certificates.KnownImage.{known_at};
+ghost use Rattle.codegen.specs.Loaded.{params_of, loaded_at};
+ghost use Rattle.hepurita.specs.Bases.{code_base, frame_base};
+ghost use Rattle.codegen.specs.image_fields.Fields.{IsImage};
+ghost use Rattle.image_reports.specs.image_pictures.Drawn.{BeginsAt, DrawsImage, DrawsOne, DrawsTwo};
+ghost use Rattle.rv_machine.specs.Harts.{state_of};
+ghost use Rattle.rv_machine.specs.Paged.{paged_bytes};
+
+use crate::certificates::{Shifts, load_given};
+use hepurita::image::Image;
+use hepurita::{CODE_BASE, FRAME_BASE, code, load};
+use language::{Arg, Args};
+use run_reports::pictures::{Area, Drawing, Runs, picture};
+use rv_machine::PagedMemory;
+use std::alloc::{AllocError, Global};
+
+/// The page of the one run of an image in which 0 stands for each argument that is not given, with this said of it. The
+/// arguments that are given have no fault.
+pub fn picture_of_given(
+    alloc: Global,
+    image: &Image,
+    given: &[Option<Arg>],
+    said: &[u8],
+) -> Result<Vec<u8>, AllocError>
+    requires allowed { IsImage image.now }
+    requires faultless { fault_of_given (params_of image.now) given.now ≡ None }
+    ensures exact { IfOk result (λ page. DrawsOne image.now given.now said.now page.items) }
+{
+    let mut counted = both_of_given(alloc, image, given)?;
+    let mut drawn = both_of_given(alloc, image, given)?;
+    draw(alloc, image, &mut counted, &mut drawn, said, false)
+}
+
+/// The page of two runs of an image over each other, on two lists of arguments within its parameter types, with this said
+/// of them.
+pub fn picture_of_pair(
+    alloc: Global,
+    image: &Image,
+    one: &Args,
+    other: &Args,
+    said: &[u8],
+) -> Result<Vec<u8>, AllocError>
+    requires allowed { IsImage image.now }
+    requires one { AreWithin (params_of image.now) one.now }
+    requires other { AreWithin (params_of image.now) other.now }
+    ensures exact { IfOk result (λ page. DrawsTwo image.now one.now other.now said.now page.items) }
+{
+    let mut counted = both_of_args(alloc, image, one, other)?;
+    let mut drawn = both_of_args(alloc, image, one, other)?;
+    draw(alloc, image, &mut counted, &mut drawn, said, true)
+}
+
+/// The run with zeros for what is not given, twice.
+fn both_of_given(
+    alloc: Global,
+    image: &Image,
+    given: &[Option<Arg>],
+) -> Result<Runs<PagedMemory>, AllocError>
+    requires { fault_of_given (params_of image.now) given.now ≡ None }
+    ensures one { IfOk result (λ runs. BeginsAt image.now (known_at code_base frame_base image.now given.now Shifts.Hidden).state
+        (state_of runs.one.hart (paged_bytes runs.one.memory)) runs.one.turns_left) }
+    ensures other { IfOk result (λ runs. BeginsAt image.now (known_at code_base frame_base image.now given.now Shifts.Hidden).state
+        (state_of runs.other.hart (paged_bytes runs.other.memory)) runs.other.turns_left) }
+{
+    let one = load_given(alloc, image, given, Shifts::Hidden)?.run;
+    let other = load_given(alloc, image, given, Shifts::Hidden)?.run;
+    Ok(Runs { one, other })
+}
+
+/// The runs of two lists of arguments.
+fn both_of_args(
+    alloc: Global,
+    image: &Image,
+    one: &Args,
+    other: &Args,
+) -> Result<Runs<PagedMemory>, AllocError>
+    requires one { AreWithin (params_of image.now) one.now }
+    requires other { AreWithin (params_of image.now) other.now }
+    ensures one { IfOk result (λ runs. BeginsAt image.now (loaded_at code_base frame_base image.now one.now)
+        (state_of runs.one.hart (paged_bytes runs.one.memory)) runs.one.turns_left) }
+    ensures other { IfOk result (λ runs. BeginsAt image.now (loaded_at code_base frame_base image.now other.now)
+        (state_of runs.other.hart (paged_bytes runs.other.memory)) runs.other.turns_left) }
+{
+    let one = load(alloc, image, one)?;
+    let other = load(alloc, image, other)?;
+    Ok(Runs { one, other })
+}
+
+/// The page of two runs of an image, each loaded twice, or of one in both places.
+fn draw(
+    alloc: Global,
+    image: &Image,
+    counted: &mut Runs<PagedMemory>,
+    drawn: &mut Runs<PagedMemory>,
+    said: &[u8],
+    are_two: bool,
+) -> Result<Vec<u8>, AllocError>
+    requires allowed { IsImage image.now }
+    requires one { BeginsAt image.now (state_of drawn.old.one.hart (paged_bytes drawn.old.one.memory))
+        (state_of counted.old.one.hart (paged_bytes counted.old.one.memory)) counted.old.one.turns_left }
+    requires other { BeginsAt image.now (state_of drawn.old.other.hart (paged_bytes drawn.old.other.memory))
+        (state_of counted.old.other.hart (paged_bytes counted.old.other.memory)) counted.old.other.turns_left }
+    requires one_steps { drawn.old.one.turns_left ≡ image.now.max_steps }
+    requires other_steps { drawn.old.other.turns_left ≡ image.now.max_steps }
+    ensures { IfOk result (λ page. DrawsImage image.now
+        (state_of drawn.old.one.hart (paged_bytes drawn.old.one.memory))
+        (state_of drawn.old.other.hart (paged_bytes drawn.old.other.memory))
+        said.now are_two page.items) }
+{
+    let code = code(alloc, image)?;
+    let drawing = Drawing {
+        code: Area {
+            base: CODE_BASE,
+            words: image.words().len() as u32,
+        },
+        frame: Area {
+            base: FRAME_BASE,
+            words: image.frame_bytes() / 4,
+        },
+        said,
+        are_two,
+    };
+    picture(alloc, &code, counted, drawn, &drawing)
+}

@@ -1,0 +1,69 @@
+// Why what an observer sees of two runs differs.
+
+ghost use Rattle.std.specs.Prelude.{◌≡◌, ◌<◌, List, Ok, IfOk};
+ghost use Rattle.language.specs.arguments.Within.{AreWithin};
+ghost use Rattle.codegen.specs.Loaded.{params_of, code_at, loaded_at};
+ghost use Rattle.hepurita.specs.Bases.{code_base, frame_base};
+ghost use Rattle.hepurita.specs.Paired.{Paired};
+ghost use Rattle.rv_machine.specs.Regions.{code_of};
+ghost use Rattle.rv_machine.specs.declared.observation.Observation.{Observation};
+ghost use Rattle.rv_machine.specs.declared.pairing.Pairing.TheVariants.{Differ};
+ghost use Rattle.run_reports.specs.run_places.Places.{ShowsFewer};
+ghost use Rattle.image_reports.specs.pair_explanations.Explained.{SaysOf, Explains};
+
+use crate::pair_explanations::lines::{Said, lines, push_shown};
+use hepurita::image::Image;
+use hepurita::{code, load};
+use language::Args;
+use run_reports::run_places::{last_before, make_turns, registers_at, shown_at};
+use rv_machine::CodeRegion;
+use std::alloc::{AllocError, Global};
+
+/// What is said of the run of an image on arguments, of which this is the code, and which shows at least as many entries.
+fn said_of_run(
+    alloc: Global,
+    image: &Image,
+    code: &CodeRegion,
+    args: &Args,
+    place: u64,
+) -> Result<Said, AllocError>
+    requires within { AreWithin (params_of image.now) args.now }
+    requires place { 0 < place }
+    requires code { code_of code.now ≡ code_at code_base image.now }
+    requires reached { ShowsFewer (code_at code_base image.now) image.now.max_steps (loaded_at code_base frame_base image.now args.now) place → ⊥ }
+    ensures { IfOk result (λ said. (seen : List Observation) × SaysOf image.now args.now place seen said.pc said.text.items) }
+{
+    let mut whole = load(alloc, image, args)?;
+    let Some(before) = last_before(alloc, code, &mut whole, place) else {
+        unreachable!();
+    };
+    let mut again = load(alloc, image, args)?;
+    make_turns(code, &mut again, before.turns);
+    let pc = again.hart.pc();
+    let mut text = registers_at(alloc, code, &again.hart)?;
+    text.extend_from_slice(b" ")?;
+    let shown = shown_at(alloc, code, &mut again, place - before.entries);
+    push_shown(&mut text, shown)?;
+    Ok(Said { pc, text })
+}
+
+/// The lines that explain why what an observer sees of the runs of an image on two lists of arguments differs first at this entry: the
+/// last word that both runs come to before it, and for each run what that word reads, and what the run shows at the entry. Both
+/// runs are made again.
+pub fn explain_difference(
+    alloc: Global,
+    image: &Image,
+    one: &Args,
+    other: &Args,
+    place: u64,
+) -> Result<Vec<u8>, AllocError>
+    requires one { AreWithin (params_of image.now) one.now }
+    requires other { AreWithin (params_of image.now) other.now }
+    requires differ { Paired image.now one.now other.now (Ok (Differ place)) }
+    ensures { IfOk result (λ text. Explains image.now one.now other.now place text.items) }
+{
+    let code = code(alloc, image)?;
+    let first = said_of_run(alloc, image, &code, one, place)?;
+    let second = said_of_run(alloc, image, &code, other, place)?;
+    lines(alloc, image, &first, &second)
+}

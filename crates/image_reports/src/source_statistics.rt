@@ -1,0 +1,78 @@
+// What an accepted source costs, as lines: its nodes and its work, which have limits, then the fields of its image, and
+// then what else has a limit: the bodies that are open at once and the declared bytes, with the parts that have most.
+//
+// It promises that these are the numbers that the passes used to judge the source, and the fields of the one plain
+// image that is built of it (`specs/SourceText.antt`); and that a source is refused exactly as `build` refuses it. It stands on the
+// passes, on `statistics` and on `statement_costs`.
+
+mod sizes;
+
+ghost use Rattle.std.specs.Prelude.{◌≡◌, [], List, ◌++◌, IfOk, IfErr, IfSome};
+ghost use Rattle.std.specs.String.{string_bytes};
+ghost use Rattle.branch_removal.specs.Exact.{straight_of};
+ghost use Rattle.codegen.specs.Exact.{fields_of};
+ghost use Rattle.hepurita.specs.Built.{IsSmall, Judges, JudgesProgram, IsRefusal};
+ghost use Rattle.inline.specs.Numbering.{flattened};
+ghost use Rattle.language.specs.Signature.{exported};
+ghost use Rattle.language.specs.Tree.{ProcedureTree, program_tree};
+ghost use Rattle.language.specs.WantOfMemory.{IsWantOfMemory};
+ghost use Rattle.image_reports.specs.source_statistics.SourceText.{costs_text, export_lines, SaysCosts};
+
+use crate::source_statistics::sizes::push_sizes;
+use crate::statistics::push_fields;
+use branch_removal::remove;
+use codegen::generate;
+use inline::{Flat, inline};
+use intervals::{Ranged, check_ranges};
+use labels::check_as;
+use language::{Profile, Program, Refusal};
+use std::alloc::Global;
+use std::fmt::Write;
+use syntax::parse;
+
+/// What a source costs that is accepted for an observer, as lines, or the first refusal: the one that `build_as` names.
+pub fn source_statistics(alloc: Global, source: &str, profile: Profile) -> Result<String, Refusal>
+    ensures said { IfOk result (λ text. SaysCosts profile source.now (string_bytes text)) }
+    ensures refused { IfErr result (IsRefusal (Judges profile source.now)) }
+{
+    let program = parse(alloc, source)?;
+    let flat = flat_of(alloc, &program, profile)?;
+    let ranged = check_ranges(alloc, &flat)?;
+    costs(alloc, &ranged, &program)
+}
+
+/// The export of a program that violates no rule on names, types and labels, with the bodies that it calls as one body
+/// within the limits on size; or the first refusal.
+fn flat_of(alloc: Global, program: &Program<'_>, profile: Profile) -> Result<Flat, Refusal>
+    ensures accepted { IfOk result (λ flat. (before : List ProcedureTree) × (export : ProcedureTree) × IsSmall profile (program_tree program.now) before export × (flat ≡ flattened profile before export)) }
+    ensures refused { IfErr result (IsRefusal (JudgesProgram profile (program_tree program.now))) }
+{
+    let checked = check_as(alloc, program, profile)?;
+    inline(alloc, &checked)
+}
+
+/// The lines of a body with what was counted for it, and of the program whose export it is. Only memory refuses them.
+fn costs(alloc: Global, ranged: &Ranged<'_>, program: &Program<'_>) -> Result<String, Refusal>
+    requires { IfSome (exported [] (program_tree program.now).procedures) (λ export. ranged.now.flat ≡ flattened ranged.now.flat.profile export.0 export.1) }
+    ensures said { IfOk result (λ text. string_bytes text ≡ costs_text ranged.now (fields_of (straight_of ranged.now)) ++ export_lines (exported [] (program_tree program.now).procedures)) }
+    ensures memory { IfErr result (λ refusal. IsWantOfMemory refusal.rule refusal.place) }
+{
+    let mut text = body_costs(alloc, ranged)?;
+    push_sizes(alloc, &mut text, ranged, program)?;
+    Ok(text)
+}
+
+/// The lines of a body with what was counted for it. Only memory refuses them.
+fn body_costs(alloc: Global, ranged: &Ranged<'_>) -> Result<String, Refusal>
+    ensures said { IfOk result (λ text. string_bytes text ≡ costs_text ranged.now (fields_of (straight_of ranged.now))) }
+    ensures memory { IfErr result (λ refusal. IsWantOfMemory refusal.rule refusal.place) }
+{
+    let straight = remove(alloc, ranged)?;
+    let code = generate(alloc, &straight)?;
+    let nodes = ranged.flat().nodes();
+    let work = ranged.work();
+    let mut text = String::new(alloc);
+    writeln!(text, "nodes {nodes}\nwork {work}")?;
+    push_fields(&mut text, code.fields())?;
+    Ok(text)
+}

@@ -1,0 +1,89 @@
+-- What the lines that were read so far say.
+use Rattle.std.proofs.Common.{◌≡◌, ℕ, zero, suc, ◌+◌, ◌<◌, List, [], ◌∷◌, ◌++◌, length, get_or, take, map, Option}
+use Rattle.std.proofs.Common.{Some, None, refl, sym, ap, ap₂, ◌∙◌, arith, Bor}
+use Rattle.std.proofs.lemmas.List.{map-append}
+use Rattle.std.proofs.lemmas.List.FromFn.{get_or-enumerate_from, length-enumerate_from}
+use Rattle.std.specs.List.{enumerate_from}
+use Rattle.std.specs.Option.{option_map}
+use Rattle.input_files.specs.harts_file.Lines.{PlannedHart, PlannedTurns, Said, a_hart, some_turns, lines_of, said_of, said_in}
+use Rattle.input_files.specs.harts_file.private.Reading.{held, held_turns}
+
+-- ---- what is held of what a line says
+pub held_none : (said : Option Said) → None ≡ option_map held said → said ≡ None
+held_none None e = refl
+held_none (Some said) e = cc
+
+pub held_hart : (said : Option Said) (hart : PlannedHart) → Some (a_hart hart) ≡ option_map held said
+    → said ≡ Some (a_hart hart)
+held_hart None hart e = cc
+held_hart (Some (a_hart other)) hart e = sym e
+held_hart (Some (some_turns turns)) hart e = cc
+
+pub held_as : (said : Option Said) (turns : PlannedTurns) → Some (some_turns turns) ≡ option_map held said
+    → (whole : PlannedTurns) × (said ≡ Some (some_turns whole)) × (turns ≡ held_turns whole)
+held_as None turns e = cc
+held_as (Some (a_hart hart)) turns e = cc
+held_as (Some (some_turns whole)) turns e = (whole, refl, cc)
+
+-- ---- lines with their numbers
+abbrev pub Item : Type 0
+Item = ℕ × Bor (List ℕ)
+
+abbrev pub said_so_far : List Item → List (Option Said)
+said_so_far items = map (λ item. said_of item.1.now) items
+
+abbrev pub numbered : Item → ℕ × List ℕ
+numbered item = (item.0, item.1.now)
+
+abbrev pub said_at : ℕ × List ℕ → Option Said
+said_at line = said_of line.1
+
+said_numbered : (items : List Item) → said_so_far items ≡ map said_at (map numbered items)
+said_numbered [] = refl
+said_numbered (item ∷ items) = ap (λ l. said_of item.1.now ∷ l) (said_numbered items)
+
+said_enumerated : (n : ℕ) (lines : List (List ℕ)) → map said_at (enumerate_from n lines) ≡ map said_of lines
+said_enumerated n [] = refl
+said_enumerated n (line ∷ lines) = ap (λ l. said_of line ∷ l) (said_enumerated (n + 1) lines)
+
+pub all_said : (text : List ℕ) (items : List Item) → map numbered items ≡ enumerate_from 0 (lines_of text)
+    → said_in text ≡ said_so_far items
+all_said text items e = sym (said_numbered items ∙ ap (map said_at) e ∙ said_enumerated 0 (lines_of text))
+
+at_place : {A : Type 0} (xs : List A) (n : ℕ) (d : A) → n < length xs
+    → (rest : List A) × (xs ≡ take n xs ++ get_or xs n d ∷ rest)
+at_place [] n d h = absurd (omega arith)
+at_place (x ∷ xs) zero d h = (xs, refl)
+at_place (x ∷ xs) (suc n) d h = let p = at_place xs n d (omega arith) in (p.0, ap (λ l. x ∷ l) p.1)
+
+-- the next line of the text is this item
+pub record IsNext (text : List ℕ) (items : List Item) (item : Item) : Type 0 where
+  pub rest : List (Option Said)
+  pub there : said_in text ≡ said_so_far items ++ said_of item.1.now ∷ rest
+  pub number : item.0 ≡ length items
+
+pub is_next : (text : List ℕ) (items : List Item) (item : Item) (answer : Option Item) → answer ≡ Some item
+    → map numbered items ≡ take (length items) (enumerate_from 0 (lines_of text))
+    → (length items < length (enumerate_from 0 (lines_of text)))
+    × (numbered item ≡ get_or (enumerate_from 0 (lines_of text)) (length items) (numbered item))
+    → IsNext text items item
+is_next text items item answer is e h =
+    let all = enumerate_from 0 (lines_of text) in
+    let n = length items in
+    let p = at_place all n (numbered item) h.0 in
+    let there : n < length (lines_of text) = omega (arith, h.0, length-enumerate_from 0 (lines_of text)) in
+    let place = ap (λ (line : ℕ × List ℕ). line.0) (h.1
+    ∙ get_or-enumerate_from 0 (lines_of text) n (numbered item) there) in
+    record {
+      rest = map said_at p.0;
+      there =
+          sym (said_enumerated 0 (lines_of text))
+          ∙ ap (map said_at) (p.1 ∙ ap₂ (λ front line. front ++ line ∷ p.0) (sym e) (sym h.1))
+          ∙ map-append said_at (map numbered items) (numbered item ∷ p.0)
+          ∙ ap (λ l. l ++ said_of item.1.now ∷ map said_at p.0) (sym (said_numbered items));
+      number = omega (arith, place);
+    }
+
+pub said_more : (items : List Item) (item : Item)
+    → said_so_far (items ++ item ∷ []) ≡ said_so_far items ++ said_of item.1.now ∷ []
+said_more items item = map-append (λ (i : Item). said_of i.1.now) items (item ∷ [])

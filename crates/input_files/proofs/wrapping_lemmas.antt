@@ -1,0 +1,4 @@
+pub mod Below
+pub mod WordLemmas
+pub mod FieldLemmas
+pub mod WrapLaws

@@ -1,0 +1,157 @@
+-- The fields that are asked for are allowed, where no rule is broken.
+use Rattle.std.proofs.Common.{◌≡◌, ℕ, ◌*◌, ◌/◌, ◌%◌, ◌<◌, ◌≤◌, ◌^◌, Bool, true, false, ◌&&◌, ◌==◌, nat_le}
+use Rattle.std.proofs.Common.{if◌then◌else◌, List, length, map, Option, None, Some, IfSome, refl, sym, ap, ◌∙◌, arith}
+use Rattle.std.specs.List.{AllByRecursion}
+use Rattle.std.proofs.lemmas.Bool.{and_parts, eqb-true, leb-true}
+use Rattle.codegen.proofs.ImageLemmas.{length-slots_from, count_in_words, slots_are, slots_end-slots_from}
+use Rattle.codegen.proofs.ImageLemmas.{slots_inside}
+use Rattle.codegen.specs.expression_code.Layout.{slots_from}
+use Rattle.hepurita.specs.image.Reading.{is_frame_size, is_step_limit, is_word_count, layout_end}
+use Rattle.codegen.specs.image_fields.Fields.{Fields, IsImage, IsResultSlot, result_end, slots_end}
+use Rattle.codegen.specs.declared.image_fields.slot.ResultSlot.{ResultSlot}
+use Rattle.codegen.specs.declared.image_fields.slot.Slot.{Slot}
+use Rattle.codegen.specs.image_fields.Limits.{most_frame_bytes, most_steps, most_words}
+use Rattle.inline.specs.Flat.{declaration_of}
+use Rattle.inline.specs.FlatSize.{HasLength, declared_words}
+use Rattle.language.specs.Limits.{most_declared_bytes}
+use Rattle.language.specs.declared.signature.Param.{Param}
+use Rattle.language.specs.declared.typing.WordType.{WordType}
+use Rattle.input_files.specs.wrapping.Wrapped.{AreWordsOf, broken_rule, end_of, is_code_length, result_behind}
+use Rattle.input_files.specs.declared.wrapping.asked.Asked.{Asked}
+use Rattle.input_files.specs.declared.wrapping.fault.CodeRule.{CodeRule}
+use Rattle.input_files.specs.declared.wrapping.fault.CodeRule.TheVariants.{Length, Frame, Steps}
+use Rattle.input_files.proofs.wrapping_lemmas.WordLemmas.{AreSmall, length-bytes_of}
+
+-- ---- no rule is broken
+
+-- which rule is named by three tests
+abbrev named : Bool → Bool → Bool → Option CodeRule
+named length frame steps = if length then if frame then if steps then None else Some Steps else Some Frame
+    else Some Length
+
+none_named : (length frame steps : Bool) → named length frame steps ≡ None
+    → (length ≡ true) × (frame ≡ true) × (steps ≡ true)
+none_named true true true is = (refl, refl, refl)
+none_named true true false is = absurd cc
+none_named true false steps is = absurd cc
+none_named false frame steps is = absurd cc
+
+-- what that is in numbers
+pub record Unbroken (low bytes : ℕ) (asked : Asked) : Type 0 where
+  pub whole : bytes % 4 ≡ 0
+  pub some : 1 ≤ bytes / 4
+  pub few : bytes / 4 ≤ most_words
+  pub aligned : asked.frame_bytes % 4 ≡ 0
+  pub small : asked.frame_bytes ≤ most_frame_bytes
+  pub inside : low ≤ asked.frame_bytes
+  pub some_step : 1 ≤ asked.max_steps
+  pub steps : asked.max_steps ≤ most_steps
+
+pub unbroken : (low bytes : ℕ) (asked : Asked) → broken_rule low bytes asked ≡ None → Unbroken low bytes asked
+unbroken low bytes asked is =
+    let all = none_named (is_code_length bytes) (is_frame_size low asked.frame_bytes)
+    (is_step_limit asked.max_steps) is in
+    let code = and_parts (bytes % 4 == 0) (is_word_count (bytes / 4)) all.0 in
+    let count = and_parts _ _ code.1 in
+    let frame = and_parts (asked.frame_bytes % 4 == 0) (nat_le asked.frame_bytes most_frame_bytes
+    && nat_le low asked.frame_bytes) all.1 in
+    let size = and_parts _ _ frame.1 in
+    let steps = and_parts (nat_le 1 asked.max_steps) (nat_le asked.max_steps most_steps) all.2 in
+    record {
+      whole = eqb-true _ _ code.0;
+      some = leb-true _ _ count.0;
+      few = leb-true _ _ count.1;
+      aligned = eqb-true _ _ frame.0;
+      small = leb-true _ _ size.0;
+      inside = leb-true _ _ size.1;
+      some_step = leb-true _ _ steps.0;
+      steps = leb-true _ _ steps.1;
+    }
+
+-- ---- the result's slot
+
+result_is : (low : ℕ) (returned : Option WordType) → low % 4 ≡ 0 → low < 2 ^ 32
+    → IfSome (result_behind low returned) (λ slot. IsResultSlot low slot)
+result_is low None aligned fits = tt
+result_is low (Some word) aligned fits = record { aligned = aligned; above = omega arith; fits = fits }
+
+result_inside : (low frame : ℕ) (returned : Option WordType) → layout_end low (result_behind low returned) ≤ frame
+    → IfSome (result_behind low returned) (λ slot. result_end slot ≤ frame)
+result_inside low frame None room = tt
+result_inside low frame (Some word) room = room
+
+behind : (low : ℕ) (returned : Option WordType) → low ≤ layout_end low (result_behind low returned)
+behind low None = omega arith
+behind low (Some word) = omega arith
+
+-- ---- the fields
+
+-- what is asked of parameters
+pub record AreWithinLimits (params : List Param) : Type 0 where
+  pub lengths : AllByRecursion (λ (parameter : Param). HasLength parameter.form parameter.length) params
+  pub given : 4 * declared_words (map declaration_of params) ≤ most_declared_bytes
+
+-- where their slots end
+pub low_of : (params : List Param) → AreWithinLimits params → slots_end 0 (slots_from 0 params) ≤ most_declared_bytes
+low_of params limits =
+    let given = limits.given in
+    let end = slots_end-slots_from 0 params in
+    omega (arith, given, end)
+
+module _ (params : List Param) (returned : Option WordType) (code : List ℕ) (asked : Asked)
+    (limits : AreWithinLimits params) (none : broken_rule (end_of params returned) (length code) asked ≡ None) where
+  facts : Unbroken (end_of params returned) (length code) asked
+  facts = unbroken (end_of params returned) (length code) asked none
+
+  end : slots_end 0 (slots_from 0 params) ≡ 4 * declared_words (map declaration_of params)
+  end = omega (arith, slots_end-slots_from 0 params)
+
+  -- the fields with these words
+  abbrev made : List ℕ → Fields
+  made words = record {
+    profile = asked.profile;
+    slots = slots_from 0 params;
+    returned = result_behind (slots_end 0 (slots_from 0 params)) returned;
+    frame_bytes = asked.frame_bytes;
+    max_steps = asked.max_steps;
+    words = words;
+  }
+
+  made_allowed : (words : List ℕ) → AreWordsOf code words → AreSmall words → IsImage (made words)
+  made_allowed words are fit =
+      let low = slots_end 0 (slots_from 0 params) in
+      let given = limits.given in
+      let size = sym (ap length are) ∙ length-bytes_of words in
+      let some = facts.some in
+      let few = facts.few in
+      let inside = facts.inside in
+      let before = behind low returned in
+      record {
+        count = omega (arith, length-slots_from 0 params, count_in_words params limits.lengths, given);
+        slots = slots_are 0 params limits.lengths refl (omega (arith, given));
+        returned = result_is low returned (omega (arith, end)) (omega (arith, end, given));
+        frame_aligned = facts.aligned;
+        frame_size = facts.small;
+        slots_inside = slots_inside 0 asked.frame_bytes params (omega (arith, end, inside, before));
+        returned_inside = result_inside low asked.frame_bytes returned inside;
+        some_step = facts.some_step;
+        steps = facts.steps;
+        some_word = omega (arith, size, some);
+        word_count = omega (arith, size, few);
+        words = fit;
+      }
+
+  -- so are fields that are equal to them, one by one
+  pub fields_allowed : (slots : List Slot) (result : Option ResultSlot) (frame : ℕ) (words : List ℕ)
+      → slots ≡ slots_from 0 params → result ≡ result_behind (slots_end 0 (slots_from 0 params)) returned
+      → frame ≡ asked.frame_bytes → AreWordsOf code words → AreSmall words
+      → IsImage (record {
+        profile = asked.profile;
+        slots = slots;
+        returned = result;
+        frame_bytes = frame;
+        max_steps = asked.max_steps;
+        words = words;
+      })
+  fields_allowed slots result frame words a b d are fit = let allowed = made_allowed words are fit in
+      rw (a, b, d) allowed

@@ -1,0 +1,3 @@
+pub mod stream_build
+pub mod wrapping
+pub mod harts_file

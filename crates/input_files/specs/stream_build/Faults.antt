@@ -1,0 +1,37 @@
+-- Which bytes are a text, and which fault is answered to bytes that are not built. Length is asked first, then UTF-8,
+-- then the text.
+use Rattle.std.specs.Prelude.{◌≡◌, ◌⊎◌, ℕ, ◌<◌, ◌≤◌, List, length, Some, ⊤}
+use Rattle.std.specs.Str.{IsUtf8}
+use Rattle.hepurita.specs.Built.{Judges, IsRefusal}
+use Rattle.language.specs.declared.refusal.Refusal.{Refusal}
+use Rattle.language.specs.declared.rule.Rule.TheVariants.{TextTooLong}
+use Rattle.language.specs.WantOfMemory.{IsWantOfMemory}
+use Rattle.syntax.specs.Limits.{text_limit}
+use Rattle.word.specs.Places.{origin}
+use Rattle.word.specs.declared.profile.Profile.{Profile}
+use Rattle.input_files.specs.declared.stream_build.fault.BuildFault.{BuildFault}
+use Rattle.input_files.specs.declared.stream_build.fault.BuildFault.TheVariants.{Read, NotUtf8, Refused, Write}
+
+-- the bytes are a text that is not too long
+abbrev pub IsText : List ℕ → Type 0
+IsText bytes = (length bytes ≤ text_limit) × IsUtf8 bytes
+
+-- the refusal of a text that is too long
+abbrev pub IsTooLong : List ℕ → Refusal → Type 0
+IsTooLong bytes refusal = (text_limit < length bytes) × (refusal.rule ≡ TextTooLong) × (refusal.place ≡ Some origin)
+
+-- why a source's bytes are not had as a text; that a call of it failed, its count of failures says
+abbrev pub NoText : List ℕ → BuildFault Refusal → Type 0
+NoText bytes Read = ⊤
+NoText bytes NotUtf8 = (length bytes ≤ text_limit) × ¬ IsUtf8 bytes
+NoText bytes (Refused refusal) = IsWantOfMemory refusal.rule refusal.place ⊎ IsTooLong bytes refusal
+NoText bytes Write = ⊥
+
+-- why a source's bytes are not built to a sink, for an observer: they are not had as a text, or are one that is
+-- refused, or whose image is not all written
+abbrev pub IsFaultOf : Profile → List ℕ → BuildFault Refusal → Type 0
+IsFaultOf profile bytes Read = ⊤
+IsFaultOf profile bytes NotUtf8 = NoText bytes NotUtf8
+IsFaultOf profile bytes (Refused refusal) = NoText bytes (Refused refusal)
+    ⊎ (IsText bytes × IsRefusal (Judges profile bytes) refusal)
+IsFaultOf profile bytes Write = IsText bytes

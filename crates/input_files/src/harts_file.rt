@@ -1,0 +1,16 @@
+// Files of harts: which images run side by side, on which arguments, and whose turn it is when. A text gives one plan, or has a
+// first faulty line and the first rule that the line breaks, and `read` answers that.
+
+mod fault;
+mod jobs;
+mod laws;
+mod lines;
+mod numerals;
+mod plan;
+mod reader;
+mod taking;
+
+pub use fault::PlanFault;
+pub use jobs::Job;
+pub use laws::each_text_gives_one_answer;
+pub use plan::{Plan, read};

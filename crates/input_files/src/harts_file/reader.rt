@@ -1,0 +1,18 @@
+// What has been read of a plan.
+
+ghost use Rattle.std.specs.Prelude.{◌≤◌, vec_len};
+ghost use Rattle.harts.specs.Refused.{most_turns};
+ghost use Rattle.hepurita.specs.Bases.{most_images};
+
+use crate::harts_file::jobs::Job;
+
+/// What has been read of a plan.
+#[derive(Debug, Drop)]
+pub struct Reader<'a> {
+    pub jobs: Vec<Job<'a>>,
+    pub schedule: Vec<u8>,
+    /// Whether turns were read, after which there comes no hart.
+    pub has_turns: bool,
+    ghost few: { vec_len jobs ≤ most_images },
+    ghost short: { vec_len schedule ≤ most_turns },
+}

@@ -1,0 +1,6 @@
+// TODO input_files
+#![tactic(auto)]
+
+pub mod harts_file;
+pub mod stream_build;
+pub mod wrapping;

@@ -1,0 +1,4 @@
+pub mod NumberLemmas
+pub mod FaultLemmas
+pub mod TextLemmas
+pub mod ReadLemmas

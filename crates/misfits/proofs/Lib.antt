@@ -1,2 +1,0 @@
-mod Behind
-mod Greatest

@@ -1,2 +1,0 @@
-mod EntryLemmas
-pub mod Lookup

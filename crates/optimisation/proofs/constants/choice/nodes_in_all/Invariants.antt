@@ -1,0 +1,12 @@
+use Rattle.std.proofs.Common.{◌≡◌, ◌≤◌, ◌+◌, ◌-◌, ◌^◌, drop, map}
+use Rattle.inline.specs.Flat.{term_tree}
+use Rattle.optimisation.specs.constants.private.Choice.{terms_size}
+use Rattle.optimisation.specs.constants.private.Choice.{counted}
+use Rattle.optimisation.proofs.constants.choice.nodes_in_all.Given as goal
+
+-- the sum is a count, and with what the expressions left have it is the count of all
+abbrev pub invariant-loop-term : goal.invariant-loop-term
+invariant-loop-term l =
+    (l.sum ≤ 2 ^ 64 - 1)
+    × (counted (l.sum + terms_size (map term_tree (drop l.term-index l.terms)))
+    ≡ counted (terms_size (map term_tree l.terms)))

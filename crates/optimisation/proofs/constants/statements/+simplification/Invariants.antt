@@ -1,0 +1,57 @@
+use Rattle.std.proofs.Common.{◌≡◌, ◌+◌, ◌*◌, drop}
+use Rattle.branch_removal.specs.Bounds.{block_nodes, statement_nodes}
+use Rattle.branch_removal.specs.Straight.{chain, straight_block, straight_tree}
+use Rattle.optimisation.specs.constants.private.Known.{words_of}
+use Rattle.optimisation.specs.constants.private.Simplification.{knowing_all, simplified_all, turns_code, turns_known}
+use Rattle.optimisation.proofs.constants_lemmas.StatementCode.{turns_left, known_left}
+use Rattle.optimisation.proofs.constants.statements.+simplification.Given as goal
+
+-- the code so far and that of what is left are the code of all statements, and what is known in the end is what is
+-- left to learn
+abbrev pub invariant-statements-loop-each : goal.invariant-statements-loop-each
+invariant-statements-loop-each l =
+    let rest = straight_block (drop l.each-index l.body) in
+    let all = straight_block l.fn.body in
+    record {
+      code : chain (straight_block l.code.items) (simplified_all l.pass.copies.now l.pass.declared.now
+          (words_of l.known) rest)
+          ≡ chain (straight_block l.fn.code.items)
+          (simplified_all l.pass.copies.now l.pass.declared.now (words_of l.fn.known) all);
+      known : knowing_all l.pass.copies.now l.pass.declared.now (words_of l.known) rest
+          ≡ knowing_all l.pass.copies.now l.pass.declared.now (words_of l.fn.known) all;
+    }
+
+-- the code so far and that of the turns that are left are the code of all turns
+abbrev pub invariant-turns-loop-value : goal.invariant-turns-loop-value
+invariant-turns-loop-value l =
+    let body = straight_block l.fn.body in
+    record {
+      code : turns_left l.pass.copies.now l.pass.declared.now l.counter body l.value-end l.value
+          (straight_block l.code.items)
+          (words_of l.known)
+          ≡ chain (straight_block l.fn.code.items)
+          (turns_code l.pass.copies.now l.pass.declared.now (words_of l.fn.known) l.counter l.fn.numbers body);
+      known : known_left l.pass.copies.now l.pass.declared.now l.counter body l.value-end l.value (words_of l.known)
+          ≡ turns_known l.pass.copies.now l.pass.declared.now (words_of l.fn.known) l.counter l.fn.numbers body;
+    }
+
+-- Each call is for a part of what it is called in.
+
+abbrev pub decreases-statement : goal.decreases-statement
+decreases-statement l = 4 * statement_nodes (straight_tree l.statement.now)
+
+abbrev pub decreases-statements : goal.decreases-statements
+decreases-statements l = 4 * block_nodes (straight_block l.body.now) + 1
+
+abbrev pub decreases-part : goal.decreases-part
+decreases-part l = 4 * block_nodes (straight_block l.body.now) + 2
+
+abbrev pub decreases-branch : goal.decreases-branch
+decreases-branch l = 4 * (block_nodes (straight_block l.accepted.now) + block_nodes (straight_block l.otherwise.now))
+    + 3
+
+abbrev pub decreases-repeat : goal.decreases-repeat
+decreases-repeat l = 4 * block_nodes (straight_block l.body.now) + 3
+
+abbrev pub decreases-turns : goal.decreases-turns
+decreases-turns l = 4 * block_nodes (straight_block l.body.now) + 2

@@ -1,0 +1,87 @@
+-- Choosing: counts, and how many turns are allowed.
+use Rattle.std.proofs.Common.{◌≡◌, ℕ, zero, suc, ◌+◌, ◌-◌, ◌*◌, ◌∙◌, Bool, true, false, List, [], ◌∷◌, nat_le, ap}
+use Rattle.std.proofs.Common.{◌&&◌, if◌then◌else◌, slice_index, slice_set, arith}
+use Rattle.branch_removal.specs.Straight.{StraightTree, set, clear, fill, put, take, set_under, put_under, branch}
+use Rattle.branch_removal.specs.Straight.{repeats, StraightBlock, nothing, first, StraightProgram}
+use Rattle.optimisation.specs.constants.private.Choice.{AreAllowed, Chosen, begun, chosen, chosen_all, copies_of, counted, grown}
+use Rattle.optimisation.specs.constants.private.Choice.{most_nodes_of, settled, term_size}
+
+-- a count of nodes serves as they do
+pub grown_by : (so_far : Chosen) (count n : ℕ) → count ≡ counted n → grown so_far count ≡ grown so_far n
+grown_by so_far count n is =
+    ap (λ (m : ℕ). record { copies = so_far.copies; room = so_far.room; nodes = m })
+    (the_same so_far.nodes count n is)
+  where
+    the_same : (m count n : ℕ) → count ≡ counted n → counted (m + count) ≡ counted (m + n)
+    the_same m count n is = omega (arith, is)
+
+-- so does the count of what a loop has beside its body
+pub settled_by : (before room x count own : ℕ) (inner same : Chosen) → count ≡ counted own → inner ≡ same
+    → settled before room x count inner ≡ settled before room x own same
+settled_by before room x count own inner same is alike =
+    ap (λ (n : ℕ). if nat_le 1 (slice_index inner.copies x)
+    && nat_le inner.nodes (most_nodes_of (slice_index inner.copies x))
+    && nat_le (counted (counted (inner.nodes + 2) * slice_index inner.copies x)) room
+    then record {
+      copies = inner.copies;
+      room = room - counted (counted (inner.nodes + 2) * slice_index inner.copies x);
+      nodes = counted (before + counted (counted (inner.nodes + 2) * slice_index inner.copies x));
+    }
+    else record { copies = slice_set inner.copies x 0; room = inner.room; nodes = n })
+    (the_same before count own inner.nodes is)
+    ∙ ap (settled before room x own) alike
+  where
+    the_same : (before count own n : ℕ) → count ≡ counted own
+        → counted (before + count + n) ≡ counted (before + own + n)
+    the_same before count own n is = omega (arith, is)
+
+-- where a loop is refused, no more turns are allowed
+refused : (copies turns : List ℕ) (x : ℕ) → AreAllowed copies turns → AreAllowed (slice_set copies x 0) turns
+refused [] turns x allowed y = allowed y
+refused (c ∷ copies) turns zero allowed zero = omega arith
+refused (c ∷ copies) turns zero allowed (suc y) = allowed (suc y)
+refused (c ∷ copies) turns (suc x) allowed zero = allowed zero
+refused (c ∷ copies) [] (suc x) allowed (suc y) = refused copies [] x (λ z. allowed (suc z)) y
+refused (c ∷ copies) (t ∷ turns) (suc x) allowed (suc y) = refused copies turns x (λ z. allowed (suc z)) y
+
+module _ (turns : List ℕ) where
+  settled_allowed : (before room x own : ℕ) (inner : Chosen) → AreAllowed inner.copies turns
+      → AreAllowed (settled before room x own inner).copies turns
+  settled_allowed before room x own inner allowed =
+      by_room (nat_le 1 (slice_index inner.copies x)
+      && nat_le inner.nodes (most_nodes_of (slice_index inner.copies x))
+      && nat_le (counted (counted (inner.nodes + 2) * slice_index inner.copies x)) room) _ _
+      allowed
+      (refused inner.copies turns x allowed)
+    where
+      by_room : (b : Bool) (one other : Chosen) → AreAllowed one.copies turns → AreAllowed other.copies turns
+          → AreAllowed (if b then one else other).copies turns
+      by_room true one other a c = a
+      by_room false one other a c = c
+
+  mutual
+    chosen_allowed : (so_far : Chosen) (statement : StraightTree) → AreAllowed so_far.copies turns
+        → AreAllowed (chosen so_far statement).copies turns
+    chosen_allowed so_far (set x value) allowed = allowed
+    chosen_allowed so_far (clear x size) allowed = allowed
+    chosen_allowed so_far (fill x values) allowed = allowed
+    chosen_allowed so_far (put place x size index value) allowed = allowed
+    chosen_allowed so_far (take control within condition) allowed = allowed
+    chosen_allowed so_far (set_under control x value) allowed = allowed
+    chosen_allowed so_far (put_under control place x size index value) allowed = allowed
+    chosen_allowed so_far (branch condition accepted otherwise) allowed =
+        all_allowed (chosen_all (grown so_far (1 + term_size condition)) accepted) otherwise
+        (all_allowed (grown so_far (1 + term_size condition)) accepted allowed)
+    chosen_allowed so_far (repeats x low high body) allowed =
+        let inner : Chosen = record { copies = so_far.copies; room = so_far.room; nodes = 0 } in
+        settled_allowed so_far.nodes so_far.room x (1 + term_size low + term_size high) (chosen_all inner body)
+        (all_allowed inner body allowed)
+
+    all_allowed : (so_far : Chosen) (body : StraightBlock) → AreAllowed so_far.copies turns
+        → AreAllowed (chosen_all so_far body).copies turns
+    all_allowed so_far nothing allowed = allowed
+    all_allowed so_far (first statement rest) allowed =
+        all_allowed (chosen so_far statement) rest (chosen_allowed so_far statement allowed)
+
+pub copies_allowed : (p : StraightProgram) → AreAllowed (copies_of p) p.turns
+copies_allowed p = all_allowed p.turns (begun p) p.body (λ x. omega arith)

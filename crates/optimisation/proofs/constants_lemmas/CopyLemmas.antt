@@ -1,0 +1,91 @@
+-- Variables that may be read as others: they are words of one type.
+use Rattle.std.proofs.Common.{◌≡◌, ℕ, ◌==◌, ◌&&◌, Bool, true, not, List, Option, None, Some, slice_get}
+use Rattle.std.proofs.Common.{slice_index, refl, sym, ap, ◌∙◌}
+use Rattle.std.proofs.lemmas.Bool.{and_parts, eq-eqb, false≢true}
+use Rattle.std.proofs.lemmas.Option.{none-some, same_Some}
+use Rattle.inline.specs.declared.flat.FlatVariable.{FlatVariable}
+use Rattle.inline.specs.Flat.{TermTree, number, truth, variable, prefix, binary, rotate, convert, select, element}
+use Rattle.inline.specs.Flat.{word_as}
+use Rattle.inline.specs.FlatMeaning.{Values, value_in}
+use Rattle.language.specs.declared.signature.Kind.{Kind}
+use Rattle.language.specs.declared.signature.Kind.TheVariants.{Boolean, Uint8, Uint16, Uint32}
+use Rattle.language.specs.declared.signature.Label.{Label}
+use Rattle.language.specs.declared.signature.Label.TheVariants.{Public, Secret}
+use Rattle.language.specs.declared.typing.WordType.{WordType}
+use Rattle.language.specs.Types.{same_kind, same_label}
+use Rattle.optimisation.specs.constants.private.Simplification.{are_alike, is_word, may_be_read_as, variable_of}
+
+-- the value of what is a variable
+pub read_value : (m : Values) (e : TermTree) (y : ℕ) → variable_of e ≡ Some y → value_in m e ≡ slice_index (m y) 0
+read_value m (variable x) y is = ap (λ z. slice_index (m z) 0) (same_Some x y is)
+read_value m (number value kind) y is = absurd (none-some y is)
+read_value m (truth value) y is = absurd (none-some y is)
+read_value m (prefix operator width operand) y is = absurd (none-some y is)
+read_value m (binary place operator width left right) y is = absurd (none-some y is)
+read_value m (rotate width operand amount) y is = absurd (none-some y is)
+read_value m (convert kind operand) y is = absurd (none-some y is)
+read_value m (select condition accepted otherwise) y is = absurd (none-some y is)
+read_value m (element place x size index) y is = absurd (none-some y is)
+
+-- these are two variables
+pub two_variables : (declared : List FlatVariable) (x y : ℕ) → may_be_read_as declared x y ≡ true → x ≡ y → ⊥
+two_variables declared x y is same =
+    let parts = and_parts (not (x == y)) (are_alike (slice_get declared x) (slice_get declared y)) is in
+    let here : (x == y) ≡ true = ap (λ z. x == z) (sym same) ∙ eq-eqb x x refl in
+    false≢true (sym (ap not here) ∙ parts.0)
+
+one_kind : (k l : Kind) → same_kind k l ≡ true → l ≡ k
+one_kind Boolean Boolean h = refl
+one_kind Uint8 Uint8 h = refl
+one_kind Uint16 Uint16 h = refl
+one_kind Uint32 Uint32 h = refl
+one_kind Uint8 Uint16 h = absurd (false≢true h)
+one_kind Uint8 Uint32 h = absurd (false≢true h)
+one_kind Uint16 Uint8 h = absurd (false≢true h)
+one_kind Uint16 Uint32 h = absurd (false≢true h)
+one_kind Uint32 Uint8 h = absurd (false≢true h)
+one_kind Uint32 Uint16 h = absurd (false≢true h)
+one_kind Boolean Uint8 h = absurd (false≢true h)
+one_kind Boolean Uint16 h = absurd (false≢true h)
+one_kind Boolean Uint32 h = absurd (false≢true h)
+one_kind Uint8 Boolean h = absurd (false≢true h)
+one_kind Uint16 Boolean h = absurd (false≢true h)
+one_kind Uint32 Boolean h = absurd (false≢true h)
+
+one_label : (k l : Label) → same_label k l ≡ true → l ≡ k
+one_label Public Public h = refl
+one_label Secret Secret h = refl
+one_label Public Secret h = absurd (false≢true h)
+one_label Secret Public h = absurd (false≢true h)
+
+no_elements : (o : Option ℕ) → is_word o ≡ true → o ≡ None
+no_elements None h = refl
+no_elements (Some size) h = absurd (false≢true h)
+
+-- what is declared alike to a word is a word of its type
+alike : (d : FlatVariable) (o : Option FlatVariable) → are_alike (Some d) o ≡ true
+    → (other : Bool) × (o ≡ Some (word_as d.word other))
+alike d None is = absurd (false≢true is)
+alike d (Some e) is =
+    let third = and_parts (is_word d.elements && is_word e.elements && same_kind d.word.kind e.word.kind)
+    (same_label d.word.label e.word.label) is in
+    let second = and_parts (is_word d.elements && is_word e.elements) (same_kind d.word.kind e.word.kind) third.0 in
+    let first = and_parts (is_word d.elements) (is_word e.elements) second.0 in
+    let kinds = one_kind d.word.kind e.word.kind second.1 in
+    let labels = one_label d.word.label e.word.label third.1 in
+    let none = no_elements e.elements first.1 in (
+      e.mutable,
+      λ i. Some (record {
+        word = record { kind = kinds i; label = labels i };
+        mutable = e.mutable;
+        elements = none i;
+      }),
+    )
+
+pub source_alike : (declared : List FlatVariable) (x y : ℕ) (word : WordType) (mutable : Bool)
+    → may_be_read_as declared x y ≡ true → slice_get declared x ≡ Some (word_as word mutable)
+    → (other : Bool) × (slice_get declared y ≡ Some (word_as word other))
+source_alike declared x y word mutable is there =
+    let parts = and_parts (not (x == y)) (are_alike (slice_get declared x) (slice_get declared y)) is in
+    alike (word_as word mutable) (slice_get declared y)
+    (sym (ap (λ (o : Option FlatVariable). are_alike o (slice_get declared y)) there) ∙ parts.1)

@@ -1,0 +1,263 @@
+-- What is known of variables once something is noted or forgotten.
+use Rattle.std.proofs.Common.{◌≡◌, ◌≤◌, ◌==◌, ◌||◌, ℕ, zero, suc, length, Bool, true, false, cond, not}
+use Rattle.std.proofs.Common.{if◌then◌else◌, nat_lt, List, [], ◌∷◌, ◌++◌, filter, map, Option, None}
+use Rattle.std.proofs.Common.{◌⊎◌, inl, inr, Some, replicate, slice_set, slice_index}
+use Rattle.std.specs.List.{remove}
+use Rattle.std.proofs.Common.{refl, ap, sym, ◌∙◌, arith}
+use Rattle.std.proofs.lemmas.Bool.{eqb-true, eqb-false, false≢true}
+use Rattle.std.proofs.lemmas.Option.{none-some}
+use Rattle.language.specs.declared.typing.WordType.{WordType}
+use Rattle.inline.specs.Fitting.{Fits, IsWithinKind}
+use Rattle.inline.specs.Flat.{word_as}
+use Rattle.inline.specs.FlatMeaning.{Values}
+use Rattle.inline.specs.FlatTyping.{Types}
+use Rattle.optimisation.specs.declared.constants.known.Constant.{Constant}
+use Rattle.optimisation.specs.declared.constants.known.WordCopy.{WordCopy}
+use Rattle.optimisation.specs.constants.private.Known.{Words, known, word_at, source_in, is_apart, with_word, without, latest}
+use Rattle.optimisation.specs.constants.private.Known.{with_copy, short, all_short}
+
+-- Facts: a variable's word, or a copy.
+
+pub data Fact : Type 0 where
+  valued : (x : ℕ) (c : Constant) → Fact
+  copy : (c : WordCopy) → Fact
+
+abbrev pub IsIn : WordCopy → List WordCopy → Type 0
+IsIn c [] = ⊥
+IsIn c (d ∷ copies) = (d ≡ c) ⊎ IsIn c copies
+
+abbrev pub Knows : Words → Fact → Type 0
+Knows words (valued x c) = known words x ≡ Some c
+Knows words (copy c) = IsIn c words.copies
+
+-- a fact is about this variable
+abbrev pub IsAbout : ℕ → Fact → Type 0
+IsAbout y (valued x c) = y ≡ x
+IsAbout y (copy c) = (y ≡ c.variable) ⊎ (y ≡ c.source)
+
+abbrev pub IsFree : ℕ → Fact → Type 0
+IsFree x f = (y : ℕ) → IsAbout y f → y ≡ x → ⊥
+
+-- Lists of copies.
+
+in_filtered : (p : WordCopy → Bool) (c : WordCopy) (copies : List WordCopy) → IsIn c (filter p copies)
+    → IsIn c copies × (p c ≡ true)
+in_filtered p c [] is = absurd is
+in_filtered p c (d ∷ copies) is = by_test (λ there. in_filtered p c copies there) (p d) refl is
+  where
+    by_test : (IsIn c (filter p copies) → IsIn c copies × (p c ≡ true)) → (b : Bool) → p d ≡ b
+        → IsIn c (cond b (d ∷ filter p copies) (filter p copies)) → IsIn c (d ∷ copies) × (p c ≡ true)
+    by_test further true passes (inl same) = (inl same, ap p (sym same) ∙ passes)
+    by_test further true passes (inr there) = let rest = further there in (inr rest.0, rest.1)
+    by_test further false fails there = let rest = further there in (inr rest.0, rest.1)
+
+apart_free : (x : ℕ) (c : WordCopy) → is_apart x c ≡ true → IsFree x (copy c)
+apart_free x c is y about same = by_tests (c.variable == x) (c.source == x) refl refl is about
+  where
+    by_tests : (a b : Bool) → (c.variable == x) ≡ a → (c.source == x) ≡ b → not (a || b) ≡ true
+        → (y ≡ c.variable) ⊎ (y ≡ c.source) → ⊥
+    by_tests true b one other h there = absurd (false≢true h)
+    by_tests false true one other h there = absurd (false≢true h)
+    by_tests false false one other h (inl here) = eqb-false c.variable x one (sym here ∙ same)
+    by_tests false false one other h (inr here) = eqb-false c.source x other (sym here ∙ same)
+
+in_rest : (c : WordCopy) (copies : List WordCopy) → IsIn c (latest copies) → IsIn c copies
+in_rest c copies is = by_room (nat_lt (length copies) 16) copies is
+  where
+    by_room : (b : Bool) (cs : List WordCopy) → IsIn c (if b then cs else remove cs 0) → IsIn c cs
+    by_room true cs h = h
+    by_room false [] h = h
+    by_room false (d ∷ cs) h = inr h
+
+in_appended : (c d : WordCopy) (copies : List WordCopy) → IsIn c (copies ++ d ∷ []) → IsIn c copies ⊎ (d ≡ c)
+in_appended c d [] (inl same) = inr same
+in_appended c d [] (inr none) = absurd none
+in_appended c d (e ∷ copies) (inl same) = inl (inl same)
+in_appended c d (e ∷ copies) (inr there) = in_either (in_appended c d copies there)
+  where
+    in_either : IsIn c copies ⊎ (d ≡ c) → IsIn c (e ∷ copies) ⊎ (d ≡ c)
+    in_either (inl there) = inl (inr there)
+    in_either (inr same) = inr same
+
+-- a copy that is known once one more is noted
+pub in_more : (words : Words) (c d : WordCopy) → IsIn c (with_copy words d).copies
+    → IsIn c words.copies ⊎ (d ≡ c)
+in_more words c d is = in_either (in_appended c d (latest words.copies) is)
+  where
+    in_either : IsIn c (latest words.copies) ⊎ (d ≡ c) → IsIn c words.copies ⊎ (d ≡ c)
+    in_either (inl there) = inl (in_rest c words.copies there)
+    in_either (inr same) = inr same
+
+-- where a variable is read as another one, it is a copy of that
+pub record IsSource (copies : List WordCopy) (x : ℕ) (c : WordCopy) : Type 0 where
+  pub there : IsIn c copies
+  pub variable : c.variable ≡ x
+  pub source : c.source ≡ source_in copies x
+
+pub read_as : (copies : List WordCopy) (x : ℕ) → (source_in copies x ≡ x) ⊎ ((c : WordCopy) × IsSource copies x c)
+read_as [] x = inl refl
+read_as (d ∷ copies) x = by_number (d.variable == x) refl (read_as copies x)
+  where
+    by_number : (b : Bool) → (d.variable == x) ≡ b
+        → (source_in copies x ≡ x) ⊎ ((c : WordCopy) × IsSource copies x c)
+        → (source_in (d ∷ copies) x ≡ x) ⊎ ((c : WordCopy) × IsSource (d ∷ copies) x c)
+    by_number true is rest =
+        inr (
+          d,
+          record {
+            there = inl refl;
+            variable = eqb-true d.variable x is;
+            source = sym (ap (λ (b : Bool). if b then d.source else source_in copies x) is);
+          },
+        )
+    by_number false is (inl same) = inl (ap (λ (b : Bool). if b then d.source else source_in copies x) is ∙ same)
+    by_number false is (inr found) =
+        inr (
+          found.0,
+          record {
+            there = inr found.1.there;
+            variable = found.1.variable;
+            source = found.1.source ∙ sym (ap (λ (b : Bool). if b then d.source else source_in copies x) is);
+          },
+        )
+
+-- Numbers.
+
+word_beside : (numbers : List (Option Constant)) (x y : ℕ) (word : Option Constant) → (y ≡ x → ⊥)
+    → word_at (slice_set numbers x word) y ≡ word_at numbers y
+word_beside [] x y word apart = refl
+word_beside (w ∷ numbers) zero zero word apart = absurd (apart refl)
+word_beside (w ∷ numbers) zero (suc y) word apart = refl
+word_beside (w ∷ numbers) (suc x) zero word apart = refl
+word_beside (w ∷ numbers) (suc x) (suc y) word apart = word_beside numbers x y word (λ e. apart (ap suc e))
+
+word_here : (numbers : List (Option Constant)) (x : ℕ) (word : Option Constant) (c : Constant)
+    → word_at (slice_set numbers x word) x ≡ Some c → word ≡ Some c
+word_here [] x word c is = absurd (none-some c is)
+word_here (w ∷ numbers) zero word c is = is
+word_here (w ∷ numbers) (suc x) word c is = word_here numbers x word c is
+
+none_apart : (numbers : List (Option Constant)) (x y : ℕ) (c : Constant)
+    → word_at (slice_set numbers x None) y ≡ Some c → y ≡ x → ⊥
+none_apart [] x y c is same = none-some c is
+none_apart (w ∷ numbers) zero zero c is same = none-some c is
+none_apart (w ∷ numbers) zero (suc y) c is same = omega (arith, same)
+none_apart (w ∷ numbers) (suc x) zero c is same = omega (arith, same)
+none_apart (w ∷ numbers) (suc x) (suc y) c is same = none_apart numbers x y c is (omega (arith, same))
+
+none_same : (numbers : List (Option Constant)) (x y : ℕ) (c : Constant)
+    → word_at (slice_set numbers x None) y ≡ Some c → word_at numbers y ≡ Some c
+none_same [] x y c is = is
+none_same (w ∷ numbers) zero zero c is = absurd (none-some c is)
+none_same (w ∷ numbers) zero (suc y) c is = is
+none_same (w ∷ numbers) (suc x) zero c is = is
+none_same (w ∷ numbers) (suc x) (suc y) c is = none_same numbers x y c is
+
+short_here : (b : Bool) (d c : Constant) → (if b then Some d else None) ≡ Some c → Some d ≡ Some c
+short_here true d c is = is
+short_here false d c is = absurd (none-some c is)
+
+short_word : (numbers : List (Option Constant)) (y : ℕ) (c : Constant) → word_at (map short numbers) y ≡ Some c
+    → word_at numbers y ≡ Some c
+short_word [] y c is = is
+short_word (None ∷ numbers) zero c is = is
+short_word (Some d ∷ numbers) zero c is = short_here (nat_lt d.value 2048) d c is
+short_word (w ∷ numbers) (suc y) c is = short_word numbers y c is
+
+-- Facts once something is noted or forgotten.
+
+-- of another variable no more is known
+pub known_beside : (words : Words) (x : ℕ) (word : Option Constant) (f : Fact) → IsFree x f
+    → Knows (with_word words x word) f → Knows words f
+known_beside words x word (valued y c) free is = sym (word_beside words.numbers x y word (free y refl)) ∙ is
+known_beside words x word (copy c) free is = (in_filtered (is_apart x) c words.copies is).0
+
+pub known_here : (words : Words) (x : ℕ) (word : Option Constant) (c : Constant)
+    → known (with_word words x word) x ≡ Some c → word ≡ Some c
+known_here words x word c is = word_here words.numbers x word c is
+
+-- a copy that is still known has nothing to do with the variable
+pub still_copy : (words : Words) (x : ℕ) (word : Option Constant) (c : WordCopy)
+    → Knows (with_word words x word) (copy c) → Knows words (copy c) × IsFree x (copy c)
+still_copy words x word c is =
+    let found = in_filtered (is_apart x) c words.copies is in (found.0, apart_free x c found.1)
+
+-- of a variable without a word nothing is known
+pub without_apart : (words : Words) (x : ℕ) (f : Fact) → Knows (without words x) f → IsFree x f
+without_apart words x (valued y c) is z about same = none_apart words.numbers x y c is (sym about ∙ same)
+without_apart words x (copy c) is z about same = (still_copy words x None c is).1 z about same
+
+pub without_same : (words : Words) (x : ℕ) (f : Fact) → Knows (without words x) f → Knows words f
+without_same words x (valued y c) is = none_same words.numbers x y c is
+without_same words x (copy c) is = (still_copy words x None c is).0
+
+-- of short words no more is known
+pub short_same : (words : Words) (f : Fact) → Knows (all_short words) f → Knows words f
+short_same words (valued y c) is = short_word words.numbers y c is
+short_same words (copy c) is = is
+
+-- the words from a number on where they are short, and those before it as they are
+abbrev pub shorts_from : ℕ → List (Option Constant) → List (Option Constant)
+shorts_from zero numbers = map short numbers
+shorts_from (suc n) [] = []
+shorts_from (suc n) (w ∷ numbers) = w ∷ shorts_from n numbers
+
+pub shorts_step : (n : ℕ) (numbers : List (Option Constant))
+    → shorts_from (suc n) (slice_set numbers n (short (word_at numbers n))) ≡ shorts_from n numbers
+shorts_step zero [] = refl
+shorts_step zero (w ∷ numbers) = refl
+shorts_step (suc n) [] = refl
+shorts_step (suc n) (w ∷ numbers) = ap (λ rest. w ∷ rest) (shorts_step n numbers)
+
+pub shorts_end : (n : ℕ) (numbers : List (Option Constant)) → length numbers ≤ n → shorts_from n numbers ≡ numbers
+shorts_end zero [] within = refl
+shorts_end zero (w ∷ numbers) within = absurd (omega (arith, within))
+shorts_end (suc n) [] within = refl
+shorts_end (suc n) (w ∷ numbers) within = ap (λ rest. w ∷ rest) (shorts_end n numbers (omega (arith, within)))
+
+no_word : (n x : ℕ) (c : Constant) → word_at (replicate n None) x ≡ Some c → ⊥
+no_word zero x c is = none-some c is
+no_word (suc n) zero c is = none-some c is
+no_word (suc n) (suc x) c is = no_word n x c is
+
+-- where a program begins nothing is known
+pub nothing_first : (n : ℕ) (f : Fact) → Knows (record { numbers = replicate n None; copies = [] }) f → ⊥
+nothing_first n (valued x c) is = no_word n x c is
+nothing_first n (copy c) is = is
+
+-- Facts of what variables hold.
+
+abbrev pub IsTrue : Fact → Values → Type 0
+IsTrue (valued x c) m = slice_index (m x) 0 ≡ c.value
+IsTrue (copy c) m = slice_index (m c.variable) 0 ≡ slice_index (m c.source) 0
+
+pub same_truth : (f : Fact) (m n : Values) → ((y : ℕ) → IsAbout y f → n y ≡ m y) → IsTrue f m → IsTrue f n
+same_truth (valued x c) m n same is = ap (λ numbers. slice_index numbers 0) (same x refl) ∙ is
+same_truth (copy c) m n same is =
+    ap (λ numbers. slice_index numbers 0) (same c.variable (inl refl))
+    ∙ (is ∙ ap (λ numbers. slice_index numbers 0) (sym (same c.source (inr refl))))
+
+-- what is known is what the variables hold
+abbrev pub Agrees : Words → Values → Type 0
+Agrees words m = (f : Fact) → Knows words f → IsTrue f m
+
+-- Facts of what variables are declared as: a number is of their kind, a copy a word of the same type.
+
+abbrev pub IsSuited : Types → Fact → Type 0
+IsSuited types (valued x c) = (word : WordType) (mutable : Bool) → types.at x ≡ Some (word_as word mutable)
+    → (c.kind ≡ word.kind) × IsWithinKind c.kind c.value
+IsSuited types (copy c) = (word : WordType) (mutable : Bool) → types.at c.variable ≡ Some (word_as word mutable)
+    → (other : Bool) × (types.at c.source ≡ Some (word_as word other))
+
+abbrev pub AreOfKind : Types → Words → Type 0
+AreOfKind types words = (f : Fact) → Knows words f → IsSuited types f
+
+-- what is known is of its kind and what the variables hold, and each holds what it is declared as
+pub record Holds (types : Types) (words : Words) (m : Values) : Type 0 where
+  pub agrees : Agrees words m
+  pub kinds : AreOfKind types words
+  pub fits : Fits types m
+
+-- no more is known
+abbrev pub IsBelow : Words → Words → Type 0
+IsBelow less more = (f : Fact) → Knows less f → Knows more f

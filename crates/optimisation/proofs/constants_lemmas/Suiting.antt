@@ -1,0 +1,164 @@
+-- Labels of what operators make, and expressions that suit a type: numbers, and those of the wanted kind.
+use Rattle.std.proofs.Common.{◌≡◌, true, false, []}
+use Rattle.std.proofs.Common.{None, Some, refl, sym, ap, ◌∙◌, subst}
+use Rattle.std.proofs.lemmas.Option.{none-some, same_Some}
+use Rattle.inline.proofs.Fitting.{value_fits}
+use Rattle.inline.specs.Fitting.{IsWithinKind}
+use Rattle.inline.specs.Flat.{TermTree, truth}
+use Rattle.inline.specs.FlatMeaning.{Values, value_in}
+use Rattle.inline.specs.FlatTyping.{Types, HasType, of_number, of_truth, of_variable, of_prefix, of_binary}
+use Rattle.inline.specs.FlatTyping.{of_rotation, of_conversion, of_selection, of_element, Suits}
+use Rattle.language.specs.declared.signature.Kind.{Kind}
+use Rattle.language.specs.declared.signature.Kind.TheVariants.{Boolean}
+use Rattle.language.specs.declared.signature.Label.{Label}
+use Rattle.language.specs.declared.signature.Label.TheVariants.{Public, Secret}
+use Rattle.language.specs.declared.operation.Operation.{Operation}
+use Rattle.language.specs.declared.operation.Operation.TheVariants.{Division}
+use Rattle.language.specs.declared.typing.WordType.{WordType}
+use Rattle.language.specs.ExprTyping.{operation_kind}
+use Rattle.language.specs.Types.{joined, is_secret}
+use Rattle.language.specs.WellTyped.{labelled, MayBeMultiplied, unseen, both_public, Makes, arithmetic}
+use Rattle.language.specs.WellTyped.{multiplication, division, shift, equality, order, logic}
+use Rattle.word.specs.Operators.{word_of}
+use Rattle.word.specs.declared.profile.Profile.{Profile}
+use Rattle.word.specs.declared.profile.Profile.TheVariants.{P2}
+use Rattle.optimisation.specs.declared.constants.known.Constant.{Constant}
+use Rattle.optimisation.specs.constants.private.Known.{known}
+use Rattle.optimisation.specs.constants.private.Folding.{constant, constant_of, number_of}
+
+-- Labels.
+
+pub joined_public : (l m : Label) → joined l m ≡ Public → (l ≡ Public) × (m ≡ Public)
+joined_public Public m h = (refl, h)
+joined_public Secret m h = absurd (secret_public (ap is_secret h))
+  where
+    secret_public : true ≡ false → ⊥
+    secret_public e = cc
+
+pub both_joined : (l m : Label) → l ≡ Public → m ≡ Public → joined l m ≡ Public
+both_joined l m one other = ap (λ k. joined k m) one ∙ other
+
+-- what is made of lower operands is lower
+pub record IsLower (profile : Profile) (operation : Operation) (one other whole : WordType) (l m : Label) : Type 0 where
+  pub label : Label
+  pub makes : Makes profile operation (labelled one.kind l) (labelled other.kind m) (labelled whole.kind label)
+  pub lower : whole.label ≡ Public → label ≡ Public
+
+joined_lower : (a b l m : Label) → (a ≡ Public → l ≡ Public) → (b ≡ Public → m ≡ Public) → joined a b ≡ Public
+    → joined l m ≡ Public
+joined_lower a b l m f g h = let parts = joined_public a b h in both_joined l m (f parts.0) (g parts.1)
+
+may_still : {profile : Profile} {a b : Label} (l m : Label) → (a ≡ Public → l ≡ Public) → (b ≡ Public → m ≡ Public)
+    → MayBeMultiplied profile a b → MayBeMultiplied profile l m
+may_still l m f g unseen = unseen
+may_still l m f g both_public =
+    subst (λ k. MayBeMultiplied P2 k m) (sym (f refl))
+    (subst (λ k. MayBeMultiplied P2 Public k) (sym (g refl)) both_public)
+
+pub lowered : {profile : Profile} {operation : Operation} {one other whole : WordType}
+    → Makes profile operation one other whole
+    → (l m : Label) → (one.label ≡ Public → l ≡ Public) → (other.label ≡ Public → m ≡ Public)
+    → IsLower profile operation one other whole l m
+lowered (arithmetic {l = a} {m = b} numeric) l m f g =
+    record { label = joined l m; makes = arithmetic numeric; lower = joined_lower a b l m f g }
+lowered (multiplication {l = a} {m = b} numeric may) l m f g =
+    record {
+      label = joined l m;
+      makes = multiplication numeric (may_still l m f g may);
+      lower = joined_lower a b l m f g;
+    }
+lowered {profile = profile} (division {kind = kind} numeric) l m f g = record {
+  label = Public;
+  makes = subst (λ k. Makes profile Division (labelled kind k) (labelled kind m) (labelled kind Public))
+      (sym (f refl))
+      (subst (λ k. Makes profile Division (labelled kind Public) (labelled kind k) (labelled kind Public))
+      (sym (g refl)) (division numeric));
+  lower = λ h. refl;
+}
+lowered (shift {l = a} {m = b} numeric) l m f g =
+    record { label = joined l m; makes = shift numeric; lower = joined_lower a b l m f g }
+lowered (equality {l = a} {m = b}) l m f g =
+    record { label = joined l m; makes = equality; lower = joined_lower a b l m f g }
+lowered (order {l = a} {m = b} numeric) l m f g =
+    record { label = joined l m; makes = order numeric; lower = joined_lower a b l m f g }
+lowered (logic {l = a} {m = b}) l m f g =
+    record { label = joined l m; makes = logic; lower = joined_lower a b l m f g }
+
+-- operands of what is public
+pub public_parts : {profile : Profile} {operation : Operation} {one other whole : WordType}
+    → Makes profile operation one other whole
+    → whole.label ≡ Public → (one.label ≡ Public) × (other.label ≡ Public)
+public_parts (arithmetic {l = a} {m = b} numeric) public = joined_public a b public
+public_parts (multiplication {l = a} {m = b} numeric may) public = joined_public a b public
+public_parts (division numeric) public = (refl, refl)
+public_parts (shift {l = a} {m = b} numeric) public = joined_public a b public
+public_parts (equality {l = a} {m = b}) public = joined_public a b public
+public_parts (order {l = a} {m = b} numeric) public = joined_public a b public
+public_parts (logic {l = a} {m = b}) public = joined_public a b public
+
+pub made_kind : {profile : Profile} {operation : Operation} {one other whole : WordType}
+    → Makes profile operation one other whole → operation_kind operation one.kind ≡ whole.kind
+made_kind (arithmetic numeric) = refl
+made_kind (multiplication numeric may) = refl
+made_kind (division numeric) = refl
+made_kind (shift numeric) = refl
+made_kind equality = refl
+made_kind (order numeric) = refl
+made_kind logic = refl
+
+-- Expressions without variables.
+
+abbrev pub without_variables : Profile → Types
+without_variables profile = record { profile = profile; at = λ x. None }
+
+abbrev nothing_held : Values
+nothing_held x = []
+
+pub closed_fits : (profile : Profile) (e : TermTree) (word : WordType) → HasType (without_variables profile) e word
+    → IsWithinKind word.kind (value_in nothing_held e)
+closed_fits profile e word has =
+    value_fits (without_variables profile) nothing_held (λ x d there. absurd (none-some d there)) has
+
+module _ (types : Types) where
+  abbrev pub IsOfKind : Constant → WordType → Type 0
+  IsOfKind c word = (c.kind ≡ word.kind) × IsWithinKind c.kind c.value
+
+  pub number_suits : (c : Constant) (word : WordType) → IsOfKind c word → Suits types word (number_of c)
+  number_suits c word is = record {
+    word = labelled c.kind Public;
+    has_type = of_number is.1;
+    kind = is.0;
+    label = λ public. refl;
+  }
+
+  -- a number's kind and value
+  pub number_kind : {e : TermTree} {word : WordType} → HasType types e word → (c : Constant) → constant_of e ≡ Some c
+      → IsOfKind c word
+  number_kind (of_number {value = value} {kind = kind} below) c is =
+      subst (λ (d : Constant). IsOfKind d (labelled kind Public)) (same_Some (constant value kind) c is) (refl, below)
+  number_kind (of_truth {value = value}) c is =
+      subst (λ (d : Constant). IsOfKind d (labelled Boolean Public))
+      (same_Some (constant (word_of value) Boolean) c is)
+      (refl, closed_fits types.profile (truth value) (labelled Boolean Public) of_truth)
+  number_kind (of_variable known) c is = absurd (none-some c is)
+  number_kind (of_prefix has takes width) c is = absurd (none-some c is)
+  number_kind (of_binary has more makes width) c is = absurd (none-some c is)
+  number_kind (of_rotation has numeric low high width) c is = absurd (none-some c is)
+  number_kind (of_conversion has numeric) c is = absurd (none-some c is)
+  number_kind (of_selection chooser has more) c is = absurd (none-some c is)
+  number_kind (of_element known has) c is = absurd (none-some c is)
+
+  pub suited_number : {e : TermTree} {word : WordType} → Suits types word e → (c : Constant) → constant_of e ≡ Some c
+      → IsOfKind c word
+  suited_number suits c is = let found = number_kind suits.has_type c is in (found.0 ∙ suits.kind, found.1)
+
+  -- of the wanted kind
+  pub retyped : {e : TermTree} {word : WordType} (suits : Suits types word e)
+      → HasType types e (labelled word.kind suits.word.label)
+  retyped {e = e} suits = subst (λ k. HasType types e (labelled k suits.word.label)) suits.kind suits.has_type
+
+  -- of the wanted type, where that is public
+  pub public_typed : {e : TermTree} {kind : Kind} (suits : Suits types (labelled kind Public) e)
+      → HasType types e (labelled kind Public)
+  public_typed {e = e} {kind = kind} suits =
+      subst (λ l. HasType types e (labelled kind l)) (suits.label refl) (retyped suits)

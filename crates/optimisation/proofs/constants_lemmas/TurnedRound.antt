@@ -1,0 +1,103 @@
+-- A comparison with a number on its left, and what it is with its operands turned round.
+use Rattle.std.proofs.Common.{◌≡◌, ℕ, ◌==◌, Bool, true, false, not, Option, None, Some, refl, ap, subst, arith, []}
+use Rattle.std.proofs.lemmas.Bool.Decides.{nat_tests}
+use Rattle.std.specs.Option.{option_and}
+use Rattle.std.proofs.lemmas.Option.{none-some, same_Some}
+use Rattle.inline.specs.FlatMeaning.{marks_of}
+use Rattle.language.specs.declared.operation.Operation.{Operation}
+use Rattle.language.specs.declared.operation.Operation.TheVariants.{Equality, Order}
+use Rattle.language.specs.declared.signature.Label.{Label}
+use Rattle.language.specs.declared.tree.BinaryOperator.{BinaryOperator}
+use Rattle.language.specs.declared.tree.BinaryOperator.TheVariants.{Equal, Unequal, Less, LessOrEqual, Greater}
+use Rattle.language.specs.declared.tree.BinaryOperator.TheVariants.{GreaterOrEqual}
+use Rattle.language.specs.declared.typing.WordType.{WordType}
+use Rattle.language.specs.ExprTyping.{operation_of}
+use Rattle.language.specs.Operators.{operated, opposite_of, turned_of}
+use Rattle.language.specs.Types.{joined}
+use Rattle.language.specs.WellTyped.{labelled, Makes, equality, order}
+use Rattle.word.specs.declared.place.Place.{Place}
+use Rattle.word.specs.declared.profile.Profile.{Profile}
+use Rattle.word.specs.declared.width.Width.{Width}
+use Rattle.word.specs.Operators.{word_of}
+use Rattle.optimisation.specs.declared.constants.known.Constant.{Constant}
+use Rattle.optimisation.specs.constants.private.Folding.{turned_by}
+
+equal_turned : (a b : ℕ) → (b == a) ≡ (a == b)
+equal_turned a b = by_tests (b == a) (a == b) refl refl
+  where
+    by_tests : (c d : Bool) → (b == a) ≡ c → (a == b) ≡ d → c ≡ d
+    by_tests true true is also = refl
+    by_tests true false is also = absurd (grind (arith, nat_tests, is, also))
+    by_tests false true is also = absurd (grind (arith, nat_tests, is, also))
+    by_tests false false is also = refl
+
+-- operands of one kind, which an operation takes in either order
+pub record TakesEither (profile : Profile) (operation : Operation) (one other whole : WordType) : Type 0 where
+  pub kinds : other.kind ≡ one.kind
+  pub makes : (l m : Label)
+      → Makes profile operation (labelled other.kind l) (labelled one.kind m) (labelled whole.kind (joined l m))
+
+equality_either : {profile : Profile} {one other whole : WordType} → Makes profile Equality one other whole
+    → TakesEither profile Equality one other whole
+equality_either equality = record { kinds = refl; makes = λ l m. equality }
+
+order_either : {profile : Profile} {one other whole : WordType} → Makes profile Order one other whole
+    → TakesEither profile Order one other whole
+order_either (order numeric) = record { kinds = refl; makes = λ l m. order numeric }
+
+-- a comparison holds exactly where another does of the operands turned round, takes them, and has nothing on the path
+pub record IsTurnedRound (operator next : BinaryOperator) : Type 0 where
+  pub value : (w : Width) (a b : ℕ) → operated next w b a ≡ operated operator w a b
+  pub takes : (profile : Profile) (one other whole : WordType) → Makes profile (operation_of operator) one other whole
+      → TakesEither profile (operation_of next) one other whole
+  pub unmarked : (place : Place) (a b : ℕ) → marks_of place next a b ≡ []
+
+comparison : (operator next : BinaryOperator) → option_and (opposite_of operator) (turned_of operator) ≡ Some next
+    → IsTurnedRound operator next
+comparison Equal next is =
+    subst (IsTurnedRound Equal) (same_Some Equal next is) (record {
+      value = λ w a b. ap word_of (equal_turned a b);
+      takes = λ profile one other whole makes. equality_either makes;
+      unmarked = λ place a b. refl;
+    })
+comparison Unequal next is =
+    subst (IsTurnedRound Unequal) (same_Some Unequal next is) (record {
+      value = λ w a b. ap (λ c. word_of (not c)) (equal_turned a b);
+      takes = λ profile one other whole makes. equality_either makes;
+      unmarked = λ place a b. refl;
+    })
+comparison Less next is =
+    subst (IsTurnedRound Less) (same_Some Greater next is) (record {
+      value = λ w a b. refl;
+      takes = λ profile one other whole makes. order_either makes;
+      unmarked = λ place a b. refl;
+    })
+comparison LessOrEqual next is =
+    subst (IsTurnedRound LessOrEqual) (same_Some GreaterOrEqual next is) (record {
+      value = λ w a b. refl;
+      takes = λ profile one other whole makes. order_either makes;
+      unmarked = λ place a b. refl;
+    })
+comparison Greater next is =
+    subst (IsTurnedRound Greater) (same_Some Less next is) (record {
+      value = λ w a b. refl;
+      takes = λ profile one other whole makes. order_either makes;
+      unmarked = λ place a b. refl;
+    })
+comparison GreaterOrEqual next is =
+    subst (IsTurnedRound GreaterOrEqual) (same_Some LessOrEqual next is) (record {
+      value = λ w a b. refl;
+      takes = λ profile one other whole makes. order_either makes;
+      unmarked = λ place a b. refl;
+    })
+comparison operator next is = absurd (none-some next is)
+
+pub turned_round : (operator next : BinaryOperator) (left : Option Constant) → turned_by operator left ≡ Some next
+    → IsTurnedRound operator next
+turned_round operator next None is = absurd (none-some next is)
+turned_round operator next (Some c) is = comparison operator next is
+
+pub on_left : (operator next : BinaryOperator) (left : Option Constant) → turned_by operator left ≡ Some next
+    → (c : Constant) × (left ≡ Some c)
+on_left operator next None is = absurd (none-some next is)
+on_left operator next (Some c) is = (c, refl)

@@ -1,0 +1,164 @@
+-- What variables and words hold once some of them are set.
+use Rattle.std.proofs.Common.{◌≡◌, ℕ, zero, suc, ◌+◌, ◌<◌, ◌==◌, Bool, true, false, if◌then◌else◌, List, []}
+use Rattle.std.proofs.Common.{◌∷◌, length, replicate, Option, None, Some, slice_get, slice_set, slice_index, refl}
+use Rattle.std.proofs.Common.{sym, ap, ap₂, ◌∙◌, subst, arith}
+use Rattle.std.proofs.lemmas.Bool.{cond-false, cond-true, eqb-true, eqb-false, eq-eqb, ne_eqb}
+use Rattle.std.proofs.lemmas.Option.{none-some, same_Some, slice_get_within}
+use Rattle.inline.specs.declared.flat.FlatVariable.{FlatVariable}
+use Rattle.inline.specs.FlatMeaning.{Values, with_value}
+use Rattle.branch_removal.specs.StraightMeaning.{StraightState, with_variable, after_all}
+use Rattle.language.specs.declared.signature.Kind.{Kind}
+use Rattle.optimisation.specs.declared.element_words.parts.Part.{Part}
+use Rattle.optimisation.specs.element_words.private.Parts.{Parts, part_of}
+use Rattle.optimisation.specs.element_words.private.Splitting.{zeros}
+use Rattle.optimisation.proofs.element_words_lemmas.PartLemmas.{IsSplitting}
+use Rattle.optimisation.proofs.element_words_lemmas.Values.{IsHeldIn, AreAlike}
+
+pub beside : (m : Values) (x y : ℕ) (v : List ℕ) → (y ≡ x → ⊥) → with_value m x v y ≡ m y
+beside m x y v apart = cond-false (y == x) v (m y) (ne_eqb y x apart)
+
+pub here : (m : Values) (x y : ℕ) (v : List ℕ) → y ≡ x → with_value m x v y ≡ v
+here m x y v same = cond-true (y == x) v (m y) (eq-eqb y x same)
+
+-- what an array holds once an element is set
+pub set_here : (numbers : List ℕ) (i v : ℕ) → i < length numbers → slice_index (slice_set numbers i v) i ≡ v
+set_here [] i v below = absurd (omega (arith, below))
+set_here (n ∷ numbers) zero v below = refl
+set_here (n ∷ numbers) (suc i) v below = set_here numbers i v (omega (arith, below))
+
+pub set_beside : (numbers : List ℕ) (i j v : ℕ) → (j ≡ i → ⊥)
+    → slice_index (slice_set numbers i v) j ≡ slice_index numbers j
+set_beside [] i j v apart = refl
+set_beside (n ∷ numbers) zero zero v apart = absurd (apart refl)
+set_beside (n ∷ numbers) zero (suc j) v apart = refl
+set_beside (n ∷ numbers) (suc i) zero v apart = refl
+set_beside (n ∷ numbers) (suc i) (suc j) v apart = set_beside numbers i j v (λ e. apart (ap suc e))
+
+pub set_length : (numbers : List ℕ) (i v : ℕ) → length (slice_set numbers i v) ≡ length numbers
+set_length [] i v = refl
+set_length (n ∷ numbers) zero v = refl
+set_length (n ∷ numbers) (suc i) v = ap suc (set_length numbers i v)
+
+pub zeros_at : (n i : ℕ) → slice_index (replicate n 0) i ≡ 0
+zeros_at zero i = refl
+zeros_at (suc n) zero = refl
+zeros_at (suc n) (suc i) = zeros_at n i
+
+module _ (declared new : List FlatVariable) (parts : Parts) (is_splitting : IsSplitting declared new parts)
+    (at : ℕ → Option FlatVariable)
+    (within : (y : ℕ) (d : FlatVariable) → at y ≡ Some d → slice_get declared y ≡ Some d) where
+  -- a variable in scope is no word of an array
+  pub no_word : (y x : ℕ) (d : FlatVariable) (part : Part) (i : ℕ) → at y ≡ Some d → part_of parts x ≡ Some part
+      → y ≡ part.base + i → ⊥
+  no_word y x d part i there is same =
+      let below = slice_get_within declared y d (within y d there) in
+      let behind = is_splitting.behind x part is in
+      omega (arith, below, behind, same)
+
+  -- one that stays is none that becomes words
+  pub not_split : (x y : ℕ) (part : Part) → part_of parts x ≡ None → part_of parts y ≡ Some part → y ≡ x → ⊥
+  not_split x y part none is same = none-some part (sym none ∙ (ap (part_of parts) (sym same) ∙ is))
+
+  -- a variable that stays is set in both
+  pub both_set : (m k : Values) (x : ℕ) (d : FlatVariable) (v w : List ℕ) → AreAlike at parts m k → at x ≡ Some d
+      → part_of parts x ≡ None → w ≡ v → AreAlike at parts (with_value m x v) (with_value k x w)
+  both_set m k x d v w alike there none same = record {
+    plain = λ y e at_y stays. ap₂ (λ (a b : List ℕ). if y == x then a else b) same (alike.plain y e at_y stays);
+    held = λ y e part at_y is.
+        let old = alike.held y e part at_y is in
+        let left = beside m x y v (not_split x y part none is) in
+        record {
+          count = ap length left ∙ old.count;
+          each = λ i below.
+              beside k x (part.base + i) w (λ e. no_word x y d part i there is (sym e))
+              ∙ (old.each i below ∙ ap (λ numbers. slice_index numbers i ∷ []) (sym left));
+        };
+  }
+
+  -- an array's words are set, and no others
+  pub words_set : (m k l : Values) (x : ℕ) (part : Part) (numbers : List ℕ) → AreAlike at parts m k
+      → part_of parts x ≡ Some part → length numbers ≡ part.size
+      → ((i : ℕ) → i < part.size → l (part.base + i) ≡ slice_index numbers i ∷ [])
+      → ((z : ℕ) → ((i : ℕ) → i < part.size → z ≡ part.base + i → ⊥) → l z ≡ k z)
+      → AreAlike at parts (with_value m x numbers) l
+  words_set m k l x part numbers alike is long each others = record {
+    plain = λ y e at_y stays.
+        others y (λ i below same. no_word y x e part i at_y is same)
+        ∙ (alike.plain y e at_y stays
+        ∙ sym (beside m x y numbers (λ same. not_split y x part stays is (sym same))));
+    held = λ y e other at_y also. by_number y e other at_y also (y == x) refl;
+  }
+    where
+      by_number : (y : ℕ) (e : FlatVariable) (other : Part) → at y ≡ Some e → part_of parts y ≡ Some other
+          → (b : Bool) → (y == x) ≡ b → IsHeldIn other (with_value m x numbers y) l
+      by_number y e other at_y also true h =
+          let same = eqb-true y x h in
+          let one : part ≡ other = same_Some part other (sym is ∙ (ap (part_of parts) (sym same) ∙ also)) in
+          let now = here m x y numbers same in
+          subst (λ (p : Part). IsHeldIn p (with_value m x numbers y) l) one record {
+            count = ap length now ∙ long;
+            each = λ i below. each i below ∙ ap (λ ns. slice_index ns i ∷ []) (sym now);
+          }
+      by_number y e other at_y also false h =
+          let apart = eqb-false y x h in
+          let old = alike.held y e other at_y also in
+          let left = beside m x y numbers apart in
+          record {
+            count = ap length left ∙ old.count;
+            each = λ j inside.
+                others (other.base + j)
+                (λ i below same. apart (is_splitting.apart y x other part j i also is inside below same))
+                ∙ (old.each j inside ∙ ap (λ ns. slice_index ns j ∷ []) (sym left));
+          }
+
+  -- an element and its word are set
+  pub word_set : (m k : Values) (x i v w : ℕ) (d : FlatVariable) (part : Part) → AreAlike at parts m k → at x ≡ Some d
+      → part_of parts x ≡ Some part → i < part.size → w ≡ v
+      → AreAlike at parts (with_value m x (slice_set (m x) i v)) (with_value k (part.base + i) (w ∷ []))
+  word_set m k x i v w d part alike there is below same =
+      let old = alike.held x d part there is in
+      words_set m k (with_value k (part.base + i) (w ∷ [])) x part (slice_set (m x) i v) alike is
+      (set_length (m x) i v ∙ old.count)
+      (λ j inside. by_number j inside (j == i) refl)
+      (λ z apart. beside k (part.base + i) z (w ∷ []) (λ e. apart i below e))
+    where
+      by_number : (j : ℕ) → j < part.size → (b : Bool) → (j == i) ≡ b
+          → with_value k (part.base + i) (w ∷ []) (part.base + j) ≡ slice_index (slice_set (m x) i v) j ∷ []
+      by_number j inside true h =
+          let e = eqb-true j i h in
+          let held = alike.held x d part there is in
+          let long : i < length (m x) = omega (arith, below, held.count) in
+          here k (part.base + i) (part.base + j) (w ∷ []) (ap (λ n. part.base + n) e)
+          ∙ ap (λ n. n ∷ []) (same ∙ (sym (set_here (m x) i v long)
+          ∙ ap (slice_index (slice_set (m x) i v)) (sym e)))
+      by_number j inside false h =
+          let apart = eqb-false j i h in
+          let held = alike.held x d part there is in
+          let elsewhere : part.base + j ≡ part.base + i → ⊥ = λ e. apart (omega (arith, e)) in
+          beside k (part.base + i) (part.base + j) (w ∷ []) elsewhere
+          ∙ (held.each j inside ∙ ap (λ n. n ∷ []) (sym (set_beside (m x) i j v apart)))
+
+-- Words that become 0.
+
+pub zeros_outside : (n base : ℕ) (kind : Kind) (t : StraightState) (z : ℕ)
+    → ((i : ℕ) → i < n → z ≡ base + i → ⊥)
+    → (after_all t (zeros base n kind)).variables z ≡ t.variables z
+zeros_outside zero base kind t z apart = refl
+zeros_outside (suc n) base kind t z apart =
+    zeros_outside n (base + 1) kind (with_variable t base (0 ∷ [])) z
+    (λ i below e. apart (i + 1) (omega (arith, below)) (omega (arith, e)))
+    ∙ beside t.variables base z (0 ∷ []) (λ e. apart 0 (omega arith) (omega (arith, e)))
+
+pub zeros_inside : (n base : ℕ) (kind : Kind) (t : StraightState) (i z : ℕ) → i < n → z ≡ base + i
+    → (after_all t (zeros base n kind)).variables z ≡ 0 ∷ []
+zeros_inside zero base kind t i z below at = absurd (omega (arith, below))
+zeros_inside (suc n) base kind t zero z below at =
+    zeros_outside n (base + 1) kind (with_variable t base (0 ∷ [])) z (λ i inside e. omega (arith, e, at))
+    ∙ here t.variables base z (0 ∷ []) (omega (arith, at))
+zeros_inside (suc n) base kind t (suc i) z below at =
+    zeros_inside n (base + 1) kind (with_variable t base (0 ∷ [])) i z (omega (arith, below)) (omega (arith, at))
+
+pub zeros_controls : (n base : ℕ) (kind : Kind) (t : StraightState)
+    → (after_all t (zeros base n kind)).controls ≡ t.controls
+zeros_controls zero base kind t = refl
+zeros_controls (suc n) base kind t = zeros_controls n (base + 1) kind (with_variable t base (0 ∷ []))

@@ -1,0 +1,309 @@
+-- The code with words is well typed where the code is, and what is set under a control value is secret.
+use Rattle.std.proofs.Common.{◌≡◌, ℕ, zero, suc, ◌+◌, ◌<◌, ◌==◌, ◌^◌, Bool, true, false, if◌then◌else◌, List, []}
+use Rattle.std.proofs.Common.{◌∷◌, map, length, Option, None, Some, option_map, slice_get, refl, sym, ap, ◌∙◌}
+use Rattle.std.proofs.Common.{subst, arith}
+use Rattle.std.proofs.lemmas.Bool.{cond-false, ne_eqb}
+use Rattle.std.proofs.lemmas.List.{length-map}
+use Rattle.std.proofs.lemmas.Option.{none-some, same_Some, slice_get_within}
+use Rattle.inline.specs.declared.flat.FlatVariable.{FlatVariable}
+use Rattle.inline.specs.Flat.{TermTree, word_as, array_as}
+use Rattle.inline.specs.FlatTyping.{types_of, HasType, of_number, Suits, AllSuit}
+use Rattle.branch_removal.specs.Straight.{StraightTree, set, clear, fill, put, take, set_under, put_under, branch}
+use Rattle.branch_removal.specs.Straight.{repeats, StraightBlock, nothing, first, chain}
+use Rattle.branch_removal.specs.StraightTyping.{IsSet, IsFilled, IsPut, IsTyped, AreTyped, IsSecret, IsHidden}
+use Rattle.branch_removal.specs.StraightTyping.{AreHidden}
+use Rattle.language.specs.declared.signature.Kind.{Kind}
+use Rattle.language.specs.declared.signature.Kind.TheVariants.{Boolean, Uint8, Uint16, Uint32}
+use Rattle.language.specs.declared.signature.Label.TheVariants.{Public}
+use Rattle.language.specs.declared.typing.WordType.{WordType}
+use Rattle.language.specs.Types.{bits_of}
+use Rattle.language.specs.WellTyped.{labelled}
+use Rattle.word.specs.declared.place.Place.{Place}
+use Rattle.word.specs.declared.profile.Profile.{Profile}
+use Rattle.optimisation.specs.declared.element_words.parts.Part.{Part}
+use Rattle.optimisation.specs.element_words.private.Parts.{Parts, part_of, word_in, word_of}
+use Rattle.optimisation.specs.element_words.private.Splitting.{split, zeros, given_values, cleared, filled, put_in}
+use Rattle.optimisation.specs.element_words.private.Splitting.{put_in_under, split_in, split_all}
+use Rattle.optimisation.proofs.element_words_lemmas.PartLemmas.{IsSplitting}
+use Rattle.optimisation.proofs.element_words_lemmas.Known.{IsKnown, HasKnown, AllHaveKnown, StatementHasKnown, BlockHasKnown}
+use Rattle.optimisation.proofs.element_words_lemmas.Values.{part_word, still_typed, still_suits, all_still_suit}
+use Rattle.optimisation.proofs.element_words_lemmas.Given.{but, but_within}
+
+-- 0 is within each kind
+zero_within : (kind : Kind) → 0 < 2 ^ bits_of kind
+zero_within Boolean = omega arith
+zero_within Uint8 = omega arith
+zero_within Uint16 = omega arith
+zero_within Uint32 = omega arith
+
+module _ (declared new : List FlatVariable) (parts : Parts) (is_splitting : IsSplitting declared new parts)
+    (profile : Profile) (controls : ℕ) where
+  typed-chain : (these those : StraightBlock) → AreTyped profile new controls these
+      → AreTyped profile new controls those → AreTyped profile new controls (chain these those)
+  typed-chain nothing those one other = other
+  typed-chain (first statement these) those one other = (one.0, typed-chain these those one.1 other)
+
+  hidden-chain : (these those : StraightBlock) → AreHidden new these → AreHidden new those
+      → AreHidden new (chain these those)
+  hidden-chain nothing those one other = other
+  hidden-chain (first statement these) those one other = (one.0, hidden-chain these those one.1 other)
+
+  suits_still : {e : TermTree} {word : WordType} → Suits (types_of profile declared) word e → HasKnown parts e
+      → Suits (types_of profile new) word (split parts e)
+  suits_still suits known =
+      still_suits declared new parts is_splitting profile (λ y. slice_get declared y) (λ y d there. there)
+      (λ y. slice_get new y) is_splitting.kept (λ y part i is below. is_splitting.words y part i is below) suits known
+
+  typed_still : {e : TermTree} {word : WordType} → HasType (types_of profile declared) e word → HasKnown parts e
+      → HasType (types_of profile new) (split parts e) word
+  typed_still has known =
+      still_typed declared new parts is_splitting profile (λ y. slice_get declared y) (λ y d there. there)
+      (λ y. slice_get new y) is_splitting.kept (λ y part i is below. is_splitting.words y part i is below) has known
+
+  words_as : (x : ℕ) (word : WordType) (mutable : Bool) (size : ℕ) (part : Part)
+      → slice_get declared x ≡ Some (array_as word mutable size) → part_of parts x ≡ Some part
+      → (part.word ≡ word) × (part.size ≡ size)
+  words_as x word mutable size part there is =
+      part_word declared new parts is_splitting profile (λ y. slice_get declared y) (λ y d h. h) x word mutable size
+      part there is
+
+  set_typed : (x : ℕ) (value : TermTree) → IsSet profile declared x value → HasKnown parts value
+      → IsSet profile new x (split parts value)
+  set_typed x value is known = record {
+    word = is.word;
+    mutable = is.mutable;
+    known = is_splitting.kept x (word_as is.word is.mutable) is.known;
+    suits = suits_still is.suits known;
+  }
+
+  put_typed : (place : Place) (x size : ℕ) (index value : TermTree) → IsPut profile declared x size index value
+      → HasKnown parts index → HasKnown parts value
+      → (o : Option Part) → part_of parts x ≡ o → IsKnown o index
+      → IsTyped profile new controls (put_in (word_in o index) place x size (split parts index) (split parts value))
+  put_typed place x size index value is index_known value_known None same known = record {
+    word = is.word;
+    mutable = is.mutable;
+    known = is_splitting.kept x (array_as is.word is.mutable size) is.known;
+    index_type = typed_still is.index_type index_known;
+    suits = suits_still is.suits value_known;
+  }
+  put_typed place x size index value is index_known value_known (Some part) same known =
+      subst (λ (o : Option ℕ). IsTyped profile new controls (put_in (option_map (λ i. part.base + i) o) place x size
+      (split parts index) (split parts value))) (sym known.found) record {
+        word = part.word;
+        mutable = true;
+        known = is_splitting.words x part known.value same known.below;
+        suits = subst (λ w. Suits (types_of profile new) w (split parts value))
+            (sym (words_as x is.word is.mutable size part is.known same).0) (suits_still is.suits value_known);
+      }
+
+  under_typed : (o : Option ℕ) (control : ℕ) (place : Place) (x size : ℕ) (index value : TermTree)
+      → control < controls → IsTyped profile new controls (put_in o place x size index value)
+      → IsTyped profile new controls (put_in_under o control place x size index value)
+  under_typed None control place x size index value below is = (below, is)
+  under_typed (Some word) control place x size index value below is = (below, is)
+
+  zeros_typed : (n base : ℕ) (word : WordType)
+      → ((i : ℕ) → i < n → slice_get new (base + i) ≡ Some (word_as word true))
+      → AreTyped profile new controls (zeros base n word.kind)
+  zeros_typed zero base word are = tt
+  zeros_typed (suc n) base word are = (
+    record {
+      word = word;
+      mutable = true;
+      known = ap (slice_get new) (omega arith) ∙ are 0 (omega arith);
+      suits = record {
+        word = labelled word.kind Public;
+        has_type = of_number (zero_within word.kind);
+        kind = refl;
+        label = λ public. refl;
+      };
+    },
+    zeros_typed n (base + 1) word
+        (λ i below. ap (slice_get new) (omega arith) ∙ are (i + 1) (omega (arith, below))),
+  )
+
+  given_typed : (values : List TermTree) (n base : ℕ) (word : WordType)
+      → ((i : ℕ) → i < n → slice_get new (base + i) ≡ Some (word_as word true))
+      → AllSuit (types_of profile new) word values → AreTyped profile new controls (given_values base n values)
+  given_typed values zero base word are suit = tt
+  given_typed [] (suc n) base word are suit = tt
+  given_typed (e ∷ es) (suc n) base word are suit = (
+    record {
+      word = word;
+      mutable = true;
+      known = ap (slice_get new) (omega arith) ∙ are 0 (omega arith);
+      suits = suit.0;
+    },
+    given_typed es n (base + 1) word
+        (λ i below. ap (slice_get new) (omega arith) ∙ are (i + 1) (omega (arith, below))) suit.1,
+  )
+
+  clear_typed : (x size : ℕ) → IsFilled profile declared x size [] → (o : Option Part) → part_of parts x ≡ o
+      → AreTyped profile new controls (cleared o x size)
+  clear_typed x size is None same = (
+    record {
+      word = is.word;
+      mutable = is.mutable;
+      known = is_splitting.kept x (array_as is.word is.mutable size) is.known;
+      suit = tt;
+    },
+    tt,
+  )
+  clear_typed x size is (Some part) same =
+      zeros_typed part.size part.base part.word (λ i below. is_splitting.words x part i same below)
+
+  -- among the variables but for one
+  but_kept : (x y : ℕ) (d : FlatVariable) → but declared x y ≡ Some d → but new x y ≡ Some d
+  but_kept x y d there = by_number (y == x) there
+    where
+      by_number : (b : Bool) → (if b then None else slice_get declared y) ≡ Some d
+          → (if b then None else slice_get new y) ≡ Some d
+      by_number true h = absurd (none-some d h)
+      by_number false h = is_splitting.kept y d h
+
+  but_words : (x : ℕ) (d : FlatVariable) → slice_get declared x ≡ Some d
+      → (y : ℕ) (part : Part) (i : ℕ) → part_of parts y ≡ Some part → i < part.size
+      → but new x (part.base + i) ≡ Some (word_as part.word true)
+  but_words x d there y part i is below =
+      let inside = slice_get_within declared x d there in
+      let behind = is_splitting.behind y part is in
+      let apart : part.base + i ≡ x → ⊥ = λ same. omega (arith, same, inside, behind) in
+      cond-false (part.base + i == x) None (slice_get new (part.base + i)) (ne_eqb (part.base + i) x apart)
+      ∙ is_splitting.words y part i is below
+
+  fill_typed : (x : ℕ) (values : List TermTree) → IsFilled profile declared x (length values) values
+      → AllHaveKnown parts values → (o : Option Part) → part_of parts x ≡ o
+      → AreTyped profile new controls (filled o x (map (split parts) values))
+  fill_typed x values is known None same = (
+    record {
+      word = is.word;
+      mutable = is.mutable;
+      known = subst (λ n. slice_get new x ≡ Some (array_as is.word is.mutable n))
+          (sym (length-map values (split parts)))
+          (is_splitting.kept x (array_as is.word is.mutable (length values)) is.known);
+      suit = all_still_suit declared new parts is_splitting profile (but declared x) (but_within declared x)
+          (but new x) (but_kept x) (but_words x (array_as is.word is.mutable (length values)) is.known) is.word values
+          is.suit known;
+    },
+    tt,
+  )
+  fill_typed x values is known (Some part) same =
+      given_typed (map (split parts) values) part.size part.base part.word
+      (λ i below. is_splitting.words x part i same below)
+      (subst (λ w. AllSuit (types_of profile new) w (map (split parts) values))
+      (sym (words_as x is.word is.mutable (length values) part is.known same).0)
+      (all_still_suit declared new parts is_splitting profile (but declared x) (but_within declared x)
+      (λ y. slice_get new y) (λ y d there. is_splitting.kept y d (but_within declared x y d there))
+      (λ y other i h below. is_splitting.words y other i h below) is.word values is.suit known))
+
+  mutual
+    pub still_well_typed : (statement : StraightTree) → IsTyped profile declared controls statement
+        → StatementHasKnown parts statement → AreTyped profile new controls (split_in parts statement)
+    still_well_typed (set x value) is known = (set_typed x value is known, tt)
+    still_well_typed (clear x size) is known = clear_typed x size is (part_of parts x) refl
+    still_well_typed (fill x values) is known = fill_typed x values is known (part_of parts x) refl
+    still_well_typed (put place x size index value) is known =
+        (put_typed place x size index value is known.1 known.2 (part_of parts x) refl known.0, tt)
+    still_well_typed (take control within condition) is known =
+        ((is.0, is.1, (is.2.0, typed_still is.2.1 known)), tt)
+    still_well_typed (set_under control x value) is known = ((is.0, set_typed x value is.1 known), tt)
+    still_well_typed (put_under control place x size index value) is known = (
+      under_typed (word_of parts x index) control place x size (split parts index) (split parts value) is.0
+          (put_typed place x size index value is.1 known.1 known.2 (part_of parts x) refl known.0),
+      tt,
+    )
+    still_well_typed (branch condition accepted otherwise) is known = (
+      (
+        typed_still is.0 known.0,
+        still_all_typed accepted is.1 known.1,
+        still_all_typed otherwise is.2 known.2,
+      ),
+      tt,
+    )
+    still_well_typed (repeats x low high body) is known = (
+      (
+        typed_still is.0 known.0,
+        typed_still is.1 known.1,
+        is_splitting.kept x _ is.2,
+        still_all_typed body is.3 known.2,
+      ),
+      tt,
+    )
+
+    pub still_all_typed : (body : StraightBlock) → AreTyped profile declared controls body
+        → BlockHasKnown parts body → AreTyped profile new controls (split_all parts body)
+    still_all_typed nothing is known = tt
+    still_all_typed (first statement rest) is known =
+        typed-chain (split_in parts statement) (split_all parts rest) (still_well_typed statement is.0 known.0)
+        (still_all_typed rest is.1 known.1)
+
+  -- What is hidden.
+
+  -- a variable that stays is as secret as it was
+  secret_still : (x : ℕ) (d : FlatVariable) → slice_get declared x ≡ Some d → IsSecret declared x → IsSecret new x
+  secret_still x d there secret e found =
+      let one = same_Some d e (sym (is_splitting.kept x d there) ∙ found) in
+      ap (λ (v : FlatVariable). v.word.label) (sym one) ∙ secret d there
+
+  put_hidden : (control : ℕ) (place : Place) (x size : ℕ) (index value : TermTree)
+      → IsPut profile declared x size index value → IsSecret declared x
+      → (o : Option Part) → part_of parts x ≡ o → IsKnown o index
+      → IsHidden new (put_in_under (word_in o index) control place x size (split parts index) (split parts value))
+  put_hidden control place x size index value is secret None same known =
+      secret_still x (array_as is.word is.mutable size) is.known secret
+  put_hidden control place x size index value is secret (Some part) same known =
+      subst (λ (o : Option ℕ). IsHidden new (put_in_under (option_map (λ i. part.base + i) o) control place x size
+      (split parts index) (split parts value))) (sym known.found)
+      (λ e found.
+      let one = same_Some (word_as part.word true) e
+      (sym (is_splitting.words x part known.value same known.below) ∙ found) in
+      ap (λ (v : FlatVariable). v.word.label) (sym one)
+      ∙ (ap (λ (w : WordType). w.label) (words_as x is.word is.mutable size part is.known same).0
+      ∙ secret (array_as is.word is.mutable size) is.known))
+
+  zeros_hidden : (n base : ℕ) (kind : Kind) → AreHidden new (zeros base n kind)
+  zeros_hidden zero base kind = tt
+  zeros_hidden (suc n) base kind = (tt, zeros_hidden n (base + 1) kind)
+
+  given_hidden : (values : List TermTree) (n base : ℕ) → AreHidden new (given_values base n values)
+  given_hidden values zero base = tt
+  given_hidden [] (suc n) base = tt
+  given_hidden (e ∷ es) (suc n) base = (tt, given_hidden es n (base + 1))
+
+  clear_hidden : (o : Option Part) (x size : ℕ) → AreHidden new (cleared o x size)
+  clear_hidden None x size = (tt, tt)
+  clear_hidden (Some part) x size = zeros_hidden part.size part.base part.word.kind
+
+  fill_hidden : (o : Option Part) (x : ℕ) (values : List TermTree) → AreHidden new (filled o x values)
+  fill_hidden None x values = (tt, tt)
+  fill_hidden (Some part) x values = given_hidden values part.size part.base
+
+  plain_hidden : (o : Option ℕ) (place : Place) (x size : ℕ) (index value : TermTree)
+      → IsHidden new (put_in o place x size index value)
+  plain_hidden None place x size index value = tt
+  plain_hidden (Some word) place x size index value = tt
+
+  mutual
+    pub still_hidden : (statement : StraightTree) → IsTyped profile declared controls statement
+        → StatementHasKnown parts statement → IsHidden declared statement → AreHidden new (split_in parts statement)
+    still_hidden (set x value) is known hidden = (tt, tt)
+    still_hidden (clear x size) is known hidden = clear_hidden (part_of parts x) x size
+    still_hidden (fill x values) is known hidden = fill_hidden (part_of parts x) x (map (split parts) values)
+    still_hidden (put place x size index value) is known hidden =
+        (plain_hidden (word_of parts x index) place x size (split parts index) (split parts value), tt)
+    still_hidden (take control within condition) is known hidden = (tt, tt)
+    still_hidden (set_under control x value) is known hidden =
+        (secret_still x (word_as is.1.word is.1.mutable) is.1.known hidden, tt)
+    still_hidden (put_under control place x size index value) is known hidden =
+        (put_hidden control place x size index value is.1 hidden (part_of parts x) refl known.0, tt)
+    still_hidden (branch condition accepted otherwise) is known hidden =
+        ((still_all_hidden accepted is.1 known.1 hidden.0, still_all_hidden otherwise is.2 known.2 hidden.1), tt)
+    still_hidden (repeats x low high body) is known hidden = (still_all_hidden body is.3 known.2 hidden, tt)
+
+    pub still_all_hidden : (body : StraightBlock) → AreTyped profile declared controls body
+        → BlockHasKnown parts body → AreHidden declared body → AreHidden new (split_all parts body)
+    still_all_hidden nothing is known hidden = tt
+    still_all_hidden (first statement rest) is known hidden =
+        hidden-chain (split_in parts statement) (split_all parts rest)
+        (still_hidden statement is.0 known.0 hidden.0) (still_all_hidden rest is.1 known.1 hidden.1)

@@ -1,0 +1,11 @@
+use Rattle.std.proofs.Common.{◌≡◌, drop, map}
+use Rattle.inline.specs.Flat.{term_tree}
+use Rattle.optimisation.specs.live_words.private.Held.{held_by}
+use Rattle.optimisation.specs.live_words.private.Terms.{reading_all}
+use Rattle.optimisation.proofs.live_words.terms.read_all.Given as goal
+
+-- with what is left to read, all is read
+abbrev pub invariant-loop-term : goal.invariant-loop-term
+invariant-loop-term l =
+    reading_all l.table l.done (held_by l.live) (map term_tree (drop l.term-index l.terms))
+    ≡ reading_all l.table l.done (held_by l.fn.live) (map term_tree l.terms)

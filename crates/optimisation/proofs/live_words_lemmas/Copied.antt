@@ -1,0 +1,81 @@
+-- Where sharing does not fit, and each word keeps its variable, code stays as it is.
+use Rattle.std.proofs.Common.{◌≡◌, ℕ, ◌&&◌, not, Bool, true, false, if◌then◌else◌, List, [], ◌∷◌, map}
+use Rattle.std.proofs.Common.{Option, None, Some}
+use Rattle.std.proofs.Common.{refl, sym, ap, ap₂, ◌∙◌}
+use Rattle.inline.specs.Flat.{TermTree}
+use Rattle.inline.specs.Flat as flat
+use Rattle.branch_removal.specs.Straight.{StraightTree, set, clear, fill, put, take, set_under, put_under, branch}
+use Rattle.branch_removal.specs.Straight.{repeats, StraightBlock, nothing, first}
+use Rattle.optimisation.specs.live_words.private.Held.{Held, is_live, anew}
+use Rattle.branch_removal.specs.Quiet.{is_quiet}
+use Rattle.optimisation.specs.live_words.private.Terms.{renamed, is_dead}
+use Rattle.optimisation.specs.live_words.private.Gathering.{at_head}
+use Rattle.optimisation.specs.live_words.private.Sharing.{before_all, in_front, shared, shared_all}
+use Rattle.optimisation.proofs.live_words_lemmas.Grown.{grows_head}
+use Rattle.optimisation.proofs.live_words_lemmas.Same.{fits_before_all}
+
+-- what fits only where something does
+pub unfit : (b c : Bool) → (c ≡ true → b ≡ true) → b ≡ false → c ≡ false
+unfit b true so is = sym (so refl) ∙ is
+unfit b false so is = refl
+
+pub same_term : (e : TermTree) → renamed [] e ≡ e
+same_term (flat.number value kind) = refl
+same_term (flat.truth value) = refl
+same_term (flat.variable x) = refl
+same_term (flat.prefix operator width operand) = ap (flat.prefix operator width) (same_term operand)
+same_term (flat.binary place operator width left right) =
+    ap₂ (flat.binary place operator width) (same_term left) (same_term right)
+same_term (flat.rotate width operand amount) = ap (λ e. flat.rotate width e amount) (same_term operand)
+same_term (flat.convert kind operand) = ap (flat.convert kind) (same_term operand)
+same_term (flat.select condition accepted otherwise) =
+    ap₂ (λ c a. flat.select c a (renamed [] otherwise)) (same_term condition) (same_term accepted)
+    ∙ ap (flat.select condition accepted) (same_term otherwise)
+same_term (flat.element place x size index) = ap (flat.element place x size) (same_term index)
+
+same_terms : (es : List TermTree) → map (renamed []) es ≡ es
+same_terms [] = refl
+same_terms (e ∷ es) = ap₂ (λ one more. one ∷ more) (same_term e) (same_terms es)
+
+-- a statement is not left out
+not_dead : (held : Held) (x : ℕ) (value : TermTree) (code : Option StraightTree) → held.fits ≡ false
+    → (if is_dead [] held x value then None else code) ≡ code
+not_dead held x value code unfit =
+    ap (λ fits. if fits && not (is_live [] held x) && is_quiet value then None else code) unfit
+
+mutual
+  same_statement : (held : Held) (statement : StraightTree) → held.fits ≡ false
+      → shared [] held statement ≡ Some statement
+  same_statement held (set x value) is =
+      not_dead held x value (Some (set x (renamed [] value))) is ∙ ap (λ e. Some (set x e)) (same_term value)
+  same_statement held (clear x size) is = refl
+  same_statement held (fill x values) is = ap (λ es. Some (fill x es)) (same_terms values)
+  same_statement held (put place x size index value) is =
+      ap₂ (λ i e. Some (put place x size i e)) (same_term index) (same_term value)
+  same_statement held (take control within condition) is =
+      ap (λ e. Some (take control within e)) (same_term condition)
+  same_statement held (set_under control x value) is =
+      not_dead held x value (Some (set_under control x (renamed [] value))) is
+      ∙ ap (λ e. Some (set_under control x e)) (same_term value)
+  same_statement held (put_under control place x size index value) is =
+      ap₂ (λ i e. Some (put_under control place x size i e)) (same_term index) (same_term value)
+  same_statement held (branch condition accepted otherwise) is =
+      let second = before_all [] held otherwise in
+      ap₂ (λ a b. Some (branch (renamed [] condition) a b))
+      (same_block (anew second held.holders) accepted
+      (unfit held.fits second.fits (fits_before_all [] held otherwise) is))
+      (same_block held otherwise is)
+      ∙ ap (λ e. Some (branch e accepted otherwise)) (same_term condition)
+  same_statement held (repeats x low high body) is =
+      let head = at_head [] held x body in
+      ap₂ (λ l h. Some (repeats x l h (shared_all [] head body))) (same_term low) (same_term high)
+      ∙ ap (λ code. Some (repeats x low high code))
+      (same_block head body (unfit held.fits head.fits (grows_head [] held x body).fits is))
+
+  pub same_block : (held : Held) (body : StraightBlock) → held.fits ≡ false → shared_all [] held body ≡ body
+  same_block held nothing is = refl
+  same_block held (first statement rest) is =
+      let behind = before_all [] held rest in
+      ap₂ in_front
+      (same_statement behind statement (unfit held.fits behind.fits (fits_before_all [] held rest) is))
+      (same_block held rest is)

@@ -1,0 +1,287 @@
+-- The program over the variables that words live in may stand in the place of the program.
+use Rattle.std.proofs.Common.{◌≡◌, ℕ, ◌+◌, ◌<◌, ◌≤◌, ◌^◌, ◌==◌, ◌&&◌, ◌++◌, Bool, true, false, if◌then◌else◌, List}
+use Rattle.std.proofs.Common.{[], ◌∷◌, length, map, Option, None, Some, option_map, refl, sym, ap, ap₂, ◌∙◌}
+use Rattle.std.proofs.Common.{subst, arith}
+use Rattle.std.proofs.lemmas.Bool.{and_parts, eqb-true}
+use Rattle.inline.specs.Flat.{TermTree, declaration_of, elements_by}
+use Rattle.inline.specs.FlatMeaning.{Values, value_in, array_of, arrays_from, path_of_result}
+use Rattle.inline.specs.FlatTyping.{types_of}
+use Rattle.inline.specs.Path.{Path, AreFine}
+use Rattle.language.specs.declared.signature.Form.{Form}
+use Rattle.language.specs.declared.signature.Form.TheVariants.{SingleWord, FixedArray, MutableArray}
+use Rattle.language.specs.declared.signature.Param.{Param}
+use Rattle.language.specs.declared.values.Arg.{Arg}
+use Rattle.language.specs.Typing.{is_mutable}
+use Rattle.language.specs.Size.{array_words}
+use Rattle.language.specs.declared.signature.Kind.{Kind}
+use Rattle.language.specs.declared.signature.Kind.TheVariants.{Boolean, Uint8, Uint16, Uint32}
+use Rattle.language.specs.declared.typing.WordType.{WordType}
+use Rattle.std.specs.List.{AllByRecursion}
+use Rattle.inline.specs.FlatSize.{HasLength, words_by, declared_words}
+use Rattle.branch_removal.specs.Bounds.{IsBounded}
+use Rattle.branch_removal.specs.Heights.{height_in_all, result_height}
+use Rattle.branch_removal.specs.Kept.{IsStraight}
+use Rattle.branch_removal.specs.Replaced.{IsReplaced}
+use Rattle.branch_removal.specs.Straight.{StraightProgram, with_body}
+use Rattle.branch_removal.specs.StraightMeaning.{start, end_of, outcome_of, path_of}
+use Rattle.optimisation.specs.live_words.private.Held.{Table, Held, share, fitting, living, hold_own}
+use Rattle.optimisation.specs.live_words.private.Terms.{renamed}
+use Rattle.optimisation.specs.live_words.private.Sharing.{shared_all}
+use Rattle.optimisation.specs.live_words.private.Whole.{kept, with_results, reading_any, at_end, at_start, over, nothing_live}
+use Rattle.optimisation.specs.live_words.private.Whole.{all_fits, shared_by}
+use Rattle.optimisation.specs.live_words.private.Choice.{all_allowed}
+use Rattle.optimisation.proofs.live_words_lemmas.Allowed.{allowed_kept}
+use Rattle.optimisation.proofs.live_words_lemmas.HeldLemmas.{Grows, grows_same, grows_on, grows_holding, alike_living}
+use Rattle.optimisation.proofs.live_words_lemmas.HeldLemmas.{alike_first}
+use Rattle.optimisation.proofs.live_words_lemmas.TermLemmas.{grows_reading, IsRead, read_before, same_value, same_path}
+use Rattle.optimisation.proofs.live_words_lemmas.Same.{AreReady, fits_before_all, keeps_all}
+use Rattle.optimisation.proofs.live_words_lemmas.Typed.{IsKept, are_kept, still_all_typed, still_hidden_all, still_result}
+use Rattle.optimisation.proofs.live_words_lemmas.Bounds.{less_all, lower_all, flatter_all, same_value_nodes, same_result_height, max_both}
+use Rattle.optimisation.proofs.live_words_lemmas.Copied.{same_term, same_block, unfit}
+
+module _ (table : Table) where
+  -- Results.
+
+  grows_kept : (held : Held) (x : ℕ) → Grows held (kept table held x)
+  grows_kept held x = record {
+    fits = λ f. (grows_holding held (share table x) x).fits
+        (and_parts (living table held x).fits (share table x == x) f).0;
+    holds = λ f v y is. (grows_holding held (share table x) x).holds
+        (and_parts (living table held x).fits (share table x == x) f).0 v y is;
+  }
+
+  grows_if : (b : Bool) (held : Held) (x : ℕ) → Grows held (if b then kept table held x else held)
+  grows_if true held x = grows_kept held x
+  grows_if false held x = grows_same held
+
+  grows_results : (x : ℕ) (ps : List Param) (held : Held) → Grows held (with_results table x ps held)
+  grows_results x [] held = grows_same held
+  grows_results x (p ∷ ps) held =
+      let next = if is_mutable p.form then kept table held x else held in
+      grows_on held next (with_results table (x + 1) ps next) (grows_if (is_mutable p.form) held x)
+      (grows_results (x + 1) ps next)
+
+  grows_any : (held : Held) (value : Option TermTree) → Grows held (reading_any table held value)
+  grows_any held None = grows_same held
+  grows_any held (Some value) = grows_reading table [] held value
+
+  pub grows_end : (held : Held) (p : StraightProgram) → Grows held (at_end table held p)
+  grows_end held p =
+      let results = with_results table 0 p.parameters held in
+      grows_on held results (reading_any table results p.value) (grows_results 0 p.parameters held)
+      (grows_any results p.value)
+
+  module _ (m n : Values) where
+    kept_alike : (b : Bool) (held : Held) (x : ℕ) → b ≡ true
+        → IsRead table m n (if b then kept table held x else held) → m x ≡ n x
+    kept_alike true held x is read =
+        let parts = and_parts (living table held x).fits (share table x == x) read.fits in
+        alike_living table held x m n parts.0 read.alike ∙ ap n (eqb-true (share table x) x parts.1)
+    kept_alike false held x is read = cc
+
+    same_array : (form : Form) (x : ℕ) → (is_mutable form ≡ true → m x ≡ n x)
+        → array_of form (n x) ≡ array_of form (m x)
+    same_array SingleWord x same = refl
+    same_array FixedArray x same = refl
+    same_array MutableArray x same = ap (λ w. w ∷ []) (sym (same refl))
+
+    same_arrays : (x : ℕ) (ps : List Param) (held : Held) → IsRead table m n (with_results table x ps held)
+        → arrays_from x ps n ≡ arrays_from x ps m
+    same_arrays x [] held read = refl
+    same_arrays x (p ∷ ps) held read =
+        let next = if is_mutable p.form then kept table held x else held in
+        let here = read_before table m n next (with_results table (x + 1) ps next)
+        (grows_results (x + 1) ps next) read in
+        ap₂ (λ (a b : List (List ℕ)). a ++ b)
+        (same_array p.form x (λ is. kept_alike (is_mutable p.form) held x is here))
+        (same_arrays (x + 1) ps next read)
+
+    same_any : (held : Held) (value : Option TermTree) → IsRead table m n (reading_any table held value)
+        → option_map (value_in n) (option_map (renamed table) value) ≡ option_map (value_in m) value
+    same_any held None read = refl
+    same_any held (Some value) read = ap Some (same_value table m n held value read)
+
+    same_any_path : (held : Held) (value : Option TermTree) → IsRead table m n (reading_any table held value)
+        → path_of_result n (option_map (renamed table) value) ≡ path_of_result m value
+    same_any_path held None read = refl
+    same_any_path held (Some value) read = same_path table m n held value read
+
+  -- Where sharing fits.
+
+  module _ (held : Held) (p : StraightProgram) (fits : (at_start table held p).fits ≡ true)
+      (own : hold_own 0 (at_start table held p).holders ≡ true) where
+    end_fits : (at_end table held p).fits ≡ true
+    end_fits = fits_before_all table (at_end table held p) p.body fits
+
+    module _ (args : List Arg) where
+      ready : AreReady table (at_start table held p) (start p args) (start p args)
+      ready = record {
+        fits = fits;
+        at = record {
+          alike = alike_first table (at_start table held p).holders own (start p args).variables;
+          controls = refl;
+        };
+      }
+
+      last : IsRead table (end_of p args) (end_of (over table held p) args) (at_end table held p)
+      last = record {
+        fits = end_fits;
+        alike = (keeps_all table (at_end table held p) p.body (start p args) (start p args) ready).0.alike;
+      }
+
+      pub same_outcome : outcome_of (over table held p) args ≡ outcome_of p args
+      same_outcome =
+          let results = with_results table 0 p.parameters held in
+          let m = end_of p args in
+          let n = end_of (over table held p) args in
+          ap₂ (λ (r : Option ℕ) (a : List (List ℕ)). record { returned = r; arrays = a })
+          (same_any m n results p.value last)
+          (same_arrays m n 0 p.parameters held
+          (read_before table m n results (at_end table held p) (grows_any results p.value) last))
+
+      pub same_whole_path : path_of (over table held p) args ≡ path_of p args
+      same_whole_path =
+          ap₂ (λ (a b : Path). a ++ b)
+          (keeps_all table (at_end table held p) p.body (start p args) (start p args) ready).1
+          (same_any_path (end_of p args) (end_of (over table held p) args) (with_results table 0 p.parameters held)
+          p.value last)
+
+    module _ (straight : IsStraight p) (declared : IsKept table p.declared) where
+      still_bounded : IsBounded (over table held p)
+      still_bounded =
+          let b = straight.bounded in
+          let end = at_end table held p in
+          let room = max_both (height_in_all (shared_all table end p.body))
+          (result_height (option_map (renamed table) p.value)) (height_in_all p.body) (result_height p.value)
+          (lower_all table end p.body) (omega (arith, same_result_height table p.value)) in
+          record {
+            lengths = b.lengths;
+            parameters = b.parameters;
+            declared = b.declared;
+            nodes = b.nodes;
+            worked = omega (arith, less_all table p.turns end p.body fits, same_value_nodes table p.value, b.worked);
+            work_fits = b.work_fits;
+            framed = omega (arith, flatter_all table end p.body, room, b.framed);
+          }
+
+      pub still_straight : IsStraight (over table held p)
+      still_straight = record {
+        typed = record {
+          parameters = straight.typed.parameters;
+          body = still_all_typed table p.profile p.declared p.controls declared (at_end table held p) p.body fits
+              straight.typed.body;
+          hidden = still_hidden_all table p.profile p.declared p.controls declared (at_end table held p) p.body
+              straight.typed.hidden;
+          result = still_result table (types_of p.profile p.declared)
+              (are_kept table p.profile p.declared p.controls declared) p.returned p.value straight.typed.result;
+        };
+        bounded = still_bounded;
+      }
+
+      pub shared_replaced : IsReplaced p (over table held p)
+      shared_replaced = record {
+        profile = refl;
+        parameters = refl;
+        returned = refl;
+        nodes = refl;
+        work = refl;
+        turns = refl;
+        straight = still_straight;
+        outcome = λ args within. same_outcome args;
+        fine = λ args within fine. subst (AreFine p.turns) (sym (same_whole_path args)) fine;
+      }
+
+-- Where it does not, the program stays as it is.
+
+pub same_program : (held : Held) (p : StraightProgram) → held.fits ≡ false → over [] held p ≡ p
+same_program held p is =
+    let end = at_end [] held p in
+    ap₂ (with_body p) (same_block end p.body (unfit held.fits end.fits (grows_end [] held p).fits is))
+    (same_any_value p.value)
+  where
+    same_any_value : (value : Option TermTree) → option_map (renamed []) value ≡ value
+    same_any_value None = refl
+    same_any_value (Some value) = ap Some (same_term value)
+
+pub itself : (p : StraightProgram) → IsStraight p → IsReplaced p p
+itself p straight = record {
+  profile = refl;
+  parameters = refl;
+  returned = refl;
+  nodes = refl;
+  work = refl;
+  turns = refl;
+  straight = straight;
+  outcome = λ args within. refl;
+  fine = λ args within fine. fine;
+}
+
+pub unshared : (p : StraightProgram) → over [] (fitting (nothing_live p 0) false) p ≡ p
+unshared p = same_program (fitting (nothing_live p 0) false) p refl
+
+module _ (table : Table) (p : StraightProgram) where
+  abbrev start_held : Held
+  start_held = at_start table (nothing_live p 0) p
+
+  pub replaced : IsStraight p → IsReplaced p (shared_by table p)
+  replaced straight = by_fit (all_fits table start_held p) refl
+    where
+      by_fit : (b : Bool) → all_fits table start_held p ≡ b
+          → IsReplaced p (if b then over table (nothing_live p 0) p else over [] (fitting (nothing_live p 0) false) p)
+      by_fit true fit =
+          let outer = and_parts (start_held.fits && hold_own 0 start_held.holders)
+          (all_allowed p.declared 0 table) fit in
+          let inner = and_parts start_held.fits (hold_own 0 start_held.holders) outer.0 in
+          shared_replaced table (nothing_live p 0) p inner.0 inner.1 straight (allowed_kept p.declared table outer.1)
+      by_fit false fit = subst (IsReplaced p) (sym (unshared p)) (itself p straight)
+
+  -- a program of these parts is the shared one
+  pub as_shared : (fits : Bool) → fits ≡ all_fits table start_held p → fits ≡ true
+      → (made : StraightProgram) → made ≡ over table (nothing_live p 0) p → made ≡ shared_by table p
+  as_shared fits is so made same = same ∙ choose (all_fits table start_held p) (sym is ∙ so)
+    where
+      choose : (b : Bool) → b ≡ true
+          → over table (nothing_live p 0) p
+          ≡ (if b then over table (nothing_live p 0) p else over [] (fitting (nothing_live p 0) false) p)
+      choose true so = refl
+      choose false so = cc
+
+  pub as_unshared : (fits : Bool) → fits ≡ all_fits table start_held p → fits ≡ false
+      → (made : StraightProgram) → made ≡ over [] (fitting (nothing_live p 0) false) p → made ≡ shared_by table p
+  as_unshared fits is so made same = same ∙ choose (all_fits table start_held p) (sym is ∙ so)
+    where
+      choose : (b : Bool) → b ≡ false
+          → over [] (fitting (nothing_live p 0) false) p
+          ≡ (if b then over table (nothing_live p 0) p else over [] (fitting (nothing_live p 0) false) p)
+      choose true so = cc
+      choose false so = refl
+
+  pub shared_straight : IsStraight p → IsStraight (shared_by table p)
+  shared_straight straight = (replaced straight).straight
+
+-- There are few parameters: each takes a word at least.
+
+some_words : (kind : Kind) (n : ℕ) → 1 ≤ n → 1 ≤ array_words kind n
+some_words Boolean n some = omega (arith, some)
+some_words Uint8 n some = omega (arith, some)
+some_words Uint16 n some = omega (arith, some)
+some_words Uint32 n some = omega (arith, some)
+
+a_word : (form : Form) (word : WordType) (n : ℕ) → HasLength form n → 1 ≤ words_by word (elements_by form n)
+a_word SingleWord word n is = omega arith
+a_word FixedArray word n is = some_words word.kind n is.0
+a_word MutableArray word n is = some_words word.kind n is.0
+
+each_a_word : (ps : List Param) → AllByRecursion (λ (p : Param). HasLength p.form p.length) ps
+    → length ps ≤ declared_words (map declaration_of ps)
+each_a_word [] all = omega arith
+each_a_word (p ∷ ps) all =
+    omega (
+      arith,
+      a_word p.form (record { kind = p.kind; label = p.label }) p.length all.0,
+      each_a_word ps all.1,
+    )
+
+pub few_parameters : (p : StraightProgram) → IsStraight p → length p.parameters < 2 ^ 32
+few_parameters p straight =
+    omega (arith, each_a_word p.parameters straight.bounded.lengths, straight.bounded.parameters)

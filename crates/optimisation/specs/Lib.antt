@@ -1,0 +1,3 @@
+pub mod constants
+pub mod element_words
+pub mod live_words

@@ -1,0 +1,178 @@
+-- How straight code with these variables is made simpler: from the first statement on, what is known of them is carried
+-- along. A loop whose bounds are numbers becomes its turns, where these are no more than are allowed: how many are is
+-- in a list, at the counter's number.
+use Rattle.std.specs.Prelude.{ℕ, zero, suc, ◌+◌, ◌-◌, ◌==◌, ◌&&◌, Bool, true, false, not, List, [], map, length}
+use Rattle.std.specs.Prelude.{replicate, slice_get, slice_index, Option, None, Some}
+use Rattle.std.specs.Option.{option_map}
+use Rattle.branch_removal.specs.Straight.{StraightTree, set, clear, fill, put, take, set_under, put_under, branch}
+use Rattle.branch_removal.specs.Straight.{repeats, StraightBlock, nothing, first, chain, StraightProgram, with_body}
+use Rattle.inline.specs.declared.flat.FlatVariable.{FlatVariable}
+use Rattle.inline.specs.Flat.{TermTree, number, variable, counter_type}
+use Rattle.inline.specs.FlatMeaning.{turns}
+use Rattle.language.specs.Types.{same_kind, same_label}
+use Rattle.optimisation.specs.declared.constants.terms.Numbers.{Numbers}
+use Rattle.optimisation.specs.constants.private.Folding.{simple, constant, constant_of, decision, numbers_of}
+use Rattle.optimisation.specs.constants.private.Known.{Words, with_copy, with_word, without, in_loop, behind}
+
+-- one of these, by a decision, where there is one
+abbrev pub decided : {A : Type 0} → Option Bool → A → A → A → A
+decided (Some true) one other both = one
+decided (Some false) one other both = other
+decided None one other both = both
+
+-- one of two, by whether a loop becomes its turns
+abbrev pub unrolled : {A : Type 0} → Option Numbers → (Numbers → A) → A → A
+unrolled (Some numbers) as_turns as_loop = as_turns numbers
+unrolled None as_turns as_loop = as_loop
+
+-- what is known where a counter is at this number
+abbrev pub at_turn : ℕ → ℕ → Words → Words
+at_turn x i words = with_word words x (Some (constant i counter_type.kind))
+
+-- Copies.
+
+abbrev pub is_word : Option ℕ → Bool
+is_word None = true
+is_word (Some size) = false
+
+-- two variables are words of one type
+abbrev pub are_alike : Option FlatVariable → Option FlatVariable → Bool
+are_alike (Some d) (Some e) =
+    is_word d.elements && is_word e.elements && same_kind d.word.kind e.word.kind
+    && same_label d.word.label e.word.label
+are_alike (Some d) None = false
+are_alike None other = false
+
+-- a variable that is set to another one may be read as that one
+abbrev pub may_be_read_as : List FlatVariable → ℕ → ℕ → Bool
+may_be_read_as declared x y = not (x == y) && are_alike (slice_get declared x) (slice_get declared y)
+
+-- what an expression is, where it is a variable
+abbrev pub variable_of : TermTree → Option ℕ
+variable_of (variable y) = Some y
+variable_of _ = None
+
+abbrev pub copied_where : Bool → ℕ → ℕ → Words → Words
+copied_where true x y words = with_copy words (record { variable = x; source = y })
+copied_where false x y words = words
+
+abbrev pub copied : List FlatVariable → ℕ → Option ℕ → Words → Words
+copied declared x None words = words
+copied declared x (Some y) words = copied_where (may_be_read_as declared x y) x y words
+
+-- what is known where a variable has been set to the value of an expression
+abbrev pub set_to : List FlatVariable → Words → ℕ → TermTree → Words
+set_to declared words x e = copied declared x (variable_of e) (with_word words x (constant_of e))
+
+-- the code of so many turns, the first at this number. Each has its own, by its number and by what is known where it
+-- begins, and so has what is known behind it
+abbrev pub code_of_turns : ℕ → ℕ → (ℕ → Words → Words) → (ℕ → Words → StraightBlock) → Words → StraightBlock
+code_of_turns zero i behind_turn code words = nothing
+code_of_turns (suc n) i behind_turn code words =
+    chain (code i words) (code_of_turns n (i + 1) behind_turn code (behind_turn i words))
+
+abbrev mutual
+  -- what is known after a statement. Of two arms one runs, and a loop makes some turns: of what they set nothing is
+  -- known
+  pub knowing : List ℕ → List FlatVariable → Words → StraightTree → Words
+  knowing copies declared words (set x value) = set_to declared words x (simple words value)
+  knowing copies declared words (clear x size) = without words x
+  knowing copies declared words (fill x values) = without words x
+  knowing copies declared words (put place x size index value) = without words x
+  knowing copies declared words (take control within condition) = words
+  knowing copies declared words (set_under control x value) = without words x
+  knowing copies declared words (put_under control place x size index value) = without words x
+  knowing copies declared words (branch condition accepted otherwise) =
+      decided (decision (simple words condition)) (knowing_all copies declared words accepted)
+      (knowing_all copies declared words otherwise)
+      (behind (knowing_all copies declared (behind (knowing_all copies declared words accepted) accepted) otherwise)
+      otherwise)
+  knowing copies declared words (repeats x low high body) =
+      unrolled (numbers_of (slice_index copies x) (constant_of (simple words low)) (constant_of (simple words high)))
+      (λ each. turns (each.high - each.low) each.low (λ i w. knowing_all copies declared (at_turn x i w) body) words)
+      (behind (knowing_all copies declared (in_loop words x body) body) body)
+
+  pub knowing_all : List ℕ → List FlatVariable → Words → StraightBlock → Words
+  knowing_all copies declared words nothing = words
+  knowing_all copies declared words (first statement rest) =
+      knowing_all copies declared (knowing copies declared words statement) rest
+
+abbrev pub single : StraightTree → StraightBlock
+single statement = first statement nothing
+
+abbrev mutual
+  -- a statement, where this is known of the variables
+  pub simplified : List ℕ → List FlatVariable → Words → StraightTree → StraightBlock
+  simplified copies declared words (set x value) = single (set x (simple words value))
+  simplified copies declared words (clear x size) = single (clear x size)
+  simplified copies declared words (fill x values) = single (fill x (map (simple words) values))
+  simplified copies declared words (put place x size index value) =
+      single (put place x size (simple words index) (simple words value))
+  simplified copies declared words (take control within condition) =
+      single (take control within (simple words condition))
+  simplified copies declared words (set_under control x value) = single (set_under control x (simple words value))
+  simplified copies declared words (put_under control place x size index value) =
+      single (put_under control place x size (simple words index) (simple words value))
+  simplified copies declared words (branch condition accepted otherwise) =
+      decided (decision (simple words condition)) (simplified_all copies declared words accepted)
+      (simplified_all copies declared words otherwise)
+      (single (branch (simple words condition) (simplified_all copies declared words accepted)
+      (simplified_all copies declared (behind (knowing_all copies declared words accepted) accepted) otherwise)))
+  simplified copies declared words (repeats x low high body) =
+      unrolled (numbers_of (slice_index copies x) (constant_of (simple words low)) (constant_of (simple words high)))
+      (λ each. code_of_turns (each.high - each.low) each.low (λ i w. knowing_all copies declared (at_turn x i w) body)
+      (λ i w. first (set x (number i counter_type.kind)) (simplified_all copies declared (at_turn x i w) body)) words)
+      (single (repeats x (simple words low) (simple words high)
+      (simplified_all copies declared (in_loop words x body) body)))
+
+  pub simplified_all : List ℕ → List FlatVariable → Words → StraightBlock → StraightBlock
+  simplified_all copies declared words nothing = nothing
+  simplified_all copies declared words (first statement rest) =
+      chain (simplified copies declared words statement)
+      (simplified_all copies declared (knowing copies declared words statement) rest)
+
+-- So of a branch on this condition, and of a loop between these bounds, once they are simple.
+
+abbrev pub branch_known : List ℕ → List FlatVariable → Words → TermTree → StraightBlock → StraightBlock → Words
+branch_known copies declared words condition accepted otherwise =
+    decided (decision condition) (knowing_all copies declared words accepted)
+    (knowing_all copies declared words otherwise)
+    (behind (knowing_all copies declared (behind (knowing_all copies declared words accepted) accepted) otherwise)
+    otherwise)
+
+abbrev pub branch_code : List ℕ → List FlatVariable → Words → TermTree → StraightBlock → StraightBlock → StraightBlock
+branch_code copies declared words condition accepted otherwise =
+    decided (decision condition) (simplified_all copies declared words accepted)
+    (simplified_all copies declared words otherwise)
+    (single (branch condition (simplified_all copies declared words accepted)
+    (simplified_all copies declared (behind (knowing_all copies declared words accepted) accepted) otherwise)))
+
+abbrev pub turns_known : List ℕ → List FlatVariable → Words → ℕ → Numbers → StraightBlock → Words
+turns_known copies declared words x each body =
+    turns (each.high - each.low) each.low (λ i w. knowing_all copies declared (at_turn x i w) body) words
+
+abbrev pub turns_code : List ℕ → List FlatVariable → Words → ℕ → Numbers → StraightBlock → StraightBlock
+turns_code copies declared words x each body =
+    code_of_turns (each.high - each.low) each.low (λ i w. knowing_all copies declared (at_turn x i w) body)
+    (λ i w. first (set x (number i counter_type.kind)) (simplified_all copies declared (at_turn x i w) body)) words
+
+abbrev pub loop_known : List ℕ → List FlatVariable → Words → ℕ → TermTree → TermTree → StraightBlock → Words
+loop_known copies declared words x low high body =
+    unrolled (numbers_of (slice_index copies x) (constant_of low) (constant_of high))
+    (λ each. turns_known copies declared words x each body)
+    (behind (knowing_all copies declared (in_loop words x body) body) body)
+
+abbrev pub loop_code : List ℕ → List FlatVariable → Words → ℕ → TermTree → TermTree → StraightBlock → StraightBlock
+loop_code copies declared words x low high body =
+    unrolled (numbers_of (slice_index copies x) (constant_of low) (constant_of high))
+    (λ each. turns_code copies declared words x each body)
+    (single (repeats x low high (simplified_all copies declared (in_loop words x body) body)))
+
+-- nothing is known where a program begins
+abbrev pub nothing_known : StraightProgram → Words
+nothing_known p = record { numbers = replicate (length p.declared) None; copies = [] }
+
+abbrev pub simplified_program : List ℕ → StraightProgram → StraightProgram
+simplified_program copies p =
+    with_body p (simplified_all copies p.declared (nothing_known p) p.body)
+    (option_map (simple (knowing_all copies p.declared (nothing_known p) p.body)) p.value)

@@ -1,0 +1,10 @@
+-- The words that a program's arrays become, and the program in which they are: two answers of `Words::of` are one, and
+-- so are two of `apply`. How they are made is private.
+use Rattle.branch_removal.specs.Straight.{StraightProgram}
+use Rattle.optimisation.specs.element_words.private.Plan.{WordPlan, plan_of, split_program}
+
+unfoldable pub words_of : StraightProgram → WordPlan
+words_of straight = plan_of straight
+
+unfoldable pub split_of : StraightProgram → StraightProgram
+split_of straight = split_program straight

@@ -1,0 +1,53 @@
+-- What a loop's body may read of what it did not set. Of what is set in a part that may run or not nothing is known
+-- behind that part. Where too little is found, sharing does not fit.
+use Rattle.std.specs.Prelude.{ℕ, true, false, length, replicate, slice_set}
+use Rattle.branch_removal.specs.Straight.{StraightTree, set, clear, fill, put, take, set_under, put_under, branch}
+use Rattle.branch_removal.specs.Straight.{repeats, StraightBlock, nothing, first}
+use Rattle.optimisation.specs.live_words.private.Held.{Table, Done, Held, living_where}
+use Rattle.optimisation.specs.live_words.private.Terms.{reading, reading_all}
+
+-- this word was set too
+abbrev pub with_done : Done → ℕ → Done
+with_done done x = slice_set done x true
+
+-- what was set once a statement has run
+abbrev pub done_after : Done → StraightTree → Done
+done_after done (set x value) = with_done done x
+done_after done (clear x size) = with_done done x
+done_after done (fill x values) = with_done done x
+done_after done (put place x size index value) = done
+done_after done (take control within condition) = done
+done_after done (set_under control x value) = done
+done_after done (put_under control place x size index value) = done
+done_after done (branch condition accepted otherwise) = done
+done_after done (repeats x low high body) = done
+
+abbrev mutual
+  -- what was live, and what a statement reads and was not set already
+  pub gathered : Table → Done → Held → StraightTree → Held
+  gathered table done held (set x value) = reading table done held value
+  gathered table done held (clear x size) = held
+  gathered table done held (fill x values) = reading_all table done held values
+  gathered table done held (put place x size index value) =
+      reading table done (reading table done (living_where table done held x) value) index
+  gathered table done held (take control within condition) = reading table done held condition
+  gathered table done held (set_under control x value) =
+      reading table done (living_where table done held x) value
+  gathered table done held (put_under control place x size index value) =
+      reading table done (reading table done (living_where table done held x) value) index
+  gathered table done held (branch condition accepted otherwise) =
+      gathered_all table done (gathered_all table done (reading table done held condition) accepted) otherwise
+  gathered table done held (repeats x low high body) =
+      gathered_all table (with_done done x) (reading table done (reading table done held high) low) body
+
+  pub gathered_all : Table → Done → Held → StraightBlock → Held
+  gathered_all table done held nothing = held
+  gathered_all table done held (first statement rest) =
+      gathered_all table (done_after done statement) (gathered table done held statement) rest
+
+-- in a loop that begins, nothing was set but its counter
+abbrev pub none_done : ℕ → Done
+none_done variables = replicate variables false
+
+abbrev pub at_head : Table → Held → ℕ → StraightBlock → Held
+at_head table held x body = gathered_all table (with_done (none_done (length held.holders)) x) held body

@@ -1,0 +1,113 @@
+-- How words share variables: from the last statement back to the first, what is live is carried along.
+use Rattle.std.specs.Prelude.{ℕ, [], map, Option, None, Some, if◌then◌else◌}
+use Rattle.branch_removal.specs.Straight.{StraightTree, set, clear, fill, put, take, set_under, put_under, branch}
+use Rattle.branch_removal.specs.Straight.{repeats, StraightBlock, nothing, first}
+use Rattle.inline.specs.Flat.{TermTree}
+use Rattle.optimisation.specs.live_words.private.Held.{Table, Held, share, anew, fitting, living, setting, counting}
+use Rattle.optimisation.specs.live_words.private.Held.{joined, covers}
+use Rattle.optimisation.specs.live_words.private.Terms.{reading, reading_all, renamed, is_dead}
+use Rattle.optimisation.specs.live_words.private.Gathering.{at_head}
+
+-- before an array's element is set at an index to a value
+abbrev pub before_put : Table → Held → ℕ → TermTree → TermTree → Held
+before_put table held x index value =
+    reading table [] (reading table [] (living table held x) value) index
+
+-- before a branch, where this is live before its second arm and this before its first
+abbrev pub before_arms : Table → TermTree → Held → Held → Held
+before_arms table condition second one = reading table [] (joined one 0 second.holders) condition
+
+-- where a turn of a loop may begin or the loop is over, and this is live before a turn with its counter: what is live
+-- before a turn has to be live there
+abbrev pub closed_by : Held → Held → Held
+closed_by head turn = fitting (anew turn head.holders) (covers head.holders 0 turn.holders)
+
+abbrev pub closed : Table → ℕ → Held → Held → Held
+closed table x head turn = closed_by head (counting table turn x)
+
+abbrev pub before_bounds : Table → TermTree → TermTree → Held → Held
+before_bounds table low high held = reading table [] (reading table [] held high) low
+
+abbrev mutual
+  -- what is live before a statement
+  pub before : Table → Held → StraightTree → Held
+  before table held (set x value) =
+      if is_dead table held x value then held else reading table [] (setting table held x) value
+  before table held (clear x size) = setting table held x
+  before table held (fill x values) = reading_all table [] (setting table held x) values
+  before table held (put place x size index value) = before_put table held x index value
+  before table held (take control within condition) = reading table [] held condition
+  before table held (set_under control x value) =
+      if is_dead table held x value then held else reading table [] (living table held x) value
+  before table held (put_under control place x size index value) = before_put table held x index value
+  before table held (branch condition accepted otherwise) =
+      before_arms table condition (before_all table held otherwise)
+      (before_all table (anew (before_all table held otherwise) held.holders) accepted)
+  before table held (repeats x low high body) =
+      before_bounds table low high
+      (closed table x (at_head table held x body) (before_all table (at_head table held x body) body))
+
+  -- and before some statements
+  pub before_all : Table → Held → StraightBlock → Held
+  before_all table held nothing = held
+  before_all table held (first statement rest) = before table (before_all table held rest) statement
+
+-- a block with a statement in front of it, where there is one
+abbrev pub in_front : Option StraightTree → StraightBlock → StraightBlock
+in_front None rest = rest
+in_front (Some statement) rest = first statement rest
+
+abbrev mutual
+  -- a statement over the variables that words live in, where it is not left out
+  pub shared : Table → Held → StraightTree → Option StraightTree
+  shared table held (set x value) =
+      if is_dead table held x value then None else Some (set (share table x) (renamed table value))
+  shared table held (clear x size) = Some (clear (share table x) size)
+  shared table held (fill x values) = Some (fill (share table x) (map (renamed table) values))
+  shared table held (put place x size index value) =
+      Some (put place (share table x) size (renamed table index) (renamed table value))
+  shared table held (take control within condition) = Some (take control within (renamed table condition))
+  shared table held (set_under control x value) =
+      if is_dead table held x value then None else Some (set_under control (share table x) (renamed table value))
+  shared table held (put_under control place x size index value) =
+      Some (put_under control place (share table x) size (renamed table index) (renamed table value))
+  shared table held (branch condition accepted otherwise) =
+      Some (branch (renamed table condition)
+      (shared_all table (anew (before_all table held otherwise) held.holders) accepted)
+      (shared_all table held otherwise))
+  shared table held (repeats x low high body) =
+      Some (repeats (share table x) (renamed table low) (renamed table high)
+      (shared_all table (at_head table held x body) body))
+
+  pub shared_all : Table → Held → StraightBlock → StraightBlock
+  shared_all table held nothing = nothing
+  shared_all table held (first statement rest) =
+      in_front (shared table (before_all table held rest) statement) (shared_all table held rest)
+
+-- So of a branch and a loop, of which a function each makes the code.
+
+abbrev pub before_branch : Table → Held → TermTree → StraightBlock → StraightBlock → Held
+before_branch table held condition accepted otherwise =
+    before_arms table condition (before_all table held otherwise)
+    (before_all table (anew (before_all table held otherwise) held.holders) accepted)
+
+abbrev pub shared_branch : Table → Held → TermTree → StraightBlock → StraightBlock → StraightTree
+shared_branch table held condition accepted otherwise =
+    branch (renamed table condition)
+    (shared_all table (anew (before_all table held otherwise) held.holders) accepted)
+    (shared_all table held otherwise)
+
+abbrev pub before_loop : Table → Held → ℕ → TermTree → TermTree → StraightBlock → Held
+before_loop table held x low high body =
+    before_bounds table low high
+    (closed table x (at_head table held x body) (before_all table (at_head table held x body) body))
+
+abbrev pub shared_loop : Table → Held → ℕ → TermTree → TermTree → StraightBlock → StraightTree
+shared_loop table held x low high body =
+    repeats (share table x) (renamed table low) (renamed table high)
+    (shared_all table (at_head table held x body) body)
+
+-- the statements from the last to the first, and what follows them
+abbrev pub onto : StraightBlock → StraightBlock → StraightBlock
+onto nothing rest = rest
+onto (first statement backwards) rest = onto backwards (first statement rest)

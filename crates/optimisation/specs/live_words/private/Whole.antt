@@ -1,0 +1,78 @@
+-- A whole program whose words share variables.
+use Rattle.std.specs.Prelude.{ℕ, ◌+◌, ◌*◌, ◌==◌, ◌&&◌, Bool, true, false, List, [], ◌∷◌, length, min}
+use Rattle.std.specs.Prelude.{replicate, Option}
+use Rattle.std.specs.Prelude.{None, Some, if◌then◌else◌}
+use Rattle.std.specs.Option.{option_map}
+use Rattle.branch_removal.specs.Straight.{StraightProgram, with_body}
+use Rattle.branch_removal.specs.Uses.{weights_of}
+use Rattle.inline.specs.Flat.{TermTree}
+use Rattle.language.specs.Typing.{is_mutable}
+use Rattle.language.specs.declared.signature.Param.{Param}
+use Rattle.optimisation.specs.live_words.private.Held.{Table, Held, share, fitting, living, hold_own}
+use Rattle.optimisation.specs.live_words.private.Terms.{reading, renamed}
+use Rattle.optimisation.specs.live_words.private.Choice.{all_allowed, chosen}
+use Rattle.optimisation.specs.live_words.private.Sharing.{before_all, shared_all}
+
+-- so many words may share, the first ones: each pair of them is looked at
+abbrev pub most_sharing : ℕ
+most_sharing = 1024
+
+-- nothing is live of so many variables, and conflicts are noted of so many words
+abbrev pub none_live : ℕ → ℕ → Held
+none_live variables width = record {
+  holders = replicate variables None;
+  fits = true;
+  conflicts = replicate (width * width) false;
+  width = width;
+}
+
+-- a parameter's elements are results: it is live at the end, and keeps its number
+abbrev pub kept : Table → Held → ℕ → Held
+kept table held x = fitting (living table held x) (share table x == x)
+
+abbrev pub with_results : Table → ℕ → List Param → Held → Held
+with_results table x [] held = held
+with_results table x (p ∷ ps) held =
+    with_results table (x + 1) ps (if is_mutable p.form then kept table held x else held)
+
+abbrev pub reading_any : Table → Held → Option TermTree → Held
+reading_any table held None = held
+reading_any table held (Some value) = reading table [] held value
+
+-- what is live where the body has ended
+abbrev pub at_end : Table → Held → StraightProgram → Held
+at_end table held p = reading_any table (with_results table 0 p.parameters held) p.value
+
+-- and where it begins: what is live there keeps its number
+abbrev pub at_start : Table → Held → StraightProgram → Held
+at_start table held p =
+    before_all table (at_end table held p) p.body
+
+-- the program over the variables that words live in, where this is live behind it
+abbrev pub over : Table → Held → StraightProgram → StraightProgram
+over table held p =
+    with_body p (shared_all table (at_end table held p) p.body) (option_map (renamed table) p.value)
+
+-- sharing fits: no variable has to hold two words at once, what is live at the beginning keeps its number, and words
+-- live in variables of their type
+abbrev pub all_fits : Table → Held → StraightProgram → Bool
+all_fits table held p = held.fits && hold_own 0 held.holders && all_allowed p.declared 0 table
+
+abbrev pub nothing_live : StraightProgram → ℕ → Held
+nothing_live p width = none_live (length p.declared) width
+
+-- the words that share variables, by what is live where each is in its own, and how much each is used
+abbrev pub table_by : StraightProgram → Held → Table
+table_by p held = chosen p.declared held.holders held.width (weights_of p) held.conflicts
+
+abbrev pub table_for : StraightProgram → Table
+table_for p = table_by p (at_start [] (nothing_live p (min (length p.declared) most_sharing)) p)
+
+-- where sharing does not fit, the program stays as it is
+abbrev pub shared_by : Table → StraightProgram → StraightProgram
+shared_by table p =
+    if all_fits table (at_start table (nothing_live p 0) p) p then over table (nothing_live p 0) p
+    else over [] (fitting (nothing_live p 0) false) p
+
+abbrev pub shared_program : StraightProgram → StraightProgram
+shared_program p = shared_by (table_for p) p

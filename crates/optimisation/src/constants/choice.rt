@@ -1,0 +1,184 @@
+// Which loops become their turns.
+
+ghost use Rattle.std.specs.Prelude.{◌≡◌, map, slice_index, slice_set, IfOk};
+ghost use Rattle.branch_removal.specs.Straight.{straight_block, straight_tree};
+ghost use Rattle.inline.specs.Flat.{term_tree};
+ghost use Rattle.optimisation.specs.constants.private.Choice.{begun, choice_of, chosen, chosen_all, counted, grown};
+ghost use Rattle.optimisation.specs.constants.private.Choice.{most_nodes_of, settled, term_size, terms_size};
+
+use branch_removal::{Straight, StraightStatement};
+use inline::Term;
+use std::alloc::{AllocError, Global};
+
+/// How many nodes the turns of loops have room for, for each node of the source.
+const ROOM_FACTOR: u64 = 32;
+
+/// The most room that there is, however large the source is.
+const MOST_ROOM: u64 = 48_000;
+
+/// How many nodes a turn may have.
+const MOST_IN_TURN: u64 = 384;
+
+/// So few turns take little room even where they are long.
+const FEW_TURNS: u32 = 3;
+
+/// How many nodes each of few turns may have.
+const MOST_IN_EACH_OF_FEW: u64 = 4_096;
+
+/// How many nodes there are in setting a counter.
+const COUNTER_NODES: u64 = 2;
+
+/// How many nodes an index has for each that counts: most of them become numbers.
+const INDEX_NODES: u64 = 4;
+
+/// How many nodes an expression has, of indices a quarter.
+fn nodes_in(term: &Term) -> u64
+    ensures { result ≡ counted (term_size (term_tree term.now)) }
+{
+    match term {
+        Term::Number(_, _) => 1,
+        Term::Truth(_) => 1,
+        Term::Variable(_) => 1,
+        Term::Prefix(_, _, operand) => nodes_in(operand).saturating_add(1),
+        Term::Binary(_, _, _, left, right) => nodes_in(left)
+            .saturating_add(nodes_in(right))
+            .saturating_add(1),
+        Term::Rotate(_, operand, _) => nodes_in(operand).saturating_add(1),
+        Term::Convert(_, operand) => nodes_in(operand).saturating_add(1),
+        Term::Select(condition, accepted, otherwise) => nodes_in(condition)
+            .saturating_add(nodes_in(accepted))
+            .saturating_add(nodes_in(otherwise))
+            .saturating_add(1),
+        Term::Element(_, _, _, index) => (nodes_in(index) / INDEX_NODES).saturating_add(1),
+    }
+}
+
+/// How many nodes expressions have, of indices a quarter.
+fn nodes_in_all(terms: &[Term]) -> u64
+    ensures { result ≡ counted (terms_size (map term_tree terms.now)) }
+{
+    let mut sum = 0u64;
+    for term in terms {
+        sum = sum.saturating_add(nodes_in(term));
+    }
+    sum
+}
+
+/// How many turns the loop of a counter may become.
+pub fn copies_of(copies: &[u32], counter: u32) -> u32
+    ensures { result ≡ slice_index copies.now counter }
+{
+    copies.get(counter as usize).copied().unwrap_or(0)
+}
+
+/// How many nodes a turn may have, by how many turns there are.
+fn most_nodes_of(turns: u32) -> u64
+    ensures { result ≡ most_nodes_of turns }
+{
+    if turns <= FEW_TURNS {
+        MOST_IN_EACH_OF_FEW
+    } else {
+        MOST_IN_TURN
+    }
+}
+
+/// The loop of a counter may not become turns.
+fn refuse(copies: &mut Vec<u32>, counter: u32)
+    ensures { copies.new.items ≡ slice_set copies.old.items counter 0 }
+{
+    if let Some(turns) = copies.get_mut(counter as usize) {
+        *turns = 0;
+    }
+}
+
+/// How many turns the loop of each counter may become, at the counter's number, how many nodes there is still room for,
+/// and how many there are so far.
+#[derive(Drop)]
+pub struct Choice {
+    pub copies: Vec<u32>,
+    room: u64,
+    nodes: u64,
+}
+
+impl Choice {
+    /// The choice for a program.
+    pub fn of(alloc: Global, straight: &Straight<'_>) -> Result<Self, AllocError>
+        ensures { IfOk result (λ choice. choice_of choice ≡ chosen_all (begun straight.now) straight.now.body) }
+    {
+        let mut choice = Choice {
+            copies: straight.turns().to_vec(alloc)?,
+            room: (u64::from(straight.nodes()) * ROOM_FACTOR).min(MOST_ROOM),
+            nodes: 0,
+        };
+        choice.choose_all(straight.body());
+        Ok(choice)
+    }
+
+    /// So many nodes more.
+    fn grow(&mut self, nodes: u64)
+        ensures { choice_of self.new ≡ grown (choice_of self.old) nodes }
+    {
+        self.nodes = self.nodes.saturating_add(nodes);
+    }
+
+    /// Behind so many nodes, where there was so much room, a loop of so many nodes without its body, for which all is
+    /// chosen: it becomes its turns where each is short and there is room for all.
+    fn settle(&mut self, before: u64, room: u64, counter: u32, own: u64)
+        ensures { choice_of self.new ≡ settled before room counter own (choice_of self.old) }
+    {
+        let turns = copies_of(self.copies.as_slice(), counter);
+        let cost = self
+            .nodes
+            .saturating_add(COUNTER_NODES)
+            .saturating_mul(u64::from(turns));
+        if turns >= 1 && self.nodes <= most_nodes_of(turns) && cost <= room {
+            self.room = room - cost;
+            self.nodes = before.saturating_add(cost);
+        } else {
+            refuse(&mut self.copies, counter);
+            self.nodes = before.saturating_add(own).saturating_add(self.nodes);
+        }
+    }
+
+    /// Chooses among the loops in a statement.
+    #[cycle(choice)]
+    fn choose(&mut self, statement: &StraightStatement)
+        ensures { choice_of self.new ≡ chosen (choice_of self.old) (straight_tree statement.now) }
+    {
+        match statement {
+            StraightStatement::Set(_, value)
+            | StraightStatement::SetUnder(_, _, value)
+            | StraightStatement::Take(_, _, value) => self.grow(nodes_in(value).saturating_add(1)),
+            StraightStatement::Clear(_, _) => self.grow(1),
+            StraightStatement::Fill(_, values) => self.grow(nodes_in_all(values).saturating_add(1)),
+            StraightStatement::Put(_, _, _, index, value)
+            | StraightStatement::PutUnder(_, _, _, _, index, value) => {
+                let nodes = (nodes_in(index) / INDEX_NODES).saturating_add(nodes_in(value));
+                self.grow(nodes.saturating_add(1));
+            }
+            StraightStatement::Branch(condition, accepted, otherwise) => {
+                self.grow(nodes_in(condition).saturating_add(1));
+                self.choose_all(accepted);
+                self.choose_all(otherwise);
+            }
+            StraightStatement::Repeat(counter, low, high, body) => {
+                let before = self.nodes;
+                let room = self.room;
+                self.nodes = 0;
+                self.choose_all(body);
+                let own = nodes_in(low).saturating_add(nodes_in(high));
+                self.settle(before, room, *counter, own.saturating_add(1));
+            }
+        }
+    }
+
+    /// Chooses among the loops in statements.
+    #[cycle(choice)]
+    fn choose_all(&mut self, body: &[StraightStatement])
+        ensures { choice_of self.new ≡ chosen_all (choice_of self.old) (straight_block body.now) }
+    {
+        for statement in body {
+            self.choose(statement);
+        }
+    }
+}

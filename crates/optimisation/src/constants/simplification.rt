@@ -1,0 +1,61 @@
+ghost use Rattle.std.specs.Prelude.{◌≡◌, [], IfErr, IfOk};
+ghost use Rattle.branch_removal.specs.Replaced.{IsReplaced};
+ghost use Rattle.optimisation.specs.constants.Exact.{simplified_of, unrolled_of};
+ghost use Rattle.optimisation.specs.constants.private.Choice.{AreAllowed};
+ghost use Rattle.optimisation.specs.constants.private.Simplification.{simplified_program};
+ghost use Rattle.language.specs.WantOfMemory.{IsWantOfMemory};
+
+use crate::constants::choice::Choice;
+use crate::constants::known::Known;
+use crate::constants::statements::{Pass, statements};
+use crate::constants::terms::simple_where_any;
+use branch_removal::Straight;
+use language::Refusal;
+use std::alloc::{AllocError, Global};
+
+/// Simpler straight code, in which the loop of each counter may become so many turns.
+fn simpler<'f>(
+    alloc: Global,
+    straight: &Straight<'f>,
+    copies: &[u32],
+) -> Result<Straight<'f>, AllocError>
+    requires { AreAllowed copies.now straight.now.turns }
+    ensures replaced { IfOk result (IsReplaced straight.now) }
+    ensures exact { IfOk result (λ simpler. simpler ≡ simplified_program copies.now straight.now) }
+{
+    let declared = straight.declared();
+    let pass = Pass {
+        alloc,
+        copies,
+        declared,
+    };
+    let mut known = Known::nothing(alloc, declared.len())?;
+    let mut code = Vec::new(alloc);
+    statements(&pass, &mut known, &mut code, straight.body())?;
+    let value = simple_where_any(alloc, &known, straight.value())?;
+    Ok(straight.with_body(code, value))
+}
+
+/// Simpler straight code: a word that is known is a number, a copy is read as its source, an operator between numbers
+/// is what it comes to, a branch that a number decides is its one arm, and a loop without turns is gone. It may stand
+/// in the place of the code that it is made of, which alone decides it. Running out of memory alone refuses it.
+pub fn simplify<'f>(alloc: Global, straight: &Straight<'f>) -> Result<Straight<'f>, Refusal>
+    ensures replaced { IfOk result (IsReplaced straight.now) }
+    ensures exact { IfOk result (λ simpler. simpler ≡ simplified_of straight.now) }
+    ensures memory { IfErr result (λ refusal. IsWantOfMemory refusal.rule refusal.place) }
+{
+    Ok(simpler(alloc, straight, &[])?)
+}
+
+/// Simpler straight code, as `simplify` makes it, in which loops are their turns, one after the other: those whose
+/// bounds are numbers once they are reached, innermost loops first, where a turn is short, and as far as 32 times as
+/// many nodes as the source has go. It may stand in the place of the code that it is made of, which alone decides it.
+/// Running out of memory alone refuses it.
+pub fn unroll<'f>(alloc: Global, straight: &Straight<'f>) -> Result<Straight<'f>, Refusal>
+    ensures replaced { IfOk result (IsReplaced straight.now) }
+    ensures exact { IfOk result (λ simpler. simpler ≡ unrolled_of straight.now) }
+    ensures memory { IfErr result (λ refusal. IsWantOfMemory refusal.rule refusal.place) }
+{
+    let choice = Choice::of(alloc, straight)?;
+    Ok(simpler(alloc, straight, choice.copies.as_slice())?)
+}

@@ -1,0 +1,281 @@
+// Statements in which what is known is a number, each put behind what there is. A loop becomes its turns where it may.
+
+ghost use Rattle.std.specs.Prelude.{◌≡◌, IfOk, OnOk};
+ghost use Rattle.branch_removal.specs.Straight.{chain, put, put_under, set, straight_block, straight_tree};
+ghost use Rattle.inline.specs.Flat.{term_tree};
+ghost use Rattle.optimisation.specs.constants.private.Folding.{simple};
+ghost use Rattle.optimisation.specs.constants.private.Known.{forgotten_all, words_of};
+ghost use Rattle.optimisation.specs.constants.private.Simplification.{branch_code, branch_known, knowing, knowing_all};
+ghost use Rattle.optimisation.specs.constants.private.Simplification.{loop_code, loop_known, set_to, simplified, simplified_all};
+ghost use Rattle.optimisation.specs.constants.private.Simplification.{single, turns_code, turns_known};
+
+use crate::constants::choice::copies_of;
+use crate::constants::copies::learn;
+use crate::constants::known::{Constant, Known};
+use crate::constants::terms::{Numbers, all_simple, decision, number_of, numbers_of, simple};
+use branch_removal::{StraightStatement, branch_of, loop_of};
+use inline::{FlatVariable, Term};
+use language::Kind;
+use std::alloc::{AllocError, Global};
+use word::Place;
+
+/// How statements are made simpler.
+#[derive(Drop)]
+pub struct Pass<'p> {
+    pub alloc: Global,
+    /// How many turns the loop of each counter may become, at the counter's number.
+    pub copies: &'p [u32],
+    pub declared: &'p [FlatVariable],
+}
+
+/// The bounds of a loop, simple.
+#[derive(Drop)]
+struct Bounds {
+    low: Term,
+    high: Term,
+}
+
+/// Puts a statement behind a block.
+fn push(code: &mut Vec<StraightStatement>, statement: StraightStatement) -> Result<(), AllocError>
+    ensures { OnOk result (straight_block code.new.items ≡ chain (straight_block code.old.items) (single (straight_tree statement))) }
+{
+    code.push(statement)?;
+    Ok(())
+}
+
+/// A variable is set to a value, which is learnt.
+fn set_simple(
+    pass: &Pass<'_>,
+    known: &mut Known,
+    code: &mut Vec<StraightStatement>,
+    variable: u32,
+    value: &Term,
+) -> Result<(), AllocError>
+    ensures code { OnOk result (straight_block code.new.items
+        ≡ chain (straight_block code.old.items)
+        (single (set variable (simple (words_of known.old) (term_tree value.now))))) }
+    ensures known { OnOk result (words_of known.new
+        ≡ set_to pass.now.declared.now (words_of known.old) variable
+        (simple (words_of known.old) (term_tree value.now))) }
+{
+    let value = simple(pass.alloc, known, value)?;
+    learn(pass.declared, known, variable, &value)?;
+    push(code, StraightStatement::Set(variable, value))
+}
+
+/// An element is set to a value, where this is known of the variables.
+fn put_simple(
+    alloc: Global,
+    known: &Known,
+    place: Place,
+    array: u32,
+    size: u32,
+    index: &Term,
+    value: &Term,
+) -> Result<StraightStatement, AllocError>
+    ensures { IfOk result (λ one. straight_tree one
+        ≡ put place array size (simple (words_of known.now) (term_tree index.now))
+        (simple (words_of known.now) (term_tree value.now))) }
+{
+    let index = simple(alloc, known, index)?;
+    let value = simple(alloc, known, value)?;
+    Ok(StraightStatement::Put(place, array, size, index, value))
+}
+
+/// The same under a control value.
+fn put_under_simple(
+    alloc: Global,
+    known: &Known,
+    control: u32,
+    place: Place,
+    array: u32,
+    size: u32,
+    index: &Term,
+    value: &Term,
+) -> Result<StraightStatement, AllocError>
+    ensures { IfOk result (λ one. straight_tree one
+        ≡ put_under control place array size (simple (words_of known.now) (term_tree index.now))
+        (simple (words_of known.now) (term_tree value.now))) }
+{
+    let index = simple(alloc, known, index)?;
+    let value = simple(alloc, known, value)?;
+    Ok(StraightStatement::PutUnder(control, place, array, size, index, value))
+}
+
+/// The bounds of a loop, where this is known of the variables.
+fn bounds_of(alloc: Global, known: &Known, low: &Term, high: &Term) -> Result<Bounds, AllocError>
+    ensures low { IfOk result (λ bounds. term_tree bounds.low ≡ simple (words_of known.now) (term_tree low.now)) }
+    ensures high { IfOk result (λ bounds. term_tree bounds.high ≡ simple (words_of known.now) (term_tree high.now)) }
+{
+    let low = simple(alloc, known, low)?;
+    let high = simple(alloc, known, high)?;
+    Ok(Bounds { low, high })
+}
+
+/// A statement. What is known after it is noted.
+#[cycle(simplification)]
+fn statement(
+    pass: &Pass<'_>,
+    known: &mut Known,
+    code: &mut Vec<StraightStatement>,
+    statement: &StraightStatement,
+) -> Result<(), AllocError>
+    ensures code { OnOk result (straight_block code.new.items ≡ chain (straight_block code.old.items) (simplified pass.now.copies.now pass.now.declared.now (words_of known.old) (straight_tree statement.now))) }
+    ensures known { OnOk result (words_of known.new ≡ knowing pass.now.copies.now pass.now.declared.now (words_of known.old) (straight_tree statement.now)) }
+{
+    match statement {
+        StraightStatement::Set(variable, value) => set_simple(pass, known, code, *variable, value),
+        StraightStatement::Clear(array, size) => {
+            known.note(*array, None);
+            push(code, StraightStatement::Clear(*array, *size))
+        }
+        StraightStatement::Fill(array, values) => {
+            let values = all_simple(pass.alloc, known, values)?;
+            known.note(*array, None);
+            push(code, StraightStatement::Fill(*array, values))
+        }
+        StraightStatement::Put(place, array, size, index, value) => {
+            let one = put_simple(pass.alloc, known, *place, *array, *size, index, value)?;
+            known.note(*array, None);
+            push(code, one)
+        }
+        StraightStatement::Take(control, within, condition) => {
+            let condition = simple(pass.alloc, known, condition)?;
+            push(code, StraightStatement::Take(*control, *within, condition))
+        }
+        StraightStatement::SetUnder(control, variable, value) => {
+            let value = simple(pass.alloc, known, value)?;
+            known.note(*variable, None);
+            push(
+                code,
+                StraightStatement::SetUnder(*control, *variable, value),
+            )
+        }
+        StraightStatement::PutUnder(control, place, array, size, index, value) => {
+            let one = put_under_simple(
+                pass.alloc, known, *control, *place, *array, *size, index, value,
+            )?;
+            known.note(*array, None);
+            push(code, one)
+        }
+        StraightStatement::Branch(condition, accepted, otherwise) => {
+            let condition = simple(pass.alloc, known, condition)?;
+            branch(pass, known, code, condition, accepted, otherwise)
+        }
+        StraightStatement::Repeat(counter, low, high, body) => {
+            let bounds = bounds_of(pass.alloc, known, low, high)?;
+            repeat(pass, known, code, *counter, bounds, body)
+        }
+    }
+}
+
+/// A branch, its condition simple: where that is a number, the one arm that it decides for.
+#[cycle(simplification)]
+fn branch(
+    pass: &Pass<'_>,
+    known: &mut Known,
+    code: &mut Vec<StraightStatement>,
+    condition: Term,
+    accepted: &[StraightStatement],
+    otherwise: &[StraightStatement],
+) -> Result<(), AllocError>
+    ensures code { OnOk result (straight_block code.new.items ≡ chain (straight_block code.old.items) (branch_code pass.now.copies.now pass.now.declared.now (words_of known.old) (term_tree condition) (straight_block accepted.now) (straight_block otherwise.now))) }
+    ensures known { OnOk result (words_of known.new ≡ branch_known pass.now.copies.now pass.now.declared.now (words_of known.old) (term_tree condition) (straight_block accepted.now) (straight_block otherwise.now)) }
+{
+    match decision(&condition) {
+        Some(true) => statements(pass, known, code, accepted),
+        Some(false) => statements(pass, known, code, otherwise),
+        None => {
+            let one = part(pass, known, accepted)?;
+            let other = part(pass, known, otherwise)?;
+            push(code, branch_of(condition, one, other))
+        }
+    }
+}
+
+/// A loop, its bounds simple: where these are numbers, and it may become its turns, these.
+#[cycle(simplification)]
+fn repeat(
+    pass: &Pass<'_>,
+    known: &mut Known,
+    code: &mut Vec<StraightStatement>,
+    counter: u32,
+    bounds: Bounds,
+    body: &[StraightStatement],
+) -> Result<(), AllocError>
+    ensures code { OnOk result (straight_block code.new.items
+        ≡ chain (straight_block code.old.items)
+        (loop_code pass.now.copies.now pass.now.declared.now (words_of known.old) counter (term_tree bounds.low)
+        (term_tree bounds.high) (straight_block body.now))) }
+    ensures known { OnOk result (words_of known.new
+        ≡ loop_known pass.now.copies.now pass.now.declared.now (words_of known.old) counter (term_tree bounds.low)
+        (term_tree bounds.high) (straight_block body.now)) }
+{
+    let most = copies_of(pass.copies, counter);
+    match numbers_of(most, &bounds.low, &bounds.high) {
+        Some(numbers) => turns(pass, known, code, counter, numbers, body),
+        None => {
+            known.begin_loop(counter, body);
+            let turn = part(pass, known, body)?;
+            push(code, loop_of(counter, bounds.low, bounds.high, turn))
+        }
+    }
+}
+
+/// The turns of a loop, one after the other: for each number its counter is set, and then its body runs.
+#[cycle(simplification)]
+fn turns(
+    pass: &Pass<'_>,
+    known: &mut Known,
+    code: &mut Vec<StraightStatement>,
+    counter: u32,
+    numbers: Numbers,
+    body: &[StraightStatement],
+) -> Result<(), AllocError>
+    ensures code { OnOk result (straight_block code.new.items ≡ chain (straight_block code.old.items) (turns_code pass.now.copies.now pass.now.declared.now (words_of known.old) counter numbers (straight_block body.now))) }
+    ensures known { OnOk result (words_of known.new ≡ turns_known pass.now.copies.now pass.now.declared.now (words_of known.old) counter numbers (straight_block body.now)) }
+{
+    for value in numbers.low..numbers.high {
+        let number = Constant {
+            value,
+            kind: Kind::Uint32,
+        };
+        known.note(counter, Some(number));
+        push(code, StraightStatement::Set(counter, number_of(number)))?;
+        statements(pass, known, code, body)?;
+    }
+    Ok(())
+}
+
+/// An arm, or the body of a loop: it may run or not, so nothing is known behind it of what it sets.
+#[cycle(simplification)]
+fn part(
+    pass: &Pass<'_>,
+    known: &mut Known,
+    body: &[StraightStatement],
+) -> Result<Vec<StraightStatement>, AllocError>
+    ensures code { IfOk result (λ code. straight_block code.items ≡ simplified_all pass.now.copies.now pass.now.declared.now (words_of known.old) (straight_block body.now)) }
+    ensures known { OnOk result (words_of known.new ≡ forgotten_all (knowing_all pass.now.copies.now pass.now.declared.now (words_of known.old) (straight_block body.now)) (straight_block body.now)) }
+{
+    let mut code = Vec::new(pass.alloc);
+    statements(pass, known, &mut code, body)?;
+    known.forget_all(body);
+    Ok(code)
+}
+
+/// Statements, one after the other.
+#[cycle(simplification)]
+pub fn statements(
+    pass: &Pass<'_>,
+    known: &mut Known,
+    code: &mut Vec<StraightStatement>,
+    body: &[StraightStatement],
+) -> Result<(), AllocError>
+    ensures code { OnOk result (straight_block code.new.items ≡ chain (straight_block code.old.items) (simplified_all pass.now.copies.now pass.now.declared.now (words_of known.old) (straight_block body.now))) }
+    ensures known { OnOk result (words_of known.new ≡ knowing_all pass.now.copies.now pass.now.declared.now (words_of known.old) (straight_block body.now)) }
+{
+    for each in body {
+        statement(pass, known, code, each)?;
+    }
+    Ok(())
+}

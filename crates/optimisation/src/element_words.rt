@@ -1,0 +1,11 @@
+// Words for elements: straight code in which a short array that is indexed by numbers alone is so many words, which may
+// lie in registers. It may stand in the place of the code that it is made of: the outcome is the same, and what is public
+// stays public. Stands on `inline` and `branch_removal`.
+
+mod narrowing;
+mod parts;
+mod plan;
+mod statements;
+mod terms;
+
+pub use plan::Words;

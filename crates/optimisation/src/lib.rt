@@ -1,0 +1,6 @@
+// TODO optimisation
+#![tactic(auto)]
+
+pub mod constants;
+pub mod element_words;
+pub mod live_words;

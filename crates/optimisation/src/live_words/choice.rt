@@ -1,0 +1,295 @@
+// Which words share a variable.
+
+ghost use Rattle.std.specs.Prelude.{◌≡◌, ◌≤◌, length, slice_get, slice_set, IfOk};
+ghost use Rattle.language.specs.Types.{same_label};
+ghost use Rattle.optimisation.specs.live_words.private.Choice.{all_allowed, are_alike, chosen, conflicts_with, first_shared};
+ghost use Rattle.optimisation.specs.live_words.private.Choice.{is_allowed, is_conflict, is_fixed, is_noted, is_some, is_word};
+ghost use Rattle.optimisation.specs.live_words.private.Choice.{may_share, merged, none_placed, noted_where, own_variables};
+ghost use Rattle.optimisation.specs.live_words.private.Choice.{placed, placed_all, placing_by, same_words, variable_for};
+ghost use Rattle.optimisation.specs.live_words.private.Choice.{with_own};
+
+use crate::live_words::live::{conflict_place, holder, mark};
+use branch_removal::{greatest_of, heaviest, take_greatest};
+use inline::FlatVariable;
+use language::Label;
+use std::alloc::{AllocError, Global};
+
+/// Whether these are one label.
+fn is_same_label(one: Label, other: Label) -> bool
+    ensures { result ≡ same_label one other }
+{
+    match one {
+        Label::Public => matches!(other, Label::Public),
+        Label::Secret => matches!(other, Label::Secret),
+    }
+}
+
+/// Whether a variable with so many elements, where it is an array, is a word.
+fn is_word(elements: Option<u32>) -> bool
+    ensures { result ≡ is_word elements }
+{
+    match elements {
+        None => true,
+        Some(_) => false,
+    }
+}
+
+/// Whether two variables are words of one type. One may be assigned to where the other may not: straight code sets both.
+fn same_words(one: FlatVariable, other: FlatVariable) -> bool
+    ensures { result ≡ same_words one other }
+{
+    is_word(one.elements)
+        && is_word(other.elements)
+        && one.word.kind.is_same(other.word.kind)
+        && is_same_label(one.word.label, other.word.label)
+}
+
+/// Whether there are two variables, and they are words of one type.
+fn are_alike(one: Option<FlatVariable>, other: Option<FlatVariable>) -> bool
+    ensures { result ≡ are_alike one other }
+{
+    match one {
+        None => false,
+        Some(one) => match other {
+            None => false,
+            Some(other) => same_words(one, other),
+        },
+    }
+}
+
+/// The variable of a number.
+fn at(declared: &[FlatVariable], number: usize) -> Option<FlatVariable>
+    ensures { result ≡ slice_get declared.now number }
+{
+    match declared.get(number) {
+        Some(variable) => Some(*variable),
+        None => None,
+    }
+}
+
+/// Whether a word may live in this variable as it is declared.
+fn is_allowed(declared: &[FlatVariable], word: usize, variable: usize) -> bool
+    ensures { result ≡ is_allowed declared.now word variable }
+{
+    variable == word || are_alike(at(declared, word), at(declared, variable))
+}
+
+/// Whether all words of a table may live in their variables as they are declared.
+pub fn all_allowed(declared: &[FlatVariable], table: &[u32]) -> bool
+    ensures { result ≡ all_allowed declared.now 0 table.now }
+{
+    for (word, variable) in table.iter().enumerate() {
+        if !is_allowed(declared, word, *variable as usize) {
+            return false;
+        }
+    }
+    true
+}
+
+/// Whether a word's conflict with another is noted, of so many words.
+fn is_noted(conflicts: &[bool], width: u32, word: u32, other: u32) -> bool
+    ensures { result ≡ is_noted conflicts.now width word other }
+{
+    match conflicts.get(conflict_place(width, word, other)) {
+        Some(conflict) => *conflict,
+        None => true,
+    }
+}
+
+/// Whether two words are in conflict: that of one with the other is noted.
+fn is_conflict(conflicts: &[bool], width: u32, word: u32, other: u32) -> bool
+    ensures { result ≡ is_conflict conflicts.now width word other }
+{
+    is_noted(conflicts, width, word, other) || is_noted(conflicts, width, other, word)
+}
+
+/// Whether there is a word.
+fn is_some(word: Option<u32>) -> bool
+    ensures { result ≡ is_some word }
+{
+    match word {
+        None => false,
+        Some(_) => true,
+    }
+}
+
+/// What is chosen from: the variables, what is live at the beginning, and how many words may share.
+#[derive(Clone, Copy)]
+pub struct Words<'w> {
+    pub declared: &'w [FlatVariable],
+    pub starts: &'w [Option<u32>],
+    pub width: u32,
+}
+
+impl<'w> Words<'w> {
+    /// Whether a word keeps its variable.
+    fn is_fixed(&self, conflicts: &[bool], word: u32) -> bool
+        ensures { result ≡ is_fixed self.now.starts.now conflicts.now self.now.width word }
+    {
+        is_some(holder(self.starts, word as usize))
+            || is_conflict(conflicts, self.width, word, word)
+    }
+
+    /// Whether a word may share this variable, in which another is placed. That of a counter is not shared, since a loop
+    /// counts in a register only where its body sets the counter nowhere.
+    fn may_share(&self, conflicts: &[bool], word: u32, variable: u32) -> bool
+        ensures { result ≡ may_share self.now.declared.now conflicts.now self.now.width word variable }
+    {
+        are_alike(
+            at(self.declared, word as usize),
+            at(self.declared, variable as usize),
+        ) && !is_conflict(conflicts, self.width, variable, word)
+            && !is_conflict(conflicts, self.width, variable, variable)
+    }
+
+    /// The first of these variables that a word may share, else its own.
+    fn first_shared(&self, conflicts: &[bool], word: u32, variables: &[u32]) -> u32
+        ensures { result ≡ first_shared self.now.declared.now conflicts.now self.now.width word variables.now }
+    {
+        for variable in variables {
+            if self.may_share(conflicts, word, *variable) {
+                return *variable;
+            }
+        }
+        word
+    }
+
+    /// The variable that a word gets, its own or one of these.
+    fn variable_for(&self, conflicts: &[bool], variables: &[u32], word: u32) -> u32
+        ensures { result ≡ variable_for self.now.declared.now self.now.starts.now conflicts.now self.now.width variables.now word }
+    {
+        if self.is_fixed(conflicts, word) {
+            word
+        } else {
+            self.first_shared(conflicts, word, variables)
+        }
+    }
+}
+
+/// Notes that a word is in conflict with another, where it is.
+fn note_where(conflicts: &mut Vec<bool>, width: u32, word: u32, other: u32, both: bool)
+    ensures { conflicts.new.items ≡ noted_where both conflicts.old.items width word other }
+{
+    if both {
+        mark(conflicts, conflict_place(width, word, other));
+    }
+}
+
+/// What a word is in conflict with is in conflict with this variable's word too.
+fn merge(conflicts: &mut Vec<bool>, width: u32, variable: u32, word: u32)
+    ensures { conflicts.new.items ≡ merged conflicts.old.items width variable word width 0 }
+{
+    for other in 0..width {
+        let both = is_conflict(conflicts, width, word, other);
+        note_where(conflicts, width, variable, other, both);
+    }
+}
+
+/// The same, where the variable is not its own.
+fn merge_other(conflicts: &mut Vec<bool>, width: u32, variable: u32, word: u32)
+    ensures { conflicts.new.items ≡ conflicts_with conflicts.old.items width variable word }
+{
+    if variable != word {
+        merge(conflicts, width, variable, word);
+    }
+}
+
+/// A word that is placed in its own variable has it listed.
+fn push_own(variables: &mut Vec<u32>, variable: u32, word: u32) -> Result<(), AllocError>
+    ensures { IfOk result (λ done. variables.new.items ≡ with_own variables.old.items variable word) }
+{
+    if variable == word {
+        variables.push(word)?;
+    }
+    Ok(())
+}
+
+/// A word lives in this variable.
+fn set_variable(table: &mut Vec<u32>, word: u32, variable: u32)
+    ensures { table.new.items ≡ slice_set table.old.items word variable }
+{
+    if let Some(entry) = table.get_mut(word as usize) {
+        *entry = variable;
+    }
+}
+
+/// So many words live in their own variables.
+fn own_variables(alloc: Global, width: u32) -> Result<Vec<u32>, AllocError>
+    ensures { IfOk result (λ table. table.items ≡ own_variables width 0) }
+{
+    let mut table = Vec::new(alloc);
+    for word in 0..width {
+        table.push(word)?;
+    }
+    Ok(table)
+}
+
+/// The words that are placed.
+#[derive(Drop)]
+pub struct Placed {
+    /// Which words are in conflict: a row for each, and of the first word of a variable a row for all words of this.
+    conflicts: Vec<bool>,
+    /// The variables that words are placed in, in the order of placing.
+    variables: Vec<u32>,
+    /// For each word the variable that it lives in.
+    table: Vec<u32>,
+}
+
+impl Placed {
+    /// No word is placed of so many.
+    fn nothing(alloc: Global, width: u32, conflicts: Vec<bool>) -> Result<Self, AllocError>
+        ensures { IfOk result (λ placed. placing_by placed ≡ none_placed width conflicts.items) }
+    {
+        Ok(Placed {
+            conflicts,
+            variables: Vec::new(alloc),
+            table: own_variables(alloc, width)?,
+        })
+    }
+
+    /// Places a word.
+    fn place(&mut self, words: Words<'_>, word: u32) -> Result<(), AllocError>
+        ensures { IfOk result (λ done. placing_by self.new
+            ≡ placed words.entry.declared.now words.entry.starts.now words.entry.width (placing_by self.old) word) }
+    {
+        let variable = words.variable_for(&self.conflicts, &self.variables, word);
+        merge_other(&mut self.conflicts, words.width, variable, word);
+        push_own(&mut self.variables, variable, word)?;
+        set_variable(&mut self.table, word, variable);
+        Ok(())
+    }
+
+    /// Places the words that are used, by their weights, the greatest first.
+    fn place_all(&mut self, words: Words<'_>, weights: &mut Vec<u64>) -> Result<(), AllocError>
+        requires { length weights.old.items ≤ words.width }
+        ensures { IfOk result (λ done. placing_by self.new
+            ≡ placed_all words.entry.declared.now words.entry.starts.now words.entry.width words.entry.width
+            weights.old.items (placing_by self.old)) }
+    {
+        for _ in 0..words.width {
+            if greatest_of(weights.as_slice()) == 0 {
+                return Ok(());
+            }
+            let word = heaviest(weights.as_slice()) as u32;
+            take_greatest(weights);
+            self.place(words, word)?;
+        }
+        Ok(())
+    }
+}
+
+/// The variables that words live in, by how much the words are used.
+pub fn choose(
+    alloc: Global,
+    words: Words<'_>,
+    mut weights: Vec<u64>,
+    conflicts: Vec<bool>,
+) -> Result<Vec<u32>, AllocError>
+    ensures { IfOk result (λ table. table.items ≡ chosen words.entry.declared.now words.entry.starts.now
+        words.entry.width weights.items conflicts.items) }
+{
+    weights.truncate(words.width as usize);
+    let mut placed = Placed::nothing(alloc, words.width, conflicts)?;
+    placed.place_all(words, &mut weights)?;
+    Ok(placed.table)
+}

@@ -1,0 +1,129 @@
+ghost use Rattle.std.specs.Prelude.{◌≡◌, ◌<◌, ◌^◌, length, IfErr, IfOk, OnOk};
+ghost use Rattle.std.specs.Option.{option_map};
+ghost use Rattle.inline.specs.Flat.{term_tree};
+ghost use Rattle.branch_removal.specs.Kept.{IsStraight};
+ghost use Rattle.branch_removal.specs.Replaced.{IsReplaced};
+ghost use Rattle.branch_removal.specs.Straight.{straight_block, with_body};
+ghost use Rattle.language.specs.WantOfMemory.{IsWantOfMemory};
+ghost use Rattle.optimisation.specs.live_words.Exact.{shared_of};
+ghost use Rattle.optimisation.specs.live_words.private.Held.{held_by};
+ghost use Rattle.optimisation.specs.live_words.private.Whole.{all_fits, at_end, at_start, kept, nothing_live, over, shared_program, table_for, with_results};
+
+use crate::live_words::choice::{Words, all_allowed, choose};
+use crate::live_words::live::{Live, hold_own, share};
+use crate::live_words::statements::statements;
+use crate::live_words::terms::{read_any, renamed_any};
+use branch_removal::{Straight, StraightStatement, variable_weights};
+use inline::Term;
+use language::{Form, Param, Refusal};
+use std::alloc::{AllocError, Global};
+
+/// So many words may share, the first ones, for each pair of them is looked at.
+const MOST_SHARING: usize = 1024;
+
+/// A parameter's elements are results: it is live at the end, and keeps its number.
+fn keep(live: &mut Live, table: &[u32], parameter: u32)
+    ensures { held_by live.new ≡ kept table.now (held_by live.old) parameter }
+{
+    live.live(table, parameter);
+    live.require(share(table, parameter) == parameter);
+}
+
+/// The arrays among the parameters that are assigned to are live at the end.
+fn keep_results(live: &mut Live, table: &[u32], parameters: &[Param])
+    requires numbered { length parameters.now < 2 ^ 32 }
+    ensures { held_by live.new ≡ with_results table.now 0 parameters.now (held_by live.old) }
+{
+    for (number, parameter) in parameters.iter().enumerate() {
+        if matches!(parameter.form, Form::MutableArray) {
+            keep(live, table, number as u32);
+        }
+    }
+}
+
+/// A body and a result.
+#[derive(Drop)]
+struct Parts {
+    body: Vec<StraightStatement>,
+    value: Option<Term>,
+}
+
+/// A program's body and result over the variables that words live in. What is live before it is noted.
+fn over(
+    alloc: Global,
+    straight: &Straight<'_>,
+    live: &mut Live,
+    table: &[u32],
+) -> Result<Parts, AllocError>
+    ensures code { IfOk result (λ parts. with_body straight.now (straight_block parts.body.items) (option_map term_tree parts.value) ≡ over table.now (held_by live.old) straight.now) }
+    ensures live { OnOk result (held_by live.new ≡ at_start table.now (held_by live.old) straight.now) }
+    ensures straight { IsStraight straight.now }
+{
+    let code = straight.body();
+    keep_results(live, table, straight.parameters());
+    read_any(live, table, straight.value());
+    let body = statements(alloc, live, table, code)?;
+    let value = renamed_any(alloc, table, straight.value())?;
+    Ok(Parts { body, value })
+}
+
+/// Whether sharing fits: no variable has to hold two words at once, what is live at the beginning keeps its number, and
+/// words live in variables of their type.
+fn all_fits(straight: &Straight<'_>, live: &Live, table: &[u32]) -> bool
+    ensures { result ≡ all_fits table.now (held_by live.now) straight.now }
+{
+    live.fits && hold_own(live.holders.as_slice()) && all_allowed(straight.declared(), table)
+}
+
+/// Nothing is live yet. Conflicts are noted of so many words.
+fn nothing_live(alloc: Global, straight: &Straight<'_>, width: u32) -> Result<Live, AllocError>
+    ensures { IfOk result (λ live. held_by live ≡ nothing_live straight.now width) }
+{
+    Live::nothing(alloc, straight.declared().len(), width)
+}
+
+/// The variables that words live in.
+fn table_for(alloc: Global, straight: &Straight<'_>) -> Result<Vec<u32>, AllocError>
+    ensures { IfOk result (λ table. table.items ≡ table_for straight.now) }
+{
+    let width = straight.declared().len().min(MOST_SHARING) as u32;
+    let mut live = nothing_live(alloc, straight, width)?;
+    over(alloc, straight, &mut live, &[])?;
+    let weights = variable_weights(alloc, straight)?;
+    let conflicts = live.conflicts;
+    let words = Words {
+        declared: straight.declared(),
+        starts: live.holders.as_slice(),
+        width: live.width,
+    };
+    choose(alloc, words, weights, conflicts)
+}
+
+/// A program's body and result in which words share variables, where that fits, and else as they are.
+fn shared_parts(alloc: Global, straight: &Straight<'_>) -> Result<Parts, AllocError>
+    ensures code { IfOk result (λ parts. with_body straight.now (straight_block parts.body.items) (option_map term_tree parts.value) ≡ shared_program straight.now) }
+    ensures straight { IfOk result (λ parts. IsStraight straight.now) }
+{
+    let table = table_for(alloc, straight)?;
+    let mut live = nothing_live(alloc, straight, 0)?;
+    let parts = over(alloc, straight, &mut live, table.as_slice())?;
+    if all_fits(straight, &live, table.as_slice()) {
+        return Ok(parts);
+    }
+    let mut live = nothing_live(alloc, straight, 0)?;
+    live.require(false);
+    let parts = over(alloc, straight, &mut live, &[])?;
+    Ok(parts)
+}
+
+/// Straight code in which a word that nobody reads is not set, and words that are never live at once share a variable.
+/// It may stand in the place of the code that it is made of, which alone decides it. Running out of memory alone
+/// refuses it.
+pub fn share_words<'f>(alloc: Global, straight: &Straight<'f>) -> Result<Straight<'f>, Refusal>
+    ensures replaced { IfOk result (IsReplaced straight.now) }
+    ensures exact { IfOk result (λ shared. shared ≡ shared_of straight.now) }
+    ensures memory { IfErr result (λ refusal. IsWantOfMemory refusal.rule refusal.place) }
+{
+    let parts = shared_parts(alloc, straight)?;
+    Ok(straight.with_body(parts.body, parts.value))
+}

@@ -1,0 +1,228 @@
+// Statements over the variables that words live in, from the last one back to the first.
+
+ghost use Rattle.std.specs.Prelude.{◌≡◌, IfOk, OnOk, Some};
+ghost use Rattle.std.specs.Option.{option_map};
+ghost use Rattle.branch_removal.specs.Straight as straight;
+ghost use Rattle.branch_removal.specs.Straight.{nothing, straight_block, straight_tree};
+ghost use Rattle.inline.specs.Flat.{term_tree};
+ghost use Rattle.optimisation.specs.live_words.private.Held.{held_by};
+ghost use Rattle.optimisation.specs.live_words.private.Sharing.{before, before_all, before_branch, before_put, before_loop, in_front, onto, shared, shared_all, shared_branch, shared_loop};
+
+use crate::live_words::gathering::gather_loop;
+use crate::live_words::live::{Live, share};
+use crate::live_words::terms::{all_renamed, is_dead, read, read_all, renamed};
+use branch_removal::{StraightStatement, branch_of, loop_of};
+use inline::Term;
+use std::alloc::{AllocError, Global};
+
+/// The counter of a loop and its bounds.
+#[derive(Clone, Copy)]
+struct Bounds<'b> {
+    counter: u32,
+    low: &'b Term,
+    high: &'b Term,
+}
+
+/// Before an array's element is set.
+fn put(live: &mut Live, table: &[u32], array: u32, index: &Term, value: &Term)
+    ensures { held_by live.new ≡ before_put table.now (held_by live.old) array (term_tree index.now) (term_tree value.now) }
+{
+    live.live(table, array);
+    read(live, table, &[], value);
+    read(live, table, &[], index);
+}
+
+/// Puts a statement behind others, where there is one; the last of them comes first.
+fn push_any(
+    backwards: &mut Vec<StraightStatement>,
+    code: Option<StraightStatement>,
+) -> Result<(), AllocError>
+    ensures { OnOk result (onto (straight_block backwards.new.items) nothing ≡ in_front (option_map straight_tree code) (onto (straight_block backwards.old.items) nothing)) }
+{
+    if let Some(code) = code {
+        backwards.push(code)?;
+    }
+    Ok(())
+}
+
+/// Statements that come from the last one to the first, in their order.
+fn in_order(
+    alloc: Global,
+    mut backwards: Vec<StraightStatement>,
+) -> Result<Vec<StraightStatement>, AllocError>
+    ensures { IfOk result (λ code. straight_block code.items ≡ onto (straight_block backwards.items) nothing) }
+{
+    let mut code = Vec::new(alloc);
+    while let Some(statement) = backwards.pop() {
+        code.push(statement)?;
+    }
+    Ok(code)
+}
+
+/// A word is set, where that is not left out.
+fn set(
+    alloc: Global,
+    live: &mut Live,
+    table: &[u32],
+    word: u32,
+    value: &Term,
+) -> Result<Option<StraightStatement>, AllocError>
+    ensures code { IfOk result (λ code. option_map straight_tree code ≡ shared table.now (held_by live.old) (straight.set word (term_tree value.now))) }
+    ensures live { OnOk result (held_by live.new ≡ before table.now (held_by live.old) (straight.set word (term_tree value.now))) }
+{
+    if is_dead(live, table, word, value) {
+        return Ok(None);
+    }
+    live.set(table, word);
+    read(live, table, &[], value);
+    let value = renamed(alloc, table, value)?;
+    Ok(Some(StraightStatement::Set(share(table, word), value)))
+}
+
+/// A word is set under a control value, where that is not left out: where the control value is false it keeps what it
+/// holds.
+fn set_under(
+    alloc: Global,
+    live: &mut Live,
+    table: &[u32],
+    control: u32,
+    word: u32,
+    value: &Term,
+) -> Result<Option<StraightStatement>, AllocError>
+    ensures code { IfOk result (λ code. option_map straight_tree code ≡ shared table.now (held_by live.old) (straight.set_under control word (term_tree value.now))) }
+    ensures live { OnOk result (held_by live.new ≡ before table.now (held_by live.old) (straight.set_under control word (term_tree value.now))) }
+{
+    if is_dead(live, table, word, value) {
+        return Ok(None);
+    }
+    live.live(table, word);
+    read(live, table, &[], value);
+    let value = renamed(alloc, table, value)?;
+    Ok(Some(StraightStatement::SetUnder(control, share(table, word), value)))
+}
+
+/// A statement over the variables that words live in, where it is not left out. What is live before it is noted.
+#[cycle(sharing)]
+fn statement(
+    alloc: Global,
+    live: &mut Live,
+    table: &[u32],
+    statement: &StraightStatement,
+) -> Result<Option<StraightStatement>, AllocError>
+    ensures code { IfOk result (λ code. option_map straight_tree code ≡ shared table.now (held_by live.old) (straight_tree statement.now)) }
+    ensures live { OnOk result (held_by live.new ≡ before table.now (held_by live.old) (straight_tree statement.now)) }
+{
+    match statement {
+        StraightStatement::Set(word, value) => set(alloc, live, table, *word, value),
+        StraightStatement::Clear(array, size) => {
+            live.set(table, *array);
+            Ok(Some(StraightStatement::Clear(share(table, *array), *size)))
+        }
+        StraightStatement::Fill(array, values) => {
+            live.set(table, *array);
+            read_all(live, table, &[], values);
+            let values = all_renamed(alloc, table, values)?;
+            Ok(Some(StraightStatement::Fill(share(table, *array), values)))
+        }
+        StraightStatement::Put(place, array, size, index, value) => {
+            put(live, table, *array, index, value);
+            let index = renamed(alloc, table, index)?;
+            let value = renamed(alloc, table, value)?;
+            let array = share(table, *array);
+            Ok(Some(StraightStatement::Put(*place, array, *size, index, value)))
+        }
+        StraightStatement::Take(control, within, condition) => {
+            read(live, table, &[], condition);
+            let condition = renamed(alloc, table, condition)?;
+            Ok(Some(StraightStatement::Take(*control, *within, condition)))
+        }
+        StraightStatement::SetUnder(control, word, value) => {
+            set_under(alloc, live, table, *control, *word, value)
+        }
+        StraightStatement::PutUnder(control, place, array, size, index, value) => {
+            put(live, table, *array, index, value);
+            let index = renamed(alloc, table, index)?;
+            let value = renamed(alloc, table, value)?;
+            let array = share(table, *array);
+            Ok(Some(StraightStatement::PutUnder(*control, *place, array, *size, index, value)))
+        }
+        StraightStatement::Branch(condition, accepted, otherwise) => {
+            branch(alloc, live, table, condition, accepted, otherwise)
+        }
+        StraightStatement::Repeat(counter, low, high, body) => {
+            let bounds = Bounds {
+                counter: *counter,
+                low,
+                high,
+            };
+            repeat(alloc, live, table, bounds, body)
+        }
+    }
+}
+
+/// A branch: both arms end where it ends.
+#[cycle(sharing)]
+fn branch(
+    alloc: Global,
+    live: &mut Live,
+    table: &[u32],
+    condition: &Term,
+    accepted: &[StraightStatement],
+    otherwise: &[StraightStatement],
+) -> Result<Option<StraightStatement>, AllocError>
+    ensures code { IfOk result (λ code. option_map straight_tree code ≡ Some (shared_branch table.now (held_by live.old) (term_tree condition.now) (straight_block accepted.now) (straight_block otherwise.now))) }
+    ensures live { OnOk result (held_by live.new ≡ before_branch table.now (held_by live.old) (term_tree condition.now) (straight_block accepted.now) (straight_block otherwise.now)) }
+{
+    let behind = live.copy_holders(alloc)?;
+    let other = statements(alloc, live, table, otherwise)?;
+    let second = live.replace(behind);
+    let one = statements(alloc, live, table, accepted)?;
+    live.join(second.as_slice());
+    read(live, table, &[], condition);
+    let condition = renamed(alloc, table, condition)?;
+    Ok(Some(branch_of(condition, one, other)))
+}
+
+/// A loop: its body begins and ends where a turn may begin or the loop is over.
+#[cycle(sharing)]
+fn repeat(
+    alloc: Global,
+    live: &mut Live,
+    table: &[u32],
+    bounds: Bounds<'_>,
+    body: &[StraightStatement],
+) -> Result<Option<StraightStatement>, AllocError>
+    ensures code { IfOk result (λ code. option_map straight_tree code ≡ Some (shared_loop table.now (held_by live.old) bounds.entry.counter (term_tree bounds.entry.low.now) (term_tree bounds.entry.high.now) (straight_block body.now))) }
+    ensures live { OnOk result (held_by live.new ≡ before_loop table.now (held_by live.old) bounds.entry.counter (term_tree bounds.entry.low.now) (term_tree bounds.entry.high.now) (straight_block body.now)) }
+{
+    gather_loop(alloc, live, table, bounds.counter, body)?;
+    let head = live.copy_holders(alloc)?;
+    let turn = statements(alloc, live, table, body)?;
+    live.close(table, bounds.counter, head);
+    read(live, table, &[], bounds.high);
+    read(live, table, &[], bounds.low);
+    let low = renamed(alloc, table, bounds.low)?;
+    let high = renamed(alloc, table, bounds.high)?;
+    let counter = share(table, bounds.counter);
+    Ok(Some(loop_of(counter, low, high, turn)))
+}
+
+/// Statements, from the last one back to the first.
+#[cycle(sharing)]
+pub fn statements(
+    alloc: Global,
+    live: &mut Live,
+    table: &[u32],
+    body: &[StraightStatement],
+) -> Result<Vec<StraightStatement>, AllocError>
+    ensures code { IfOk result (λ code. straight_block code.items ≡ shared_all table.now (held_by live.old) (straight_block body.now)) }
+    ensures live { OnOk result (held_by live.new ≡ before_all table.now (held_by live.old) (straight_block body.now)) }
+{
+    let mut backwards = Vec::new(alloc);
+    for behind in 0..body.len() {
+        let each = &body[body.len() - 1 - behind];
+        let code = statement(alloc, live, table, each)?;
+        push_any(&mut backwards, code)?;
+    }
+    in_order(alloc, backwards)
+}

@@ -1,4 +1,0 @@
-mod Depicted
-mod Filled
-mod Painted
-mod Sizes

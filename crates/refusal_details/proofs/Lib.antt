@@ -1,2 +1,0 @@
-pub mod DetailLemmas
-mod ExportLemmas

@@ -1,4 +1,0 @@
-mod Below
-pub mod Openings
-pub mod Parting
-pub mod Runs

@@ -1,7 +1,0 @@
-use Rattle.rv_machine.specs.Leakage.{spent}
-use Rattle.run_places.proofs.Below.{Runs-determined}
-use Rattle.run_places.proofs.turns.make_turns.Goals as goal
-
-pub returns-clause-there : goal.returns-clause-there
-returns-clause-there g c =
-    λ seen t led. (Runs-determined c.run.ensures.turns.1 (spent led) (c.run.ensures.ready tt) (λ e. cc)).2

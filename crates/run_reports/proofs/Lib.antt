@@ -1,0 +1,3 @@
+pub mod run_places_lemmas
+pub mod progress_lemmas
+pub mod pictures_lemmas

@@ -1,0 +1,23 @@
+use Rattle.std.proofs.Common.{is_some, ap, arith}
+use Rattle.run_reports.proofs.pictures_lemmas.Painted.{count_begins, count_on, count_ends}
+use Rattle.run_reports.proofs.pictures.painting.count_steps.Goals as goal
+
+pub steps-init : goal.steps-init
+steps-init g c = record { counted = count_begins; few = omega arith }
+
+pub overflow_add-steps : goal.overflow_add-steps
+overflow_add-steps g c =
+    let fewer = c.turn.ensures.fewer (ap is_some c.in-Some.is) in
+    omega (arith, fewer, c.steps.invariant.few)
+
+pub steps-preserved : goal.steps-preserved
+steps-preserved g c =
+    let fewer = c.turn.ensures.fewer (ap is_some c.in-Some.is) in
+    record {
+      counted = count_on c.steps.invariant.counted c.in-Some.is c.turn.ensures.shown;
+      few = omega (arith, fewer, c.steps.invariant.few);
+    }
+
+pub returns-in_default-clause-counted : goal.returns-in_default-clause-counted
+returns-in_default-clause-counted g c =
+    count_ends c.steps.invariant.counted c.in_default.is (c.turn.ensures.ended c.in_default.is) c.turn.ensures.shown

@@ -1,0 +1,18 @@
+-- So many steps were made.
+use Rattle.std.proofs.Common.{◌+◌, ◌≤◌}
+use Rattle.rv_machine.specs.Harts.{state_of}
+use Rattle.rv_machine.specs.Regions.{code_of}
+use Rattle.run_reports.proofs.pictures_lemmas.Painted.{Counted}
+use Rattle.run_reports.proofs.pictures.painting.count_steps.Given as goal
+
+abbrev pub invariant-steps : goal.invariant-steps
+invariant-steps g l =
+    let bytes = g.M.Memory.bytes in
+    record {
+      counted : Counted (code_of l.code) l.fn.run.turns_left (state_of l.fn.run.hart (bytes l.fn.run.memory))
+          l.run.turns_left (state_of l.run.hart (bytes l.run.memory)) l.steps;
+      few : l.steps + l.run.turns_left ≤ l.fn.run.turns_left;
+    }
+
+abbrev pub decreases-steps : goal.decreases-steps
+decreases-steps g l = l.run.turns_left

@@ -1,0 +1,4 @@
+pub mod Depicted
+pub mod Filled
+pub mod Painted
+pub mod Sizes

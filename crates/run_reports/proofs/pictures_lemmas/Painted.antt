@@ -1,0 +1,160 @@
+-- What runs show from a later state on, and what they show from the first on.
+use Rattle.std.proofs.Common.{◌≡◌, ◌≢◌, ℕ, zero, ◌+◌, ◌≤◌, ◌<◌, List, [], ◌∷◌, ◌++◌, true, false, Option, Some, None}
+use Rattle.std.proofs.Common.{is_some, length, append_assoc, append-nil, refl, sym, ap, ◌∙◌, subst, arith}
+use Rattle.std.proofs.lemmas.Option.{none-some}
+use Rattle.rv_machine.specs.declared.observation.Observation.{Observation}
+use Rattle.rv_machine.specs.declared.stops.Stop.{Stop}
+use Rattle.rv_machine.specs.declared.stops.Stop.TheVariants.{Budget, RecorderRefused}
+use Rattle.rv_machine.specs.Leakage.{stays, halts, Runs, halted, cut_short, spent, IsShown, followed_by}
+use Rattle.rv_machine.specs.Machine.{State, Code}
+use Rattle.rv_machine.proofs.RunLaws.{Runs-determined}
+use Rattle.run_reports.specs.pictures.Grid.{IsGrid}
+use Rattle.run_reports.specs.pictures.Marks.{marks_of_both, marks_from}
+use Rattle.run_reports.specs.pictures.private.Added.{Adds}
+use Rattle.run_reports.specs.declared.pictures.cells.Axes.{Axes}
+use Rattle.run_reports.specs.declared.pictures.cells.Cell.{Cell}
+use Rattle.run_reports.specs.declared.pictures.cells.Mark.{Mark}
+
+-- whether something is shown
+pub none_shown : (o : Option Observation) → is_some o ≡ false → o ≡ None
+none_shown None is = refl
+none_shown (Some o) is = cc
+
+pub some_shown : (o : Option Observation) → is_some o ≡ true → o ≡ None → ⊥
+some_shown None is none = cc
+some_shown (Some o) is none = none-some o (sym none)
+
+-- a step of both of which one at least shows something leaves fewer
+pub fewer_left : (one other : Option Observation) {n k n' k' : ℕ} → (is_some one ≡ true → k < n)
+    → (is_some other ≡ true → k' < n')
+    → (one ≡ None → k ≡ 0) → (other ≡ None → k' ≡ 0) → ((one ≡ None) × (other ≡ None) → ⊥) → 1 + k + k' ≤ n + n'
+fewer_left (Some o) (Some p) fewer fewer' none none' some = omega (arith, fewer refl, fewer' refl)
+fewer_left (Some o) None fewer fewer' none none' some = omega (arith, fewer refl, none' refl)
+fewer_left None (Some p) fewer fewer' none none' some = omega (arith, none refl, fewer' refl)
+fewer_left None None fewer fewer' none none' some = absurd (some (refl, refl))
+
+-- no steps show nothing
+no_steps : {code : Code} {s t : State} {seen : List Observation} {stop : Stop} → Runs code zero s seen stop t
+    → seen ≡ []
+no_steps (halted within (halts first end is)) = absurd (omega arith)
+no_steps (cut_short within first end shows) = absurd (omega arith)
+no_steps (spent stays) = refl
+
+pub ended_shows : {code : Code} {n : ℕ} {s : State} {seen : List Observation} → n ≡ 0 → IsShown code n s seen
+    → seen ≡ []
+ended_shows {code} {s = s} {seen = seen} none shown = no_steps (subst (λ k. IsShown code k s seen) none shown).2
+
+uncut : Budget ≢ RecorderRefused
+uncut h = cc
+
+pub ended : {code : Code} {n : ℕ} {s : State} → n ≡ 0 → IsShown code n s []
+ended {code} {s = s} none = subst (λ k. IsShown code k s []) (sym none) (Budget, s, spent stays, uncut)
+
+-- what a later state shows follows, in an earlier one, what this step shows
+abbrev pub StepShows : Code → ℕ → State → ℕ → State → Option Observation → Type 0
+StepShows code m s n t seen = (rest : List Observation) → IsShown code n t rest
+    → IsShown code m s (followed_by seen rest)
+
+-- so many observations come before those that a later state shows
+pub record Counted (code : Code) (m : ℕ) (s : State) (n : ℕ) (t : State) (count : ℕ) : Type 0 where
+  pub before : (rest : List Observation) → IsShown code n t rest
+      → (seen : List Observation) × IsShown code m s seen × (length seen ≡ count + length rest)
+
+pub count_begins : {code : Code} {m : ℕ} {s : State} → Counted code m s m s 0
+count_begins = record { before = λ rest shown. (rest, shown, omega arith) }
+
+pub count_on : {code : Code} {m n k count : ℕ} {s t u : State} {seen : Option Observation} {o : Observation}
+    → Counted code m s n t count → seen ≡ Some o → StepShows code n t k u seen → Counted code m s k u (count + 1)
+count_on {code} {n = n} {count = count} {t = t} {o = o} counted is step = record {
+  before = λ rest shown.
+      let now =
+      counted.before (o ∷ rest) (subst (λ last. IsShown code n t (followed_by last rest)) is (step rest shown)) in
+      (now.0, now.1, omega (arith, now.2));
+}
+
+pub count_ends : {code : Code} {m n k count : ℕ} {s t u : State} {seen : Option Observation}
+    → Counted code m s n t count → seen ≡ None → k ≡ 0 → StepShows code n t k u seen
+    → (all : List Observation) × IsShown code m s all × (count ≡ length all)
+count_ends {code} {n = n} {count = count} {t = t} counted is none step =
+    let now = counted.before [] (subst (λ last. IsShown code n t (followed_by last [])) is (step [] (ended none))) in
+    (now.0, now.1, omega (arith, now.2))
+
+-- the cells have some marks, and with those of what two later states show they are the marks of what two earlier ones
+-- show
+pub record Painted (axes : Axes) (code : Code) (m : ℕ) (s : State) (n : ℕ) (t : State) (m' : ℕ) (s' : State) (n' : ℕ)
+    (t' : State) (step : ℕ) (cells : List Cell) : Type 0 where
+  pub marks : List Mark
+  pub filled : IsGrid axes marks cells
+  pub before :
+      (rest rest' : List Observation) → IsShown code n t rest → IsShown code n' t' rest'
+      → (seen seen' : List Observation) × IsShown code m s seen × IsShown code m' s' seen'
+      × (marks_from 0 seen seen' ≡ marks ++ marks_from step rest rest')
+
+pub paint_begins : {axes : Axes} {code : Code} {m m' : ℕ} {s s' : State} {cells : List Cell} → IsGrid axes [] cells
+    → Painted axes code m s m s m' s' m' s' 0 cells
+paint_begins filled = record {
+  marks = [];
+  filled = filled;
+  before = λ rest rest' shown shown'. (rest, rest', shown, shown', refl);
+}
+
+-- the marks of a step, and of what is shown after it
+marks_on : (at : ℕ) (one other : Option Observation) (rest rest' : List Observation) → (one ≡ None → rest ≡ [])
+    → (other ≡ None → rest' ≡ [])
+    → ((one ≡ None) × (other ≡ None) → ⊥)
+    → marks_from at (followed_by one rest) (followed_by other rest') ≡ marks_of_both at one other
+    ++ marks_from (at + 1) rest rest'
+marks_on at (Some o) (Some p) rest rest' none none' some = refl
+marks_on at (Some o) None rest rest' none none' some = rw none' refl
+marks_on at None (Some p) rest rest' none none' some = rw none refl
+marks_on at None None rest rest' none none' some = absurd (some (refl, refl))
+
+module _ {axes : Axes} {code : Code} {m n k m' n' k' at : ℕ} {s t u s' t' u' : State} {cells : List Cell} where
+  -- a step of both, of which one at least shows something
+  pub paint_on : {new : List Cell} (one other : Option Observation) → Painted axes code m s n t m' s' n' t' at cells
+      → Adds axes (marks_of_both at one other) cells new → StepShows code n t k u one
+      → StepShows code n' t' k' u' other
+      → (one ≡ None → k ≡ 0) → (other ≡ None → k' ≡ 0) → ((one ≡ None) × (other ≡ None) → ⊥)
+      → Painted axes code m s k u m' s' k' u' (at + 1) new
+  paint_on one other painted adds step step' none none' some = record {
+    marks = painted.marks ++ marks_of_both at one other;
+    filled = adds painted.marks painted.filled;
+    before = λ rest rest' shown shown'.
+        let now = painted.before (followed_by one rest) (followed_by other rest') (step rest shown)
+        (step' rest' shown') in
+        let on = marks_on at one other rest rest' (λ is. ended_shows (none is) shown)
+        (λ is. ended_shows (none' is) shown') some in (
+          now.0,
+          now.1,
+          now.2,
+          now.3,
+          now.4 ∙ ap (λ more. painted.marks ++ more) on
+              ∙ sym (append_assoc painted.marks (marks_of_both at one other) (marks_from (at + 1) rest rest')),
+        );
+  }
+
+  -- a step of both that shows nothing
+  pub paint_ends : {one other : Option Observation} → Painted axes code m s n t m' s' n' t' at cells → one ≡ None
+      → other ≡ None → k ≡ 0 → k' ≡ 0
+      → StepShows code n t k u one → StepShows code n' t' k' u' other
+      → (seen seen' : List Observation) × IsShown code m s seen × IsShown code m' s' seen'
+      × IsGrid axes (marks_from 0 seen seen') cells
+  paint_ends painted is is' none none' step step' =
+      let shown = subst (λ last. IsShown code n t (followed_by last [])) is (step [] (ended none)) in
+      let shown' = subst (λ last. IsShown code n' t' (followed_by last [])) is' (step' [] (ended none')) in
+      let now = painted.before [] [] shown shown' in
+      let all : marks_from 0 now.0 now.1 ≡ painted.marks = now.4 ∙ append-nil painted.marks in
+      (now.0, now.1, now.2, now.3, subst (λ marks. IsGrid axes marks cells) (sym all) painted.filled)
+
+-- two runs from one state show one list
+pub shown_once : {code : Code} {n : ℕ} {s : State} {seen other : List Observation} → IsShown code n s seen
+    → IsShown code n s other → seen ≡ other
+shown_once one other = (Runs-determined one.2 other.2 one.3 other.3).0
+
+-- as many steps as another run of the same counts from the same state on
+pub counted_again : {code : Code} {n n' count : ℕ} {s s' : State} {seen : List Observation} → n ≡ n' → s ≡ s'
+    → (all : List Observation) × IsShown code n s all × (count ≡ length all) → IsShown code n' s' seen
+    → count ≡ length seen
+counted_again {code} {n} {s = s} {seen = seen} same_steps same_state counted shown =
+    let again : IsShown code n s seen = rw (same_steps, same_state) shown in
+    counted.2 ∙ ap length (shown_once counted.1 again)

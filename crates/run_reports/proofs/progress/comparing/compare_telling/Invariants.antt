@@ -1,0 +1,37 @@
+-- What both runs have shown so far is one list, and a line went out behind each so many turns after which both went on.
+use Rattle.std.proofs.Common.{◌≡◌, suc, ◌+◌, ◌*◌, ◌≤◌, ◌<◌, List, length, IsTrue}
+use Rattle.run_reports.proofs.progress_lemmas.Together.{InStep, ListShows}
+use Rattle.run_reports.specs.progress.GoingOn.{BothGoOn, Reaches}
+use Rattle.run_reports.specs.progress.Lines.{turns_a_line, WentOut}
+use Rattle.rv_machine.specs.Entries.{entries_of}
+use Rattle.rv_machine.specs.Harts.{state_of}
+use Rattle.rv_machine.specs.Regions.{code_of}
+use Rattle.rv_machine.specs.declared.observation.Observation.{Observation}
+use Rattle.run_reports.proofs.progress.comparing.compare_telling.Given as goal
+
+abbrev pub invariant-turns : goal.invariant-turns
+invariant-turns g l =
+    let bytes = g.M.Memory.bytes in
+    let code = code_of l.code in
+    let budget = l.fn.one.turns_left in
+    let s = state_of l.fn.one.hart (bytes l.fn.one.memory) in
+    let t = state_of l.one.hart (bytes l.one.memory) in
+    let s' = state_of l.fn.other.hart (bytes l.fn.other.memory) in
+    let t' = state_of l.other.hart (bytes l.other.memory) in
+    record {
+      shown : (seen : List Observation) × (length seen ≡ l.made) × (length (entries_of seen) ≡ l.place)
+          × InStep code budget s l.one.turns_left t s' l.other.turns_left t' seen
+          × ListShows code budget s l.one.turns_left t seen
+          × ListShows code l.fn.other.turns_left s' l.other.turns_left t' seen;
+      few : l.made + l.one.turns_left ≤ budget;
+      few_entries : l.place ≤ 2 * l.made;
+      last : l.lines.count * turns_a_line ≤ l.made;
+      due : l.made ≤ suc l.lines.count * turns_a_line;
+      next : 0 < l.one.turns_left → 0 < l.other.turns_left → l.made < suc l.lines.count * turns_a_line;
+      reached : Reaches (BothGoOn code budget s s') l.lines.count;
+      told : IsTrue g.E.Sink.TELLS
+          → WentOut l.lines.whole l.lines.count (g.E.Sink.taken l.fn.err) (g.E.Sink.taken l.err);
+    }
+
+abbrev pub decreases-turns : goal.decreases-turns
+decreases-turns g l = l.one.turns_left

@@ -1,0 +1,242 @@
+-- Two runs in step: what they have shown together, and how far both go on.
+use Rattle.std.proofs.Common.{◌≡◌, ℕ, zero, suc, ◌+◌, ◌*◌, ◌≤◌, ◌<◌, Bool, List, [], ◌∷◌, ◌++◌, length, length-append}
+use Rattle.std.proofs.Common.{Option, Some, None, append_assoc, zero-add, suc-add, refl, sym, ap, ◌∙◌, subst, arith}
+use Rattle.std.specs.Prelude.{slice_get}
+use Rattle.std.proofs.lemmas.List.{append_cancel_left}
+use Rattle.run_reports.proofs.progress_lemmas.Told.{all_told}
+use Rattle.run_reports.specs.progress.GoingOn.{BothGoOn, Reaches, HasLines, IsTold}
+use Rattle.run_reports.specs.progress.Lines.{turns_a_line, WentOut}
+use Rattle.rv_machine.proofs.Face.{Leads-append, Turn-determined, goes_on≢stops, entries_of-append, run_of_state}
+use Rattle.rv_machine.specs.Entries.{Entry, program_counter, entries_of, IsFirstDifference, Compares}
+use Rattle.rv_machine.specs.Leakage.{Leads, stays, turns, Runs, halted, cut_short, spent, halts, IsShown, followed_by}
+use Rattle.rv_machine.specs.Machine.{State, Code}
+use Rattle.rv_machine.specs.Progress.{Makes, rests, advances, finishes, MakesAll, begins, further}
+use Rattle.rv_machine.specs.declared.observation.Observation.{Observation}
+use Rattle.rv_machine.specs.declared.pairing.Pairing.{Pairing}
+use Rattle.rv_machine.specs.declared.pairing.Pairing.TheVariants.{Differ}
+use Rattle.rv_machine.specs.declared.stops.Stop.{Stop}
+
+-- Turns that leave more to be made go on.
+
+-- one more turn leads on, where more may be made behind it
+leads_one : {code : Code} {m n : ℕ} {s t : State} {last : Option Observation} {o : Observation}
+    → Makes code m s last n t → last ≡ Some o → 0 < n → Leads code 1 s (o ∷ []) t × (n + 1 ≡ m)
+leads_one rests is more = absurd (omega (arith, more))
+leads_one {code} {s = s} {t = t} {o = o} (advances {n = n} {o = p} turn) is more =
+    let same : p ≡ o = cc in
+    (subst (λ x. Leads code 1 s (x ∷ []) t) same (turns turn stays), omega arith)
+leads_one (finishes end) is more = absurd (omega (arith, more))
+
+pub leads_all : {code : Code} {m n : ℕ} {s t : State} {seen : List Observation} → MakesAll code m s seen n t → 0 < n
+    → Leads code (length seen) s seen t × (n + length seen ≡ m)
+leads_all begins more = (stays, omega arith)
+leads_all {code} {s = s} {t = t} (further {seen = seen} {o = o} all turn) more =
+    let one = leads_one turn refl more in
+    let before = leads_all all (omega (arith, one.1, more)) in
+    let longer = length-append seen (o ∷ []) in
+    let count : length seen + 1 ≡ length (seen ++ o ∷ []) = omega (arith, longer) in (
+      subst (λ k. Leads code k s (seen ++ o ∷ []) t) count (Leads-append before.0 one.0),
+      omega (arith, longer, one.1, before.1),
+    )
+
+-- On the way of a run that goes on, each turn is one of its own.
+
+-- the next turn is the run's
+step_along : {code : Code} {m n j : ℕ} {s t u : State} {last : Option Observation} {rest : List Observation}
+    → Makes code m s last n t → Leads code j s rest u → 0 < m → 0 < j
+    → (o : Observation) × (more : List Observation) × (i : ℕ) × (last ≡ Some o) × (rest ≡ o ∷ more) × (j ≡ suc i)
+    × Leads code i t more u × (n + 1 ≡ m)
+step_along rests lead some later = absurd (omega (arith, some))
+step_along turn stays some later = absurd (omega (arith, later))
+step_along {code} {t = t} {u = u} (advances {n = n} {o = o} turn)
+    (turns {n = i} {o = p} {seen = more} {t = t'} other then) some later =
+    let e = Turn-determined turn other in
+    let same : t' ≡ t = cc in
+    let shown : Some o ≡ Some p = cc in
+    (p, more, i, shown, refl, refl, subst (λ x. Leads code i x more u) same then, omega arith)
+step_along (finishes end) (turns other then) some later = absurd (goes_on≢stops other end)
+
+-- so are all that were made
+pub along : {code : Code} {m n k : ℕ} {s t u : State} {seen whole : List Observation} → MakesAll code m s seen n t
+    → Leads code k s whole u → k < m → length seen ≤ k
+    → (j : ℕ) × (rest : List Observation) × (k ≡ length seen + j) × (whole ≡ seen ++ rest) × Leads code j t rest u
+    × (n + length seen ≡ m)
+along {k = k} {whole = whole} begins lead within far = (k, whole, omega arith, refl, lead, omega arith)
+along {whole = whole} (further {seen = seen} {o = o} all turn) lead within far =
+    let longer = length-append seen (o ∷ []) in
+    let before = along all lead within (omega (arith, longer, far)) in
+    let j = before.0 in
+    let step = step_along turn before.4 (omega (arith, before.5, within, far, longer)) (omega (arith, before.2, longer, far)) in
+    let p = step.0 in
+    let more = step.1 in
+    let same : o ≡ p = cc in
+    let next : seen ++ p ∷ more ≡ (seen ++ o ∷ []) ++ more = ap (λ x. seen ++ x ∷ more) {x = p} {y = o} (sym same)
+    ∙ sym (append_assoc seen (o ∷ []) more) in (
+      step.2,
+      more,
+      omega (arith, before.2, step.5, longer),
+      before.3 ∙ ap (λ l. seen ++ l) step.4 ∙ next,
+      step.6,
+      omega (arith, before.5, step.7, longer),
+    )
+
+-- two runs have shown this list
+abbrev pub InStep : Code → ℕ → State → ℕ → State → State → ℕ → State → List Observation → Type 0
+InStep code m s n t s' n' t' seen = MakesAll code m s seen n t × MakesAll code m s' seen n' t'
+
+-- two turns show the same
+abbrev pub ShowSame : Option Observation → Option Observation → Type 0
+ShowSame one other = (o : Observation) × (one ≡ Some o) × (other ≡ Some o)
+
+-- where both go on, the next turns of both show the same
+pub both_show : {code : Code} {m n k n' k' due : ℕ} {s t u s' t' u' : State} {seen : List Observation}
+    {one other : Option Observation} → InStep code m s n t s' n' t' seen → Makes code n t one k u
+    → Makes code n' t' other k' u' → length seen ≤ due → (0 < n → 0 < n' → length seen < due)
+    → BothGoOn code m s s' due → ShowSame one other
+both_show {n = n} {n' = n'} {seen = seen} made turn turn' far near on =
+    let way = along made.0 on.1.3 on.0 far in
+    let way' = along made.1 on.1.4 on.0 far in
+    let some : 0 < n = omega (arith, way.5, far, on.0) in
+    let some' : 0 < n' = omega (arith, way'.5, far, on.0) in
+    let closer = near some some' in
+    let step = step_along turn way.4 some (omega (arith, way.2, closer)) in
+    let step' = step_along turn' way'.4 some' (omega (arith, way'.2, closer)) in
+    let rests : way.1 ≡ way'.1 = append_cancel_left seen way.1 way'.1 (sym way.3 ∙ way'.3) in
+    let same : step'.0 ≡ step.0 = heads (sym step'.4 ∙ sym rests ∙ step.4) in
+    (step.0, step.3, step'.3 ∙ ap Some same)
+  where
+    heads : {o p : Observation} {a b : List Observation} → o ∷ a ≡ p ∷ b → o ≡ p
+    heads h = cc
+
+-- one more turn of each, which shows the same
+pub step_on : {code : Code} {m n k n' k' : ℕ} {s t u s' t' u' : State} {seen : List Observation}
+    {one other : Option Observation} {o p : Observation} → InStep code m s n t s' n' t' seen → one ≡ Some o
+    → other ≡ Some p → o ≡ p → Makes code n t one k u → Makes code n' t' other k' u'
+    → InStep code m s k u s' k' u' (seen ++ o ∷ [])
+step_on {code} {n = n} {k = k} {n' = n'} {k' = k'} {t = t} {u = u} {t' = t'} {u' = u'} made is is' same turn turn' = (
+  further made.0 (subst (λ last. Makes code n t last k u) is turn),
+  further made.1 (subst (λ last. Makes code n' t' last k' u') (is' ∙ ap Some (sym same)) turn'),
+)
+
+-- both go on after all that were made, where more may be
+pub both_go_on : {code : Code} {m n n' due : ℕ} {s t s' t' : State} {seen : List Observation}
+    → InStep code m s n t s' n' t' seen → 0 < n → 0 < n' → length seen ≡ due → BothGoOn code m s s' due
+both_go_on {code} {s = s} {t = t} {s' = s'} {t' = t'} {seen = seen} made more more' is =
+    let one = leads_all made.0 more in
+    let other = leads_all made.1 more' in (
+      omega (arith, one.1, more, is),
+      (seen, t, t', subst (λ k. Leads code k s seen t) is one.0, subst (λ k. Leads code k s' seen t') is other.0),
+    )
+
+-- they do not, where one of them has shown nothing, or they differ
+pub one_ended : {one other : Option Observation} → one ≡ None → ShowSame one other → ⊥
+one_ended none same = let some = same.1 in cc
+
+pub other_ended : {one other : Option Observation} → other ≡ None → ShowSame one other → ⊥
+other_ended none same = let some = same.2 in cc
+
+pub they_differ : {one other : Option Observation} {o p : Observation} {entry : ℕ} → one ≡ Some o → other ≡ Some p
+    → IsFirstDifference (entries_of (o ∷ [])) (entries_of (p ∷ [])) entry → ShowSame one other → ⊥
+they_differ {o = o} {p = p} {entry = entry} is is' first same =
+    let some = same.1 in
+    let some' = same.2 in
+    let equal : o ≡ p = cc in
+    first.there (ap (λ x. slice_get (entries_of (x ∷ [])) entry) equal)
+
+-- so the lines that went out are all
+pub told_at_end : {code : Code} {m n k n' k' made : ℕ} {s t u s' t' u' : State} {seen : List Observation}
+    {one other : Option Observation} {before after : List ℕ} (whole : Bool) (count : ℕ)
+    → InStep code m s n t s' n' t' seen → length seen ≡ made → Makes code n t one k u → Makes code n' t' other k' u'
+    → made ≤ suc count * turns_a_line → (0 < n → 0 < n' → made < suc count * turns_a_line)
+    → (ShowSame one other → ⊥) → Reaches (BothGoOn code m s s') count → WentOut whole count before after
+    → IsTold HasLines (BothGoOn code m s s') before after
+told_at_end {before = before} {after = after} whole count steps is turn turn' due next apart reached went = (
+  count,
+  record {
+    reached = reached;
+    no_more = λ on.
+        apart (both_show steps turn turn' (omega (arith, is, due)) (λ some some'. omega (arith, is, next some some')) on);
+  },
+  all_told whole count before after went,
+)
+
+-- What they show.
+
+-- what a later state shows follows, in an earlier one, what this turn shows
+abbrev pub TurnShows : Code → ℕ → State → ℕ → State → Option Observation → Type 0
+TurnShows code m s n t seen = (rest : List Observation) → IsShown code n t rest
+    → IsShown code m s (followed_by seen rest)
+
+-- and this list
+abbrev pub ListShows : Code → ℕ → State → ℕ → State → List Observation → Type 0
+ListShows code m s n t seen = (rest : List Observation) → IsShown code n t rest → IsShown code m s (seen ++ rest)
+
+pub shows_further : {code : Code} {m n k : ℕ} {s t u : State} {last : Option Observation} {o : Observation}
+    (seen : List Observation) → ListShows code m s n t seen → last ≡ Some o → TurnShows code n t k u last
+    → ListShows code m s k u (seen ++ o ∷ [])
+shows_further {code} {m} {n} {k} {s} {t} {u} {o = o} seen back is turn = λ rest shown.
+    let next = subst (λ last. TurnShows code n t k u last) is turn in
+    subst (λ xs. IsShown code m s xs) (sym (append_assoc seen (o ∷ []) rest)) (back (o ∷ rest) (next rest shown))
+
+runs_no_turns : {code : Code} {s t : State} {seen : List Observation} {stop : Stop} → Runs code zero s seen stop t
+    → seen ≡ []
+runs_no_turns (halted within (halts first end is)) = absurd (omega (arith, within))
+runs_no_turns (cut_short within first end shows) = absurd (omega (arith, within))
+runs_no_turns (spent stays) = refl
+
+-- a turn that showed something, and something behind it
+pub shows_some : {code : Code} {m n : ℕ} {s t : State} {last : Option Observation} {o : Observation} → last ≡ Some o
+    → TurnShows code m s n t last → (rest : List Observation) × IsShown code m s (o ∷ rest)
+shows_some {code} {m} {n} {s} {t} is turn =
+    let run = run_of_state code n t in
+    (run.0, subst (λ last. TurnShows code m s n t last) is turn run.0 (run.1, run.2, run.3, run.4))
+
+-- and one that showed nothing, and was the last
+pub shows_none : {code : Code} {m n : ℕ} {s t : State} {last : Option Observation} → last ≡ None → n ≡ 0
+    → TurnShows code m s n t last → IsShown code m s []
+shows_none {code} {m} {n} {s} {t} is none turn =
+    let run = run_of_state code zero t in
+    let empty : run.0 ≡ [] = runs_no_turns run.3 in
+    let shown : IsShown code 0 t [] = subst (λ xs. IsShown code 0 t xs) empty (run.1, run.2, run.3, run.4) in
+    subst (λ last. TurnShows code m s n t last) is turn [] (subst (λ k. IsShown code k t []) (sym none) shown)
+
+behind_common : (common one other : List Entry) (place : ℕ) → IsFirstDifference one other place
+    → IsFirstDifference (common ++ one) (common ++ other) (length common + place)
+behind_common [] one other place first = rw zero-add first
+behind_common (x ∷ common) one other place first =
+    let later = behind_common common one other place first in
+    rw suc-add (record { before = ap (λ list. x ∷ list) later.before; there = later.there })
+
+pub other_ends : (o : Observation) (seen : List Observation)
+    → IsFirstDifference (entries_of (o ∷ seen)) (entries_of []) 0
+other_ends o seen = record { before = refl; there = apart }
+  where
+    apart : Some (program_counter o.pc) ≡ None → ⊥
+    apart same = cc
+
+pub one_ends : (o : Observation) (seen : List Observation)
+    → IsFirstDifference (entries_of []) (entries_of (o ∷ seen)) 0
+one_ends o seen = record { before = refl; there = apart }
+  where
+    apart : None ≡ Some (program_counter o.pc) → ⊥
+    apart same = cc
+
+-- what an answer about two runs says
+abbrev pub IsAnswer : Code → ℕ → State → ℕ → State → Pairing → Type 0
+IsAnswer code m s m' s' answer =
+    (seen seen' : List Observation) × IsShown code m s seen × IsShown code m' s' seen'
+    × Compares (entries_of seen) (entries_of seen') answer
+
+-- what they show behind a list of so many entries differs
+pub differ_behind : {code : Code} {m n m' n' place : ℕ} {s t s' t' : State} {a b : List Observation} {k : ℕ}
+    (seen : List Observation) → length (entries_of seen) ≡ place → ListShows code m s n t seen
+    → ListShows code m' s' n' t' seen → IsShown code n t a → IsShown code n' t' b
+    → IsFirstDifference (entries_of a) (entries_of b) k → IsAnswer code m s m' s' (Differ (place + k))
+differ_behind {a = a} {b = b} {k = k} seen is back back' shown shown' first =
+    let whole = behind_common (entries_of seen) (entries_of a) (entries_of b) k first in (
+      seen ++ a,
+      seen ++ b,
+      back a shown,
+      back' b shown',
+      rw (← is, entries_of-append seen a, entries_of-append seen b) whole,
+    )

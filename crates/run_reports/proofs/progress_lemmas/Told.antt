@@ -1,0 +1,93 @@
+-- Lines that went out, and the next one.
+use Rattle.std.proofs.Common.{◌≡◌, ℕ, ◌+◌, ◌*◌, ◌<◌, ◌⊎◌, zero, suc, Bool, true, false, List, ◌++◌, length, take}
+use Rattle.std.proofs.Common.{IsTrue}
+use Rattle.std.proofs.Common.{length-append, append_assoc, append-nil, ⊎_elim, inl, inr, refl, sym, ap, ◌∙◌, subst}
+use Rattle.std.proofs.Common.{arith}
+use Rattle.run_reports.specs.progress.GoingOn.{GoesOn, Reaches, HasLines, IsTold}
+use Rattle.rv_machine.specs.Leakage.{Leads}
+use Rattle.rv_machine.specs.Machine.{State, Code}
+use Rattle.rv_machine.specs.declared.observation.Observation.{Observation}
+use Rattle.std.proofs.Math.Seq.{take-append-add}
+use Rattle.std.proofs.lemmas.List.{take-append-le}
+use Rattle.streams.specs.Streams.{GainsPart}
+use Rattle.run_reports.specs.progress.Lines.{turns_a_line, progress_line, progress_lines, WentOut, AreTold}
+
+-- a part of some bytes is one of more bytes
+part_of_more : {before after : List ℕ} (piece rest : List ℕ) → GainsPart before after piece
+    → GainsPart before after (piece ++ rest)
+part_of_more {before} piece rest part = record {
+  count = part.count;
+  some_left = omega (arith, length-append piece rest, part.some_left);
+  added = part.added
+      ∙ ap (λ l. before ++ l) (sym (take-append-le part.count piece rest (omega (arith, part.some_left))));
+}
+
+-- a part of what comes after these bytes
+part_behind : {before now after : List ℕ} (written piece : List ℕ) → now ≡ before ++ written
+    → GainsPart now after piece → GainsPart before after (written ++ piece)
+part_behind {before} written piece so_far part = record {
+  count = length written + part.count;
+  some_left = omega (arith, length-append written piece, part.some_left);
+  added = part.added ∙ ap (λ l. l ++ take part.count piece) so_far
+      ∙ append_assoc before written (take part.count piece)
+      ∙ ap (λ l. before ++ l) (sym (take-append-add written piece part.count));
+}
+
+-- no line has gone out yet
+pub none_yet : (whole : Bool) (count : ℕ) (now : List ℕ) → IsTrue whole → count ≡ 0 → WentOut whole count now now
+unfolding progress_lines
+none_yet true zero now is none = sym (append-nil now)
+none_yet true (suc count) now is none = absurd (omega (arith, none))
+none_yet false count now is none = cc
+
+-- the next line, where all went out and it does
+pub told_next : (count : ℕ) (before now after : List ℕ) → WentOut true count before now
+    → after ≡ now ++ progress_line (suc count * turns_a_line) → WentOut true (suc count) before after
+unfolding progress_lines
+told_next count before now after so_far line =
+    line ∙ ap (λ l. l ++ progress_line (suc count * turns_a_line)) so_far
+    ∙ append_assoc before (progress_lines count) (progress_line (suc count * turns_a_line))
+
+-- where it does not
+pub cut_next : (count : ℕ) (before now after : List ℕ) → WentOut true count before now
+    → GainsPart now after (progress_line (suc count * turns_a_line)) → WentOut false (suc count) before after
+unfolding progress_lines
+cut_next count before now after so_far line = part_behind (progress_lines count) _ so_far line
+
+-- and where a call failed before
+pub still_cut : (count : ℕ) (before after : List ℕ) → WentOut false count before after
+    → WentOut false (suc count) before after
+unfolding progress_lines
+still_cut count before after so_far = part_of_more (progress_lines count) _ so_far
+
+-- the lines of a run
+pub all_told : (whole : Bool) (count : ℕ) (before after : List ℕ) → WentOut whole count before after
+    → AreTold count before after
+all_told true count before after went = inl went
+all_told false count before after went = inr went
+
+-- so many pieces were made, and the run does not go on after one more
+pub lines_of_run : {code : Code} {budget left count : ℕ} {s t : State}
+    → (seen : List Observation) × Leads code (count * turns_a_line) s seen t → count * turns_a_line + left ≡ budget
+    → (count ≡ 0) ⊎ (0 < left)
+    → ((seen : List Observation) (u : State) → Leads code (count * turns_a_line + turns_a_line) s seen u → ⊥)
+    → HasLines (GoesOn code budget s) count
+lines_of_run {code} {budget} {left} {count} {s} {t} led made more over = record {
+  reached =
+      ⊎_elim (λ (none : count ≡ 0). inl none)
+      (λ (some : 0 < left). inr (omega (arith, made, some), (led.0, t, led.1))) more;
+  no_more = λ on.
+      let next : suc count * turns_a_line ≡ count * turns_a_line + turns_a_line = omega arith in
+      let all = on.1 in
+      over all.0 all.1 (subst (λ (n : ℕ). Leads code n s all.0 all.1) next all.2);
+}
+
+-- no line at all
+pub none_told : (GoesOnAfter : ℕ → Type 0) (now : List ℕ) → IsTold Reaches GoesOnAfter now now
+unfolding progress_lines
+none_told GoesOnAfter now = (0, inl refl, inl (sym (append-nil now)))
+
+-- a run that has so many lines reaches them
+pub reaches : {GoesOnAfter : ℕ → Type 0} {before after : List ℕ} → IsTold HasLines GoesOnAfter before after
+    → IsTold Reaches GoesOnAfter before after
+reaches told = (told.0, told.1.reached, told.2)

@@ -1,0 +1,4 @@
+pub mod Below
+pub mod Openings
+pub mod Parting
+pub mod Runs

@@ -1,0 +1,181 @@
+-- The first entry of a run, and how far two runs reach that differ.
+use Rattle.std.specs.Prelude.{nat_eq, slice_get}
+use Rattle.std.proofs.Common.{◌≡◌, ◌≢◌, ℕ, zero, suc, ◌%◌, ◌<◌, ◌≤◌, ◌⊎◌, Bool, true, false, cond, List, [], ◌∷◌}
+use Rattle.std.proofs.Common.{Option, Some, None, length, take, refl, sym, ap, ◌∙◌, subst, inl, inr, arith}
+use Rattle.rv_code.specs.Words.{word_of}
+use Rattle.rv_machine.specs.declared.effects.Effect.{Effect}
+use Rattle.rv_machine.specs.declared.effects.Effect.TheVariants.{Computes, Multiplies, Divides, Jumps, Branches}
+use Rattle.rv_machine.specs.declared.effects.Effect.TheVariants.{Passes, Loads, Stores, Calls, Breaks}
+use Rattle.rv_machine.specs.declared.observation.Observation.{Observation}
+use Rattle.rv_machine.specs.declared.stops.Stop.{Stop}
+use Rattle.rv_machine.specs.declared.stops.Stop.TheVariants.{RecorderRefused}
+use Rattle.rv_machine.specs.Bytes.{number_at}
+use Rattle.rv_machine.specs.Effects.{effect_of, load_size, store_size}
+use Rattle.rv_machine.specs.Entries.{Entry, program_counter, entries_of, IsFirstDifference}
+use Rattle.rv_machine.specs.Leakage.{stays, turns, halts, Runs, halted, cut_short, spent}
+use Rattle.rv_machine.specs.Machine.{State, Code, word_at, Ending, goes_on, stops, here, loaded, stored, ending_of}
+use Rattle.rv_machine.specs.Machine.{Turn, pc_misaligned, not_code, no_instruction, executes}
+use Rattle.rv_machine.specs.Sizes.{byte_count}
+use Rattle.run_reports.proofs.run_places_lemmas.Below.{Runs-determined}
+use Rattle.word.specs.declared.profile.Profile.{Profile}
+use Rattle.run_reports.specs.run_places.Places.{Ends, ShowsNext, IsLastBefore, ShowsFewer}
+
+-- What an instruction shows is of its own program counter, whether it goes on or stops.
+
+abbrev pub ShowsHere : State → Ending → Type 0
+ShowsHere s (goes_on o t) = o.pc ≡ s.pc
+ShowsHere s (stops seen stop) = seen ≡ here s
+
+either_here : (s : State) (b : Bool) (e f : Ending) → ShowsHere s e → ShowsHere s f → ShowsHere s (cond b e f)
+either_here s true e f one other = one
+either_here s false e f one other = other
+
+pub effect_here : (profile : Profile) (e : Effect) (s : State) → ShowsHere s (ending_of profile e s)
+unfolding ending_of
+effect_here profile (Computes rd value) s = refl
+effect_here profile (Multiplies rd a b value) s = refl
+effect_here profile (Divides rd a b value) s = refl
+effect_here profile (Jumps rd target) s = either_here s (nat_eq (target % 4) 0) _ _ refl refl
+effect_here profile (Branches target) s = either_here s (nat_eq (target % 4) 0) _ _ refl refl
+effect_here profile Passes s = refl
+effect_here profile (Loads operation rd a) s =
+    either_here s (nat_eq (a % byte_count (load_size operation)) 0) _ _
+    (from_number (number_at s.bytes (byte_count (load_size operation)) a)) refl
+  where
+    from_number : (o : Option ℕ) → ShowsHere s (loaded s operation a rd o)
+    from_number (Some value) = refl
+    from_number None = refl
+effect_here profile (Stores operation a value) s =
+    either_here s (nat_eq (a % byte_count (store_size operation)) 0) _ _
+    (over_number (number_at s.bytes (byte_count (store_size operation)) a)) refl
+  where
+    over_number : (o : Option ℕ) → ShowsHere s (stored s (store_size operation) a value o)
+    over_number (Some old) = refl
+    over_number None = refl
+effect_here profile Calls s = refl
+effect_here profile Breaks s = refl
+
+-- A turn shows its program counter first where a word stands there, and nothing where none does.
+
+abbrev shown_by : Ending → List Observation
+shown_by (goes_on o t) = o ∷ []
+shown_by (stops seen stop) = seen
+
+abbrev first_entry : List Observation → Option Entry
+first_entry [] = None
+first_entry (o ∷ list) = Some (program_counter o.pc)
+
+abbrev Stands : Code → ℕ → Type 0
+Stands code pc = (pc % 4 ≡ 0) × (word_at code pc ≢ None)
+
+abbrev Opens : Code → ℕ → Option Entry → Type 0
+Opens code pc first = ((first ≡ None) × (Stands code pc → ⊥)) ⊎ ((first ≡ Some (program_counter pc)) × Stands code pc)
+
+stands : (code : Code) (pc word : ℕ) → pc % 4 ≡ 0 → word_at code pc ≡ Some word → Stands code pc
+stands code pc word even is = (even, λ none. cc)
+
+opens_here : (s : State) (e : Ending) → ShowsHere s e → first_entry (shown_by e) ≡ Some (program_counter s.pc)
+opens_here s (goes_on o t) same = ap (λ pc. Some (program_counter pc)) same
+opens_here s (stops seen stop) same = ap first_entry same
+
+turn_opens : {code : Code} {s : State} {e : Ending} → Turn code s e → Opens code s.pc (first_entry (shown_by e))
+turn_opens (pc_misaligned odd) = inl (refl, λ there. odd there.0)
+turn_opens (not_code even none) = inl (refl, λ there. there.1 none)
+turn_opens {code} {s} (no_instruction {word = word} even is misfit) = inr (refl, stands code s.pc word even is)
+turn_opens {code} {s} (executes {ending = e} i even is ok ends) =
+    inr (
+      opens_here s e (subst (ShowsHere s) (sym ends) (effect_here code.profile (effect_of i s.pc s.regs) s)),
+      stands code s.pc (word_of i) even is,
+    )
+
+shown_opens : (code : Code) (t : State) (o : Observation) → ShowsNext code t o
+    → Opens code t.pc (Some (program_counter o.pc))
+shown_opens code t o (inl (u, turn)) = turn_opens turn
+shown_opens code t o (inr (stop, turn)) = turn_opens turn
+
+pub word_before : (code : Code) (budget : ℕ) (s t : State) (place : ℕ) (seen : List Observation)
+    → IsLastBefore code budget s place seen t → word_at code t.pc ≢ None
+word_before code budget s t place seen last = by (shown_opens code t last.next last.shown)
+  where
+    by : Opens code t.pc (Some (program_counter last.next.pc)) → word_at code t.pc ≢ None
+    by (inl (none, missing)) = cc
+    by (inr (is, there)) = there.1
+
+-- A run begins as its first turn does, where it makes any.
+
+abbrev Begins : Code → ℕ → State → List Observation → Type 0
+Begins code budget s whole = ((budget ≡ 0) × (whole ≡ [])) ⊎ ((0 < budget) × Opens code s.pc (first_entry whole))
+
+begins : (code : Code) (budget : ℕ) (s end : State) (whole : List Observation) (stop : Stop)
+    → Runs code budget s whole stop end → stop ≢ RecorderRefused → Begins code budget s whole
+begins code budget s end whole stop (halted within (halts stays turn is)) calm =
+    inr (omega (arith, within), subst (λ l. Opens code s.pc (first_entry l)) (sym is) (turn_opens turn))
+begins code budget s end whole stop (halted within (halts (turns first rest) turn is)) calm =
+    inr (omega (arith, within), subst (λ l. Opens code s.pc (first_entry l)) (sym is) (turn_opens first))
+begins code budget s end whole stop (cut_short within led turn shows) calm = absurd (calm refl)
+begins code budget s end whole stop (spent stays) calm = inl (refl, refl)
+begins code budget s end whole stop (spent (turns first rest)) calm = inr (omega arith, turn_opens first)
+
+-- Two runs that begin at one program counter show the same first, and each reaches the place of their first
+-- difference.
+
+first_at : (list : List Observation) → slice_get (entries_of list) 0 ≡ first_entry list
+first_at [] = refl
+first_at (o ∷ list) = refl
+
+one_opening : (code : Code) (pc : ℕ) (first second : Option Entry) → Opens code pc first → Opens code pc second
+    → first ≡ second
+one_opening code pc first second (inl (is, missing)) (inl (also, missing')) = is ∙ sym also
+one_opening code pc first second (inl (is, missing)) (inr (also, there)) = absurd (missing there)
+one_opening code pc first second (inr (is, there)) (inl (also, missing)) = absurd (missing there)
+one_opening code pc first second (inr (is, there)) (inr (also, there')) = is ∙ sym also
+
+one_beginning : (code : Code) (budget : ℕ) (s s' : State) (whole whole' : List Observation) → s.pc ≡ s'.pc
+    → Begins code budget s whole → Begins code budget s' whole' → first_entry whole ≡ first_entry whole'
+one_beginning code budget s s' whole whole' same (inl (none, is)) (inl (also, is')) = ap first_entry (is ∙ sym is')
+one_beginning code budget s s' whole whole' same (inl (none, is)) (inr (some, opens)) =
+    absurd (omega (arith, none, some))
+one_beginning code budget s s' whole whole' same (inr (some, opens)) (inl (none, is)) =
+    absurd (omega (arith, none, some))
+one_beginning code budget s s' whole whole' same (inr (some, opens)) (inr (also, opens')) =
+    one_opening code s.pc (first_entry whole) (first_entry whole') opens
+    (subst (λ pc. Opens code pc (first_entry whole')) (sym same) opens')
+
+pub difference_within : (one other : List Entry) (place : ℕ) → IsFirstDifference one other place
+    → (place ≤ length one) × (place ≤ length other)
+difference_within one other zero differ = (omega arith, omega arith)
+difference_within [] [] (suc place) differ = absurd (differ.there refl)
+difference_within [] (y ∷ other) (suc place) differ = let apart : [] ≡ y ∷ take place other = differ.before in cc
+difference_within (x ∷ one) [] (suc place) differ = let apart : x ∷ take place one ≡ [] = differ.before in cc
+difference_within (x ∷ one) (y ∷ other) (suc place) differ =
+    let same : x ∷ take place one ≡ y ∷ take place other = differ.before in
+    let rest : take place one ≡ take place other = cc in
+    let further : IsFirstDifference one other place = record { before = rest; there = differ.there } in
+    let within = difference_within one other place further in
+    (omega (arith, within.0), omega (arith, within.1))
+
+enough : (code : Code) (budget : ℕ) (s : State) (whole : List Observation) (stop : Stop) (place : ℕ)
+    → Ends code budget s whole stop → place ≤ length (entries_of whole) → ShowsFewer code budget s place → ⊥
+enough code budget s whole stop place ends within (seen, stop', ends', few) =
+    let same : whole ≡ seen = (Runs-determined ends.1 ends'.1 ends.2 ends'.2).0 in
+    absurd (omega (arith, within, few, ap (λ l. length (entries_of l)) same))
+
+pub difference_reached : (code : Code) (budget : ℕ) (s s' : State) (whole whole' : List Observation)
+    (stop stop' : Stop) (place : ℕ)
+    → Ends code budget s whole stop → Ends code budget s' whole' stop' → s.pc ≡ s'.pc
+    → IsFirstDifference (entries_of whole) (entries_of whole') place
+    → (0 < place) × (ShowsFewer code budget s place → ⊥) × (ShowsFewer code budget s' place → ⊥)
+difference_reached code budget s s' whole whole' stop stop' place ends ends' same differ =
+    let within = difference_within (entries_of whole) (entries_of whole') place differ in
+    let first : first_entry whole ≡ first_entry whole' =
+    one_beginning code budget s s' whole whole' same (begins code budget s ends.0 whole stop ends.1 ends.2)
+    (begins code budget s' ends'.0 whole' stop' ends'.1 ends'.2) in (
+      later place differ.there first,
+      enough code budget s whole stop place ends within.0,
+      enough code budget s' whole' stop' place ends' within.1,
+    )
+  where
+    later : (n : ℕ) → slice_get (entries_of whole) n ≢ slice_get (entries_of whole') n
+        → first_entry whole ≡ first_entry whole' → 0 < n
+    later zero there first = absurd (there (first_at whole ∙ (first ∙ sym (first_at whole'))))
+    later (suc n) there first = omega arith

@@ -1,0 +1,3 @@
+pub mod run_places
+pub mod progress
+pub mod pictures

@@ -1,0 +1,6 @@
+// TODO run_reports
+#![tactic(auto)]
+
+pub mod pictures;
+pub mod progress;
+pub mod run_places;

@@ -1,0 +1,64 @@
+// The picture of two runs.
+
+ghost use Rattle.std.specs.Prelude.{◌≡◌, ◌^◌, ◌<◌, ◌≤◌, ◌+◌, length, IfOk};
+ghost use Rattle.rv_machine.specs.Harts.{state_of};
+ghost use Rattle.rv_machine.specs.Regions.{code_of};
+ghost use Rattle.run_reports.specs.pictures.Pictured.{IsPicture};
+
+use crate::pictures::cells::{Area, Axes};
+use crate::pictures::grid::Grid;
+use crate::pictures::page::{Steps, page};
+use crate::pictures::painting::{count_steps, paint};
+use rv_machine::{CodeRegion, Memory, Running};
+use std::alloc::{AllocError, Global};
+
+/// Two runs that have not begun yet.
+#[derive(Drop)]
+pub struct Runs<M> {
+    pub one: Running<M>,
+    pub other: Running<M>,
+}
+
+/// What is drawn of two runs: which addresses code and frame have, what is said of the runs, which stands on the page as it
+/// is, and whether they are two, or one in both places.
+#[derive(Clone, Copy)]
+pub struct Drawing<'a> {
+    pub code: Area,
+    pub frame: Area,
+    pub said: &'a [u8],
+    pub are_two: bool,
+}
+
+/// The page of two runs of the same code. Each run is made twice, from one state: once to count its steps, and once to
+/// draw them. Memory is taken for cells and page alone, however many steps the runs make.
+pub fn picture<M: Memory>(
+    alloc: Global,
+    code: &CodeRegion,
+    counted: &mut Runs<M>,
+    drawn: &mut Runs<M>,
+    drawing: &Drawing<'_>,
+) -> Result<Vec<u8>, AllocError>
+    requires few { (drawn.old.one.turns_left < 2 ^ 63) × (drawn.old.other.turns_left < 2 ^ 63) }
+    requires steps { (counted.old.one.turns_left ≡ drawn.old.one.turns_left) × (counted.old.other.turns_left ≡ drawn.old.other.turns_left) }
+    requires one { state_of counted.old.one.hart (M.bytes counted.old.one.memory) ≡ state_of drawn.old.one.hart (M.bytes drawn.old.one.memory) }
+    requires other { state_of counted.old.other.hart (M.bytes counted.old.other.memory) ≡ state_of drawn.old.other.hart (M.bytes drawn.old.other.memory) }
+    ensures exact { IfOk result (λ page. IsPicture (code_of code.now)
+        drawn.old.one.turns_left (state_of drawn.old.one.hart (M.bytes drawn.old.one.memory))
+        drawn.old.other.turns_left (state_of drawn.old.other.hart (M.bytes drawn.old.other.memory))
+        drawing.now.code drawing.now.frame drawing.now.said.now drawing.now.are_two page.items) }
+    ensures small { IfOk result (λ page. length page.items ≤ 1_000_000 + length drawing.now.said.now) }
+{
+    let steps = Steps {
+        are_two: drawing.are_two,
+        one: count_steps(alloc, code, &mut counted.one),
+        other: count_steps(alloc, code, &mut counted.other),
+    };
+    let axes = Axes {
+        steps: steps.one.max(steps.other),
+        code: drawing.code,
+        frame: drawing.frame,
+    };
+    let mut grid = Grid::new(alloc, axes)?;
+    paint(alloc, code, &mut drawn.one, &mut drawn.other, &mut grid);
+    page(alloc, &grid, drawing.said, steps)
+}

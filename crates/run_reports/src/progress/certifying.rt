@@ -1,0 +1,79 @@
+// A certified run in pieces.
+
+ghost use Rattle.std.specs.Prelude.{◌≡◌, ℕ, ◌+◌, ◌^◌, ◌<◌, List, IsTrue, is_some};
+ghost use Rattle.certified_runs.specs.Certified.{RunEnding, CertifiedRun};
+ghost use Rattle.certified_runs.specs.End.{end_of};
+ghost use Rattle.certified_runs.specs.Parts.{known_of};
+ghost use Rattle.run_reports.specs.progress.Certified.{GoesOnKnown, entries_at, end_behind};
+ghost use Rattle.run_reports.specs.progress.GoingOn.{HasLines, IsTold};
+ghost use Rattle.rv_machine.specs.Harts.{state_of};
+ghost use Rattle.rv_machine.specs.Regions.{code_of};
+ghost use Rattle.rv_machine.specs.declared.observation.Observation.{Observation};
+
+use crate::progress::lines::{ProgressLines, TURNS_A_LINE};
+use certified_runs::{CertifiedEnd, KnownParts, certify};
+use rv_machine::{CodeRegion, Memory, Running};
+use streams::Sink;
+
+/// How many entries are counted where a run ends so.
+fn entries_at(end: CertifiedEnd) -> u64
+    ensures { result ≡ entries_at end }
+{
+    match end {
+        CertifiedEnd::Same { entries, .. } => entries,
+        CertifiedEnd::MayDiffer { entry, .. } => entry,
+    }
+}
+
+/// The end of a run of which so many entries were shown before.
+fn end_behind(before: u64, end: CertifiedEnd) -> CertifiedEnd
+    requires { before + entries_at end < 2 ^ 64 }
+    ensures { result ≡ end_behind before end }
+{
+    match end {
+        CertifiedEnd::Same { stop, entries } => CertifiedEnd::Same {
+            stop,
+            entries: before + entries,
+        },
+        CertifiedEnd::MayDiffer { entry, pc } => CertifiedEnd::MayDiffer {
+            entry: before + entry,
+            pc,
+        },
+    }
+}
+
+/// Makes turns of a run of which these parts are known, as `certify` does. A line goes out behind each `TURNS_A_LINE` turns
+/// after which the run goes on.
+pub fn certify_in_pieces<M: Memory, E: Sink>(
+    code: &CodeRegion,
+    run: &mut Running<M>,
+    known: &mut KnownParts<M>,
+    err: &mut E,
+) -> CertifiedEnd
+    requires few { run.old.turns_left < 2 ^ 62 }
+    requires extent { (a : ℕ) → is_some (M.bytes known.old.marks a) ≡ is_some (M.bytes run.old.memory a) }
+    ensures certified { (seen : List Observation) × (ending : RunEnding)
+        × CertifiedRun (code_of code.now) run.old.turns_left
+        (known_of (state_of run.old.hart (M.bytes run.old.memory)) known.old.registers (M.bytes known.old.marks) known.old.shifts) seen ending
+        × (result ≡ end_of seen ending) }
+    ensures told { IsTrue E.TELLS → IsTold HasLines (GoesOnKnown (code_of code.now) run.old.turns_left
+        (known_of (state_of run.old.hart (M.bytes run.old.memory)) known.old.registers (M.bytes known.old.marks) known.old.shifts))
+        (E.taken err.old) (E.taken err.new) }
+{
+    let mut lines = ProgressLines::new();
+    let mut entries = 0;
+    let mut left = run.turns_left;
+    while left > TURNS_A_LINE {
+        run.turns_left = TURNS_A_LINE;
+        let end = certify(code, run, known);
+        if run.turns_left > 0 {
+            return end_behind(entries, end);
+        }
+        entries += entries_at(end);
+        left -= TURNS_A_LINE;
+        lines.tell(err);
+    }
+    run.turns_left = left;
+    let end = certify(code, run, known);
+    end_behind(entries, end)
+}

@@ -1,0 +1,58 @@
+// The lines of progress.
+
+ghost use Rattle.std.specs.Prelude.{◌≡◌, ℕ, ◌+◌, ◌*◌, ◌^◌, ◌<◌, ◌++◌, List, IsTrue, OnOk, OnErr};
+ghost use Rattle.run_reports.specs.progress.Lines.{turns_a_line, progress_line, WentOut};
+ghost use Rattle.streams.specs.Streams.{GainsPart};
+
+use arrayvec::ArrayString;
+use std::fmt::Write;
+use streams::{Sink, SinkFault, put_all};
+
+/// How many turns there are to a line.
+pub const TURNS_A_LINE: u64 = 1 << 27;
+
+/// Writes the line of so many turns.
+fn put_line<E: Sink>(err: &mut E, turns: u64) -> Result<(), SinkFault>
+    ensures whole { IsTrue E.TELLS → OnOk result (E.taken err.new ≡ E.taken err.old ++ progress_line turns) }
+    ensures beginning { IsTrue E.TELLS → OnErr result (GainsPart (E.taken err.old) (E.taken err.new) (progress_line turns)) }
+{
+    let mut line = ArrayString::<48>::new();
+    match writeln!(line, "progress: {turns} turns") {
+        Ok(()) => put_all(err, line.as_bytes()),
+        // There is room.
+        Err(_) => Err(SinkFault),
+    }
+}
+
+/// How many lines a run has, and whether all went out. Where a call fails no further line is tried.
+#[derive(Clone, Copy, Debug)]
+pub struct ProgressLines {
+    pub count: u64,
+    pub whole: bool,
+}
+
+impl ProgressLines {
+    /// None yet.
+    pub fn new() -> Self
+        ensures none { result.count ≡ 0 }
+        ensures whole { IsTrue result.whole }
+    {
+        ProgressLines {
+            count: 0,
+            whole: true,
+        }
+    }
+
+    /// Writes the next line.
+    pub fn tell<E: Sink>(&mut self, err: &mut E)
+        requires few { (self.old.count + 1) * turns_a_line < 2 ^ 64 }
+        ensures next { self.new.count ≡ self.old.count + 1 }
+        ensures told { (before : List ℕ) → IsTrue E.TELLS → WentOut self.old.whole self.old.count before (E.taken err.old)
+            → WentOut self.new.whole self.new.count before (E.taken err.new) }
+    {
+        self.count += 1;
+        if self.whole {
+            self.whole = put_line(err, self.count * TURNS_A_LINE).is_ok();
+        }
+    }
+}

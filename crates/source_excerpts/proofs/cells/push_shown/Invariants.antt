@@ -1,9 +1,0 @@
--- What is put at the end so far, and what the bytes that are left give, are all.
-use Rattle.std.proofs.Common.{◌≡◌, ◌++◌, drop}
-use Rattle.std.specs.String.{string_bytes}
-use Rattle.source_excerpts.specs.Excerpt.{shown}
-use Rattle.source_excerpts.proofs.cells.push_shown.Given as goal
-
-abbrev pub invariant-loop-byte : goal.invariant-loop-byte
-invariant-loop-byte l = string_bytes l.text ++ shown (drop l.byte-index l.bytes) ≡ string_bytes l.fn.text
-    ++ shown l.bytes

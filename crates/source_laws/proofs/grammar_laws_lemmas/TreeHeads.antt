@@ -1,0 +1,271 @@
+-- The heads of a tree are tokens of the text, and each token is at most one head.
+use Rattle.std.proofs.Common.{◌≡◌, ◌≢◌, ℕ, ◌+◌, ◌<◌, ◌≤◌, ◌⊎◌, inl, inr, ⊎_elim, Bool, true, false, List, [], ◌∷◌}
+use Rattle.std.proofs.Common.{Option, refl, sym, ap, ◌∙◌, arith, nat_eq, eqb-true, eq-eqb}
+use Rattle.std.specs.Prelude.{if◌then◌else◌}
+use Rattle.word.specs.declared.place.Place.{Place}
+use Rattle.language.specs.declared.signature.Kind.{Kind}
+use Rattle.language.specs.declared.typing.WordType.{WordType}
+use Rattle.language.specs.Tree.{ExprTree, CallTree, RightTree, StatementTree, BlockTree, ParameterTree, ReturnTree}
+use Rattle.language.specs.Tree.{ProcedureTree, ProgramTree}
+use Rattle.syntax.specs.declared.token.TokenKind.{TokenKind}
+use Rattle.syntax.specs.Grammar.{ExprAt, MoreExprs, SomeExprs, Arguments, Call, RightSide, Mutable, ArrayType}
+use Rattle.syntax.specs.Grammar.{FirstValues, Statement, Conditional, Statements, Block, Otherwise, Parameter}
+use Rattle.syntax.specs.Grammar.{MoreParameters, Parameters, ResultType, BodyEnd, Exported, Procedure, Procedures}
+use Rattle.syntax.specs.Grammar.{IsProgram, a_number, a_true, a_false, a_name, an_element, in_brackets, a_conversion}
+use Rattle.syntax.specs.Grammar.{a_select, a_prefix, a_rotation, a_binary, no_more, one_more, some_exprs}
+use Rattle.syntax.specs.Grammar.{no_arguments, some_arguments, a_call, a_call_value, a_value, no_mut, a_mut}
+use Rattle.syntax.specs.Grammar.{an_array_type, no_values, some_values, a_declaration, an_array, an_assignment}
+use Rattle.syntax.specs.Grammar.{an_element_assignment, a_call_statement, a_conditional_statement, a_loop}
+use Rattle.syntax.specs.Grammar.{a_conditional, no_statement, one_statement, a_block, no_else, an_else, an_else_if}
+use Rattle.syntax.specs.Grammar.{a_word, a_fixed_array, a_mutable_array, no_more_parameters, one_more_parameter}
+use Rattle.syntax.specs.Grammar.{no_parameters, some_parameters, a_void, a_type, no_return, a_return, not_exported}
+use Rattle.syntax.specs.Grammar.{an_export, a_procedure, no_procedure, one_procedure, a_program}
+use Rattle.syntax.specs.Lexeme.{Lexeme}
+use Rattle.syntax.specs.Reading.{Reads, accepted, by_tokens, Answers, a_program as program_answer}
+use Rattle.syntax.specs.Tokens.{Ending, LexesFrom, at_end, past_space, past_token, at_bad_number}
+use Rattle.syntax.specs.Tokens.{at_unknown_character}
+use Rattle.source_laws.proofs.grammar_laws_lemmas.Below.{spelled_some}
+use Rattle.source_laws.proofs.grammar_laws_lemmas.TokenPlaces.{offset_after}
+use Rattle.source_laws.specs.grammar_laws.Heads.{here, in_expr, in_exprs, in_values, in_call, in_right, in_statement, in_block}
+use Rattle.source_laws.specs.grammar_laws.Heads.{in_parameters, in_return, in_export, in_procedure, in_procedures, in_program}
+
+-- the weights of the tokens' places, summed
+abbrev pub among : (Place → ℕ) → List Lexeme → ℕ
+among w [] = 0
+among w (t ∷ tokens) = w t.place + among w tokens
+
+module _ (w : Place → ℕ) where
+  expr : {level : ℕ} {tokens rest : List Lexeme} {tree : ExprTree} → ExprAt level tokens tree rest
+      → in_expr w tree + among w rest ≤ among w tokens
+  expr (a_number level t value suffix rest is) = omega arith
+  expr (a_true level t rest is) = omega arith
+  expr (a_false level t rest is) = omega arith
+  expr (a_name level t rest is) = omega arith
+  expr (an_element level t opening closing inner rest index is opens in_index closes) = let h = expr in_index in
+      omega (arith, h)
+  expr (in_brackets level opening closing inner rest tree opens in_tree closes) = let h = expr in_tree in
+      omega (arith, h)
+  expr (a_conversion level t opening closing inner rest kind tree is opens in_tree closes) = let h = expr in_tree in
+      omega (arith, h)
+  expr (a_select level t opening comma comma' closing start second third rest a b c is opens in_a is_comma in_b
+      is_comma' in_c closes) =
+      let ha = expr in_a in
+      let hb = expr in_b in
+      let hc = expr in_c in
+      omega (arith, ha, hb, hc)
+  expr (a_prefix level t operator inner rest operand is in_operand) = let h = expr in_operand in omega (arith, h)
+  expr (a_rotation level t number amount start rest operand is at in_operand is_amount) = let h = expr in_operand in
+      omega (arith, h)
+  expr (a_binary level t operator start second rest left right is at in_left in_right) =
+      let hl = expr in_left in
+      let hr = expr in_right in
+      omega (arith, hl, hr)
+
+  more_exprs : {end : TokenKind} {tokens rest : List Lexeme} {trees : List ExprTree} → MoreExprs end tokens trees rest
+      → in_exprs w trees + among w rest ≤ among w tokens
+  more_exprs (no_more closing rest is) = omega arith
+  more_exprs (one_more comma list second rest tree trees is in_tree in_trees) =
+      let h = expr in_tree in
+      let hs = more_exprs in_trees in
+      omega (arith, h, hs)
+
+  exprs : {end : TokenKind} {tokens rest : List Lexeme} {trees : List ExprTree} → SomeExprs end tokens trees rest
+      → in_exprs w trees + among w rest ≤ among w tokens
+  exprs (some_exprs list second rest tree trees in_tree in_trees) =
+      let h = expr in_tree in
+      let hs = more_exprs in_trees in
+      omega (arith, h, hs)
+
+  arguments : {tokens rest : List Lexeme} {trees : List ExprTree} → Arguments tokens trees rest
+      → in_exprs w trees + among w rest ≤ among w tokens
+  arguments (no_arguments closing rest is) = omega arith
+  arguments (some_arguments list rest trees in_trees) = exprs in_trees
+
+  call : {tokens rest : List Lexeme} {tree : CallTree} → Call tokens tree rest
+      → in_call w tree + among w rest ≤ among w tokens
+  call (a_call t opening list rest trees is opens in_trees) = let h = arguments in_trees in omega (arith, h)
+
+  right : {tokens rest : List Lexeme} {tree : RightTree} → RightSide tokens tree rest
+      → in_right w tree + among w rest ≤ among w tokens
+  right (a_call_value list rest tree in_tree) = call in_tree
+  right (a_value list rest tree in_tree) = expr in_tree
+
+  mutable : {tokens rest : List Lexeme} {is : Bool} → Mutable tokens is rest → among w rest ≤ among w tokens
+  mutable (no_mut rest) = omega arith
+  mutable (a_mut t rest is) = omega arith
+
+  array_type : {tokens rest : List Lexeme} {kind : Kind} {length : ℕ} → ArrayType tokens kind length rest
+      → among w rest ≤ among w tokens
+  array_type (an_array_type word opening number closing rest kind length is opens is_length closes) = omega arith
+
+  values : {tokens rest : List Lexeme} {trees : Option (List ExprTree)} → FirstValues tokens trees rest
+      → in_values w trees + among w rest ≤ among w tokens
+  values (no_values rest) = omega arith
+  values (some_values equals opening list rest trees is opens in_trees) = let h = exprs in_trees in omega (arith, h)
+
+  mutual
+    statement : {tokens rest : List Lexeme} {tree : StatementTree} → Statement tokens tree rest
+        → in_statement w tree + among w rest ≤ among w tokens
+    statement (a_declaration start second t equals semicolon list right' rest label is_mut kind tree is in_mut is_kind
+        is_name is_equals in_right ends) =
+        let hm = mutable in_mut in
+        let hr = right in_right in
+        omega (arith, hm, hr)
+    statement (an_array start t semicolon list second values' rest label is_mut kind length trees is in_mut in_type
+        is_name in_values ends) =
+        let hm = mutable in_mut in
+        let ht = array_type in_type in
+        let hv = values in_values in
+        omega (arith, hm, ht, hv)
+    statement (an_assignment t equals semicolon right' rest tree is is_equals in_right ends) = let h =
+        right in_right in omega (arith, h)
+    statement (an_element_assignment t opening closing equals semicolon inner right' rest index tree is opens in_index
+        closes is_equals in_right ends) =
+        let hi = expr in_index in
+        let hr = right in_right in
+        omega (arith, hi, hr)
+    statement (a_call_statement semicolon list rest tree in_call ends) = let h = call in_call in omega (arith, h)
+    statement (a_conditional_statement list rest tree in_tree) = conditional in_tree
+    statement (a_loop t opening word counter from to closing low high body rest start end trees is opens is_word
+        is_name is_from in_low is_to in_high closes in_body) =
+        let hl = expr in_low in
+        let hh = expr in_high in
+        let hb = block in_body in
+        omega (arith, hl, hh, hb)
+
+    conditional : {tokens rest : List Lexeme} {tree : StatementTree} → Conditional tokens tree rest
+        → in_statement w tree + among w rest ≤ among w tokens
+    conditional (a_conditional t opening closing list arm others rest condition one other is opens in_condition closes
+        in_arm in_otherwise) =
+        let hc = expr in_condition in
+        let ha = block in_arm in
+        let ho = otherwise in_otherwise in
+        omega (arith, hc, ha, ho)
+
+    statements : {tokens rest : List Lexeme} {tree : BlockTree} → Statements tokens tree rest
+        → in_block w tree + among w rest ≤ among w tokens
+    statements (no_statement rest) = omega arith
+    statements (one_statement list others rest tree trees in_tree in_trees) =
+        let h = statement in_tree in
+        let hs = statements in_trees in
+        omega (arith, h, hs)
+
+    block : {tokens rest : List Lexeme} {tree : BlockTree} → Block tokens tree rest
+        → in_block w tree + among w rest ≤ among w tokens
+    block (a_block opening closing list rest trees opens in_trees closes) = let h = statements in_trees in
+        omega (arith, h)
+
+    otherwise : {tokens rest : List Lexeme} {tree : BlockTree} → Otherwise tokens tree rest
+        → in_block w tree + among w rest ≤ among w tokens
+    otherwise (no_else rest) = omega arith
+    otherwise (an_else t arm rest trees is in_arm) = let h = block in_arm in omega (arith, h)
+    otherwise (an_else_if t list rest tree is in_tree) = let h = conditional in_tree in omega (arith, h)
+
+  parameter : {tokens rest : List Lexeme} {tree : ParameterTree} → Parameter tokens tree rest
+      → w tree.place + among w rest ≤ among w tokens
+  parameter (a_word start second t rest label kind is is_kind is_name) = omega arith
+  parameter (a_fixed_array start t list rest label kind length is in_type is_name) = let h = array_type in_type in
+      omega (arith, h)
+  parameter (a_mutable_array start word t list rest label kind length is is_mut in_type is_name) = let h =
+      array_type in_type in omega (arith, h)
+
+  more_parameters : {tokens rest : List Lexeme} {trees : List ParameterTree} → MoreParameters tokens trees rest
+      → in_parameters w trees + among w rest ≤ among w tokens
+  more_parameters (no_more_parameters closing rest is) = omega arith
+  more_parameters (one_more_parameter comma list second rest tree trees is in_tree in_trees) =
+      let h = parameter in_tree in
+      let hs = more_parameters in_trees in
+      omega (arith, h, hs)
+
+  parameters : {tokens rest : List Lexeme} {trees : List ParameterTree} → Parameters tokens trees rest
+      → in_parameters w trees + among w rest ≤ among w tokens
+  parameters (no_parameters closing rest is) = omega arith
+  parameters (some_parameters list second rest tree trees in_tree in_trees) =
+      let h = parameter in_tree in
+      let hs = more_parameters in_trees in
+      omega (arith, h, hs)
+
+  result : {tokens rest : List Lexeme} {type : Option WordType} → ResultType tokens type rest
+      → among w rest ≤ among w tokens
+  result (a_void t rest is) = omega arith
+  result (a_type start second rest label kind is is_kind) = omega arith
+
+  returned : {tokens rest : List Lexeme} {tree : Option ReturnTree} → BodyEnd tokens tree rest
+      → in_return w tree + among w rest ≤ among w tokens
+  returned (no_return closing rest is) = omega arith
+  returned (a_return t semicolon closing list rest tree is in_tree ends closes) = let h = expr in_tree in
+      omega (arith, h)
+
+  exported : {tokens rest : List Lexeme} {place : Option Place} → Exported tokens place rest
+      → in_export w place + among w rest ≤ among w tokens
+  exported (not_exported rest) = omega arith
+  exported (an_export t rest is) = omega arith
+
+  procedure : {tokens rest : List Lexeme} {tree : ProcedureTree} → Procedure tokens tree rest
+      → in_procedure w tree + among w rest ≤ among w tokens
+  procedure (a_procedure t opening opening' list signature parameters' body end rest export type own trees returned'
+      in_export in_result is opens in_parameters opens' in_body in_end) =
+      let he = exported in_export in
+      let ht = result in_result in
+      let hp = parameters in_parameters in
+      let hb = statements in_body in
+      let hr = returned in_end in
+      omega (arith, he, ht, hp, hb, hr)
+
+  procedures : {tokens : List Lexeme} {trees : List ProcedureTree} → Procedures tokens trees
+      → in_procedures w trees ≤ among w tokens
+  procedures no_procedure = omega arith
+  procedures (one_procedure list others tree trees in_tree in_trees) =
+      let h = procedure in_tree in
+      let hs = procedures in_trees in
+      omega (arith, h, hs)
+
+  pub program : {tokens : List Lexeme} {tree : ProgramTree} → IsProgram tokens tree
+      → in_program w tree ≤ among w tokens
+  program (a_program list trees in_trees) = procedures in_trees
+
+module _ (n : ℕ) where
+  -- a place is at the offset or not
+  where_is : (place : Place) → ((place.offset ≡ n) × (here n place ≡ 1)) ⊎ ((place.offset ≢ n) × (here n place ≡ 0))
+  where_is place = by (nat_eq place.offset n) refl
+    where
+      by : (b : Bool) → nat_eq place.offset n ≡ b → ((place.offset ≡ n) × (here n place ≡ 1))
+          ⊎ ((place.offset ≢ n) × (here n place ≡ 0))
+      by true e = inl (eqb-true place.offset n e, ap (λ b. if b then 1 else 0) e)
+      by false e = inr (
+        (λ same. absurd (let h : false ≡ true = sym e ∙ eq-eqb place.offset n same in cc)),
+        ap (λ b. if b then 1 else 0) e,
+      )
+
+  -- tokens stand one after another
+  apart : {place : Place} {text : List ℕ} {tokens : List Lexeme} {end : Ending} → LexesFrom place text tokens end
+      → (n < place.offset → among (here n) tokens ≡ 0) × (among (here n) tokens ≤ 1)
+  apart (at_end place) = (λ _. refl, omega arith)
+  apart (past_space place text spelling rest tokens end begins h) =
+      let later = offset_after place spelling in
+      let r = apart h in
+      (λ less. r.0 (omega (arith, less, later)), r.1)
+  apart (past_token place text spelling rest kind tokens end begins h) =
+      let later = offset_after place spelling in
+      let some = spelled_some begins.spelled in
+      let r = apart h in
+      let none = r.0 in
+      let few = r.1 in
+      ⊎_elim
+      (λ is. let z = none (omega (arith, is.0, later, some)) in
+      (λ less. absurd (omega (arith, less, is.0)), omega (arith, is.1, z)))
+      (λ no. (λ less. let z = none (omega (arith, less, later)) in omega (arith, no.1, z), omega (arith, no.1, few)))
+      (where_is place)
+  apart (at_bad_number place text spelling rest begins) = (λ _. refl, omega arith)
+  apart (at_unknown_character place b text none) = (λ _. refl, omega arith)
+
+  answered : (tokens : List Lexeme) (ending : Ending) (tree : ProgramTree) → Answers tokens ending (accepted tree)
+      → among (here n) tokens ≤ 1 → in_program (here n) tree ≤ 1
+  answered tokens ending tree (program_answer _ end _ is within) few = let h = program (here n) is in
+      omega (arith, h, few)
+
+-- at each offset stands one head at most
+pub one_head : (text : List ℕ) (tree : ProgramTree) → Reads text (accepted tree) → (n : ℕ)
+    → in_program (here n) tree ≤ 1
+one_head text tree (by_tokens _ tokens ending _ short lexes answers) n =
+    answered n tokens ending tree answers (apart n lexes).1

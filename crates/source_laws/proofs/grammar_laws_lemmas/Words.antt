@@ -1,0 +1,193 @@
+-- Each word of a text is a keyword, a name, a number or a bad one.
+use Rattle.std.proofs.Common.{◌≡◌, ◌≢◌, ℕ, ◌^◌, ◌<◌, ◌≤◌, ◌⊎◌, inl, inr, ⊎_elim, Bool, true, false, List, [], ◌∷◌}
+use Rattle.std.proofs.Common.{◌++◌, length, take, drop, get_or, Option, Some, None, refl, sym, ap, ◌∙◌, subst, arith}
+use Rattle.std.specs.Prelude.{codes, nat_lt}
+use Rattle.std.specs.Bool.{Decides}
+use Rattle.std.specs.Char.{digit_value, is_ascii_digit}
+use Rattle.std.specs.List.{AllByRecursion, list_all}
+use Rattle.std.specs.Str.{bytes_eq}
+use Rattle.std.specs.Str.Parse.{AllDigits, IsNumeral, digits_value}
+use Rattle.std.proofs.lemmas.List.{take-append-drop}
+use Rattle.std.proofs.lemmas.Slice.Eq.{bytes_eq-Decides}
+use Rattle.syntax.specs.declared.lexer.piece.Piece.{Piece}
+use Rattle.syntax.specs.declared.lexer.piece.Piece.TheVariants.{Token, BadNumber}
+use Rattle.syntax.specs.declared.token.Keyword.{Keyword}
+use Rattle.syntax.specs.declared.token.Keyword.TheVariants.{Export, Void, Public, Secret, Mut, Bool as BoolWord}
+use Rattle.syntax.specs.declared.token.Keyword.TheVariants.{Uint8, Uint16, Uint32, True, False, If, Else, For, From}
+use Rattle.syntax.specs.declared.token.Keyword.TheVariants.{To, Return, Select}
+use Rattle.syntax.specs.declared.token.Suffix.{Suffix}
+use Rattle.syntax.specs.declared.token.Suffix.TheVariants.{U8, U16, U32}
+use Rattle.syntax.specs.declared.token.TokenKind.TheVariants.{Keyword as KeywordToken, Name as NameToken}
+use Rattle.syntax.specs.declared.token.TokenKind.TheVariants.{Number as NumberToken}
+use Rattle.syntax.specs.Spelling.{IsNumber, Spells, WritesValue, bad_number, keyword, keyword_text, is_word_byte}
+use Rattle.syntax.specs.Spelling.{name, number, suffix_text}
+use Rattle.syntax.specs.private.Splitting.{SplitsAtFirst, is_suffix_letter}
+use Rattle.source_laws.proofs.grammar_laws_lemmas.Below.{lt-true, lt-false, name_word, number_cut, number_word, value_unique, run_at}
+
+-- what a test decides, holds or does not
+by_test : {P : Type 0} (b : Bool) → Decides b P → P ⊎ (P → ⊥)
+by_test true decides = inl (decides.0 refl)
+by_test false decides = inr (λ p. absurd (let e = decides.1 p in cc))
+
+pub below : (n m : ℕ) → (n < m) ⊎ (m ≤ n)
+below n m = by (nat_lt n m) refl
+  where
+    by : (b : Bool) → nat_lt n m ≡ b → (n < m) ⊎ (m ≤ n)
+    by true e = inl (lt-true n m e)
+    by false e = inr (lt-false n m e)
+
+same_bytes : (xs ys : List ℕ) → (xs ≡ ys) ⊎ (xs ≡ ys → ⊥)
+same_bytes xs ys = by_test (bytes_eq xs ys) (bytes_eq-Decides xs ys)
+
+-- Keywords.
+
+keywords : List Keyword
+keywords = Export ∷ Void ∷ Public ∷ Secret ∷ Mut ∷ BoolWord ∷ Uint8 ∷ Uint16 ∷ Uint32 ∷ True ∷ False ∷ If ∷ Else ∷ For
+    ∷ From ∷ To ∷ Return ∷ Select ∷ []
+
+each : (P : Keyword → Type 0) → AllByRecursion P keywords → (word : Keyword) → P word
+unfolding keywords
+each P all Export = all.0
+each P all Void = all.1.0
+each P all Public = all.1.1.0
+each P all Secret = all.1.1.1.0
+each P all Mut = all.1.1.1.1.0
+each P all BoolWord = all.1.1.1.1.1.0
+each P all Uint8 = all.1.1.1.1.1.1.0
+each P all Uint16 = all.1.1.1.1.1.1.1.0
+each P all Uint32 = all.1.1.1.1.1.1.1.1.0
+each P all True = all.1.1.1.1.1.1.1.1.1.0
+each P all False = all.1.1.1.1.1.1.1.1.1.1.0
+each P all If = all.1.1.1.1.1.1.1.1.1.1.1.0
+each P all Else = all.1.1.1.1.1.1.1.1.1.1.1.1.0
+each P all For = all.1.1.1.1.1.1.1.1.1.1.1.1.1.0
+each P all From = all.1.1.1.1.1.1.1.1.1.1.1.1.1.1.0
+each P all To = all.1.1.1.1.1.1.1.1.1.1.1.1.1.1.1.0
+each P all Return = all.1.1.1.1.1.1.1.1.1.1.1.1.1.1.1.1.0
+each P all Select = all.1.1.1.1.1.1.1.1.1.1.1.1.1.1.1.1.1.0
+
+abbrev None_of : List ℕ → List Keyword → Type 0
+None_of word = AllByRecursion (λ spelled. word ≢ keyword_text spelled)
+
+one_of : (word : List ℕ) (all : List Keyword) → ((spelled : Keyword) × (word ≡ keyword_text spelled))
+    ⊎ None_of word all
+one_of word [] = inr tt
+one_of word (spelled ∷ all) =
+    ⊎_elim
+    (λ is. inl (spelled, is))
+    (λ no. ⊎_elim (λ found. inl found) (λ none. inr (no, none)) (one_of word all))
+    (same_bytes word (keyword_text spelled))
+
+-- Numbers.
+
+suffixes : (tail : List ℕ) → ((suffix : Option Suffix) × (suffix_text suffix ≡ tail))
+    ⊎ ((suffix : Option Suffix) → suffix_text suffix ≡ tail → ⊥)
+suffixes tail =
+    ⊎_elim (λ is. inl (None, is)) (λ no0.
+    ⊎_elim (λ is. inl (Some U8, is)) (λ no1.
+    ⊎_elim (λ is. inl (Some U16, is)) (λ no2.
+    ⊎_elim (λ is. inl (Some U32, is)) (λ no3. inr (λ suffix. no no0 no1 no2 no3 suffix))
+    (same_bytes (suffix_text (Some U32)) tail))
+    (same_bytes (suffix_text (Some U16)) tail))
+    (same_bytes (suffix_text (Some U8)) tail))
+    (same_bytes (suffix_text None) tail)
+  where
+    no : (suffix_text None ≡ tail → ⊥) → (suffix_text (Some U8) ≡ tail → ⊥) → (suffix_text (Some U16) ≡ tail → ⊥)
+        → (suffix_text (Some U32) ≡ tail → ⊥) → (suffix : Option Suffix) → suffix_text suffix ≡ tail → ⊥
+    no a b c d None = a
+    no a b c d (Some U8) = b
+    no a b c d (Some U16) = c
+    no a b c d (Some U32) = d
+
+all_digits : (radix : ℕ) (digits : List ℕ) → AllDigits radix digits ⊎ (AllDigits radix digits → ⊥)
+all_digits radix [] = inl tt
+all_digits radix (c ∷ digits) =
+    ⊎_elim
+    (λ small. ⊎_elim (λ all. inl (small, all)) (λ no. inr (λ h. no h.1)) (all_digits radix digits))
+    (λ large. inr (λ h. let small = h.0 in omega (arith, large, small)))
+    (below (digit_value c) radix)
+
+numeral : (radix : ℕ) (digits : List ℕ) → IsNumeral radix digits ⊎ (IsNumeral radix digits → ⊥)
+numeral radix [] = inr (λ h. let some = h.0 in omega (arith, some))
+numeral radix (c ∷ digits) =
+    ⊎_elim (λ all. inl (omega arith, all)) (λ no. inr (λ h. no h.1)) (all_digits radix (c ∷ digits))
+
+written : (digits : List ℕ) → ((value : ℕ) × WritesValue digits value) ⊎ ((value : ℕ) → WritesValue digits value → ⊥)
+written digits = ⊎_elim (λ h. inl (digits_value 10 digits, inl (h, refl))) hexadecimal (numeral 10 digits)
+  where
+    hexadecimal : (IsNumeral 10 digits → ⊥) → ((value : ℕ) × WritesValue digits value)
+        ⊎ ((value : ℕ) → WritesValue digits value → ⊥)
+    hexadecimal other =
+        ⊎_elim
+        (λ is.
+        let parts : digits ≡ codes "0x" ++ drop 2 digits = sym (take-append-drop 2 digits)
+        ∙ ap (λ l. l ++ drop 2 digits) is in
+        ⊎_elim
+        (λ h. inl (digits_value 16 (drop 2 digits), inr (drop 2 digits, parts, h, refl)))
+        (λ none.
+        inr (λ value w. ⊎_elim (λ d. other d.0) (λ h. none (subst (IsNumeral 16) (sym (ap (drop 2) h.1)) h.2))
+        w))
+        (numeral 16 (drop 2 digits)))
+        (λ unlike. inr (λ value w. ⊎_elim (λ d. other d.0) (λ h. unlike (ap (take 2) h.1)) w))
+        (same_bytes (take 2 digits) (codes "0x"))
+
+abbrev Read : List ℕ → Type 0
+Read word = ((value : ℕ) × (suffix : Option Suffix) × IsNumber word value suffix)
+    ⊎ ((value : ℕ) (suffix : Option Suffix) → IsNumber word value suffix → ⊥)
+
+module _ (word digits tail : List ℕ) (split : SplitsAtFirst is_suffix_letter word digits tail) where
+  same_digits : (value : ℕ) (suffix : Option Suffix) → IsNumber word value suffix → WritesValue digits value
+  same_digits value suffix n =
+      subst (λ l. WritesValue l value) (number_cut word digits tail split value suffix n).0 n.written
+
+  with_value : (suffix : Option Suffix) → suffix_text suffix ≡ tail → (value : ℕ) → WritesValue digits value
+      → Read word
+  with_value suffix is value writes =
+      ⊎_elim
+      (λ small. inl (
+        value,
+        suffix,
+        record {
+          digits = digits;
+          parts = split.parts ∙ ap (λ l. digits ++ l) (sym is);
+          written = writes;
+          small = small;
+        },
+      ))
+      (λ large. inr (λ v s n.
+      let same : v ≡ value = value_unique digits v value (same_digits v s n) writes in
+      let small : v < 2 ^ 32 = n.small in
+      omega (arith, same, small, large)))
+      (below value (2 ^ 32))
+
+  read_parts : Read word
+  read_parts =
+      ⊎_elim
+      (λ h. ⊎_elim (λ w. with_value h.0 h.1 w.0 w.1) (λ no. inr (λ v s n. no v (same_digits v s n))) (written digits))
+      (λ no. inr (λ v s n. no s (number_cut word digits tail split v s n).1))
+      (suffixes tail)
+
+read : (word : List ℕ) → Read word
+read word = read_parts word _ _ (run_at is_suffix_letter word)
+
+-- Words.
+
+pub word_spelled : (word : List ℕ) → 0 < length word → list_all is_word_byte word ≡ true
+    → (piece : Piece) × Spells piece word
+word_spelled word some all = by (is_ascii_digit (get_or word 0 0)) refl
+  where
+    by : (b : Bool) → is_ascii_digit (get_or word 0 0) ≡ b → (piece : Piece) × Spells piece word
+    by true e =
+        ⊎_elim
+        (λ h. (Token (NumberToken h.0 h.1), number word h.0 h.1 (number_word word some e all) h.2))
+        (λ no. (BadNumber, bad_number word (number_word word some e all) no))
+        (read word)
+    by false e =
+        ⊎_elim
+        (λ h. (Token (KeywordToken h.0), subst (Spells (Token (KeywordToken h.0))) (sym h.1) (keyword h.0)))
+        (λ none. (
+          Token NameToken,
+          name word (name_word word some e all)
+              (each (λ spelled. word ≢ keyword_text spelled) none),
+        ))
+        (one_of word keywords)

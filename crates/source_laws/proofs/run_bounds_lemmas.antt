@@ -1,0 +1,5 @@
+pub mod Below
+pub mod Counts
+pub mod Spending
+pub mod Programs
+pub mod Answered

@@ -1,0 +1,53 @@
+-- What these proofs take from the proofs of the crates below, in one place.
+pub use Rattle.inline.proofs.Face.{
+  Behaves,
+  Comes,
+  EachCallable,
+  Enters,
+  IsCallable,
+  IsKept,
+  Linked,
+  Ready,
+  Shows,
+  Stand,
+  all_own,
+  begins,
+  behaves,
+  call_means,
+  callable_after,
+  callable_declared,
+  callable_parameters,
+  callable_within,
+  distinct_none,
+  enters,
+  entry,
+  fails,
+  flat_keeps_meaning,
+  linked_parameters,
+  means,
+  no_names,
+  own_typing,
+  passed_comes,
+  ready_after,
+  ready_declared,
+  ready_later,
+  same_all,
+  same_end,
+  same_ends,
+  same_nodes,
+  shows_arguments,
+  shows_before,
+  shows_declared,
+  shows_kept,
+  typed_with,
+  variables_within,
+  well,
+  with_value-other,
+  word_at,
+}
+pub use Rattle.intervals.proofs.EvaluatedLemmas.{safe_runs_are_within_work}
+pub use Rattle.intervals.proofs.Safe.{accepted_is_safe, safe_runs_meet_no_fault}
+pub use Rattle.language.proofs.names_lemmas.Lookup.{found-kept}
+pub use Rattle.source_eval.proofs.Opening.{program_opens}
+pub use Rattle.source_eval.proofs.RunEnds.{mismatch}
+pub use Rattle.source_eval.proofs.WorkedOut.{block-worked, passed-worked, statement-worked, value-worked, worked-out}

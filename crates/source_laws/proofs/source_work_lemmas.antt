@@ -1,0 +1,4 @@
+pub mod Below
+pub mod Walked
+pub mod Sums
+pub mod Export

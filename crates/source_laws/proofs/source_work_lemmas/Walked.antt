@@ -1,0 +1,69 @@
+-- The work of a body with numbered variables, by the intervals where each loop stands.
+use Rattle.std.proofs.Common.{◌≡◌, ℕ, ◌+◌, ◌*◌, List, refl, sym, ap₂, arith}
+use Rattle.inline.specs.declared.flat.FlatVariable.{FlatVariable}
+use Rattle.inline.specs.Flat.{FlatTree, declare, array, assign, put, hold, skip, branch, loop, FlatBlock, nothing}
+use Rattle.inline.specs.Flat.{first, chain}
+use Rattle.inline.specs.FlatSize.{term_nodes, terms_nodes}
+use Rattle.intervals.specs.Intervals.{Bounds, interval}
+use Rattle.intervals.specs.Narrowing.{where_true, where_false}
+use Rattle.intervals.specs.Ranges.{bounds_after, bounds_after_all, in_loop, most_turns}
+use Rattle.intervals.specs.Work.{tree_work, body_work}
+use Rattle.source_laws.proofs.source_work_lemmas.Below.{AreCounted, AllCounted}
+
+module _ (declared : List FlatVariable) where
+  abbrev mutual
+    pub walked : Bounds → FlatTree → ℕ
+    walked bounds (declare x word mutable value) = 1 + term_nodes value
+    walked bounds (array x word mutable size values) = 1 + size + terms_nodes values
+    walked bounds (assign x value) = 1 + term_nodes value
+    walked bounds (put place x size index value) = 1 + (1 + term_nodes index) + term_nodes value
+    walked bounds (hold x place size index) = 1 + term_nodes index
+    walked bounds skip = 1
+    walked bounds (branch label condition accepted otherwise) =
+        1 + term_nodes condition + walked_all (where_true declared bounds label condition) accepted
+        + walked_all (where_false declared bounds label condition) otherwise
+    walked bounds (loop x low high body) =
+        term_nodes low + term_nodes high
+        + (most_turns (interval declared bounds low) (interval declared bounds high) + 1)
+        * (1 + walked_all (in_loop declared bounds x low high) body)
+
+    pub walked_all : Bounds → FlatBlock → ℕ
+    walked_all bounds nothing = 0
+    walked_all bounds (first s rest) = walked bounds s + walked_all (bounds_after declared bounds s) rest
+
+  pub bounds_chain : (bounds : Bounds) (a b : FlatBlock)
+      → bounds_after_all declared bounds (chain a b)
+      ≡ bounds_after_all declared (bounds_after_all declared bounds a) b
+  bounds_chain bounds nothing b = refl
+  bounds_chain bounds (first s a) b = bounds_chain (bounds_after declared bounds s) a b
+
+  pub walked_chain : (bounds : Bounds) (a b : FlatBlock)
+      → walked_all bounds (chain a b) ≡ walked_all bounds a + walked_all (bounds_after_all declared bounds a) b
+  walked_chain bounds nothing b = omega arith
+  walked_chain bounds (first s a) b = let same = walked_chain (bounds_after declared bounds s) a b in
+      omega (arith, same)
+
+  -- where the turns that are counted are those of each loop, the two are one
+  module _ (turns : List ℕ) where
+    mutual
+      tree_walked : (s : FlatTree) (bounds : Bounds) → AreCounted declared turns bounds s
+          → tree_work turns s ≡ walked bounds s
+      tree_walked (declare x word mutable value) bounds counted = refl
+      tree_walked (array x word mutable size values) bounds counted = refl
+      tree_walked (assign x value) bounds counted = refl
+      tree_walked (put place x size index value) bounds counted = refl
+      tree_walked (hold x place size index) bounds counted = refl
+      tree_walked skip bounds counted = refl
+      tree_walked (branch label condition accepted otherwise) bounds counted =
+          ap₂ (λ a b. 1 + term_nodes condition + a + b)
+          (body_walked accepted (where_true declared bounds label condition) counted.0)
+          (body_walked otherwise (where_false declared bounds label condition) counted.1)
+      tree_walked (loop x low high body) bounds counted =
+          ap₂ (λ n w. term_nodes low + term_nodes high + (n + 1) * (1 + w)) (sym counted.0)
+          (body_walked body (in_loop declared bounds x low high) counted.1)
+
+      pub body_walked : (b : FlatBlock) (bounds : Bounds) → AllCounted declared turns bounds b
+          → body_work turns b ≡ walked_all bounds b
+      body_walked nothing bounds counted = refl
+      body_walked (first s rest) bounds counted =
+          ap₂ ◌+◌ (tree_walked s bounds counted.0) (body_walked rest (bounds_after declared bounds s) counted.1)

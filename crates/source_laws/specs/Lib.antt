@@ -1,0 +1,2 @@
+pub mod grammar_laws
+pub mod source_work

@@ -1,0 +1,40 @@
+// The laws, which hold of the definitions alone.
+
+ghost use Rattle.std.specs.Prelude.{◌≡◌, ℕ, ◌≤◌, List, [], Some, Ok, length, map};
+ghost use Rattle.std.specs.List.{AllByRecursion};
+ghost use Rattle.language.specs.arguments.Within.{AreWithin};
+ghost use Rattle.inline.specs.FlatMeaning.{outcome_of};
+ghost use Rattle.inline.specs.FlatTyping.{IsTypedProgram};
+ghost use Rattle.inline.specs.Numbering.{flattened};
+ghost use Rattle.intervals.specs.Limits.{most_work};
+ghost use Rattle.intervals.specs.Evaluated.{evaluated_by};
+ghost use Rattle.intervals.specs.Ranges.{range_violations};
+ghost use Rattle.intervals.specs.Work.{work_of};
+ghost use Rattle.language.specs.Limits.{most_bodies};
+ghost use Rattle.language.specs.declared.values.Arg.{Arg};
+ghost use Rattle.language.specs.Evaluation.{program_run};
+ghost use Rattle.language.specs.Grammatical.{IsGrammatical};
+ghost use Rattle.language.specs.Signature.{exported, param_of};
+ghost use Rattle.language.specs.Size.{bodies_of, extents_of};
+ghost use Rattle.language.specs.Tree.{ProcedureTree, ProgramTree};
+ghost use Rattle.language.specs.Typing.{violations};
+ghost use Rattle.source_eval.specs.Answer.{run_answer};
+ghost use Rattle.word.specs.declared.profile.Profile.{Profile};
+
+/// A run of a program that violates no rule evaluates no more nodes than are counted for a run of the one body that it
+/// becomes.
+pub fn runs_evaluate_what_is_counted()
+    ensures { (profile : Profile) (program : ProgramTree) (before : List ProcedureTree) (p : ProcedureTree) (args : List Arg) → length (violations profile program) ≡ 0
+        → exported [] program.procedures ≡ Some (before, p) → AllByRecursion IsGrammatical before → IsGrammatical p → AreWithin (map param_of p.parameters) args
+        → (program_run program args).nodes ≤ evaluated_by (flattened profile before p) args }
+{}
+
+/// Of a program that all passes accept its outcome is answered, within any budget that is at least the greatest work that is
+/// allowed: it meets no fault, and it uses no budget up.
+pub fn accepted_programs_are_answered()
+    ensures { (profile : Profile) (program : ProgramTree) (before : List ProcedureTree) (p : ProcedureTree) (args : List Arg) (budget : ℕ) → length (violations profile program) ≡ 0
+        → exported [] program.procedures ≡ Some (before, p) → AllByRecursion IsGrammatical before → IsGrammatical p → IsTypedProgram (flattened profile before p)
+        → bodies_of (extents_of before) p ≤ most_bodies → length (range_violations (flattened profile before p)) ≡ 0 → work_of (flattened profile before p) ≤ most_work
+        → AreWithin (map param_of p.parameters) args → most_work ≤ budget
+        → run_answer (program_run program args) budget ≡ Ok (outcome_of (flattened profile before p) args) }
+{}

@@ -1,4 +1,0 @@
-mod Below
-mod Walked
-mod Sums
-pub mod Export

@@ -1,4 +1,0 @@
-mod Below
-pub mod TreeLemmas
-pub mod PartLemmas
-pub mod GreatestLemmas

@@ -1,2 +1,0 @@
--- What these proofs take from the proofs of the crates below, in one place.
-pub use Rattle.arguments.proofs.FaultLemmas.{Decides-values, fault_by-same, length-AreWithin, rule_of-None}

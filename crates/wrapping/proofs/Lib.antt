@@ -1,4 +1,0 @@
-mod Below
-pub mod WordLemmas
-pub mod FieldLemmas
-pub mod WrapLaws
