@@ -3,8 +3,7 @@ use Rattle.std.specs.Prelude.{ℕ, zero, suc, ◌%◌, ◌||◌, Bool, true, fal
 use Rattle.rv_code.specs.declared.instructions.Instr.{Instr}
 use Rattle.rv_code.specs.declared.instructions.Instr.TheVariants.{Register}
 use Rattle.rv_code.specs.declared.operations.RegisterOperation.{RegisterOperation}
-use Rattle.rv_code.specs.declared.operations.RegisterOperation.TheVariants.{Add, Sub, Sll, Slt, Sltu, Xor, Srl, Sra}
-use Rattle.rv_code.specs.declared.operations.RegisterOperation.TheVariants.{Or, And}
+use Rattle.rv_code.specs.declared.operations.RegisterOperation.TheVariants.{Sll, Srl, Sra}
 use Rattle.rv_machine.specs.declared.observation.Observation.{Observation}
 use Rattle.rv_machine.specs.declared.stops.Stop.{Stop}
 use Rattle.rv_machine.specs.Machine.{State, Code, IsAt, goes_on, stops, Turn}
@@ -17,13 +16,7 @@ abbrev pub is_shift : RegisterOperation → Bool
 is_shift Sll = true
 is_shift Srl = true
 is_shift Sra = true
-is_shift Add = false
-is_shift Sub = false
-is_shift Slt = false
-is_shift Sltu = false
-is_shift Xor = false
-is_shift Or = false
-is_shift And = false
+is_shift _ = false
 
 -- whether the amount that an operation shifts by, if it shifts, is known as far as the observer sees it
 abbrev pub decides_amount : Shifts → RegisterOperation → Bool → Bool

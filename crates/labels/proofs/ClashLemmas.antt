@@ -15,7 +15,7 @@ use Rattle.language.specs.declared.tree.Parameter.{Parameter}
 use Rattle.language.specs.declared.typing.ValueType.{ValueType}
 use Rattle.language.specs.Tree.{ExprTree, ParameterTree, expr_tree, parameter_tree}
 use Rattle.language.specs.Typing.{Passed, array_name, clash, clashes, is_mutable, passed, same_name}
-use Rattle.labels.specs.Arrays.{was_given, with_array, with_changed}
+use Rattle.labels.specs.private.Arrays.{was_given, with_array, with_changed}
 
 abbrev pub Names : Type 0
 Names = List (List ℕ × Bool)

@@ -1,4 +1,2 @@
-pub mod Written
 pub mod Exports
-pub mod Inside
-pub mod Arrays
+pub mod private

@@ -5,7 +5,7 @@ ghost use Rattle.language.specs.Tree.{expr_tree, parameter_tree};
 ghost use Rattle.language.specs.Typing.{array_name, clashes, passed};
 ghost use Rattle.language.specs.declared.typing.ArrayType.{ArrayType};
 ghost use Rattle.language.specs.declared.typing.ValueType.TheVariants.{Array};
-ghost use Rattle.labels.specs.Arrays.{was_given, with_array, with_changed};
+ghost use Rattle.labels.specs.private.Arrays.{was_given, with_array, with_changed};
 
 use language::names::Names;
 use language::{Expr, Parameter, ValueType};

@@ -6,7 +6,7 @@ ghost use Rattle.language.specs.declared.tree.Statement.{Declare, DeclareArray};
 ghost use Rattle.language.specs.Types.{at, found, of_all, of_one};
 ghost use Rattle.language.specs.Typing.{array_rules, count_rules, declaration_control_rules, declaration_rules, right_type, right_violations, scope_after, statement_violations, values_rules};
 ghost use Rattle.language.specs.Sooner.{sooner};
-ghost use Rattle.labels.specs.Written.{values_tree};
+ghost use Rattle.labels.specs.private.Written.{values_tree};
 
 use crate::calls::call;
 use crate::expressions::{expression, expressions};

@@ -5,7 +5,7 @@ ghost use Rattle.language.specs.Types.{at, of_one};
 ghost use Rattle.language.specs.Typing.{parameter_violations, procedure_rules, procedure_violations, return_rules};
 ghost use Rattle.language.specs.Typing.{return_violations, scope_after_all, with_parameters, with_procedure};
 ghost use Rattle.language.specs.Sooner.{sooner};
-ghost use Rattle.labels.specs.Inside.{inside_violations};
+ghost use Rattle.labels.specs.private.Inside.{inside_violations};
 
 use crate::arguments::parameter_value;
 use crate::expressions::expression;
