@@ -5,7 +5,7 @@ use Rattle.branch_removal.specs.Quiet.{is_marked, is_quiet}
 use Rattle.inline.specs.Flat.{TermTree, number, truth, variable, prefix, binary, rotate, convert, select, element}
 use Rattle.inline.specs.FlatMeaning.{Values, value_in, path_in, marks_of}
 use Rattle.inline.specs.Path.{Path}
-use Rattle.language.specs.declared.tree.BinaryOperator.{BinaryOperator}
+use Rattle.language.specs.declared.operators.BinaryOperator.{BinaryOperator}
 use Rattle.language.specs.Operators.{divides, multiplies}
 use Rattle.word.specs.declared.place.Place.{Place}
 

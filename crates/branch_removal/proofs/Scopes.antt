@@ -12,7 +12,7 @@ use Rattle.inline.specs.FlatTyping.{IsResult, IsTyped, AreTyped, types_after, ty
 use Rattle.branch_removal.specs.StraightTyping.{types_but}
 use Rattle.language.specs.declared.signature.Label.{Label}
 use Rattle.language.specs.declared.typing.WordType.{WordType}
-use Rattle.language.specs.ExprTyping.{operation_of}
+use Rattle.language.specs.Operators.{operation_of}
 use Rattle.language.specs.WellTyped.{Makes}
 use Rattle.word.specs.declared.profile.Profile.{Profile}
 

@@ -15,12 +15,12 @@ use Rattle.inline.specs.FlatTyping.{of_rotation, of_conversion, of_selection, of
 use Rattle.inline.specs.Path.{Path, indexed, divided, multiplied, seen}
 use Rattle.language.specs.declared.signature.Label.{Label}
 use Rattle.language.specs.declared.signature.Label.TheVariants.{Public, Secret}
-use Rattle.language.specs.declared.tree.BinaryOperator.{BinaryOperator}
-use Rattle.language.specs.declared.tree.BinaryOperator.TheVariants.{Multiply}
-use Rattle.language.specs.declared.tree.BinaryOperator.TheVariants.{Divide, Remainder}
+use Rattle.language.specs.declared.operators.BinaryOperator.{BinaryOperator}
+use Rattle.language.specs.declared.operators.BinaryOperator.TheVariants.{Multiply}
+use Rattle.language.specs.declared.operators.BinaryOperator.TheVariants.{Divide, Remainder}
 use Rattle.language.specs.declared.operation.Operation.{Operation}
 use Rattle.language.specs.declared.typing.WordType.{WordType}
-use Rattle.language.specs.ExprTyping.{operation_of}
+use Rattle.language.specs.Operators.{operation_of}
 use Rattle.language.specs.Operators.{operated, prefix_value, width_of}
 use Rattle.language.specs.Types.{joined, is_secret}
 use Rattle.language.specs.WellTyped.{Makes, arithmetic, multiplication, division as divides_public, shift, equality}

@@ -15,9 +15,9 @@ use Rattle.codegen.specs.private.Compared.{against_zero}
 use Rattle.inline.specs.Flat.{binary}
 use Rattle.inline.specs.FlatMeaning.{marks_of}
 use Rattle.inline.specs.FlatTyping.{of_binary}
-use Rattle.language.specs.declared.tree.BinaryOperator.{BinaryOperator}
-use Rattle.language.specs.declared.tree.BinaryOperator.TheVariants.{Equal, Unequal, Less, LessOrEqual, Greater}
-use Rattle.language.specs.declared.tree.BinaryOperator.TheVariants.{GreaterOrEqual}
+use Rattle.language.specs.declared.operators.BinaryOperator.{BinaryOperator}
+use Rattle.language.specs.declared.operators.BinaryOperator.TheVariants.{Equal, Unequal, Less, LessOrEqual, Greater}
+use Rattle.language.specs.declared.operators.BinaryOperator.TheVariants.{GreaterOrEqual}
 use Rattle.language.specs.Operators.{operated}
 use Rattle.rv_machine.specs.Effects.{holds}
 use Rattle.rv_machine.specs.Machine as machine

@@ -20,12 +20,14 @@ use Rattle.language.specs.declared.signature.Label.TheVariants.{Public}
 use Rattle.language.specs.declared.operation.Operation.{Operation}
 use Rattle.language.specs.declared.typing.ValueType.TheVariants.{Word}
 use Rattle.language.specs.declared.typing.WordType.{WordType}
-use Rattle.language.specs.ExprTyping.{operation_of, operation_kind}
+use Rattle.language.specs.ExprTyping.{operation_kind}
+use Rattle.language.specs.Operators.{operation_of}
 use Rattle.language.specs.Grammatical.{AreSmall}
 use Rattle.language.specs.Meaning.{Evaluates, EvaluatesAll, by_operands, operand_faults, none_left, one_more}
 use Rattle.language.specs.Meaning.{this_faults, later_faults, gives, faults, word_held, element_held, operands}
 use Rattle.language.specs.Meaning.{applied}
-use Rattle.language.specs.Operators.{divides, multiplies, operated, prefix_value, width_of, binary_word}
+use Rattle.language.specs.Operators.{divides, multiplies, operated, prefix_value, width_of}
+use Rattle.language.specs.OperatorWords.{binary_word}
 use Rattle.language.specs.State.{State, Value, single, array}
 use Rattle.language.specs.State as state
 use Rattle.language.specs.Tree.{ExprTree, number, truth, name, prefix, binary, rotate, convert, select, element}

@@ -10,8 +10,8 @@ use Rattle.inline.specs.Flat.{first, FlatProgram}
 use Rattle.language.specs.contracts.signature.Param as param
 use Rattle.language.specs.contracts.signature.Kind as kind
 use Rattle.language.specs.contracts.signature.Label as label
-use Rattle.language.specs.contracts.tree.BinaryOperator as operator
-use Rattle.language.specs.contracts.tree.PrefixOperator as prefix_operator
+use Rattle.language.specs.contracts.operators.BinaryOperator as operator
+use Rattle.language.specs.contracts.operators.PrefixOperator as prefix_operator
 use Rattle.language.specs.contracts.typing.WordType as word
 use Rattle.word.specs.contracts.place.Place as place
 use Rattle.word.specs.contracts.profile.Profile as profile

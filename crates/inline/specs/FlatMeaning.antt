@@ -15,7 +15,7 @@ use Rattle.language.specs.Results.{Results}
 use Rattle.language.specs.declared.signature.Form.{Form}
 use Rattle.language.specs.declared.signature.Form.TheVariants.{SingleWord, FixedArray, MutableArray}
 use Rattle.language.specs.declared.signature.Param.{Param}
-use Rattle.language.specs.declared.tree.BinaryOperator.{BinaryOperator}
+use Rattle.language.specs.declared.operators.BinaryOperator.{BinaryOperator}
 use Rattle.language.specs.declared.values.Arg.{Arg}
 use Rattle.word.specs.Operators.{rotated_left, converted, word_of}
 use Rattle.word.specs.declared.place.Place.{Place}

@@ -17,7 +17,8 @@ use Rattle.language.specs.declared.signature.Label.TheVariants.{Public}
 use Rattle.language.specs.declared.typing.WordType.{WordType}
 use Rattle.word.specs.declared.place.Place.{Place}
 use Rattle.word.specs.declared.profile.Profile.{Profile}
-use Rattle.language.specs.ExprTyping.{operation_of, operation_kind}
+use Rattle.language.specs.ExprTyping.{operation_kind}
+use Rattle.language.specs.Operators.{operation_of}
 use Rattle.language.specs.Operators.{width_of}
 pub use Rattle.language.specs.Signature.{param_of}
 use Rattle.language.specs.Known.{Known, known_of}

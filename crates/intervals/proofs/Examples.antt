@@ -11,10 +11,10 @@ use Rattle.intervals.specs.Ranges.{counter_interval, most_turns, range_violation
 use Rattle.intervals.specs.Work.{work_of, work_violations}
 use Rattle.language.specs.declared.signature.Kind.TheVariants.{Uint8, Uint16, Uint32}
 use Rattle.language.specs.declared.signature.Label.TheVariants.{Public, Secret}
-use Rattle.language.specs.declared.tree.BinaryOperator.TheVariants.{Both, Equal, Less, LessOrEqual, Greater, BitOr}
-use Rattle.language.specs.declared.tree.BinaryOperator.TheVariants.{BitXor, BitAnd, ShiftLeft, ShiftRight, Add}
-use Rattle.language.specs.declared.tree.BinaryOperator.TheVariants.{Subtract, Multiply, Divide, Remainder}
-use Rattle.language.specs.declared.tree.PrefixOperator.TheVariants.{Complement, Negate}
+use Rattle.language.specs.declared.operators.BinaryOperator.TheVariants.{Both, Equal, Less, LessOrEqual, Greater, BitOr}
+use Rattle.language.specs.declared.operators.BinaryOperator.TheVariants.{BitXor, BitAnd, ShiftLeft, ShiftRight, Add}
+use Rattle.language.specs.declared.operators.BinaryOperator.TheVariants.{Subtract, Multiply, Divide, Remainder}
+use Rattle.language.specs.declared.operators.PrefixOperator.TheVariants.{Complement, Negate}
 use Rattle.language.specs.WellTyped.{labelled}
 use Rattle.word.specs.Places.{origin}
 use Rattle.word.specs.declared.profile.Profile.TheVariants.{P1}

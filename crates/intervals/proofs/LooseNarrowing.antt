@@ -27,8 +27,8 @@ use Rattle.intervals.proofs.LooseTypes.{one_type}
 use Rattle.language.specs.Operators.{operated, truth_of}
 use Rattle.language.specs.declared.signature.Label.{Label}
 use Rattle.language.specs.declared.signature.Label.TheVariants.{Public, Secret}
-use Rattle.language.specs.declared.tree.BinaryOperator.{BinaryOperator}
-use Rattle.language.specs.declared.tree.BinaryOperator.TheVariants.{Both, Equal, Less, LessOrEqual}
+use Rattle.language.specs.declared.operators.BinaryOperator.{BinaryOperator}
+use Rattle.language.specs.declared.operators.BinaryOperator.TheVariants.{Both, Equal, Less, LessOrEqual}
 use Rattle.language.specs.declared.typing.WordType.{WordType}
 use Rattle.word.specs.Operators.{word_of}
 use Rattle.word.specs.declared.profile.Profile.{Profile}

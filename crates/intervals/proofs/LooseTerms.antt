@@ -20,15 +20,15 @@ use Rattle.intervals.specs.Ranges.{index_violations, term_violations}
 use Rattle.intervals.proofs.LooseIntervals.{IsIn, truth_in, word_in, kind_in, prefix_in, operated_in, converted_in}
 use Rattle.intervals.proofs.LooseIntervals.{hull_in, word_of_kind}
 use Rattle.intervals.proofs.LooseTypes.{IsListed, one_type, joined_public}
-use Rattle.language.specs.ExprTyping.{operation_of}
+use Rattle.language.specs.Operators.{operation_of}
 use Rattle.language.specs.Operators.{divides, multiplies, operated, prefix_value, width_of}
 use Rattle.language.specs.Types.{at, joined, when}
 use Rattle.language.specs.declared.rule.Rule.TheVariants.{DivisorMayBeZero, IndexOutOfRange}
 use Rattle.language.specs.declared.signature.Kind.{Kind}
 use Rattle.language.specs.declared.signature.Kind.TheVariants.{Boolean, Uint8, Uint16, Uint32}
 use Rattle.language.specs.declared.signature.Label.TheVariants.{Public, Secret}
-use Rattle.language.specs.declared.tree.BinaryOperator.{BinaryOperator}
-use Rattle.language.specs.declared.tree.BinaryOperator.TheVariants.{Divide, Remainder}
+use Rattle.language.specs.declared.operators.BinaryOperator.{BinaryOperator}
+use Rattle.language.specs.declared.operators.BinaryOperator.TheVariants.{Divide, Remainder}
 use Rattle.language.specs.declared.typing.WordType.{WordType}
 use Rattle.language.specs.WellTyped.{labelled, Makes, arithmetic, multiplication, shift, equality, order, logic}
 use Rattle.language.specs.WellTyped as typing

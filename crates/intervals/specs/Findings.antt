@@ -16,7 +16,7 @@ use Rattle.language.specs.Sooner.{comes_before}
 use Rattle.language.specs.Operators.{divides}
 use Rattle.language.specs.Types.{at, when}
 use Rattle.language.specs.declared.rule.Rule.TheVariants.{DivisorMayBeZero}
-use Rattle.language.specs.declared.tree.BinaryOperator.{BinaryOperator}
+use Rattle.language.specs.declared.operators.BinaryOperator.{BinaryOperator}
 use Rattle.language.specs.declared.typing.Violation.{Violation}
 use Rattle.word.specs.declared.place.Place.{Place}
 

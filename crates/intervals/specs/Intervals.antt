@@ -8,13 +8,13 @@ use Rattle.intervals.specs.declared.interval.Interval.{Interval}
 use Rattle.language.specs.Types.{bits_of}
 use Rattle.language.specs.declared.signature.Kind.{Kind}
 use Rattle.language.specs.declared.signature.Kind.TheVariants.{Uint32}
-use Rattle.language.specs.declared.tree.BinaryOperator.{BinaryOperator}
-use Rattle.language.specs.declared.tree.BinaryOperator.TheVariants.{Either, Both, Equal, Unequal, Less, LessOrEqual}
-use Rattle.language.specs.declared.tree.BinaryOperator.TheVariants.{Greater, GreaterOrEqual, BitAnd}
-use Rattle.language.specs.declared.tree.BinaryOperator.TheVariants.{ShiftRight, Add, Subtract, Multiply}
-use Rattle.language.specs.declared.tree.BinaryOperator.TheVariants.{Divide, Remainder}
-use Rattle.language.specs.declared.tree.PrefixOperator.{PrefixOperator}
-use Rattle.language.specs.declared.tree.PrefixOperator.TheVariants.{Not, Complement, Negate}
+use Rattle.language.specs.declared.operators.BinaryOperator.{BinaryOperator}
+use Rattle.language.specs.declared.operators.BinaryOperator.TheVariants.{Either, Both, Equal, Unequal, Less, LessOrEqual}
+use Rattle.language.specs.declared.operators.BinaryOperator.TheVariants.{Greater, GreaterOrEqual, BitAnd}
+use Rattle.language.specs.declared.operators.BinaryOperator.TheVariants.{ShiftRight, Add, Subtract, Multiply}
+use Rattle.language.specs.declared.operators.BinaryOperator.TheVariants.{Divide, Remainder}
+use Rattle.language.specs.declared.operators.PrefixOperator.{PrefixOperator}
+use Rattle.language.specs.declared.operators.PrefixOperator.TheVariants.{Not, Complement, Negate}
 use Rattle.word.specs.Widths.{bits}
 use Rattle.word.specs.declared.width.Width.{Width}
 

@@ -9,8 +9,8 @@ use Rattle.intervals.specs.declared.said.Said.{Said}
 use Rattle.intervals.specs.Intervals.{Bounds, known, with_bound, between, interval, full_at}
 use Rattle.language.specs.declared.signature.Label.{Label}
 use Rattle.language.specs.declared.signature.Label.TheVariants.{Public, Secret}
-use Rattle.language.specs.declared.tree.BinaryOperator.{BinaryOperator}
-use Rattle.language.specs.declared.tree.BinaryOperator.TheVariants.{Both, Equal, Less, LessOrEqual}
+use Rattle.language.specs.declared.operators.BinaryOperator.{BinaryOperator}
+use Rattle.language.specs.declared.operators.BinaryOperator.TheVariants.{Both, Equal, Less, LessOrEqual}
 
 -- What is said.
 

@@ -10,13 +10,9 @@ use Rattle.language.specs.declared.rule.Rule.TheVariants.{SecretMultiplicationOp
 use Rattle.language.specs.declared.signature.Kind.{Kind}
 use Rattle.language.specs.declared.signature.Kind.TheVariants.{Boolean}
 use Rattle.language.specs.declared.signature.Label.TheVariants.{Public}
-use Rattle.language.specs.declared.tree.BinaryOperator.{BinaryOperator}
-use Rattle.language.specs.declared.tree.BinaryOperator.TheVariants.{Either, Both, Equal, Unequal, Less, LessOrEqual}
-use Rattle.language.specs.declared.tree.BinaryOperator.TheVariants.{Greater, GreaterOrEqual, BitOr, BitXor, BitAnd}
-use Rattle.language.specs.declared.tree.BinaryOperator.TheVariants.{ShiftLeft, ShiftRight, Add, Subtract, Multiply}
-use Rattle.language.specs.declared.tree.BinaryOperator.TheVariants.{Divide, Remainder}
-use Rattle.language.specs.declared.tree.PrefixOperator.{PrefixOperator}
-use Rattle.language.specs.declared.tree.PrefixOperator.TheVariants.{Not, Complement, Negate}
+use Rattle.language.specs.declared.operators.BinaryOperator.{BinaryOperator}
+use Rattle.language.specs.declared.operators.PrefixOperator.{PrefixOperator}
+use Rattle.language.specs.declared.operators.PrefixOperator.TheVariants.{Not, Complement, Negate}
 use Rattle.language.specs.declared.operation.Operation.{Operation}
 use Rattle.language.specs.declared.operation.Operation.TheVariants.{Arithmetic, Multiplication, Division, Shift}
 use Rattle.language.specs.declared.operation.Operation.TheVariants.{Equality, Order, Logic}
@@ -25,31 +21,11 @@ use Rattle.language.specs.declared.typing.VariableType.{VariableType}
 use Rattle.language.specs.declared.typing.Violation.{Violation}
 use Rattle.word.specs.declared.profile.Profile.{Profile}
 use Rattle.word.specs.declared.profile.Profile.TheVariants.{P1, P2}
+use Rattle.language.specs.Operators.{operation_of}
 use Rattle.language.specs.Tree.{ExprTree, number, truth, name, prefix, binary, rotate, convert, select, element}
 use Rattle.language.specs.Types.{Scope, found, variable, bits_of, word, joined, is_numeric, is_bool, is_array}
 use Rattle.language.specs.Types.{is_narrow, is_hidden, kind_of, label_of, widths_differ, are_alike, when, at, unless}
 use Rattle.language.specs.Types.{of_one, of_two, of_three, with_type}
-
--- what an operator makes of its operands
-abbrev pub operation_of : BinaryOperator → Operation
-operation_of Either = Logic
-operation_of Both = Logic
-operation_of Equal = Equality
-operation_of Unequal = Equality
-operation_of Less = Order
-operation_of LessOrEqual = Order
-operation_of Greater = Order
-operation_of GreaterOrEqual = Order
-operation_of BitOr = Arithmetic
-operation_of BitXor = Arithmetic
-operation_of BitAnd = Arithmetic
-operation_of ShiftLeft = Shift
-operation_of ShiftRight = Shift
-operation_of Add = Arithmetic
-operation_of Subtract = Arithmetic
-operation_of Multiply = Multiplication
-operation_of Divide = Division
-operation_of Remainder = Division
 
 -- operands whose widths do not go together: a shift wants a `uint32` by which to shift
 abbrev pub is_uneven : Operation → ValueType → ValueType → Bool

@@ -15,6 +15,7 @@ pub mod Typing
 pub mod WellTyped
 pub mod State
 pub mod Operators
+pub mod OperatorWords
 pub mod Meaning
 pub mod Size
 pub mod Evaluation

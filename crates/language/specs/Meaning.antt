@@ -13,8 +13,9 @@ use Rattle.language.specs.declared.signature.Kind.{Kind}
 use Rattle.language.specs.declared.signature.Kind.TheVariants.{Boolean, Uint32}
 use Rattle.language.specs.declared.values.Arg.{Arg}
 use Rattle.language.specs.declared.values.Arg.TheVariants as arg
-use Rattle.language.specs.Operators.{divides, truth_of, binary_word, prefix_word, rotated_word, converted_word}
-use Rattle.language.specs.Operators.{selected_word}
+use Rattle.language.specs.Operators.{divides, truth_of}
+use Rattle.language.specs.OperatorWords.{binary_word, prefix_word, rotated_word, converted_word}
+use Rattle.language.specs.OperatorWords.{selected_word}
 use Rattle.language.specs.Results.{Results}
 pub use Rattle.language.specs.Signature.{exported}
 use Rattle.language.specs.State.{State, Value, Word, single, array, empty, with_value}

@@ -1,21 +1,22 @@
--- What the operators of the language make of words.
+-- The operators of the language: what each takes and gives, and what it makes of words.
 use Rattle.std.specs.Prelude.{ℕ, ◌==◌, ◌&&◌, ◌||◌, Bool, true, false, not, nat_lt, nat_le, bit_and, bit_or, bit_xor}
-use Rattle.std.specs.Prelude.{Option, None, Some, if◌then◌else◌}
+use Rattle.std.specs.Prelude.{Option, None, Some}
 use Rattle.word.specs.Operators.{sum, difference, product, quotient, remainder, negated, complemented, shifted_left}
-use Rattle.word.specs.Operators.{shifted_right, rotated_left, converted, word_of}
+use Rattle.word.specs.Operators.{shifted_right, word_of}
 use Rattle.word.specs.declared.width.Width.{Width}
 use Rattle.word.specs.declared.width.Width.TheVariants.{W8, W16, W32}
 use Rattle.language.specs.declared.signature.Kind.{Kind}
 use Rattle.language.specs.declared.signature.Kind.TheVariants.{Boolean, Uint8, Uint16, Uint32}
-use Rattle.language.specs.declared.tree.BinaryOperator.{BinaryOperator}
-use Rattle.language.specs.declared.tree.BinaryOperator.TheVariants.{Either, Both, Equal, Unequal, Less, LessOrEqual}
-use Rattle.language.specs.declared.tree.BinaryOperator.TheVariants.{Greater, GreaterOrEqual, BitOr, BitXor, BitAnd}
-use Rattle.language.specs.declared.tree.BinaryOperator.TheVariants.{ShiftLeft, ShiftRight, Add, Subtract, Multiply}
-use Rattle.language.specs.declared.tree.BinaryOperator.TheVariants.{Divide, Remainder}
-use Rattle.language.specs.declared.tree.PrefixOperator.{PrefixOperator}
-use Rattle.language.specs.declared.tree.PrefixOperator.TheVariants.{Not, Complement, Negate}
-use Rattle.language.specs.ExprTyping.{operation_of, operation_kind}
-use Rattle.language.specs.State.{Word}
+use Rattle.language.specs.declared.operators.BinaryOperator.{BinaryOperator}
+use Rattle.language.specs.declared.operators.BinaryOperator.TheVariants.{Either, Both, Equal, Unequal, Less, LessOrEqual}
+use Rattle.language.specs.declared.operators.BinaryOperator.TheVariants.{Greater, GreaterOrEqual, BitOr, BitXor, BitAnd}
+use Rattle.language.specs.declared.operators.BinaryOperator.TheVariants.{ShiftLeft, ShiftRight, Add, Subtract, Multiply}
+use Rattle.language.specs.declared.operators.BinaryOperator.TheVariants.{Divide, Remainder}
+use Rattle.language.specs.declared.operators.PrefixOperator.{PrefixOperator}
+use Rattle.language.specs.declared.operators.PrefixOperator.TheVariants.{Not, Complement, Negate}
+use Rattle.language.specs.declared.operation.Operation.{Operation}
+use Rattle.language.specs.declared.operation.Operation.TheVariants.{Arithmetic, Multiplication, Division, Shift}
+use Rattle.language.specs.declared.operation.Operation.TheVariants.{Equality, Order, Logic}
 
 -- the width of a number; a bool lies in the narrowest
 abbrev pub width_of : Kind → Width
@@ -26,6 +27,27 @@ width_of Uint32 = W32
 
 abbrev pub truth_of : ℕ → Bool
 truth_of v = not (v == 0)
+
+-- what an operator makes of its operands
+abbrev pub operation_of : BinaryOperator → Operation
+operation_of Either = Logic
+operation_of Both = Logic
+operation_of Equal = Equality
+operation_of Unequal = Equality
+operation_of Less = Order
+operation_of LessOrEqual = Order
+operation_of Greater = Order
+operation_of GreaterOrEqual = Order
+operation_of BitOr = Arithmetic
+operation_of BitXor = Arithmetic
+operation_of BitAnd = Arithmetic
+operation_of ShiftLeft = Shift
+operation_of ShiftRight = Shift
+operation_of Add = Arithmetic
+operation_of Subtract = Arithmetic
+operation_of Multiply = Multiplication
+operation_of Divide = Division
+operation_of Remainder = Division
 
 -- the value between two operands, the left of this width
 abbrev pub operated : BinaryOperator → Width → ℕ → ℕ → ℕ
@@ -83,25 +105,7 @@ abbrev pub multiplies : BinaryOperator → Bool
 multiplies Multiply = true
 multiplies _ = false
 
-abbrev pub binary_word : BinaryOperator → Word → Word → Word
-binary_word operator a b = record {
-  kind = operation_kind (operation_of operator) a.kind;
-  value = operated operator (width_of a.kind) a.value b.value;
-}
-
 abbrev pub prefix_value : PrefixOperator → Width → ℕ → ℕ
 prefix_value Not w a = word_of (not (truth_of a))
 prefix_value Complement w a = complemented w a
 prefix_value Negate w a = negated w a
-
-abbrev pub prefix_word : PrefixOperator → Word → Word
-prefix_word operator a = record { kind = a.kind; value = prefix_value operator (width_of a.kind) a.value }
-
-abbrev pub rotated_word : ℕ → Word → Word
-rotated_word amount a = record { kind = a.kind; value = rotated_left (width_of a.kind) a.value amount }
-
-abbrev pub converted_word : Kind → Word → Word
-converted_word kind a = record { kind = kind; value = converted (width_of kind) a.value }
-
-abbrev pub selected_word : Word → Word → Word → Word
-selected_word condition accepted otherwise = if truth_of condition.value then accepted else otherwise

@@ -6,8 +6,8 @@ use Rattle.language.specs.declared.signature.Form.{Form}
 use Rattle.language.specs.declared.signature.Kind.{Kind}
 use Rattle.language.specs.declared.signature.Label.{Label}
 use Rattle.language.specs.declared.typing.WordType.{WordType}
-use Rattle.language.specs.declared.tree.BinaryOperator.{BinaryOperator}
-use Rattle.language.specs.declared.tree.PrefixOperator.{PrefixOperator}
+use Rattle.language.specs.declared.operators.BinaryOperator.{BinaryOperator}
+use Rattle.language.specs.declared.operators.PrefixOperator.{PrefixOperator}
 use Rattle.language.specs.declared.tree.Expr.{Expr, Number, Truth, Name, Prefix', Binary', Rotate', Convert', Select'}
 use Rattle.language.specs.declared.tree.Expr.{Element'}
 use Rattle.language.specs.declared.tree.Call.{Call}

@@ -25,14 +25,13 @@ pub use limits::{
     MOST_BODIES, MOST_DECLARED_BYTES, MOST_ELEMENTS, MOST_NODES, limits_are_as_stated,
 };
 pub use operation::Operation;
-pub use operators::is_true;
+pub use operators::{BinaryOperator, PrefixOperator, is_true};
 pub use refusal::Refusal;
 pub use rule::Rule;
 pub use signature::{Form, Kind, Label, Param};
 pub use tree::{
-    ArrayDeclaration, Assignment, BinaryOperator, Call, Counter, Declaration, ElementAssignment,
-    Expr, Parameter, PrefixOperator, Procedure, Program, Return, RightSide, Statement,
-    procedure_named,
+    ArrayDeclaration, Assignment, Call, Counter, Declaration, ElementAssignment, Expr, Parameter,
+    Procedure, Program, Return, RightSide, Statement, procedure_named,
 };
 pub use typing::{ArrayType, Callee, Declared, ValueType, VariableType, Violation, WordType};
 pub use values::{Arg, Args, Numbers, Outcome};

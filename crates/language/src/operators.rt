@@ -1,10 +1,57 @@
-// What operators make of words, and which of them stand for one another.
+// The operators: what each makes of words, and which of them stand for one another.
 
-ghost use Rattle.std.specs.Prelude.{◌≡◌, ◌≢◌, true};
-ghost use Rattle.language.specs.Operators.{divides, operated, opposite_of, prefix_value, truth_of, turned_of};
+ghost use Rattle.std.specs.Prelude.{◌≡◌};
+ghost use Rattle.language.specs.Operators.{truth_of};
 
-use crate::{BinaryOperator, PrefixOperator};
+use crate::{Kind, Operation};
 use word::Width;
+
+/// A sign before an operand.
+#[derive(Clone, Copy, Debug, PartialEq, Eq)]
+pub enum PrefixOperator {
+    /// `!`
+    Not,
+    /// `~`
+    Complement,
+    /// `-`
+    Negate,
+}
+
+/// An operator between two operands.
+#[derive(Clone, Copy, Debug, PartialEq, Eq)]
+pub enum BinaryOperator {
+    /// `||`
+    Either,
+    /// `&&`
+    Both,
+    /// `==`
+    Equal,
+    /// `!=`
+    Unequal,
+    /// `<`
+    Less,
+    /// `<=`
+    LessOrEqual,
+    /// `>`
+    Greater,
+    /// `>=`
+    GreaterOrEqual,
+    /// `|`
+    BitOr,
+    /// `^`
+    BitXor,
+    /// `&`
+    BitAnd,
+    /// `<<`
+    ShiftLeft,
+    /// `>>`
+    ShiftRight,
+    Add,
+    Subtract,
+    Multiply,
+    Divide,
+    Remainder,
+}
 
 /// Whether a bool is true.
 pub fn is_true(value: u32) -> bool
@@ -14,6 +61,8 @@ pub fn is_true(value: u32) -> bool
 }
 
 impl PrefixOperator {
+    ghost use Rattle.language.specs.Operators.{prefix_value};
+
     /// The value of the operator on an operand of this width.
     pub fn apply(self, width: Width, operand: u32) -> u32
         ensures { result ≡ prefix_value self width operand }
@@ -27,6 +76,50 @@ impl PrefixOperator {
 }
 
 impl BinaryOperator {
+    ghost use Rattle.std.specs.Prelude.{◌≢◌, true};
+    ghost use Rattle.language.specs.ExprTyping.{operation_kind};
+    ghost use Rattle.language.specs.Operators.{divides, operated, operation_of, opposite_of, turned_of};
+
+    /// What it makes of its operands.
+    pub fn operation(self) -> Operation
+        ensures { result ≡ operation_of self }
+    {
+        match self {
+            BinaryOperator::Either => Operation::Logic,
+            BinaryOperator::Both => Operation::Logic,
+            BinaryOperator::Equal => Operation::Equality,
+            BinaryOperator::Unequal => Operation::Equality,
+            BinaryOperator::Less => Operation::Order,
+            BinaryOperator::LessOrEqual => Operation::Order,
+            BinaryOperator::Greater => Operation::Order,
+            BinaryOperator::GreaterOrEqual => Operation::Order,
+            BinaryOperator::BitOr => Operation::Arithmetic,
+            BinaryOperator::BitXor => Operation::Arithmetic,
+            BinaryOperator::BitAnd => Operation::Arithmetic,
+            BinaryOperator::ShiftLeft => Operation::Shift,
+            BinaryOperator::ShiftRight => Operation::Shift,
+            BinaryOperator::Add => Operation::Arithmetic,
+            BinaryOperator::Subtract => Operation::Arithmetic,
+            BinaryOperator::Multiply => Operation::Multiplication,
+            BinaryOperator::Divide => Operation::Division,
+            BinaryOperator::Remainder => Operation::Division,
+        }
+    }
+
+    /// The kind of what it gives, by the kind of its left operand.
+    pub fn result_kind(self, left: Kind) -> Kind
+        ensures { result ≡ operation_kind (operation_of self) left }
+    {
+        self.operation().result_kind(left)
+    }
+
+    /// Whether it makes a quotient or a remainder, which a divisor 0 does not have.
+    pub fn divides(self) -> bool
+        ensures { result ≡ divides self }
+    {
+        matches!(self, BinaryOperator::Divide | BinaryOperator::Remainder)
+    }
+
     /// The value between two operands, the left of this width. A quotient or a remainder by 0 has none.
     pub fn apply(self, width: Width, a: u32, b: u32) -> u32
         requires { divides self ≡ true → b ≢ 0 }

@@ -6,7 +6,7 @@ use Rattle.language.specs.declared.signature.Form.{Form}
 use Rattle.language.specs.declared.signature.Form.TheVariants.{SingleWord, MutableArray}
 use Rattle.language.specs.declared.signature.Kind.TheVariants.{Boolean, Uint32}
 use Rattle.language.specs.declared.signature.Label.TheVariants.{Public, Secret}
-use Rattle.language.specs.declared.tree.BinaryOperator.TheVariants.{Less, Add, Divide}
+use Rattle.language.specs.declared.operators.BinaryOperator.TheVariants.{Less, Add, Divide}
 use Rattle.language.specs.declared.values.Arg.TheVariants as arg
 use Rattle.language.specs.Evaluation.{tick, andthen, inside, program_run}
 use Rattle.language.specs.Meaning.{gives, faults}

@@ -2,7 +2,8 @@
 
 ghost use Rattle.std.specs.Prelude.{◌≡◌, ◌==◌, ◌&&◌, IfOk, IfErr, if◌then◌else◌};
 ghost use Rattle.language.specs.Meaning.{gives, faults};
-ghost use Rattle.language.specs.Operators.{binary_word, converted_word, divides, prefix_word, rotated_word, selected_word};
+ghost use Rattle.language.specs.Operators.{divides};
+ghost use Rattle.language.specs.OperatorWords.{binary_word, converted_word, prefix_word, rotated_word, selected_word};
 ghost use Rattle.source_eval.specs.Metering.{IsFault};
 ghost use Rattle.source_eval.specs.Views.{word_of};
 

@@ -10,7 +10,7 @@ use Rattle.language.specs.declared.signature.Label.{Label}
 use Rattle.syntax.specs.declared.token.TokenKind.{TokenKind}
 use Rattle.syntax.specs.declared.token.TokenKind.TheVariants as token
 use Rattle.syntax.specs.declared.token.Sign.TheVariants.{RotateLeft}
-use Rattle.language.specs.declared.tree.BinaryOperator.{BinaryOperator}
+use Rattle.language.specs.declared.operators.BinaryOperator.{BinaryOperator}
 use Rattle.syntax.specs.Grammar.{operator_of, prefix_of, conversion_of, level_of, left_level_of, label_of, word_of}
 use Rattle.syntax.specs.Grammar.{length_of, amount_of, ExprAt, a_number, a_true, a_false, a_name, an_element}
 use Rattle.syntax.specs.Grammar.{in_brackets, a_conversion, a_select, a_prefix, a_rotation, a_binary, MoreExprs}

@@ -27,9 +27,9 @@ use Rattle.syntax.specs.declared.token.Keyword.TheVariants.{Export, Void, Public
 use Rattle.syntax.specs.declared.token.Keyword.TheVariants.{If, Else, For, From, To, Return, Select}
 use Rattle.syntax.specs.declared.token.Sign.TheVariants.{RotateLeft, OpenRound, CloseRound, OpenCurly, CloseCurly}
 use Rattle.syntax.specs.declared.token.Sign.TheVariants.{OpenSquare, CloseSquare, Comma, Semicolon, Assign}
-use Rattle.language.specs.declared.tree.BinaryOperator.{BinaryOperator}
-use Rattle.language.specs.declared.tree.BinaryOperator.TheVariants as operator
-use Rattle.language.specs.declared.tree.PrefixOperator.{PrefixOperator}
+use Rattle.language.specs.declared.operators.BinaryOperator.{BinaryOperator}
+use Rattle.language.specs.declared.operators.BinaryOperator.TheVariants as operator
+use Rattle.language.specs.declared.operators.PrefixOperator.{PrefixOperator}
 use Rattle.syntax.specs.Grammar.{prefix_of, operator_of, level_of, left_level_of, label_of, word_of, conversion_of}
 use Rattle.syntax.specs.private.Machine.{fits, begins_of, link_of, link_level, starts_with}
 use Rattle.syntax.specs.declared.token.Keyword.TheVariants as keyword

@@ -12,8 +12,8 @@ use Rattle.syntax.specs.declared.token.Sign.TheVariants.{OpenSquare, CloseSquare
 use Rattle.syntax.specs.declared.token.Suffix.{Suffix}
 use Rattle.syntax.specs.declared.token.TokenKind.{TokenKind}
 use Rattle.syntax.specs.declared.token.TokenKind.TheVariants as token
-use Rattle.language.specs.declared.tree.BinaryOperator.{BinaryOperator}
-use Rattle.language.specs.declared.tree.PrefixOperator.{PrefixOperator}
+use Rattle.language.specs.declared.operators.BinaryOperator.{BinaryOperator}
+use Rattle.language.specs.declared.operators.PrefixOperator.{PrefixOperator}
 use Rattle.syntax.specs.Grammar.{prefix_of, operator_of, level_of, left_level_of, rotation_level, prefix_level}
 use Rattle.syntax.specs.Grammar.{label_of, word_of, conversion_of, amount_of, length_of}
 use Rattle.syntax.specs.Lexeme.{Lexeme}

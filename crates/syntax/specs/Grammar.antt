@@ -25,14 +25,14 @@ use Rattle.syntax.specs.declared.token.Sign.TheVariants.{Assign, Plus, Minus, St
 use Rattle.syntax.specs.declared.token.Sign.TheVariants.{Caret, Tilde, Bang, Below, Above}
 use Rattle.syntax.specs.declared.token.Suffix.{Suffix}
 use Rattle.syntax.specs.declared.token.Suffix.TheVariants.{U8, U16, U32}
-use Rattle.language.specs.declared.tree.BinaryOperator.{BinaryOperator}
-use Rattle.language.specs.declared.tree.BinaryOperator.TheVariants.{Either, Both, Equal, Unequal, Less, LessOrEqual}
-use Rattle.language.specs.declared.tree.BinaryOperator.TheVariants.{Greater, GreaterOrEqual, BitOr, BitXor, BitAnd}
-use Rattle.language.specs.declared.tree.BinaryOperator.TheVariants.{ShiftLeft as ShiftedLeft}
-use Rattle.language.specs.declared.tree.BinaryOperator.TheVariants.{ShiftRight as ShiftedRight, Add, Subtract}
-use Rattle.language.specs.declared.tree.BinaryOperator.TheVariants.{Multiply, Divide, Remainder}
-use Rattle.language.specs.declared.tree.PrefixOperator.{PrefixOperator}
-use Rattle.language.specs.declared.tree.PrefixOperator.TheVariants.{Not, Complement, Negate}
+use Rattle.language.specs.declared.operators.BinaryOperator.{BinaryOperator}
+use Rattle.language.specs.declared.operators.BinaryOperator.TheVariants.{Either, Both, Equal, Unequal, Less, LessOrEqual}
+use Rattle.language.specs.declared.operators.BinaryOperator.TheVariants.{Greater, GreaterOrEqual, BitOr, BitXor, BitAnd}
+use Rattle.language.specs.declared.operators.BinaryOperator.TheVariants.{ShiftLeft as ShiftedLeft}
+use Rattle.language.specs.declared.operators.BinaryOperator.TheVariants.{ShiftRight as ShiftedRight, Add, Subtract}
+use Rattle.language.specs.declared.operators.BinaryOperator.TheVariants.{Multiply, Divide, Remainder}
+use Rattle.language.specs.declared.operators.PrefixOperator.{PrefixOperator}
+use Rattle.language.specs.declared.operators.PrefixOperator.TheVariants.{Not, Complement, Negate}
 use Rattle.language.specs.declared.typing.WordType.{WordType}
 use Rattle.syntax.specs.Lexeme.{Lexeme}
 use Rattle.language.specs.Tree.{ExprTree, number, truth, name, prefix, binary, rotate, convert, select, element}

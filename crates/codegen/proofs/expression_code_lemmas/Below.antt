@@ -45,8 +45,8 @@ pub use Rattle.language.specs.declared.signature.Kind.{Kind}
 pub use Rattle.language.specs.declared.signature.Kind.TheVariants.{Boolean}
 pub use Rattle.language.specs.declared.signature.Label.{Label}
 pub use Rattle.language.specs.declared.signature.Param.{Param}
-pub use Rattle.language.specs.declared.tree.BinaryOperator.{BinaryOperator}
-pub use Rattle.language.specs.declared.tree.PrefixOperator.{PrefixOperator}
+pub use Rattle.language.specs.declared.operators.BinaryOperator.{BinaryOperator}
+pub use Rattle.language.specs.declared.operators.PrefixOperator.{PrefixOperator}
 pub use Rattle.language.specs.declared.typing.WordType.{WordType}
 pub use Rattle.codegen.proofs.program_logic_lemmas.Computing.{after_append, all_straight, no_access_fit, no_access_met}
 pub use Rattle.codegen.proofs.program_logic_lemmas.Computing.{only_computes, plain_append, register_left, registers_after}

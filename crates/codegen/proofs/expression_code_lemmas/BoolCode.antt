@@ -3,8 +3,8 @@
 use Rattle.std.proofs.Common.{◌≡◌, ℕ, zero, suc, ◌<◌, ◌&&◌, ◌||◌, Bool, true, false, cond, bit_and, bit_or, refl, arith}
 use Rattle.codegen.proofs.expression_code_lemmas.Below.{Allocation, BinaryOperator, emitted_operator, IsWithinKind, marks_of}
 use Rattle.codegen.proofs.expression_code_lemmas.Below.{of_bits, operated, Place, Profile, Width, word_of, WordType}
-use Rattle.language.specs.declared.tree.BinaryOperator.TheVariants.{Either, Both}
-use Rattle.language.specs.ExprTyping.{operation_of}
+use Rattle.language.specs.declared.operators.BinaryOperator.TheVariants.{Either, Both}
+use Rattle.language.specs.Operators.{operation_of}
 use Rattle.language.specs.Operators.{truth_of}
 use Rattle.language.specs.WellTyped.{Makes, logic}
 

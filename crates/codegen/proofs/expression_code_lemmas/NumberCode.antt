@@ -24,10 +24,10 @@ use Rattle.codegen.specs.declared.expression_code.numbers.Finish.TheVariants.{Al
 use Rattle.codegen.specs.declared.expression_code.numbers.NumberStep.TheVariants.{WithImmediate}
 use Rattle.codegen.specs.expression_code.NumberRows.{above_zero, low_bits, masked, shifted}
 use Rattle.inline.specs.Flat.{number, truth}
-use Rattle.language.specs.declared.tree.BinaryOperator.TheVariants.{Equal, Unequal, Less, LessOrEqual, Greater}
-use Rattle.language.specs.declared.tree.BinaryOperator.TheVariants.{GreaterOrEqual, BitOr, BitXor, BitAnd, ShiftLeft}
-use Rattle.language.specs.declared.tree.BinaryOperator.TheVariants.{ShiftRight, Add, Subtract, Multiply, Divide}
-use Rattle.language.specs.declared.tree.BinaryOperator.TheVariants.{Remainder}
+use Rattle.language.specs.declared.operators.BinaryOperator.TheVariants.{Equal, Unequal, Less, LessOrEqual, Greater}
+use Rattle.language.specs.declared.operators.BinaryOperator.TheVariants.{GreaterOrEqual, BitOr, BitXor, BitAnd, ShiftLeft}
+use Rattle.language.specs.declared.operators.BinaryOperator.TheVariants.{ShiftRight, Add, Subtract, Multiply, Divide}
+use Rattle.language.specs.declared.operators.BinaryOperator.TheVariants.{Remainder}
 use Rattle.rv_code.specs.declared.operations.ImmediateOperation.{ImmediateOperation}
 use Rattle.rv_code.specs.declared.operations.ImmediateOperation.TheVariants.{Addi, Sltiu, Xori, Ori, Andi}
 use Rattle.rv_code.specs.declared.operations.ShiftOperation.TheVariants.{Slli, Srli}

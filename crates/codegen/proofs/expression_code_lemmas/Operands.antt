@@ -9,7 +9,7 @@ use Rattle.codegen.proofs.expression_code_lemmas.Below.{only_computes, operand, 
 use Rattle.codegen.proofs.expression_code_lemmas.Below.{register_of, registers_after, row_of, slot_of, slots_to, State}
 use Rattle.codegen.proofs.expression_code_lemmas.Below.{StraightState, temporary, TermTree, weaken, Width, with_number}
 use Rattle.codegen.proofs.expression_code_lemmas.Below.{working_register}
-use Rattle.language.specs.declared.tree.BinaryOperator.TheVariants.{Multiply, Divide, Remainder}
+use Rattle.language.specs.declared.operators.BinaryOperator.TheVariants.{Multiply, Divide, Remainder}
 use Rattle.rv_code.specs.declared.instructions.Instr.TheVariants as instr
 use Rattle.rv_code.specs.declared.operations.DivideOperation.TheVariants.{Divu, Remu}
 use Rattle.rv_code.specs.declared.operations.MultiplyOperation.TheVariants.{Mul}
@@ -22,7 +22,7 @@ use Rattle.codegen.proofs.expression_code_lemmas.OperatorCode.{is_plain, cut_pla
 use Rattle.codegen.proofs.expression_code_lemmas.TermLengths.{cut_length, operator_length}
 use Rattle.codegen.proofs.expression_code_lemmas.BoolCode.{emitted_marks, emitted_same}
 use Rattle.codegen.proofs.expression_code_lemmas.Values.{Kept, Leaves, Holds, kept_by, Wrote, wrote_kept, wrote_there}
-use Rattle.language.specs.ExprTyping.{operation_of}
+use Rattle.language.specs.Operators.{operation_of}
 use Rattle.language.specs.WellTyped.{Makes}
 
 -- a temporary is in a register, and only a spare register has changed

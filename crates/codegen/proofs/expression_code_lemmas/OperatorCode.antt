@@ -15,10 +15,10 @@ use Rattle.rv_code.specs.declared.operations.ImmediateOperation.TheVariants.{Add
 use Rattle.rv_code.specs.declared.operations.ShiftOperation.TheVariants.{Slli, Srli}
 use Rattle.rv_code.specs.declared.operations.RegisterOperation.TheVariants as register
 use Rattle.rv_code.specs.declared.operations.MultiplyOperation.TheVariants.{Mul}
-use Rattle.language.specs.declared.tree.BinaryOperator.TheVariants.{Either, Both, Equal, Unequal, LessOrEqual}
-use Rattle.language.specs.declared.tree.BinaryOperator.TheVariants.{GreaterOrEqual, ShiftLeft, ShiftRight, Add}
-use Rattle.language.specs.declared.tree.BinaryOperator.TheVariants.{Subtract, Multiply, Divide, Remainder}
-use Rattle.language.specs.declared.tree.PrefixOperator.TheVariants.{Not, Complement, Negate}
+use Rattle.language.specs.declared.operators.BinaryOperator.TheVariants.{Either, Both, Equal, Unequal, LessOrEqual}
+use Rattle.language.specs.declared.operators.BinaryOperator.TheVariants.{GreaterOrEqual, ShiftLeft, ShiftRight, Add}
+use Rattle.language.specs.declared.operators.BinaryOperator.TheVariants.{Subtract, Multiply, Divide, Remainder}
+use Rattle.language.specs.declared.operators.PrefixOperator.TheVariants.{Not, Complement, Negate}
 use Rattle.word.specs.declared.width.Width.TheVariants.{W8, W16, W32}
 use Rattle.codegen.proofs.expression_code_lemmas.Arithmetic.{parts, chosen, chosen_or_zero}
 use Rattle.codegen.proofs.expression_code_lemmas.WorkRegisters.{IsFree, ArePair}

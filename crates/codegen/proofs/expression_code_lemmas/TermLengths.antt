@@ -20,8 +20,8 @@ use Rattle.codegen.proofs.expression_code_lemmas.Below.{variable_offset, Width, 
 use Rattle.language.specs.declared.signature.Kind.TheVariants.{Boolean}
 use Rattle.codegen.specs.declared.expression_code.numbers.Finish.TheVariants.{Narrowed}
 use Rattle.codegen.specs.declared.expression_code.numbers.NumberStep.TheVariants.{KeepsLow}
-use Rattle.language.specs.declared.tree.BinaryOperator.TheVariants.{Either, Both, Multiply}
-use Rattle.language.specs.declared.tree.PrefixOperator.TheVariants as prefixes
+use Rattle.language.specs.declared.operators.BinaryOperator.TheVariants.{Either, Both, Multiply}
+use Rattle.language.specs.declared.operators.PrefixOperator.TheVariants as prefixes
 use Rattle.word.specs.declared.width.Width.TheVariants.{W8}
 
 -- Variables.

@@ -8,8 +8,8 @@ use Rattle.codegen.specs.expression_code.Allocation.{plain}
 use Rattle.inline.specs.Flat.{array_as, number}
 use Rattle.language.specs.declared.signature.Kind.TheVariants.{Uint8, Uint32}
 use Rattle.language.specs.declared.signature.Label.TheVariants.{Public}
-use Rattle.language.specs.declared.tree.BinaryOperator.TheVariants.{Add, BitAnd, Both, LessOrEqual, Multiply, ShiftLeft}
-use Rattle.language.specs.declared.tree.BinaryOperator.TheVariants.{Subtract, Unequal}
+use Rattle.language.specs.declared.operators.BinaryOperator.TheVariants.{Add, BitAnd, Both, LessOrEqual, Multiply, ShiftLeft}
+use Rattle.language.specs.declared.operators.BinaryOperator.TheVariants.{Subtract, Unequal}
 use Rattle.rv_code.specs.declared.instructions.Instr.TheVariants as instr
 use Rattle.rv_code.specs.declared.operations.ImmediateOperation.TheVariants.{Addi, Andi, Sltiu}
 use Rattle.rv_code.specs.declared.operations.LoadOperation.TheVariants.{Lw}

@@ -9,8 +9,8 @@ use Rattle.codegen.specs.declared.expression_code.numbers.Finish.{Finish}
 use Rattle.codegen.specs.declared.expression_code.numbers.NumberRow.{NumberRow}
 use Rattle.codegen.specs.declared.expression_code.numbers.NumberStep.TheVariants.{WithImmediate, ByAmount, AboveZero, KeepsLow}
 use Rattle.inline.specs.Flat.{TermTree, number, truth}
-use Rattle.language.specs.declared.tree.BinaryOperator.{BinaryOperator}
-use Rattle.language.specs.declared.tree.BinaryOperator.TheVariants as operators
+use Rattle.language.specs.declared.operators.BinaryOperator.{BinaryOperator}
+use Rattle.language.specs.declared.operators.BinaryOperator.TheVariants as operators
 use Rattle.language.specs.Operators.{turned_of}
 use Rattle.rv_code.specs.declared.operations.ImmediateOperation.{ImmediateOperation}
 use Rattle.rv_code.specs.declared.operations.ImmediateOperation.TheVariants.{Addi, Sltiu, Xori, Ori, Andi}

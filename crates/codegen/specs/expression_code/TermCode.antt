@@ -31,10 +31,10 @@ use Rattle.rv_code.specs.declared.operations.LoadOperation.TheVariants.{Lw, Lbu,
 use Rattle.rv_code.specs.declared.operations.StoreOperation.TheVariants.{Sw}
 use Rattle.language.specs.declared.signature.Kind.{Kind}
 use Rattle.language.specs.declared.signature.Kind.TheVariants.{Boolean, Uint8, Uint16, Uint32}
-use Rattle.language.specs.declared.tree.BinaryOperator.{BinaryOperator}
-use Rattle.language.specs.declared.tree.BinaryOperator.TheVariants as operators
-use Rattle.language.specs.declared.tree.PrefixOperator.{PrefixOperator}
-use Rattle.language.specs.declared.tree.PrefixOperator.TheVariants as prefixes
+use Rattle.language.specs.declared.operators.BinaryOperator.{BinaryOperator}
+use Rattle.language.specs.declared.operators.BinaryOperator.TheVariants as operators
+use Rattle.language.specs.declared.operators.PrefixOperator.{PrefixOperator}
+use Rattle.language.specs.declared.operators.PrefixOperator.TheVariants as prefixes
 use Rattle.language.specs.Operators.{width_of}
 use Rattle.language.specs.Size.{element_bytes}
 use Rattle.word.specs.declared.width.Width.{Width}

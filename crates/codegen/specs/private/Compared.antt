@@ -10,9 +10,9 @@ use Rattle.codegen.specs.expression_code.Allocation.{Allocation}
 use Rattle.codegen.specs.expression_code.Registers.{zero_register, value_register, second_register}
 use Rattle.inline.specs.declared.flat.FlatVariable.{FlatVariable}
 use Rattle.inline.specs.Flat.{TermTree, binary}
-use Rattle.language.specs.declared.tree.BinaryOperator.{BinaryOperator}
-use Rattle.language.specs.declared.tree.BinaryOperator.TheVariants.{Equal, Unequal, Less, LessOrEqual, Greater}
-use Rattle.language.specs.declared.tree.BinaryOperator.TheVariants.{GreaterOrEqual}
+use Rattle.language.specs.declared.operators.BinaryOperator.{BinaryOperator}
+use Rattle.language.specs.declared.operators.BinaryOperator.TheVariants.{Equal, Unequal, Less, LessOrEqual, Greater}
+use Rattle.language.specs.declared.operators.BinaryOperator.TheVariants.{GreaterOrEqual}
 use Rattle.rv_code.specs.declared.instructions.Instr.{Instr}
 use Rattle.rv_code.specs.declared.operations.BranchTest.TheVariants.{Beq, Bne, Bltu, Bgeu}
 

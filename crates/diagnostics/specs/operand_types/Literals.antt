@@ -11,7 +11,8 @@ use Rattle.language.specs.declared.operation.Operation.TheVariants.{Arithmetic, 
 use Rattle.language.specs.declared.operation.Operation.TheVariants.{Equality, Order, Logic}
 use Rattle.language.specs.declared.typing.ValueType.{ValueType}
 use Rattle.language.specs.declared.typing.WordType.{WordType}
-use Rattle.language.specs.ExprTyping.{element_type, name_type, operation_of, type_of}
+use Rattle.language.specs.ExprTyping.{element_type, name_type, type_of}
+use Rattle.language.specs.Operators.{operation_of}
 use Rattle.language.specs.Tree.{ExprTree, number, truth, name, prefix, binary, rotate, convert, select, element}
 use Rattle.language.specs.Tree.{RightTree, called, computed, StatementTree, declaration, array, assignment}
 use Rattle.language.specs.Tree.{element_assignment, call, conditional, loop, ParameterTree, ProcedureTree, written}

@@ -4,7 +4,7 @@ use Rattle.word.specs.declared.place.Place.{Place}
 use Rattle.language.specs.declared.signature.Kind.{Kind}
 use Rattle.language.specs.declared.signature.Kind.TheVariants.{Uint32}
 use Rattle.language.specs.declared.signature.Label.{Label}
-use Rattle.language.specs.declared.tree.BinaryOperator.{BinaryOperator}
+use Rattle.language.specs.declared.operators.BinaryOperator.{BinaryOperator}
 use Rattle.language.specs.declared.values.Arg.{Arg}
 use Rattle.language.specs.declared.values.Arg.TheVariants as arg
 use Rattle.language.specs.Meaning.{Ending, gives, faults, word_held, applied, Evaluates, by_operands, none_left}

@@ -8,7 +8,7 @@ use Rattle.language.specs.declared.signature.Kind.{Kind}
 use Rattle.language.specs.declared.signature.Kind.TheVariants.{Boolean, Uint32}
 use Rattle.language.specs.declared.signature.Label.{Label}
 use Rattle.language.specs.declared.signature.Label.TheVariants.{Public, Secret}
-use Rattle.language.specs.declared.tree.BinaryOperator.TheVariants.{Equal, Less, Add, Multiply, Divide}
+use Rattle.language.specs.declared.operators.BinaryOperator.TheVariants.{Equal, Less, Add, Multiply, Divide}
 use Rattle.language.specs.declared.typing.WordType.{WordType}
 use Rattle.language.specs.Tree.{ExprTree, number, truth, name, binary, element, computed, StatementTree, declaration}
 use Rattle.language.specs.Tree.{assignment, element_assignment, call, conditional, loop, BlockTree, nothing, first}

@@ -11,14 +11,15 @@ use Rattle.language.specs.declared.rule.Rule.TheVariants.{UndeclaredName, Litera
 use Rattle.language.specs.declared.signature.Kind.{Kind}
 use Rattle.language.specs.declared.signature.Kind.TheVariants.{Boolean}
 use Rattle.language.specs.declared.signature.Label.TheVariants.{Public}
-use Rattle.language.specs.declared.tree.BinaryOperator.{BinaryOperator}
-use Rattle.language.specs.declared.tree.PrefixOperator.{PrefixOperator}
+use Rattle.language.specs.declared.operators.BinaryOperator.{BinaryOperator}
+use Rattle.language.specs.declared.operators.PrefixOperator.{PrefixOperator}
 use Rattle.language.specs.declared.typing.Declared.{Declared}
 use Rattle.language.specs.declared.typing.Declared.TheVariants.{Procedure, Variable}
 use Rattle.language.specs.declared.typing.ValueType.{ValueType}
 use Rattle.language.specs.declared.typing.ValueType.TheVariants.{Word, Array}
 use Rattle.language.specs.declared.typing.VariableType.{VariableType}
-use Rattle.language.specs.ExprTyping.{operation_of, operation_kind, operation_rules, binary_rules, binary_type}
+use Rattle.language.specs.ExprTyping.{operation_kind, operation_rules, binary_rules, binary_type}
+use Rattle.language.specs.Operators.{operation_of}
 use Rattle.language.specs.ExprTyping.{prefix_rules, prefix_type, rotate_rules, rotate_type, convert_rules}
 use Rattle.language.specs.ExprTyping.{convert_type, select_rules, select_type, element_rules, element_type}
 use Rattle.language.specs.ExprTyping.{number_rules, name_type, name_rules, type_of, expr_violations}

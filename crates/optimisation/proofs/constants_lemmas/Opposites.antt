@@ -5,10 +5,10 @@ use Rattle.std.proofs.lemmas.Bool.Decides.{nat_tests}
 use Rattle.std.proofs.lemmas.Option.{none-some, same_Some}
 use Rattle.inline.specs.Flat.{TermTree, binary}
 use Rattle.inline.specs.FlatMeaning.{marks_of}
-use Rattle.language.specs.declared.tree.BinaryOperator.{BinaryOperator}
-use Rattle.language.specs.declared.tree.BinaryOperator.TheVariants.{Equal, Unequal, Less, LessOrEqual, Greater}
-use Rattle.language.specs.declared.tree.BinaryOperator.TheVariants.{GreaterOrEqual}
-use Rattle.language.specs.ExprTyping.{operation_of}
+use Rattle.language.specs.declared.operators.BinaryOperator.{BinaryOperator}
+use Rattle.language.specs.declared.operators.BinaryOperator.TheVariants.{Equal, Unequal, Less, LessOrEqual, Greater}
+use Rattle.language.specs.declared.operators.BinaryOperator.TheVariants.{GreaterOrEqual}
+use Rattle.language.specs.Operators.{operation_of}
 use Rattle.language.specs.Operators.{operated, opposite_of, truth_of}
 use Rattle.word.specs.declared.place.Place.{Place}
 use Rattle.word.specs.declared.width.Width.{Width}

@@ -15,10 +15,10 @@ use Rattle.language.specs.declared.signature.Kind.{Kind}
 use Rattle.language.specs.declared.signature.Label.{Label}
 use Rattle.language.specs.declared.signature.Label.TheVariants.{Public}
 use Rattle.language.specs.declared.operation.Operation.TheVariants.{Arithmetic}
-use Rattle.language.specs.declared.tree.BinaryOperator.{BinaryOperator}
-use Rattle.language.specs.declared.tree.BinaryOperator.TheVariants.{Multiply, Divide, Remainder}
+use Rattle.language.specs.declared.operators.BinaryOperator.{BinaryOperator}
+use Rattle.language.specs.declared.operators.BinaryOperator.TheVariants.{Multiply, Divide, Remainder}
 use Rattle.language.specs.declared.typing.WordType.{WordType}
-use Rattle.language.specs.ExprTyping.{operation_of}
+use Rattle.language.specs.Operators.{operation_of}
 use Rattle.language.specs.Grammatical.{IsNumberKind}
 use Rattle.language.specs.Operators.{operated, width_of}
 use Rattle.language.specs.Types.{joined}

@@ -14,12 +14,13 @@ use Rattle.inline.specs.FlatTyping.{of_rotation, of_conversion, of_selection, of
 use Rattle.branch_removal.proofs.Sequences.{fine_both, fine_front, fine_back}
 use Rattle.inline.specs.Path.{Path, AreFine, indexed}
 use Rattle.language.specs.declared.signature.Kind.{Kind}
-use Rattle.language.specs.declared.tree.BinaryOperator.{BinaryOperator}
-use Rattle.language.specs.declared.tree.BinaryOperator.TheVariants.{Multiply}
-use Rattle.language.specs.declared.tree.PrefixOperator.{PrefixOperator}
-use Rattle.language.specs.declared.tree.PrefixOperator.TheVariants.{Not, Complement, Negate}
+use Rattle.language.specs.declared.operators.BinaryOperator.{BinaryOperator}
+use Rattle.language.specs.declared.operators.BinaryOperator.TheVariants.{Multiply}
+use Rattle.language.specs.declared.operators.PrefixOperator.{PrefixOperator}
+use Rattle.language.specs.declared.operators.PrefixOperator.TheVariants.{Not, Complement, Negate}
 use Rattle.language.specs.declared.typing.WordType.{WordType}
-use Rattle.language.specs.ExprTyping.{operation_of, operation_kind}
+use Rattle.language.specs.ExprTyping.{operation_kind}
+use Rattle.language.specs.Operators.{operation_of}
 use Rattle.language.specs.Operators.{divides, operated, prefix_value, truth_of, width_of}
 use Rattle.language.specs.WellTyped.{Makes}
 use Rattle.word.specs.Operators.{rotated_left, converted}

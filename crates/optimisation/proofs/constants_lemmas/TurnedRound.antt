@@ -7,11 +7,11 @@ use Rattle.inline.specs.FlatMeaning.{marks_of}
 use Rattle.language.specs.declared.operation.Operation.{Operation}
 use Rattle.language.specs.declared.operation.Operation.TheVariants.{Equality, Order}
 use Rattle.language.specs.declared.signature.Label.{Label}
-use Rattle.language.specs.declared.tree.BinaryOperator.{BinaryOperator}
-use Rattle.language.specs.declared.tree.BinaryOperator.TheVariants.{Equal, Unequal, Less, LessOrEqual, Greater}
-use Rattle.language.specs.declared.tree.BinaryOperator.TheVariants.{GreaterOrEqual}
+use Rattle.language.specs.declared.operators.BinaryOperator.{BinaryOperator}
+use Rattle.language.specs.declared.operators.BinaryOperator.TheVariants.{Equal, Unequal, Less, LessOrEqual, Greater}
+use Rattle.language.specs.declared.operators.BinaryOperator.TheVariants.{GreaterOrEqual}
 use Rattle.language.specs.declared.typing.WordType.{WordType}
-use Rattle.language.specs.ExprTyping.{operation_of}
+use Rattle.language.specs.Operators.{operation_of}
 use Rattle.language.specs.Operators.{operated, opposite_of, turned_of}
 use Rattle.language.specs.Types.{joined}
 use Rattle.language.specs.WellTyped.{labelled, Makes, equality, order}

@@ -8,9 +8,9 @@ use Rattle.syntax.specs.declared.token.Sign.{Sign}
 use Rattle.syntax.specs.declared.token.Sign.TheVariants as sign
 use Rattle.syntax.specs.declared.token.TokenKind.{TokenKind}
 use Rattle.syntax.specs.declared.token.TokenKind.TheVariants as token
-use Rattle.language.specs.declared.tree.BinaryOperator.{BinaryOperator}
-use Rattle.language.specs.declared.tree.BinaryOperator.TheVariants as operator
-use Rattle.language.specs.declared.tree.PrefixOperator.TheVariants as prefix
+use Rattle.language.specs.declared.operators.BinaryOperator.{BinaryOperator}
+use Rattle.language.specs.declared.operators.BinaryOperator.TheVariants as operator
+use Rattle.language.specs.declared.operators.PrefixOperator.TheVariants as prefix
 use Rattle.syntax.specs.Beginning.{Whole, WholeParts, Begins, in_case, BeginsParts, no_token, past_token, past_phrase}
 use Rattle.syntax.specs.Beginning.{in_phrase}
 use Rattle.syntax.specs.Cases as cases

@@ -5,8 +5,8 @@ use Rattle.std.specs.Prelude.{ℕ, ◌+◌, ◌-◌, ◌^◌, ◌==◌, ◌&&◌
 use Rattle.std.specs.Prelude.{Option, None, Some, if◌then◌else◌}
 use Rattle.std.specs.Int.Count.{count_leading_zeros}
 use Rattle.inline.specs.Flat.{TermTree, number, binary}
-use Rattle.language.specs.declared.tree.BinaryOperator.{BinaryOperator}
-use Rattle.language.specs.declared.tree.BinaryOperator.TheVariants.{BitAnd, ShiftLeft, ShiftRight}
+use Rattle.language.specs.declared.operators.BinaryOperator.{BinaryOperator}
+use Rattle.language.specs.declared.operators.BinaryOperator.TheVariants.{BitAnd, ShiftLeft, ShiftRight}
 use Rattle.word.specs.declared.place.Place.{Place}
 use Rattle.word.specs.declared.width.Width.{Width}
 use Rattle.word.specs.Widths.{bits}
