@@ -1,6 +1,6 @@
 // Arguments: what their texts spell, and whether they are within the parameter types.
 // It promises the first fault exactly, and that what is read from texts is what they spell, within
-// the types. It stands on the shapes of parameters and arguments of `language`.
+// the types. It stands on the shapes of parameters and arguments.
 
 mod bounds;
 mod fault;

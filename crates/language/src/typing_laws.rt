@@ -1,6 +1,6 @@
 // Typing in two ways: the table of violations, of which the first is named, and rules of inference, which
 // are what a reader wants to see and what proofs use. The laws here say that they are one. They stand on
-// the definitions of `language` alone, in a crate of their own since few wait for them.
+// the definitions of the language alone.
 
 mod laws;
 
