@@ -1,4 +1,4 @@
-# The function of an image with a frame of 65,536 bytes, written by hand: crates/library_examples has its words.
+# The function of an image with a frame of 65,536 bytes, written by hand: crates/examples has its words.
     .option push
     .option norvc
     .option norelax
