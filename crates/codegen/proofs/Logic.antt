@@ -1,4 +1,4 @@
--- The laws of the crates below that the proofs here build on, in one place.
+-- The laws that the proofs here build on, of the crates below and of the code of expressions, in one place.
 pub use Rattle.branch_removal.proofs.Scopes.{but_among, suits_among}
 pub use Rattle.branch_removal.proofs.Values.{all_values, one_path_all}
 pub use Rattle.codegen.proofs.expression_code_lemmas.Logic.{address_length, address_runs, Addressed, After, after_append, All-one}

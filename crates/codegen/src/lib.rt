@@ -1,6 +1,7 @@
 // The code generator: the instructions that run straight code in the places of its frame, and the fields of their
-// image. The machine, running what is generated, follows the code. It stands on straight code, the code of
-// expressions, the instructions, the machine and the image's fields.
+// image. The machine, running what is generated, follows the code. Its modules are the fields of an image
+// (`image_fields`), a logic of machine code (`program_logic`) and the code of expressions (`expression_code`). It
+// stands on straight code, the instructions and the machine.
 #![tactic(auto)]
 
 mod arrays;

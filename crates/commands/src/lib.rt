@@ -1,8 +1,7 @@
-// The commands of `factc`, over files and streams that the caller hands in: they compile a text to an
-// image or to a function for C, work out what a text means, run an image, compare what an observer sees of two runs, and say
-// whether one run shows the same for all secrets. The exit status of each command is promised, and no
-// status 0 where standard output failed. The work is done by the calls of the libraries; the words are
-// read by `command_line`.
+// The commands of `factc`, over files and streams that the caller hands in: they compile a text to an image or to a
+// function for C, work out what a text means, run an image, compare what an observer sees of two runs, and say whether
+// one run shows the same for all secrets. The exit status of each command is promised, and no status 0 where standard
+// output failed. The work is done by the calls of the libraries; the words are read by the module `command_line`.
 #![tactic(auto)]
 
 mod certifying;

@@ -1,7 +1,7 @@
 // In which procedure of a program a place is, and where that procedure is called.
 //
 // It promises that the procedure is the last one whose name stands at the place or before it, and that the places are
-// those of all calls of it, in their order (`specs/CallPlaces.antt`). It stands on the syntax tree.
+// those of all calls of it, in their order (`specs/call_places/CallPlaces.antt`). It stands on the syntax tree.
 
 ghost use Rattle.std.specs.Prelude.{◌≡◌, ◌++◌, IfOk, OnOk};
 ghost use Rattle.std.specs.Option.{option_map};

@@ -1,7 +1,7 @@
 // Which node of a program stands at a place, what is in scope there, and which types its operands have.
 //
-// It promises that the scope and the types are those of the language's rules (`specs/Sites.antt`). It stands on the
-// syntax tree and on the rules.
+// It promises that the scope and the types are those of the language's rules (`specs/operand_types/Sites.antt`). It
+// stands on the syntax tree and on the rules.
 
 mod around;
 mod comparisons;

@@ -1,7 +1,7 @@
 // The line of a source that a place is in, with a mark below the place, as text for a terminal.
 //
-// It promises exactly which bytes the text has (`specs/Excerpt.antt`), whatever the source holds and wherever the place
-// is. It stands on `word` for places.
+// It promises exactly which bytes the text has (`specs/source_excerpts/Excerpt.antt`), whatever the source holds and
+// wherever the place is. It stands on `word` for places.
 
 mod cells;
 mod parts;

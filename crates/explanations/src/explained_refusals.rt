@@ -1,9 +1,9 @@
 // What is printed below the line of a source's refusal where an author asks why: the line of the source with the place
 // marked, what there is at the place, and the violated rule with its usual cause and its cure.
 //
-// It promises that the lines are those of this place and of this rule (`specs/Explained.antt`). It stands on
-// `source_excerpts` for the line, on `refusal_details` for what there is at the place and on `explanations` for the rules,
-// of which each has a row there.
+// It promises that the lines are those of this place and of this rule (`specs/explained_refusals/Explained.antt`). It
+// stands on `diagnostics::source_excerpts` for the line, on `refusal_details` for what there is at the place and on the
+// table of this crate for the rules, of which each has a row there.
 
 ghost use Rattle.std.specs.Prelude.{◌≡◌, IfOk, IfErr};
 ghost use Rattle.std.specs.String.{string_bytes};

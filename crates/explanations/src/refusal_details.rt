@@ -1,10 +1,11 @@
 // What is said of a refusal beside its rule: lines with what there is at the place, for who wrote the source.
 //
-// It promises which lines these are, by the source's tree or, where it has none, by its bytes (`specs/Details.antt`). It
-// stands on `syntax` for the tree, on `expected_tokens` for what may stand at a place, on `name_uses` for what is near a
-// name, on `operand_types` for types and secret names, on `misfits` for what does not fit, on `call_places` for calls, on
-// `statement_costs` and `statement_work` for sizes and work, and on `intervals` for the numbers that an index or a divisor may
-// be and for the turns of loops: those by which it was refused.
+// It promises which lines these are, by the source's tree or, where it has none, by its bytes
+// (`specs/refusal_details/Details.antt`). It stands on `syntax` for the tree; on the modules of `diagnostics`,
+// `expected_tokens` for what may stand at a place, `name_uses` for what is near a name, `operand_types` for types and
+// secret names, `misfits` for what does not fit and `call_places` for calls; on `statement_costs` and `statement_work`
+// for sizes and work; and on `intervals` for the numbers that an index or a divisor may be and for the turns of loops:
+// those by which it was refused.
 
 mod calls;
 mod characters;

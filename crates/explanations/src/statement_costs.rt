@@ -2,7 +2,7 @@
 // is a parameter, a statement of the body or the `return`; a call costs what the called body does.
 //
 // It promises that the whole is what the size rules count, and that the part which is named is the first of those that
-// cost most (`specs/Costs.antt`). It stands on the syntax tree and its sizes.
+// cost most (`specs/statement_costs/Costs.antt`). It stands on the syntax tree and its sizes.
 
 mod bodies;
 mod costs;

@@ -1,9 +1,10 @@
 // Certificates: one run of an image for all arguments that have the given values, so that what an observer sees is
 // shown to be one list whatever the secrets are, of any image, whoever made its code.
 //
-// What is known of the loaded image (`specs/KnownImage.antt`) covers the state that each such list of arguments is loaded to; so
-// the answer of `certify` (`specs/Certified.antt`) is a promise on all of them, which the laws say (`laws.rt`). It stands on the
-// certified runs of `certified_runs`, and loads as `hepurita` does.
+// What is known of the loaded image (`specs/certificates/KnownImage.antt`) covers the state that each such list of
+// arguments is loaded to; so the answer of `certify` (`specs/certificates/Certified.antt`) is a promise on all of them,
+// which the laws say (`certificates/laws.rt`). It stands on the certified runs of `certified_runs`, and loads as
+// `hepurita` does.
 
 mod certifying;
 mod faults;

@@ -1,7 +1,8 @@
 // Pictures of an image's runs: a page of HTML on which steps run to the right and addresses upwards.
 //
-// It promises that the page is the picture of the runs that `run`, `pair` and `certify` make of the image on these arguments
-// (`specs/Drawn.antt`). It loads images as `hepurita` and `certificates` do, and `pictures` draws.
+// It promises that the page is the picture of the runs that `run`, `pair` and `certify` make of the image on these
+// arguments (`specs/image_pictures/Drawn.antt`). It loads images as `hepurita` and `certificates` do, and
+// `run_reports::pictures` draws.
 
 mod drawing;
 

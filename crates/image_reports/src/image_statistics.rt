@@ -1,7 +1,8 @@
 // What an image costs, as lines, from bytes that may be those of an image or of anything else.
 //
 // It promises that the lines are of the fields that the bytes spell, and that bytes that do not begin as an image does
-// are told from faulty ones (`specs/ImageText.antt`). It stands on `image`, which reads them, and on `statistics`.
+// are told from faulty ones (`specs/image_statistics/ImageText.antt`). It stands on `hepurita::image`, which reads
+// them, and on `statistics`.
 
 ghost use Rattle.std.specs.Prelude.{◌≡◌, None, Ok, IfOk, IfErr, IfSome};
 ghost use Rattle.std.specs.String.{string_bytes};
@@ -41,7 +42,7 @@ fn lines_of(alloc: Global, image: &Image) -> Result<String, AllocError>
 }
 
 /// What the image costs that bytes spell, as lines; `None` where their first field, the magic, is not that of an image;
-/// or else the first fault that `image::read` names.
+/// or else the first fault that `hepurita::image::read` names.
 pub fn image_statistics(alloc: Global, bytes: &[u8]) -> Result<Option<String>, ImageFault>
     ensures said { IfOk result (λ found. IfSome found (λ text. SaysFields bytes.now (string_bytes text))) }
     ensures other { result ≡ Ok None → BeginsOtherwise bytes.now }

@@ -1,5 +1,5 @@
 // The linked call: the code of a function for C, and what is promised of it when code calls it by the standard calling
-// convention of RV32: what its pieces do, and what a whole call does. `function_code` makes that code.
+// convention of RV32: what its pieces do, and what a whole call does. `functions::function_code` makes that code.
 #![tactic(auto)]
 
 mod laws;

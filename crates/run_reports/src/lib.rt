@@ -1,4 +1,6 @@
-// TODO run_reports
+// What is said of runs, whatever code they are of: where in a run an entry is shown (`run_places`), how many turns a
+// run has made so far (`progress`), and what runs show as a picture (`pictures`). Each promises exactly what it says,
+// by the turns of the machine. It stands on `rv_machine` and `certified_runs`, which make the runs, and on `streams`.
 #![tactic(auto)]
 
 pub mod pictures;

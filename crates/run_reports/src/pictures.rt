@@ -1,7 +1,7 @@
 // Pictures of runs: a page on which steps run to the right and addresses upwards, with two runs over each other.
 //
-// It promises that each cell holds exactly what the runs show in it (`specs/Marks.antt`, `specs/Grid.antt`), and that the page is
-// the text of these cells (`specs/Page.antt`). It stands on `rv_machine`, which makes the steps.
+// It promises that each cell holds exactly what the runs show in it (`Marks.antt` and `Grid.antt` of `specs/pictures`),
+// and that the page is the text of these cells (`Page.antt` there). It stands on `rv_machine`, which makes the steps.
 
 mod areas;
 mod cells;

@@ -1,8 +1,8 @@
 // Progress: runs that say, line by line, how many turns they have made.
 //
-// Behind each `TURNS_A_LINE` turns after which a run goes on a line is written (`specs/Lines.antt`, `specs/GoingOn.antt`): a
-// run and a certified run are made in pieces of so many turns, and two runs that are compared in step go on together. What
-// comes of a run is what comes of it without lines.
+// Behind each `TURNS_A_LINE` turns after which a run goes on a line is written (`Lines.antt` and `GoingOn.antt` of
+// `specs/progress`): a run and a certified run are made in pieces of so many turns, and two runs that are compared in
+// step go on together. What comes of a run is what comes of it without lines.
 
 mod certifying;
 mod comparing;

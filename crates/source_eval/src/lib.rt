@@ -1,7 +1,7 @@
-// The source's own meaning, run: straight from the tree, with real branches, loops and calls.
-// It promises the outcome or the fault that the definitions of meaning in `language` give, and says exactly when a
-// budget of nodes and open bodies is passed. It stands on the words of `word`, the trees and definitions of
-// `language`, the judgement of arguments in `arguments`, and `indexmap`.
+// The source's own meaning, run: straight from the tree, with real branches, loops and calls. It promises the outcome
+// or the fault that the definitions of meaning in `language` give, and says exactly when a budget of nodes and open
+// bodies is passed. It stands on the words of `word`, on `language` for trees, definitions and the judgement of
+// arguments, and on `indexmap`.
 #![tactic(auto)]
 
 mod calls;

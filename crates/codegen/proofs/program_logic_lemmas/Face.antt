@@ -1,4 +1,4 @@
--- The laws of pieces of code, in one place for the crates above.
+-- The laws of pieces of code, in one place for the proofs above.
 pub use Rattle.codegen.proofs.program_logic_lemmas.Jumps.{branching_at, first_runs, second_runs, shown_at}
 pub use Rattle.codegen.proofs.program_logic_lemmas.Loops.{looping, repeating}
 pub use Rattle.codegen.proofs.program_logic_lemmas.Marks.{Kind, Known, by_mark}

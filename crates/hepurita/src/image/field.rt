@@ -1,5 +1,5 @@
 // The table of an image's fields: what each breaks when it is wrong, how many bytes it has, and which numbers it may
-// hold. What it has to be is its row in `specs/Reading.antt`.
+// hold. What it has to be is its row in `specs/image/Reading.antt`.
 
 ghost use Rattle.std.specs.Prelude.{◌≡◌};
 ghost use Rattle.hepurita.specs.image.Reading.{numbered_profile, row};

@@ -33,7 +33,7 @@ one_meaning : (program : ProgramTree) (args : List Arg) (one other : Results) �
     → Means program args other → one ≡ other
 one_meaning program args one other first second = gives_same one other (second.alone (gives one) first.given)
 
--- the laws of the crates below
+-- the laws of the layers below
 abbrev pub OneReading : Type 0
 OneReading = (params : List Param) (one other : List Arg) → AreWithin params one → AreWithin params other
     → map (λ arg. Some (words_of arg)) one ≡ map (λ arg. Some (words_of arg)) other → one ≡ other
