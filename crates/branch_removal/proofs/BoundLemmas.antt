@@ -17,8 +17,7 @@ use Rattle.branch_removal.specs.Bounds.{statement_nodes, block_nodes, statement_
 use Rattle.branch_removal.specs.Bounds.{IsBounded, IsCounted}
 use Rattle.branch_removal.specs.Heights.{height_of, height_of_all, height_in, height_in_all, depth_in, depth_in_all}
 use Rattle.branch_removal.specs.Heights.{result_height}
-use Rattle.branch_removal.specs.private.Removal.{set_within, put_within, removed, removed_all, controls_in}
-use Rattle.branch_removal.specs.private.Removal.{controls_in_all, straightened}
+use Rattle.branch_removal.specs.private.Removal.{removed, removed_all, controls_in, controls_in_all, straightened}
 use Rattle.branch_removal.specs.Straight.{StraightTree, StraightBlock, chain}
 use Rattle.branch_removal.specs.Straight as straight
 
@@ -39,24 +38,13 @@ nodes-chain : (these those : StraightBlock) → block_nodes (chain these those) 
 nodes-chain straight.nothing those = omega arith
 nodes-chain (straight.first statement these) those = omega (arith, nodes-chain these those)
 
-nodes_within : (within : Option ℕ) (x : ℕ) (value : TermTree)
-    → statement_nodes (set_within within x value) ≡ 1 + term_nodes value
-nodes_within None x value = refl
-nodes_within (Some control) x value = refl
-
-nodes_put : (within : Option ℕ) (place : Place) (x size : ℕ) (index value : TermTree)
-    → statement_nodes (put_within within place x size index value) ≡ 1 + (1 + term_nodes index) + term_nodes value
-nodes_put None place x size index value = refl
-nodes_put (Some control) place x size index value = refl
-
 -- a held index is set, and what does nothing is gone
 mutual
   few_nodes : (within : Option ℕ) (control : ℕ) (s : FlatTree) → block_nodes (removed within control s) ≤ tree_nodes s
   few_nodes within control (declare x word mutable value) = omega arith
-  few_nodes within control (array x word mutable size []) = omega arith
-  few_nodes within control (array x word mutable size (e ∷ es)) = omega arith
-  few_nodes within control (assign x value) = omega (arith, nodes_within within x value)
-  few_nodes within control (put place x size index value) = omega (arith, nodes_put within place x size index value)
+  few_nodes within control (array x word mutable size values) = omega arith
+  few_nodes within control (assign x value) = omega arith
+  few_nodes within control (put place x size index value) = omega arith
   few_nodes within control (hold x place size index) = omega arith
   few_nodes within control skip = omega arith
   few_nodes within control (branch Secret condition accepted otherwise) =
@@ -91,27 +79,17 @@ module _ (most : List ℕ) where
   work-chain straight.nothing those = omega arith
   work-chain (straight.first statement these) those = omega (arith, work-chain these those)
 
-  set_little : (value : TermTree) → set_work value ≤ 1 + term_nodes value
-  set_little (flat.number value kind) = omega arith
-  set_little (flat.truth value) = omega arith
-  set_little (flat.variable x) = omega arith
-  set_little (flat.prefix operator width operand) = omega arith
-  set_little (flat.binary place operator width left right) = omega arith
-  set_little (flat.rotate width operand amount) = omega arith
-  set_little (flat.convert kind operand) = omega arith
-  set_little (flat.select condition accepted otherwise) = omega arith
-  set_little (flat.element place x size index) = omega arith
-
-  work_within : (within : Option ℕ) (x : ℕ) (value : TermTree)
-      → statement_work most (set_within within x value) ≤ 1 + term_nodes value
-  work_within None x value = set_little value
-  work_within (Some control) x value = omega arith
-
-  work_put : (within : Option ℕ) (place : Place) (x size : ℕ) (index value : TermTree)
-      → statement_work most (put_within within place x size index value)
-      ≡ 1 + (1 + term_nodes index) + term_nodes value
-  work_put None place x size index value = refl
-  work_put (Some control) place x size index value = refl
+  set_little : (within : Option ℕ) (value : TermTree) → set_work within value ≤ 1 + term_nodes value
+  set_little None (flat.number value kind) = omega arith
+  set_little None (flat.truth value) = omega arith
+  set_little None (flat.variable x) = omega arith
+  set_little None (flat.prefix operator width operand) = omega arith
+  set_little None (flat.binary place operator width left right) = omega arith
+  set_little None (flat.rotate width operand amount) = omega arith
+  set_little None (flat.convert kind operand) = omega arith
+  set_little None (flat.select condition accepted otherwise) = omega arith
+  set_little None (flat.element place x size index) = omega arith
+  set_little (Some control) value = omega arith
 
   module _ (declared : List FlatVariable) where
     mutual
@@ -119,13 +97,12 @@ module _ (most : List ℕ) where
           → (within : Option ℕ) (control : ℕ)
           → block_work most (removed within control s) ≤ tree_work most s
       no_more_work types label (declare x word mutable value) typed within control =
-          omega (arith, set_little value)
-      no_more_work types label (array x word mutable size []) typed within control = omega arith
-      no_more_work types label (array x word mutable size (e ∷ es)) typed within control = omega (arith, typed.2)
-      no_more_work types label (assign x value) typed within control = omega (arith, work_within within x value)
+          omega (arith, set_little None value)
+      no_more_work types label (array x word mutable size values) typed within control = omega arith
+      no_more_work types label (assign x value) typed within control = omega (arith, set_little within value)
       no_more_work types label (put place x size index value) typed within control =
-          omega (arith, work_put within place x size index value)
-      no_more_work types label (hold x place size index) typed within control = omega (arith, set_little index)
+          omega arith
+      no_more_work types label (hold x place size index) typed within control = omega (arith, set_little None index)
       no_more_work types label skip typed within control = omega arith
       no_more_work types label (branch Secret condition accepted otherwise) typed within control =
           let xs = removed_all (Some control) (control + 2) accepted in
@@ -257,13 +234,10 @@ heights (e ∷ es) = omega (arith, height e, heights es)
 mutual
   -- a statement's temporaries, its loops' words and its control values
   statement_room : (s : StraightTree) → height_in s + 2 * depth_in s + 2 * taken_in s ≤ statement_nodes s
-  statement_room (straight.set x value) = omega (arith, height value)
-  statement_room (straight.clear x size) = omega arith
-  statement_room (straight.fill x values) = omega (arith, heights values)
-  statement_room (straight.put place x size index value) = omega (arith, height index, height value)
+  statement_room (straight.set within x value) = omega (arith, height value)
+  statement_room (straight.array x size values) = omega (arith, heights values)
+  statement_room (straight.put within place x size index value) = omega (arith, height index, height value)
   statement_room (straight.take control within condition) = omega (arith, height condition)
-  statement_room (straight.set_under control x value) = omega (arith, height value)
-  statement_room (straight.put_under control place x size index value) = omega (arith, height index, height value)
   statement_room (straight.branch condition accepted otherwise) =
       omega (arith, height condition, block_room accepted, block_room otherwise)
   statement_room (straight.repeats x low high body) = omega (arith, height low, height high, block_room body)

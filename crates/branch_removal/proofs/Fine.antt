@@ -134,20 +134,14 @@ module _ (profile : Profile) (declared : List FlatVariable) (most : List ℕ) wh
     fine types label (declare x word mutable value) typed among within control under s m agree safe =
         fine_alone most _ (fine_term types s m agree value _ typed.1.has_type
         (safe _ _ (declares (comes profile declared m value))))
-    fine types label (array x word mutable size []) typed among within control under s m agree safe = tt
-    fine types label (array x word mutable size (e ∷ es)) typed among within control under s m agree safe =
-        fine_alone most _ (fine_alike most types.profile (path_in_all s.variables (e ∷ es)) (path_in_all m (e ∷ es))
-        (all_seen types s.variables m agree word (e ∷ es) typed.1)
-        (safe _ _ (declares_array (come_all profile declared m (e ∷ es)))))
-    fine types label (assign x value) typed among None control under s m agree safe =
+    fine types label (array x word mutable size values) typed among within control under s m agree safe =
+        fine_alone most _ (fine_alike most types.profile (path_in_all s.variables values) (path_in_all m values)
+        (all_seen types s.variables m agree word values typed.1)
+        (safe _ _ (declares_array (come_all profile declared m values))))
+    fine types label (assign x value) typed among within control under s m agree safe =
         fine_alone most _ (fine_term types s m agree value _ typed.suits.has_type
         (safe _ _ (assigns (comes profile declared m value))))
-    fine types label (assign x value) typed among (Some c) control under s m agree safe =
-        fine_alone most _ (fine_term types s m agree value _ typed.suits.has_type
-        (safe _ _ (assigns (comes profile declared m value))))
-    fine types label (put place x size index value) typed among None control under s m agree safe =
-        fine_alone most _ (fine_put types label s m agree place x size index value typed safe)
-    fine types label (put place x size index value) typed among (Some c) control under s m agree safe =
+    fine types label (put place x size index value) typed among within control under s m agree safe =
         fine_alone most _ (fine_put types label s m agree place x size index value typed safe)
     fine types label (hold x place size index) typed among within control under s m agree safe =
         fine_alone most _ (fine_term types s m agree index _ typed.1

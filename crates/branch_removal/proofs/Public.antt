@@ -10,7 +10,7 @@ use Rattle.inline.specs.Path.{Path, decided, bounded, indexed, seen}
 use Rattle.language.specs.declared.signature.Label.TheVariants.{Secret}
 use Rattle.language.specs.declared.typing.WordType.{WordType}
 use Rattle.word.specs.declared.profile.Profile.{Profile}
-use Rattle.branch_removal.specs.Straight.{StraightTree, set, clear, fill, put, take, set_under, put_under, branch}
+use Rattle.branch_removal.specs.Straight.{StraightTree, set, array, put, take, branch}
 use Rattle.branch_removal.specs.Straight.{repeats, StraightBlock, nothing, first}
 use Rattle.branch_removal.specs.StraightMeaning.{StraightState, with_variable, value_at, counted, after, after_all}
 use Rattle.branch_removal.specs.StraightMeaning.{path_at, path_along}
@@ -84,25 +84,25 @@ module _ (profile : Profile) (declared : List FlatVariable) (controls : ℕ) whe
     pub in_step : (statement : StraightTree) → IsTyped profile declared controls statement
         → IsHidden declared statement
         → (s t : StraightState) → InStep s t → InStep (after s statement) (after t statement)
-    in_step (set x value) is apart s t agree =
+    in_step (set None x value) is apart s t agree =
         set_in_both what_is_public (types_of profile declared) s.variables t.variables x _ _ _
         (λ public. ap (λ (v : ℕ). v ∷ [])
-        (public_suited (types_of profile declared) s.variables t.variables agree is.word value is.suits
-        public)) agree is.known
-    in_step (clear x size) is apart s t agree =
+        (public_suited (types_of profile declared) s.variables t.variables agree is.1.word value is.1.suits
+        public)) agree is.1.known
+    in_step (set (Some control) x value) is apart s t agree = set_apart x _ is.1.known apart control _ _ s t agree
+    in_step (array x size []) is apart s t agree =
         set_in_both what_is_public (types_of profile declared) s.variables t.variables x _ _ _ (λ public. refl)
         agree is.known
-    in_step (fill x values) is apart s t agree =
+    in_step (array x size (e ∷ es)) is apart s t agree =
         set_in_both what_is_public (types_of profile declared) s.variables t.variables x _ _ _
-        (λ public. public_all (types_of profile declared) s.variables t.variables agree is.word values
-        (fill_suits profile declared x is.word values is.suit) public) agree is.known
-    in_step (put place x size index value) is apart s t agree =
+        (λ public. public_all (types_of profile declared) s.variables t.variables agree is.word (e ∷ es)
+        (fill_suits profile declared x is.word (e ∷ es) is.suit) public) agree is.known
+    in_step (put None place x size index value) is apart s t agree =
         set_in_both what_is_public (types_of profile declared) s.variables t.variables x _ _ _
-        (λ public. put_in_step x size index value s t agree is public) agree is.known
-    in_step (take control within condition) is apart s t agree = agree
-    in_step (set_under control x value) is apart s t agree = set_apart x _ is.1.known apart control _ _ s t agree
-    in_step (put_under control place x size index value) is apart s t agree =
+        (λ public. put_in_step x size index value s t agree is.1 public) agree is.1.known
+    in_step (put (Some control) place x size index value) is apart s t agree =
         set_apart x _ is.1.known apart control _ _ s t agree
+    in_step (take control within condition) is apart s t agree = agree
     in_step (branch condition accepted otherwise) is apart s t agree =
         one_arm s t condition accepted otherwise
         (public_value (types_of profile declared) s.variables t.variables agree is.0 refl)
@@ -128,11 +128,12 @@ module _ (profile : Profile) (declared : List FlatVariable) (controls : ℕ) whe
       → seen profile (path_in s.variables e) ≡ seen profile (path_in t.variables e)
   term_seen e word has s t agree = one_seen (types_of profile declared) s.variables t.variables agree has
 
-  put_seen : (place : _) (x size : ℕ) (index value : TermTree) (s t : StraightState) → InStep s t
+  put_seen : (within : Option ℕ) (place : _) (x size : ℕ) (index value : TermTree) (s t : StraightState)
+      → InStep s t
       → IsPut profile declared x size index value
-      → seen profile (path_at s (put place x size index value))
-      ≡ seen profile (path_at t (put place x size index value))
-  put_seen place x size index value s t agree is =
+      → seen profile (path_at s (put within place x size index value))
+      ≡ seen profile (path_at t (put within place x size index value))
+  put_seen within place x size index value s t agree is =
       both_seen profile
       (path_in s.variables index) (indexed place size (value_at s index) ∷ path_in s.variables value)
       (path_in t.variables index) (indexed place size (value_at t index) ∷ path_in t.variables value)
@@ -162,16 +163,13 @@ module _ (profile : Profile) (declared : List FlatVariable) (controls : ℕ) whe
     pub same_seen : (statement : StraightTree) → IsTyped profile declared controls statement
         → IsHidden declared statement
         → (s t : StraightState) → InStep s t → seen profile (path_at s statement) ≡ seen profile (path_at t statement)
-    same_seen (set x value) is apart s t agree = term_seen value _ is.suits.has_type s t agree
-    same_seen (clear x size) is apart s t agree = refl
-    same_seen (fill x values) is apart s t agree =
+    same_seen (set within x value) is apart s t agree = term_seen value _ is.1.suits.has_type s t agree
+    same_seen (array x size values) is apart s t agree =
         all_seen (types_of profile declared) s.variables t.variables agree is.word values
         (fill_suits profile declared x is.word values is.suit)
-    same_seen (put place x size index value) is apart s t agree = put_seen place x size index value s t agree is
+    same_seen (put within place x size index value) is apart s t agree =
+        put_seen within place x size index value s t agree is.1
     same_seen (take control within condition) is apart s t agree = term_seen condition _ is.2.1 s t agree
-    same_seen (set_under control x value) is apart s t agree = term_seen value _ is.1.suits.has_type s t agree
-    same_seen (put_under control place x size index value) is apart s t agree =
-        put_seen place x size index value s t agree is.1
     same_seen (branch condition accepted otherwise) is apart s t agree =
         both_seen profile
         (path_in s.variables condition) (decided (value_at s condition)

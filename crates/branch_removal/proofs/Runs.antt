@@ -87,14 +87,12 @@ mutual
       → c < control
       → (after_all s (removed within control statement)).controls c ≡ s.controls c
   controls_stay within control (declare x word mutable value) s c below = refl
-  controls_stay within control (array x word mutable size []) s c below = refl
-  controls_stay within control (array x word mutable size (e ∷ es)) s c below = refl
-  controls_stay None control (assign x value) s c below = refl
-  controls_stay (Some k) control (assign x value) s c below =
-      ap (λ (controls : ℕ → Bool). controls c) (under_controls (s.controls k) s x (value_at s value ∷ []))
-  controls_stay None control (put place x size index value) s c below = refl
-  controls_stay (Some k) control (put place x size index value) s c below =
-      ap (λ (controls : ℕ → Bool). controls c) (under_controls (s.controls k) s x (slice_set (s.variables x) (value_at s index) (value_at s value)))
+  controls_stay within control (array x word mutable size values) s c below = refl
+  controls_stay within control (assign x value) s c below =
+      ap (λ (controls : ℕ → Bool). controls c) (under_controls (holds s within) s x (value_at s value ∷ []))
+  controls_stay within control (put place x size index value) s c below =
+      ap (λ (controls : ℕ → Bool). controls c)
+      (under_controls (holds s within) s x (slice_set (s.variables x) (value_at s index) (value_at s value)))
   controls_stay within control (hold x place size index) s c below = refl
   controls_stay within control skip s c below = refl
   controls_stay within control (branch Secret condition accepted otherwise) s c below =

@@ -86,19 +86,15 @@ module _ (declared : List FlatVariable) where
     same types label (array x word mutable size (e ∷ es)) typed within control below s m on agree =
         declared_in_both everything types s.variables m x _ _ (array_as word mutable size)
         (λ seen. all_values types s.variables m agree word (e ∷ es) typed.1) agree
-    same types label (assign x value) typed None control below s m on agree =
-        same_assigned types label x value typed s m agree
-    same types label (assign x value) typed (Some c) control below s m on agree =
+    same types label (assign x value) typed within control below s m on agree =
         subst (λ (t : StraightState). Agree everything types t.variables (flat.after m (assign x value)))
-        (sym (cond-true (s.controls c) (with_variable s x (value_at s value ∷ [])) s on))
+        (sym (cond-true (holds s within) (with_variable s x (value_at s value ∷ [])) s on))
         (same_assigned types label x value typed s m agree)
-    same types label (put place x size index value) typed None control below s m on agree =
-        same_put types label place x size index value typed s m agree
-    same types label (put place x size index value) typed (Some c) control below s m on agree =
+    same types label (put place x size index value) typed within control below s m on agree =
         subst (λ (t : StraightState). Agree everything types t.variables
         (flat.after m (put place x size index value)))
         (sym
-        (cond-true (s.controls c)
+        (cond-true (holds s within)
         (with_variable s x (slice_set (s.variables x) (value_at s index) (value_at s value))) s on))
         (same_put types label place x size index value typed s m agree)
     same types label (hold x place size index) typed within control below s m on agree =

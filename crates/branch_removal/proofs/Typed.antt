@@ -4,8 +4,8 @@ use Rattle.std.proofs.Common.{sym, ◌∙◌, subst, arith}
 use Rattle.std.proofs.lemmas.Option.{same_Some}
 use Rattle.std.proofs.Math.Nat.{le-max_left, le-max_right}
 use Rattle.inline.specs.declared.flat.FlatVariable.{FlatVariable}
-use Rattle.inline.specs.Flat.{TermTree, FlatTree, declare, array, assign, put, hold, skip, branch, loop, FlatBlock}
-use Rattle.inline.specs.Flat.{nothing, first, word_as, array_as}
+use Rattle.inline.specs.Flat.{FlatTree, declare, array, assign, put, hold, skip, branch, loop, FlatBlock}
+use Rattle.inline.specs.Flat.{nothing, first, word_as}
 use Rattle.inline.specs.FlatTyping.{Types, with_type, types_of, types_after, counter_type}
 use Rattle.inline.specs.FlatTyping as flat
 use Rattle.language.specs.declared.signature.Label.{Label}
@@ -17,14 +17,6 @@ use Rattle.branch_removal.specs.Straight as straight
 use Rattle.branch_removal.specs.StraightTyping.{AreTyped, IsAmong, types_but, IsSecret, AreHidden}
 use Rattle.branch_removal.proofs.Scopes.{AreAmong, has_type_among, suits_among, suit_among, among_beside, among_after}
 use Rattle.branch_removal.proofs.Scopes.{among_but}
-
--- as many values as elements are declared, where some are written
-counted_as : (word : _) (mutable : _) (size : ℕ) (declared : List FlatVariable) (x : ℕ) (values : List TermTree)
-    → length values ≡ size
-    → slice_get declared x ≡ Some (array_as word mutable size)
-    → slice_get declared x ≡ Some (array_as word mutable (length values))
-counted_as word mutable size declared x values count known =
-    subst (λ n. slice_get declared x ≡ Some (array_as word mutable n)) (sym count) known
 
 module _ (declared : List FlatVariable) where
   hidden-chain : (these those : StraightBlock) → AreHidden declared these → AreHidden declared those
@@ -51,8 +43,7 @@ module _ (profile : Profile) (declared : List FlatVariable) where
         → (within : Option ℕ) (control : ℕ) → IsUnder declared within label
         → AreHidden declared (removed within control statement)
     hidden types label (declare x word mutable value) typed among within control under = (tt, tt)
-    hidden types label (array x word mutable size []) typed among within control under = (tt, tt)
-    hidden types label (array x word mutable size (e ∷ es)) typed among within control under = (tt, tt)
+    hidden types label (array x word mutable size values) typed among within control under = (tt, tt)
     hidden types label (assign x value) typed among None control under = (tt, tt)
     hidden types label (assign x value) typed among (Some c) control under = (assigned_secret types x _ among typed.known (typed.hidden under), tt)
     hidden types label (put place x size index value) typed among None control under = (tt, tt)
@@ -103,36 +94,29 @@ module _ (profile : Profile) (declared : List FlatVariable) (controls : ℕ) whe
         → (within : Option ℕ) (control : ℕ) → IsAmong controls within → control + controls_in statement ≤ controls
         → AreTyped profile declared controls (removed within control statement)
     typed types label (declare x word mutable value) is among within control inside free = (
+      (
+        tt,
+        record {
+          word = word;
+          mutable = mutable;
+          known = is.0.listed;
+          suits = suits_among types (types_of profile declared) among word value is.1;
+        },
+      ),
+      tt,
+    )
+    typed types label (array x word mutable size values) is among within control inside free = (
       record {
         word = word;
         mutable = mutable;
         known = is.0.listed;
-        suits = suits_among types (types_of profile declared) among word value is.1;
-      },
-      tt,
-    )
-    typed types label (array x word mutable size []) is among within control inside free =
-        (record { word = word; mutable = mutable; known = is.0.listed; suit = tt }, tt)
-    typed types label (array x word mutable size (e ∷ es)) is among within control inside free = (
-      record {
-        word = word;
-        mutable = mutable;
-        known = counted_as word mutable size declared x (e ∷ es) is.2 is.0.listed;
         suit = suit_among types (types_but profile declared x) (among_but profile declared types x is.0.new among)
-            word (e ∷ es) is.1;
+            word values is.1;
+        count = is.2;
       },
       tt,
     )
-    typed types label (assign x value) is among None control inside free = (
-      record {
-        word = is.word;
-        mutable = _;
-        known = among.at x _ is.known;
-        suits = suits_among types (types_of profile declared) among is.word value is.suits;
-      },
-      tt,
-    )
-    typed types label (assign x value) is among (Some c) control inside free = (
+    typed types label (assign x value) is among within control inside free = (
       (
         inside,
         record {
@@ -144,17 +128,7 @@ module _ (profile : Profile) (declared : List FlatVariable) (controls : ℕ) whe
       ),
       tt,
     )
-    typed types label (put place x size index value) is among None control inside free = (
-      record {
-        word = is.word;
-        mutable = _;
-        known = among.at x _ is.known;
-        index_type = has_type_among types (types_of profile declared) among is.index_type;
-        suits = suits_among types (types_of profile declared) among is.word value is.suits;
-      },
-      tt,
-    )
-    typed types label (put place x size index value) is among (Some c) control inside free = (
+    typed types label (put place x size index value) is among within control inside free = (
       (
         inside,
         record {
@@ -168,17 +142,20 @@ module _ (profile : Profile) (declared : List FlatVariable) (controls : ℕ) whe
       tt,
     )
     typed types label (hold x place size index) is among within control inside free = (
-      record {
-        word = counter_type;
-        mutable = false;
-        known = is.0.listed;
-        suits = record {
+      (
+        tt,
+        record {
           word = counter_type;
-          has_type = has_type_among types (types_of profile declared) among is.1;
-          kind = refl;
-          label = λ public. refl;
-        };
-      },
+          mutable = false;
+          known = is.0.listed;
+          suits = record {
+            word = counter_type;
+            has_type = has_type_among types (types_of profile declared) among is.1;
+            kind = refl;
+            label = λ public. refl;
+          };
+        },
+      ),
       tt,
     )
     typed types label skip is among within control inside free = tt

@@ -91,22 +91,13 @@ module _ (declared : List FlatVariable) (sees : Sees) where
         → Agree sees types (after_all s (removed within control statement)).variables s.variables
     unchanged types label (declare x word mutable value) typed within control s quiet y d known seen =
         cond-false (y == x) (value_at s value ∷ []) (s.variables y) (apart types x y d typed.0.new known)
-    unchanged types label (array x word mutable size []) typed within control s quiet y d known seen =
+    unchanged types label (array x word mutable size values) typed within control s quiet y d known seen =
         cond-false (y == x) _ (s.variables y) (apart types x y d typed.0.new known)
-    unchanged types label (array x word mutable size (e ∷ es)) typed within control s quiet y d known seen =
-        cond-false (y == x) _ (s.variables y) (apart types x y d typed.0.new known)
-    unchanged types label (assign x value) typed None control s quiet y d known seen =
-        set_quietly sees types label None control s x (value_at s value ∷ []) _ typed.known typed.hidden quiet y
+    unchanged types label (assign x value) typed within control s quiet y d known seen =
+        set_quietly sees types label within control s x (value_at s value ∷ []) _ typed.known typed.hidden quiet y
         d known seen
-    unchanged types label (assign x value) typed (Some c) control s quiet y d known seen =
-        set_quietly sees types label (Some c) control s x (value_at s value ∷ []) _ typed.known typed.hidden quiet y
-        d known seen
-    unchanged types label (put place x size index value) typed None control s quiet y d known seen =
-        set_quietly sees types label None control s x
-        (slice_set (s.variables x) (value_at s index) (value_at s value)) _ typed.known typed.hidden quiet y
-        d known seen
-    unchanged types label (put place x size index value) typed (Some c) control s quiet y d known seen =
-        set_quietly sees types label (Some c) control s x
+    unchanged types label (put place x size index value) typed within control s quiet y d known seen =
+        set_quietly sees types label within control s x
         (slice_set (s.variables x) (value_at s index) (value_at s value)) _ typed.known typed.hidden quiet y
         d known seen
     unchanged types label (hold x place size index) typed within control s quiet y d known seen =

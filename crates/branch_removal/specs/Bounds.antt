@@ -1,12 +1,12 @@
 -- How large straight code is and how much work it is, and the bounds that it keeps.
-use Rattle.std.specs.Prelude.{ℕ, ◌+◌, ◌*◌, ◌≤◌, List, length, map, slice_index}
+use Rattle.std.specs.Prelude.{ℕ, ◌+◌, ◌*◌, ◌≤◌, List, Option, None, map, slice_index}
 use Rattle.std.specs.List.{AllByRecursion}
 use Rattle.inline.specs.Limits.{most_variable_bytes}
 use Rattle.inline.specs.Flat.{TermTree, number, declaration_of}
 use Rattle.inline.specs.FlatSize.{HasLength, declared_words, term_nodes, terms_nodes, value_nodes}
 use Rattle.branch_removal.specs.Heights.{depth_in_all, program_height}
-use Rattle.branch_removal.specs.Straight.{StraightTree, set, clear, fill, put, take, set_under, put_under, branch}
-use Rattle.branch_removal.specs.Straight.{repeats, StraightBlock, nothing, first, StraightProgram}
+use Rattle.branch_removal.specs.Straight.{StraightTree, set, array, put, take, branch, repeats}
+use Rattle.branch_removal.specs.Straight.{StraightBlock, nothing, first, StraightProgram}
 use Rattle.intervals.specs.Limits.{most_work}
 use Rattle.language.specs.Limits.{most_nodes, most_declared_bytes}
 use Rattle.language.specs.declared.signature.Param.{Param}
@@ -14,13 +14,10 @@ use Rattle.language.specs.declared.signature.Param.{Param}
 abbrev mutual
   -- the nodes of a statement, itself among them; an element that is set is one too
   pub statement_nodes : StraightTree → ℕ
-  statement_nodes (set x value) = 1 + term_nodes value
-  statement_nodes (clear x size) = 1
-  statement_nodes (fill x values) = 1 + terms_nodes values
-  statement_nodes (put place x size index value) = 1 + (1 + term_nodes index) + term_nodes value
+  statement_nodes (set within x value) = 1 + term_nodes value
+  statement_nodes (array x size values) = 1 + terms_nodes values
+  statement_nodes (put within place x size index value) = 1 + (1 + term_nodes index) + term_nodes value
   statement_nodes (take control within condition) = 1 + term_nodes condition
-  statement_nodes (set_under control x value) = 1 + term_nodes value
-  statement_nodes (put_under control place x size index value) = 1 + (1 + term_nodes index) + term_nodes value
   statement_nodes (branch condition accepted otherwise) =
       1 + term_nodes condition + block_nodes accepted + block_nodes otherwise
   statement_nodes (repeats x low high body) = 1 + term_nodes low + term_nodes high + block_nodes body
@@ -29,21 +26,18 @@ abbrev mutual
   block_nodes nothing = 0
   block_nodes (first statement rest) = statement_nodes statement + block_nodes rest
 
--- the work of setting a word: a number needs none of its own
-abbrev pub set_work : TermTree → ℕ
-set_work (number value kind) = 1
-set_work value = 1 + term_nodes value
+-- the work of setting a word: a number needs none of its own where no control value decides
+abbrev pub set_work : Option ℕ → TermTree → ℕ
+set_work None (number value kind) = 1
+set_work within value = 1 + term_nodes value
 
 abbrev mutual
   -- the work of a statement, with the turns that are counted for each counter: an array is as much as its elements
   pub statement_work : List ℕ → StraightTree → ℕ
-  statement_work turns (set x value) = set_work value
-  statement_work turns (clear x size) = 1 + size
-  statement_work turns (fill x values) = 1 + length values + terms_nodes values
-  statement_work turns (put place x size index value) = 1 + (1 + term_nodes index) + term_nodes value
+  statement_work turns (set within x value) = set_work within value
+  statement_work turns (array x size values) = 1 + size + terms_nodes values
+  statement_work turns (put within place x size index value) = 1 + (1 + term_nodes index) + term_nodes value
   statement_work turns (take control within condition) = 1 + term_nodes condition
-  statement_work turns (set_under control x value) = 1 + term_nodes value
-  statement_work turns (put_under control place x size index value) = 1 + (1 + term_nodes index) + term_nodes value
   statement_work turns (branch condition accepted otherwise) =
       1 + term_nodes condition + block_work turns accepted + block_work turns otherwise
   statement_work turns (repeats x low high body) =

@@ -1,8 +1,8 @@
 -- How much room straight code asks of a frame: how many values of subexpressions are still needed at once, where operands
 -- are computed from left to right, and how many loops stand in one another.
 use Rattle.std.specs.Prelude.{ℕ, ◌+◌, List, [], ◌∷◌, Option, None, Some, max}
-use Rattle.branch_removal.specs.Straight.{StraightTree, set, clear, fill, put, take, set_under, put_under, branch}
-use Rattle.branch_removal.specs.Straight.{repeats, StraightBlock, nothing, first, StraightProgram}
+use Rattle.branch_removal.specs.Straight.{StraightTree, set, array, put, take, branch, repeats}
+use Rattle.branch_removal.specs.Straight.{StraightBlock, nothing, first, StraightProgram}
 use Rattle.inline.specs.Flat.{TermTree, number, truth, variable, prefix, binary, rotate, convert, select, element}
 
 -- how many temporaries an expression has at once, beside the one that it comes into
@@ -30,13 +30,10 @@ height_of_put index value = max (height_of index) (1 + height_of value)
 abbrev mutual
   -- those of a statement
   pub height_in : StraightTree → ℕ
-  height_in (set x value) = height_of value
-  height_in (clear x size) = 0
-  height_in (fill x values) = height_of_all values
-  height_in (put place x size index value) = height_of_put index value
+  height_in (set within x value) = height_of value
+  height_in (array x size values) = height_of_all values
+  height_in (put within place x size index value) = height_of_put index value
   height_in (take control within condition) = height_of condition
-  height_in (set_under control x value) = height_of value
-  height_in (put_under control place x size index value) = height_of_put index value
   height_in (branch condition accepted otherwise) =
       max (height_of condition) (max (height_in_all accepted) (height_in_all otherwise))
   height_in (repeats x low high body) = max (max (height_of low) (height_of high)) (height_in_all body)
@@ -48,13 +45,10 @@ abbrev mutual
 abbrev mutual
   -- how many loops stand in one another at most
   pub depth_in : StraightTree → ℕ
-  depth_in (set x value) = 0
-  depth_in (clear x size) = 0
-  depth_in (fill x values) = 0
-  depth_in (put place x size index value) = 0
+  depth_in (set within x value) = 0
+  depth_in (array x size values) = 0
+  depth_in (put within place x size index value) = 0
   depth_in (take control within condition) = 0
-  depth_in (set_under control x value) = 0
-  depth_in (put_under control place x size index value) = 0
   depth_in (branch condition accepted otherwise) = max (depth_in_all accepted) (depth_in_all otherwise)
   depth_in (repeats x low high body) = 1 + depth_in_all body
 

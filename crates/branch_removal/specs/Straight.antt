@@ -1,8 +1,8 @@
 -- Straight code as values, without where it lies in memory: branches and loops are left only where what decides them
 -- is public.
 use Rattle.std.specs.Prelude.{ℕ, List, [], ◌∷◌, map, Option}
-use Rattle.branch_removal.specs.declared.straight.StraightStatement.{StraightStatement, Set, Clear, Fill, Put, Take}
-use Rattle.branch_removal.specs.declared.straight.StraightStatement.{SetUnder, PutUnder, Branch', Repeat'}
+use Rattle.branch_removal.specs.declared.straight.StraightStatement.{StraightStatement, Set, Array, Put, Take}
+use Rattle.branch_removal.specs.declared.straight.StraightStatement.{Branch', Repeat'}
 use Rattle.branch_removal.specs.declared.straight.StraightStatement.{Row_of-StraightStatement}
 use Rattle.branch_removal.specs.declared.straight.StraightStatement.{end_of-StraightStatement}
 use Rattle.branch_removal.specs.declared.straight.StraightStatement.{more_of-StraightStatement}
@@ -15,21 +15,15 @@ use Rattle.word.specs.declared.profile.Profile.{Profile}
 
 mutual
   pub data StraightTree : Type 0 where
-    -- a variable is set
-    set : (variable : ℕ) (value : TermTree) → StraightTree
-    -- all elements of an array of so many become 0
-    clear : (variable size : ℕ) → StraightTree
-    -- an array gets its first values, one for each element
-    fill : (variable : ℕ) (values : List TermTree) → StraightTree
-    -- an element of an array of so many is set
-    put : (place : Place) (variable size : ℕ) (index value : TermTree) → StraightTree
+    -- a variable is set; within a control value where that is true, and kept where it is not
+    set : (within : Option ℕ) (variable : ℕ) (value : TermTree) → StraightTree
+    -- an array of so many elements gets its first values, one for each element, or zeros where none are given
+    array : (variable size : ℕ) (values : List TermTree) → StraightTree
+    -- an element of an array of so many is set; within a control value where that is true, and kept where it is not
+    put : (within : Option ℕ) (place : Place) (variable size : ℕ) (index value : TermTree) → StraightTree
     -- a condition is taken once, within an enclosing control value or none: this control value is for
     -- where it is true, the next for where it is not
     take : (control : ℕ) (within : Option ℕ) (condition : TermTree) → StraightTree
-    -- a variable is set where a control value is true, and kept where it is not
-    set_under : (control variable : ℕ) (value : TermTree) → StraightTree
-    -- so is an element of an array
-    put_under : (control : ℕ) (place : Place) (variable size : ℕ) (index value : TermTree) → StraightTree
     -- one of two blocks runs, by a public condition
     branch : (condition : TermTree) (accepted otherwise : StraightBlock) → StraightTree
     -- a block runs for each number of a counter, from the first up to the last before the second
@@ -94,13 +88,11 @@ with_variables p declared body value = record {
 
 abbrev mutual
   pub straight_tree : StraightStatement → StraightTree
-  straight_tree (Set x value) = set x (term_tree value)
-  straight_tree (Clear x size) = clear x size
-  straight_tree (Fill x values) = fill x (map term_tree values.items)
-  straight_tree (Put place x size index value) = put place x size (term_tree index) (term_tree value)
+  straight_tree (Set within x value) = set within x (term_tree value)
+  straight_tree (Array x size values) = array x size (map term_tree values.items)
+  straight_tree (Put within place x size index value) =
+      put within place x size (term_tree index) (term_tree value)
   straight_tree (Take c within condition) = take c within (term_tree condition)
-  straight_tree (SetUnder c x value) = set_under c x (term_tree value)
-  straight_tree (PutUnder c place x size index value) = put_under c place x size (term_tree index) (term_tree value)
   straight_tree (Branch' condition shape accepted shape' otherwise) =
       branch (term_tree condition) (straight_row accepted) (straight_row otherwise)
   straight_tree (Repeat' x low high shape body) = repeats x (term_tree low) (term_tree high) (straight_row body)

@@ -1,14 +1,14 @@
 -- What straight code means: from what the variables hold and the control values, what they are in the end, and the
 -- path of the run. A condition is taken once into control values, and an assignment under a control value sets its
 -- target where that value is true and else keeps it.
-use Rattle.std.specs.Prelude.{ℕ, ◌+◌, ◌-◌, ◌==◌, Bool, true, false, not, ◌&&◌, List, [], ◌∷◌, ◌++◌, map, replicate}
+use Rattle.std.specs.Prelude.{ℕ, ◌+◌, ◌-◌, ◌==◌, Bool, true, false, not, ◌&&◌, List, [], ◌∷◌, ◌++◌}
 use Rattle.std.specs.Prelude.{Option, None, Some, if◌then◌else◌, slice_set}
 use Rattle.inline.specs.Flat.{TermTree}
-use Rattle.inline.specs.FlatMeaning.{Values, with_value, value_in, path_in, path_in_all, turns, path_of_turns, given}
-use Rattle.inline.specs.FlatMeaning.{results_of, path_of_result}
+use Rattle.inline.specs.FlatMeaning.{Values, with_value, value_in, elements, path_in, path_in_all, turns, path_of_turns}
+use Rattle.inline.specs.FlatMeaning.{given, results_of, path_of_result}
 use Rattle.inline.specs.Path.{Path, decided, bounded, indexed}
-use Rattle.branch_removal.specs.Straight.{StraightTree, set, clear, fill, put, take, set_under, put_under, branch}
-use Rattle.branch_removal.specs.Straight.{repeats, StraightBlock, nothing, first, StraightProgram}
+use Rattle.branch_removal.specs.Straight.{StraightTree, set, array, put, take, branch, repeats}
+use Rattle.branch_removal.specs.Straight.{StraightBlock, nothing, first, StraightProgram}
 use Rattle.language.specs.Results.{Results}
 use Rattle.language.specs.declared.values.Arg.{Arg}
 
@@ -48,17 +48,14 @@ counted x i s = with_variable s x (i ∷ [])
 
 abbrev mutual
   pub after : StraightState → StraightTree → StraightState
-  after s (set x value) = with_variable s x (value_at s value ∷ [])
-  after s (clear x size) = with_variable s x (replicate size 0)
-  after s (fill x values) = with_variable s x (map (value_at s) values)
-  after s (put place x size index value) = with_element s x (value_at s index) (value_at s value)
+  after s (set within x value) = if holds s within then with_variable s x (value_at s value ∷ []) else s
+  after s (array x size values) = with_variable s x (elements s.variables size values)
+  after s (put within place x size index value) =
+      if holds s within then with_element s x (value_at s index) (value_at s value) else s
   after s (take control within condition) =
       with_controls s control
       (holds s within && not (value_at s condition == 0))
       (holds s within && (value_at s condition == 0))
-  after s (set_under control x value) = if s.controls control then with_variable s x (value_at s value ∷ []) else s
-  after s (put_under control place x size index value) = if s.controls control
-      then with_element s x (value_at s index) (value_at s value) else s
   after s (branch condition accepted otherwise) = if value_at s condition == 0 then after_all s otherwise
       else after_all s accepted
   after s (repeats x low high body) =
@@ -71,15 +68,11 @@ abbrev mutual
 abbrev mutual
   -- the path of a statement: also an element that is kept is loaded and stored at its index
   pub path_at : StraightState → StraightTree → Path
-  path_at s (set x value) = path_in s.variables value
-  path_at s (clear x size) = []
-  path_at s (fill x values) = path_in_all s.variables values
-  path_at s (put place x size index value) = path_in s.variables index ++ indexed place size (value_at s index)
-      ∷ path_in s.variables value
-  path_at s (take control within condition) = path_in s.variables condition
-  path_at s (set_under control x value) = path_in s.variables value
-  path_at s (put_under control place x size index value) =
+  path_at s (set within x value) = path_in s.variables value
+  path_at s (array x size values) = path_in_all s.variables values
+  path_at s (put within place x size index value) =
       path_in s.variables index ++ indexed place size (value_at s index) ∷ path_in s.variables value
+  path_at s (take control within condition) = path_in s.variables condition
   path_at s (branch condition accepted otherwise) =
       path_in s.variables condition ++ decided (value_at s condition)
       ∷ (if value_at s condition == 0 then path_along s otherwise else path_along s accepted)

@@ -1,12 +1,12 @@
 -- Types of straight code, for an observer. All variables are known everywhere; what branches, loops, indices and
 -- divisions go by is public, and so is what is multiplied where the observer sees that.
-use Rattle.std.specs.Prelude.{◌≡◌, ℕ, ◌+◌, ◌<◌, ◌==◌, if◌then◌else◌, Bool, false, List, [], length, map}
+use Rattle.std.specs.Prelude.{◌≡◌, ℕ, ◌+◌, ◌<◌, ◌==◌, if◌then◌else◌, Bool, false, List, length, map}
 use Rattle.std.specs.Prelude.{take as first_of, Option, None, Some, slice_get}
-use Rattle.branch_removal.specs.Straight.{StraightTree, set, clear, fill, put, take, set_under, put_under, branch}
-use Rattle.branch_removal.specs.Straight.{repeats, StraightBlock, nothing, first, StraightProgram}
+use Rattle.branch_removal.specs.Straight.{StraightTree, set, array, put, take, branch, repeats}
+use Rattle.branch_removal.specs.Straight.{StraightBlock, nothing, first, StraightProgram}
 use Rattle.inline.specs.declared.flat.FlatVariable.{FlatVariable}
 use Rattle.inline.specs.Flat.{TermTree, word_as, array_as, declaration_of}
-use Rattle.inline.specs.FlatTyping.{Types, types_of, HasType, Suits, AllSuit, IsResult, counter_type}
+use Rattle.inline.specs.FlatTyping.{Types, types_of, HasType, HasCount, Suits, AllSuit, IsResult, counter_type}
 use Rattle.language.specs.WellTyped.{labelled}
 use Rattle.language.specs.declared.signature.Kind.TheVariants.{Boolean}
 use Rattle.language.specs.declared.signature.Label.{Label}
@@ -25,13 +25,14 @@ pub record IsSet (profile : Profile) (declared : List FlatVariable) (x : ℕ) (v
 abbrev pub types_but : Profile → List FlatVariable → ℕ → Types
 types_but profile declared x = record { profile = profile; at = λ y. if y == x then None else slice_get declared y }
 
--- an array of so many elements, and values for them, which do not go by what it held before
+-- an array of so many elements, and a value for each of them or none, which do not go by what it held before
 pub record IsFilled (profile : Profile) (declared : List FlatVariable) (x size : ℕ) (values : List TermTree) :
     Type 0 where
   pub word : WordType
   pub mutable : Bool
   pub known : slice_get declared x ≡ Some (array_as word mutable size)
   pub suit : AllSuit (types_but profile declared x) word values
+  pub count : HasCount size values
 
 -- an array of so many elements, a public index, and a value for the element
 pub record IsPut (profile : Profile) (declared : List FlatVariable) (x size : ℕ) (index value : TermTree) :
@@ -50,17 +51,13 @@ IsAmong controls (Some control) = control < controls
 abbrev mutual
   -- a well-typed statement, with so many control values
   pub IsTyped : Profile → List FlatVariable → ℕ → StraightTree → Type 0
-  IsTyped profile declared controls (set x value) = IsSet profile declared x value
-  IsTyped profile declared controls (clear x size) = IsFilled profile declared x size []
-  IsTyped profile declared controls (fill x values) = IsFilled profile declared x (length values) values
-  IsTyped profile declared controls (put place x size index value) = IsPut profile declared x size index value
+  IsTyped profile declared controls (set within x value) = IsAmong controls within × IsSet profile declared x value
+  IsTyped profile declared controls (array x size values) = IsFilled profile declared x size values
+  IsTyped profile declared controls (put within place x size index value) = IsAmong controls within
+      × IsPut profile declared x size index value
   IsTyped profile declared controls (take control within condition) =
       (control + 1 < controls) × IsAmong controls within
       × ((label : Label) × HasType (types_of profile declared) condition (labelled Boolean label))
-  IsTyped profile declared controls (set_under control x value) = (control < controls)
-      × IsSet profile declared x value
-  IsTyped profile declared controls (put_under control place x size index value) = (control < controls)
-      × IsPut profile declared x size index value
   IsTyped profile declared controls (branch condition accepted otherwise) =
       HasType (types_of profile declared) condition (labelled Boolean Public)
       × AreTyped profile declared controls accepted × AreTyped profile declared controls otherwise
@@ -77,16 +74,18 @@ abbrev mutual
 abbrev pub IsSecret : List FlatVariable → ℕ → Type 0
 IsSecret declared x = (d : FlatVariable) → slice_get declared x ≡ Some d → d.word.label ≡ Secret
 
+-- what is set within a control value is secret
+abbrev pub IsSecretWithin : List FlatVariable → Option ℕ → ℕ → Type 0
+IsSecretWithin declared None x = Unit {0}
+IsSecretWithin declared (Some control) x = IsSecret declared x
+
 abbrev mutual
-  -- only what is secret is set under a control value
+  -- only what is secret is set within a control value
   pub IsHidden : List FlatVariable → StraightTree → Type 0
-  IsHidden declared (set x value) = Unit {0}
-  IsHidden declared (clear x size) = Unit {0}
-  IsHidden declared (fill x values) = Unit {0}
-  IsHidden declared (put place x size index value) = Unit {0}
+  IsHidden declared (set within x value) = IsSecretWithin declared within x
+  IsHidden declared (array x size values) = Unit {0}
+  IsHidden declared (put within place x size index value) = IsSecretWithin declared within x
   IsHidden declared (take control within condition) = Unit {0}
-  IsHidden declared (set_under control x value) = IsSecret declared x
-  IsHidden declared (put_under control place x size index value) = IsSecret declared x
   IsHidden declared (branch condition accepted otherwise) = AreHidden declared accepted × AreHidden declared otherwise
   IsHidden declared (repeats x low high body) = AreHidden declared body
 

@@ -2,8 +2,8 @@
 -- it is read, set or a loop's counter. No weight goes beyond the greatest number of 64 bits.
 use Rattle.std.specs.Prelude.{ℕ, ◌+◌, ◌-◌, ◌*◌, ◌^◌, List, [], ◌∷◌, Option, None, Some, length, min}
 use Rattle.std.specs.Prelude.{replicate, slice_index, slice_set}
-use Rattle.branch_removal.specs.Straight.{StraightTree, set, clear, fill, put, take, set_under, put_under, branch}
-use Rattle.branch_removal.specs.Straight.{repeats, StraightBlock, nothing, first, StraightProgram}
+use Rattle.branch_removal.specs.Straight.{StraightTree, set, array, put, take, branch, repeats}
+use Rattle.branch_removal.specs.Straight.{StraightBlock, nothing, first, StraightProgram}
 use Rattle.inline.specs.Flat.{TermTree, number, truth, variable, prefix, binary, rotate, convert, select, element}
 
 abbrev pub greatest_weight : ℕ
@@ -37,14 +37,11 @@ used_in_terms weight (e ∷ es) weights = used_in_terms weight es (used_in weigh
 abbrev mutual
   -- with those in a statement
   pub used_by : ℕ → StraightTree → List ℕ → List ℕ
-  used_by weight (set x value) weights = used weight x (used_in weight value weights)
-  used_by weight (clear x size) weights = weights
-  used_by weight (fill x values) weights = used_in_terms weight values weights
-  used_by weight (put place x size index value) weights = used_in weight value (used_in weight index weights)
-  used_by weight (take control within condition) weights = used_in weight condition weights
-  used_by weight (set_under control x value) weights = used weight x (used_in weight value weights)
-  used_by weight (put_under control place x size index value) weights =
+  used_by weight (set within x value) weights = used weight x (used_in weight value weights)
+  used_by weight (array x size values) weights = used_in_terms weight values weights
+  used_by weight (put within place x size index value) weights =
       used_in weight value (used_in weight index weights)
+  used_by weight (take control within condition) weights = used_in weight condition weights
   used_by weight (branch condition accepted otherwise) weights =
       used_by_all weight otherwise (used_by_all weight accepted (used_in weight condition weights))
   used_by weight (repeats x low high body) weights =

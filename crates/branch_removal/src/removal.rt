@@ -2,11 +2,11 @@ ghost use Rattle.std.specs.Prelude.{◌≡◌, ◌+◌, ◌^◌, ◌<◌, map, I
 ghost use Rattle.inline.specs.Flat.{branch, term_tree, flat_tree, flat_block};
 ghost use Rattle.language.specs.declared.signature.Label.TheVariants.{Public, Secret};
 ghost use Rattle.language.specs.WantOfMemory.{IsWantOfMemory};
-ghost use Rattle.branch_removal.specs.private.Removal.{set_within, put_within, made, removed, removed_all, single};
-ghost use Rattle.branch_removal.specs.private.Removal.{controls_in, controls_in_all};
+ghost use Rattle.branch_removal.specs.private.Removal.{controls_in, controls_in_all, removed, removed_all, single};
 ghost use Rattle.branch_removal.specs.Bounds.{IsCounted};
 ghost use Rattle.branch_removal.specs.Exact.{straight_of};
 ghost use Rattle.branch_removal.specs.Removed.{IsRemoved};
+ghost use Rattle.branch_removal.specs.Straight as straight;
 ghost use Rattle.branch_removal.specs.Straight.{straight_tree, straight_block, chain, repeats};
 
 use crate::controls::controls_in_all;
@@ -18,44 +18,6 @@ use intervals::Ranged;
 use language::{Label, Refusal};
 use std::alloc::{AllocError, Global};
 use word::Place;
-
-/// An assignment under the enclosing control value, where there is one.
-fn set_within(within: Option<u32>, variable: u32, value: Term) -> StraightStatement
-    ensures { straight_tree result ≡ set_within within variable (term_tree value) }
-{
-    match within {
-        None => StraightStatement::Set(variable, value),
-        Some(control) => StraightStatement::SetUnder(control, variable, value),
-    }
-}
-
-/// An assignment to an element under the enclosing control value, where there is one.
-fn put_within(
-    within: Option<u32>,
-    place: Place,
-    variable: u32,
-    size: u32,
-    index: Term,
-    value: Term,
-) -> StraightStatement
-    ensures { straight_tree result ≡ put_within within place variable size (term_tree index) (term_tree value) }
-{
-    match within {
-        None => StraightStatement::Put(place, variable, size, index, value),
-        Some(control) => StraightStatement::PutUnder(control, place, variable, size, index, value),
-    }
-}
-
-/// A new array: its first values where some are written, else zeros.
-fn made(variable: u32, size: u32, values: Vec<Term>) -> StraightStatement
-    ensures { straight_tree result ≡ made variable size (map term_tree values.items) }
-{
-    if values.is_empty() {
-        StraightStatement::Clear(variable, size)
-    } else {
-        StraightStatement::Fill(variable, values)
-    }
-}
 
 /// Puts a statement behind what there is.
 fn push(code: &mut Vec<StraightStatement>, one: StraightStatement) -> Result<(), AllocError>
@@ -72,9 +34,10 @@ fn set(
     variable: u32,
     value: &Term,
 ) -> Result<StraightStatement, AllocError>
-    ensures { IfOk result (λ one. straight_tree one ≡ set_within within variable (term_tree value.now)) }
+    ensures { IfOk result (λ one. straight_tree one ≡ straight.set within variable (term_tree value.now)) }
 {
-    Ok(set_within(within, variable, copied(alloc, value)?))
+    let value = copied(alloc, value)?;
+    Ok(StraightStatement::Set(within, variable, value))
 }
 
 /// An element is set to a copy of a value, at a copy of an index.
@@ -87,11 +50,12 @@ fn put(
     index: &Term,
     value: &Term,
 ) -> Result<StraightStatement, AllocError>
-    ensures { IfOk result (λ one. straight_tree one ≡ put_within within place variable size (term_tree index.now) (term_tree value.now)) }
+    ensures { IfOk result (λ one. straight_tree one
+        ≡ straight.put within place variable size (term_tree index.now) (term_tree value.now)) }
 {
     let index = copied(alloc, index)?;
     let value = copied(alloc, value)?;
-    Ok(put_within(within, place, variable, size, index, value))
+    Ok(StraightStatement::Put(within, place, variable, size, index, value))
 }
 
 /// A new array of copies of its first values.
@@ -101,9 +65,10 @@ fn array(
     size: u32,
     values: &[Term],
 ) -> Result<StraightStatement, AllocError>
-    ensures { IfOk result (λ one. straight_tree one ≡ made variable size (map term_tree values.now)) }
+    ensures { IfOk result (λ one. straight_tree one ≡ straight.array variable size (map term_tree values.now)) }
 {
-    Ok(made(variable, size, all_copied(alloc, values)?))
+    let values = all_copied(alloc, values)?;
+    Ok(StraightStatement::Array(variable, size, values))
 }
 
 /// A loop with copies of its bounds, whose body is straight already.

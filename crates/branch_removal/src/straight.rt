@@ -13,21 +13,15 @@ use word::{Place, Profile};
 /// A statement of straight code. Branches and loops are left only where what decides them is public.
 #[derive(Drop)]
 pub enum StraightStatement {
-    /// Sets a variable.
-    Set(u32, Term),
-    /// All elements of an array, which has so many, become 0.
-    Clear(u32, u32),
-    /// An array gets its first values, one for each element.
-    Fill(u32, Vec<Term>),
-    /// The element at an index of an array, which has so many, is set to a value.
-    Put(Place, u32, u32, Term, Term),
+    /// Sets a variable. Within a control value it keeps what it holds where that is false.
+    Set(Option<u32>, u32, Term),
+    /// An array, which has so many elements, gets its first values, one for each, or zeros where none are given.
+    Array(u32, u32, Vec<Term>),
+    /// The element at an index of an array, which has so many, is set to a value, or kept as a variable is.
+    Put(Option<u32>, Place, u32, u32, Term, Term),
     /// Takes a condition into two control values, this one for where it is true and the next for where
     /// it is not. Each is joined with the enclosing one, where there is one.
     Take(u32, Option<u32>, Term),
-    /// Under a control value, sets a variable: where the control value is false the variable keeps what it holds.
-    SetUnder(u32, u32, Term),
-    /// Under a control value, sets the element at an index of an array, which has so many.
-    PutUnder(u32, Place, u32, u32, Term, Term),
     /// What runs where a public condition is true, and where it is not.
     Branch(Term, Vec<StraightStatement>, Vec<StraightStatement>),
     /// What runs for each number of a counter, from the first bound up to the last before the second.

@@ -67,15 +67,12 @@ fn count_by(weights: &mut [u64], weight: u64, statement: &StraightStatement)
     ensures { weights.new ≡ used_by weight (straight_tree statement.now) weights.old }
 {
     match statement {
-        StraightStatement::Set(variable, value) | StraightStatement::SetUnder(_, variable, value) =>
-            {
-                count_in(weights, weight, value);
-                count_use(weights, weight, *variable);
-            }
-        StraightStatement::Clear(_, _) => {}
-        StraightStatement::Fill(_, values) => count_in_terms(weights, weight, values),
-        StraightStatement::Put(_, _, _, index, value)
-        | StraightStatement::PutUnder(_, _, _, _, index, value) => {
+        StraightStatement::Set(_, variable, value) => {
+            count_in(weights, weight, value);
+            count_use(weights, weight, *variable);
+        }
+        StraightStatement::Array(_, _, values) => count_in_terms(weights, weight, values),
+        StraightStatement::Put(_, _, _, _, index, value) => {
             count_in(weights, weight, index);
             count_in(weights, weight, value);
         }

@@ -1,49 +1,33 @@
 -- How branches on secrets are removed: each condition is taken into control values, and both arms follow. Branches on
 -- what is public stay, and loops do: what they go by is public.
 use Rattle.std.specs.Prelude.{ℕ, ◌+◌, List, [], ◌∷◌, Option, None, Some, max}
-use Rattle.branch_removal.specs.Straight.{StraightTree, set, clear, fill, put, take, set_under, put_under, repeats}
+use Rattle.branch_removal.specs.Straight.{StraightTree, set, take, repeats}
 use Rattle.branch_removal.specs.Straight.{StraightBlock, nothing, first, chain, StraightProgram}
 use Rattle.branch_removal.specs.Straight as straight
-use Rattle.inline.specs.Flat.{TermTree, FlatTree, declare, array, assign, hold, skip, branch, loop, FlatBlock}
+use Rattle.inline.specs.Flat.{TermTree, FlatTree, declare, assign, hold, skip, branch, loop, FlatBlock}
 use Rattle.inline.specs.Flat.{FlatProgram}
 use Rattle.inline.specs.Flat as flat
 use Rattle.intervals.specs.Ranged.{RangedProgram}
 use Rattle.language.specs.declared.signature.Label.{Label}
 use Rattle.language.specs.declared.signature.Label.TheVariants.{Public, Secret}
-use Rattle.word.specs.declared.place.Place.{Place}
 
 -- the block of one statement
 abbrev pub single : StraightTree → StraightBlock
 single statement = first statement nothing
 
--- an assignment under the enclosing control value, where there is one
-abbrev pub set_within : Option ℕ → ℕ → TermTree → StraightTree
-set_within None x value = set x value
-set_within (Some control) x value = set_under control x value
-
--- so for an element
-abbrev pub put_within : Option ℕ → Place → ℕ → ℕ → TermTree → TermTree → StraightTree
-put_within None place x size index value = put place x size index value
-put_within (Some control) place x size index value = put_under control place x size index value
-
 -- the condition of a branch on a secret, within the enclosing control value
 abbrev pub take_within : Option ℕ → ℕ → TermTree → StraightTree
 take_within within control condition = take control within condition
-
--- a new array: its first values where some are written, else zeros
-abbrev pub made : ℕ → ℕ → List TermTree → StraightTree
-made x size [] = clear x size
-made x size (e ∷ es) = fill x (e ∷ es)
 
 abbrev mutual
   -- a statement within an enclosing control value; its own control values are from `control` on.
   -- What it declares is set in any case, counters and indices that are held are too.
   pub removed : Option ℕ → ℕ → FlatTree → StraightBlock
-  removed within control (declare x word mutable value) = single (set x value)
-  removed within control (array x word mutable size values) = single (made x size values)
-  removed within control (assign x value) = single (set_within within x value)
-  removed within control (flat.put place x size index value) = single (put_within within place x size index value)
-  removed within control (hold x place size index) = single (set x index)
+  removed within control (declare x word mutable value) = single (set None x value)
+  removed within control (flat.array x word mutable size values) = single (straight.array x size values)
+  removed within control (assign x value) = single (set within x value)
+  removed within control (flat.put place x size index value) = single (straight.put within place x size index value)
+  removed within control (hold x place size index) = single (set None x index)
   removed within control skip = nothing
   removed within control (branch Secret condition accepted otherwise) =
       first (take_within within control condition)
@@ -66,7 +50,7 @@ abbrev mutual
   -- how many control values a statement takes
   pub controls_in : FlatTree → ℕ
   controls_in (declare x word mutable value) = 0
-  controls_in (array x word mutable size values) = 0
+  controls_in (flat.array x word mutable size values) = 0
   controls_in (assign x value) = 0
   controls_in (flat.put place x size index value) = 0
   controls_in (hold x place size index) = 0

@@ -13,8 +13,8 @@ use Rattle.language.specs.declared.typing.WordType.{WordType}
 use Rattle.word.specs.contracts.place.Place as place
 use Rattle.word.specs.contracts.profile.Profile as profile
 use Rattle.word.specs.declared.profile.Profile.{Profile}
-use Rattle.branch_removal.specs.Straight.{StraightTree, set, clear, fill, put, take, set_under, put_under, branch}
-use Rattle.branch_removal.specs.Straight.{repeats, StraightBlock, nothing, first, StraightProgram}
+use Rattle.branch_removal.specs.Straight.{StraightTree, set, array, put, take, branch, repeats}
+use Rattle.branch_removal.specs.Straight.{StraightBlock, nothing, first, StraightProgram}
 
 abbrev head : Gv → Gv
 head gnil = gnil
@@ -34,22 +34,18 @@ control_within = coded_option coded_ℕ
 
 abbrev mutual
   pub tree_code : StraightTree → Gv
-  tree_code (set x v) = gcons (gnum 0) (gcons (coded_ℕ.code x) (coded_term.code v))
-  tree_code (clear x n) = gcons (gnum 1) (gcons (coded_ℕ.code x) (coded_ℕ.code n))
-  tree_code (fill x vs) = gcons (gnum 2) (gcons (coded_ℕ.code x) (terms.code vs))
-  tree_code (put p x n i v) =
-      gcons (gnum 3) (gcons (place.the_row.coded.code p)
-      (gcons (coded_ℕ.code x) (gcons (coded_ℕ.code n) (gcons (coded_term.code i) (coded_term.code v)))))
-  tree_code (take c w e) = gcons (gnum 4) (gcons (coded_ℕ.code c) (gcons (control_within.code w) (coded_term.code e)))
-  tree_code (set_under c x v) = gcons (gnum 5) (gcons (coded_ℕ.code c) (gcons (coded_ℕ.code x) (coded_term.code v)))
-  tree_code (put_under c p x n i v) =
-      gcons (gnum 6)
-      (gcons (coded_ℕ.code c)
+  tree_code (set w x v) =
+      gcons (gnum 0) (gcons (control_within.code w) (gcons (coded_ℕ.code x) (coded_term.code v)))
+  tree_code (array x n vs) = gcons (gnum 1) (gcons (coded_ℕ.code x) (gcons (coded_ℕ.code n) (terms.code vs)))
+  tree_code (put w p x n i v) =
+      gcons (gnum 2)
+      (gcons (control_within.code w)
       (gcons (place.the_row.coded.code p)
       (gcons (coded_ℕ.code x) (gcons (coded_ℕ.code n) (gcons (coded_term.code i) (coded_term.code v))))))
-  tree_code (branch e a b) = gcons (gnum 7) (gcons (coded_term.code e) (gcons (block_code a) (block_code b)))
+  tree_code (take c w e) = gcons (gnum 3) (gcons (coded_ℕ.code c) (gcons (control_within.code w) (coded_term.code e)))
+  tree_code (branch e a b) = gcons (gnum 4) (gcons (coded_term.code e) (gcons (block_code a) (block_code b)))
   tree_code (repeats x l h b) =
-      gcons (gnum 8) (gcons (coded_ℕ.code x) (gcons (coded_term.code l) (gcons (coded_term.code h) (block_code b))))
+      gcons (gnum 5) (gcons (coded_ℕ.code x) (gcons (coded_term.code l) (gcons (coded_term.code h) (block_code b))))
 
   pub block_code : StraightBlock → Gv
   block_code nothing = gnil
@@ -57,33 +53,25 @@ abbrev mutual
 
 mutual
   pub tree_inj : (x y : StraightTree) → tree_code x ≡ tree_code y → x ≡ y
-  tree_inj (set x v) (set x' v') p =
-      λ i. set (coded_ℕ.inj x x' (ap (λ g. head (tail g)) p) i) (coded_term.inj v v' (ap (λ g. tail (tail g)) p) i)
-  tree_inj (clear x n) (clear x' n') p =
-      λ i. clear (coded_ℕ.inj x x' (ap (λ g. head (tail g)) p) i) (coded_ℕ.inj n n' (ap (λ g. tail (tail g)) p) i)
-  tree_inj (fill x vs) (fill x' vs') p =
-      λ i. fill (coded_ℕ.inj x x' (ap (λ g. head (tail g)) p) i) (terms.inj vs vs' (ap (λ g. tail (tail g)) p) i)
-  tree_inj (put q x n j v) (put q' x' n' j' v') p =
-      λ i. put (place.the_row.coded.inj q q' (ap (λ g. head (tail g)) p) i)
-      (coded_ℕ.inj x x' (ap (λ g. head (tail (tail g))) p) i)
-      (coded_ℕ.inj n n' (ap (λ g. head (tail (tail (tail g)))) p) i)
-      (coded_term.inj j j' (ap (λ g. head (tail (tail (tail (tail g))))) p) i)
-      (coded_term.inj v v' (ap (λ g. tail (tail (tail (tail (tail g))))) p) i)
-  tree_inj (take c w e) (take c' w' e') p =
-      λ i. take (coded_ℕ.inj c c' (ap (λ g. head (tail g)) p) i)
-      (control_within.inj w w' (ap (λ g. head (tail (tail g))) p) i)
-      (coded_term.inj e e' (ap (λ g. tail (tail (tail g))) p) i)
-  tree_inj (set_under c x v) (set_under c' x' v') p =
-      λ i. set_under (coded_ℕ.inj c c' (ap (λ g. head (tail g)) p) i)
+  tree_inj (set w x v) (set w' x' v') p =
+      λ i. set (control_within.inj w w' (ap (λ g. head (tail g)) p) i)
       (coded_ℕ.inj x x' (ap (λ g. head (tail (tail g))) p) i)
       (coded_term.inj v v' (ap (λ g. tail (tail (tail g))) p) i)
-  tree_inj (put_under c q x n j v) (put_under c' q' x' n' j' v') p =
-      λ i. put_under (coded_ℕ.inj c c' (ap (λ g. head (tail g)) p) i)
+  tree_inj (array x n vs) (array x' n' vs') p =
+      λ i. array (coded_ℕ.inj x x' (ap (λ g. head (tail g)) p) i)
+      (coded_ℕ.inj n n' (ap (λ g. head (tail (tail g))) p) i)
+      (terms.inj vs vs' (ap (λ g. tail (tail (tail g))) p) i)
+  tree_inj (put w q x n j v) (put w' q' x' n' j' v') p =
+      λ i. put (control_within.inj w w' (ap (λ g. head (tail g)) p) i)
       (place.the_row.coded.inj q q' (ap (λ g. head (tail (tail g))) p) i)
       (coded_ℕ.inj x x' (ap (λ g. head (tail (tail (tail g)))) p) i)
       (coded_ℕ.inj n n' (ap (λ g. head (tail (tail (tail (tail g))))) p) i)
       (coded_term.inj j j' (ap (λ g. head (tail (tail (tail (tail (tail g)))))) p) i)
       (coded_term.inj v v' (ap (λ g. tail (tail (tail (tail (tail (tail g)))))) p) i)
+  tree_inj (take c w e) (take c' w' e') p =
+      λ i. take (coded_ℕ.inj c c' (ap (λ g. head (tail g)) p) i)
+      (control_within.inj w w' (ap (λ g. head (tail (tail g))) p) i)
+      (coded_term.inj e e' (ap (λ g. tail (tail (tail g))) p) i)
   tree_inj (branch e a b) (branch e' a' b') p =
       λ i. branch (coded_term.inj e e' (ap (λ g. head (tail g)) p) i)
       (block_inj a a' (ap (λ g. head (tail (tail g))) p) i)
