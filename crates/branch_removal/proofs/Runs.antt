@@ -10,7 +10,7 @@ use Rattle.language.specs.declared.signature.Label.TheVariants.{Public, Secret}
 use Rattle.word.specs.declared.profile.Profile.{Profile}
 use Rattle.branch_removal.specs.private.Removal.{take_within, removed, removed_all}
 use Rattle.branch_removal.specs.Straight.{StraightBlock}
-use Rattle.branch_removal.specs.StraightMeaning.{StraightState, with_variable, with_controls, value_at, counted}
+use Rattle.branch_removal.specs.StraightMeaning.{StraightState, holds, with_variable, with_controls, value_at, counted}
 use Rattle.branch_removal.specs.StraightMeaning.{after, after_all}
 use Rattle.branch_removal.proofs.SeenLemmas.{both_seen}
 use Rattle.branch_removal.proofs.Sequences.{after-chain}

@@ -49,7 +49,7 @@ count_by-returns-in-Repeat t c =
     let before = c.count_in-in-Repeat-2.ensures
     ∙ ap (λ (weights : List ℕ). used_in w high weights) c.count_in-in-Repeat.ensures in
     c.count_by_all-in-Repeat.ensures
-    ∙ (ap (λ (weights : List ℕ). used_by_all inside body weights) (c.count_use.ensures
+    ∙ (ap (λ (weights : List ℕ). used_by_all inside body weights) (c.count_use-in-Repeat.ensures
     ∙ ap (λ (weights : List ℕ). used inside x weights) before)
     ∙ (ap (λ (v : ℕ). used_by_all v body (used v x (used_in w high (used_in w low c.args.weights.now))))
     c.weight_inside-inside.ensures
