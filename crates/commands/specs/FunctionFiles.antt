@@ -7,7 +7,7 @@ use Rattle.commands.specs.declared.fault.Fault.{Fault}
 use Rattle.commands.specs.declared.fault.Fault.TheVariants.{Name}
 use Rattle.functions.specs.function_text.Functions.{HasTakenName}
 use Rattle.functions.specs.function_text.Texts.{AreTextsOf}
-use Rattle.hepurita.specs.declared.optimisation.Optimisation.{Optimisation}
+use Rattle.hepurita.specs.declared.optimised.Optimisation.{Optimisation}
 use Rattle.word.specs.declared.place.Place.{Place}
 use Rattle.word.specs.declared.profile.Profile.{Profile}
 

@@ -8,7 +8,7 @@ use Rattle.commands.specs.declared.fault.Fault.TheVariants.{Text, Explained}
 use Rattle.commands.specs.Unread.{IsOutOfMemory}
 use Rattle.explanations.specs.explained_refusals.Explained.{Explains}
 use Rattle.hepurita.specs.Built.{Judges, IsRefusal, IsBuilt, accepts}
-use Rattle.hepurita.specs.declared.optimisation.Optimisation.{Optimisation}
+use Rattle.hepurita.specs.declared.optimised.Optimisation.{Optimisation}
 use Rattle.language.specs.Tree.{ProcedureTree, ProgramTree}
 use Rattle.language.specs.declared.refusal.Refusal.{Refusal}
 use Rattle.image_reports.specs.source_statistics.SourceText.{SaysCosts}

@@ -10,7 +10,7 @@ mod evaluating;
 mod fault;
 mod files;
 mod foreign_code;
-mod functions;
+mod function_files;
 mod images;
 mod measuring;
 mod outcome;

@@ -13,7 +13,7 @@ use crate::evaluating::evaluate_text;
 use crate::fault::{Fault, FileFault};
 use crate::files::Files;
 use crate::foreign_code::wrap_code;
-use crate::functions::write_function;
+use crate::function_files::write_function;
 use crate::images::{leak_image, list_image, pair_image, run_image};
 use crate::measuring::measure_file;
 use crate::picturing::picture_image;

@@ -4,7 +4,7 @@ ghost use Rattle.std.specs.Str.{bytes_eq};
 ghost use Rattle.explanations.specs.Listed.{listed};
 
 use crate::row::Explanation;
-use crate::rows::{files, labels, limits, names_and_types, reading, runs};
+use crate::rows::{files, limits, names_and_types, reading, runs, secrecy};
 
 /// All codes, in the order of the tables.
 const CODES: [&str; 58] = [
@@ -75,7 +75,7 @@ pub fn explanation(code: &str) -> Option<Explanation>
 {
     reading::row(code)
         .or(names_and_types::row(code))
-        .or(labels::row(code))
+        .or(secrecy::row(code))
         .or(limits::row(code))
         .or(files::row(code))
         .or(runs::row(code))

@@ -7,7 +7,7 @@ use Rattle.codegen.specs.Loaded.{params_of, results_in}
 use Rattle.harts.specs.SideBySide.{frame_base_of, Job, loaded_alone, member_of}
 use Rattle.hepurita.specs.Built.{IsBuilt}
 use Rattle.hepurita.specs.Compiled.{Means}
-use Rattle.hepurita.specs.declared.optimisation.Optimisation.{Optimisation}
+use Rattle.hepurita.specs.declared.optimised.Optimisation.{Optimisation}
 use Rattle.hepurita.specs.image.Reading.{Spells}
 use Rattle.language.specs.Tree.{ProgramTree}
 use Rattle.word.specs.declared.profile.Profile.{Profile}

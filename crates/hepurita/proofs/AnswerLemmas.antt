@@ -35,7 +35,7 @@ use Rattle.hepurita.specs.Answers.{Builds, IsTheOutcome, IsSame}
 use Rattle.hepurita.specs.Executed.{Executed, answer_at, refused, out_of_memory, ran}
 use Rattle.hepurita.specs.Paired.{Paired, Observed, pair_fault, first_of, shifted}
 use Rattle.hepurita.specs.Paired as pairs
-use Rattle.hepurita.specs.declared.optimisation.Optimisation.{Optimisation}
+use Rattle.hepurita.specs.declared.optimised.Optimisation.{Optimisation}
 use Rattle.hepurita.proofs.JudgementLemmas.{one_export}
 use Rattle.word.specs.declared.profile.Profile.{Profile}
 

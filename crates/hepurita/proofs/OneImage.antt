@@ -7,7 +7,7 @@ use Rattle.codegen.specs.image_fields.Fields.{Fields}
 use Rattle.syntax.specs.Reading.{OneAnswer}
 use Rattle.hepurita.specs.Built.{IsBuilt}
 use Rattle.hepurita.specs.Exact.{image_for}
-use Rattle.hepurita.specs.declared.optimisation.Optimisation.{Optimisation}
+use Rattle.hepurita.specs.declared.optimised.Optimisation.{Optimisation}
 use Rattle.hepurita.proofs.JudgementLemmas.{one_export}
 use Rattle.word.specs.declared.profile.Profile.{Profile}
 

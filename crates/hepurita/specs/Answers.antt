@@ -12,7 +12,7 @@ use Rattle.hepurita.specs.declared.fault.RunFault.{RunFault}
 use Rattle.hepurita.specs.declared.fault.RunFault.TheVariants.{Memory, Stopped}
 use Rattle.hepurita.specs.Built.{Judges, accepts, IsBuilt}
 use Rattle.hepurita.specs.Compiled.{Means}
-use Rattle.hepurita.specs.declared.optimisation.Optimisation.{Optimisation}
+use Rattle.hepurita.specs.declared.optimised.Optimisation.{Optimisation}
 use Rattle.word.specs.declared.profile.Profile.{Profile}
 
 -- a text that is accepted with this export, for an observer, and the plain or the optimised image that its bytes

@@ -6,8 +6,8 @@ use Rattle.branch_removal.specs.Straight.{StraightProgram}
 use Rattle.codegen.specs.Exact.{fields_of, optimised_fields_of}
 use Rattle.optimisation.specs.constants.Exact.{simplified_of, unrolled_of}
 use Rattle.optimisation.specs.element_words.Exact.{split_of}
-use Rattle.hepurita.specs.declared.optimisation.Optimisation.{Optimisation}
-use Rattle.hepurita.specs.declared.optimisation.Optimisation.TheVariants.{Off, On}
+use Rattle.hepurita.specs.declared.optimised.Optimisation.{Optimisation}
+use Rattle.hepurita.specs.declared.optimised.Optimisation.TheVariants.{Off, On}
 use Rattle.codegen.specs.image_fields.Fields.{Fields}
 use Rattle.inline.specs.Numbering.{flattened}
 use Rattle.intervals.specs.Work.{ranged}

@@ -20,7 +20,7 @@ ghost use Rattle.hepurita.specs.Built.{Judgement, Judges, JudgesProgram, IsRefus
 
 use crate::image::write;
 use crate::judging::flat_of;
-use crate::optimisation::Optimisation;
+use crate::optimised::Optimisation;
 use crate::optimising::{rolled, unrolled};
 use branch_removal::{Straight, remove};
 use codegen::{Code, generate};

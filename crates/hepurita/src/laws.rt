@@ -31,7 +31,7 @@ ghost use Rattle.language.specs.Results.{Results};
 ghost use Rattle.language.specs.Tree.{ProcedureTree, ProgramTree};
 ghost use Rattle.word.specs.declared.profile.Profile.{Profile};
 ghost use Rattle.hepurita.specs.declared.fault.RunFault.{RunFault};
-ghost use Rattle.hepurita.specs.declared.optimisation.Optimisation.{Optimisation};
+ghost use Rattle.hepurita.specs.declared.optimised.Optimisation.{Optimisation};
 ghost use Rattle.hepurita.specs.Answers.{Builds, IsTheOutcome, IsSame};
 ghost use Rattle.hepurita.specs.Executed.{Executed, WantsMemory};
 ghost use Rattle.hepurita.specs.Paired.{Paired};

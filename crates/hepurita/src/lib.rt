@@ -13,7 +13,7 @@ pub mod image;
 mod judging;
 mod laws;
 mod loading;
-mod optimisation;
+mod optimised;
 mod optimising;
 mod reading;
 mod results;
@@ -32,6 +32,6 @@ pub use laws::{
     texts_are_compiled,
 };
 pub use loading::{CODE_BASE, FRAME_BASE, code, frame, load, params, put_argument, put_arguments};
-pub use optimisation::Optimisation;
+pub use optimised::Optimisation;
 pub use reading::read_args;
 pub use results::{ResultSpace, outcome, result_space};

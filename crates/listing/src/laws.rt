@@ -4,7 +4,7 @@ ghost use Rattle.std.specs.Prelude.{ℕ, ◌≡◌, ◌≢◌, List, ◌++◌, R
 ghost use Rattle.language.specs.arguments.Agreement.{Agree};
 ghost use Rattle.codegen.specs.Loaded.{params_of};
 ghost use Rattle.hepurita.specs.Answers.{Builds};
-ghost use Rattle.hepurita.specs.declared.optimisation.Optimisation.{Optimisation};
+ghost use Rattle.hepurita.specs.declared.optimised.Optimisation.{Optimisation};
 ghost use Rattle.codegen.specs.image_fields.Fields.{Fields};
 ghost use Rattle.language.specs.Tree.{ProcedureTree, ProgramTree};
 ghost use Rattle.language.specs.declared.values.Arg.{Arg};

@@ -8,7 +8,7 @@ use Rattle.functions.specs.declared.function_text.fault.FunctionFault.{FunctionF
 use Rattle.functions.specs.declared.function_text.fault.FunctionFault.TheVariants.{Text, Name}
 use Rattle.functions.specs.function_text.private.OfExport.{IsOfExport, IsTaken}
 use Rattle.hepurita.specs.Built.{IsBuilt, Judges, accepts, fine, readable}
-use Rattle.hepurita.specs.declared.optimisation.Optimisation.{Optimisation}
+use Rattle.hepurita.specs.declared.optimised.Optimisation.{Optimisation}
 use Rattle.language.specs.Signature.{exported}
 use Rattle.language.specs.Tree.{ProcedureTree, ProgramTree}
 use Rattle.language.specs.declared.refusal.Refusal.{Refusal}

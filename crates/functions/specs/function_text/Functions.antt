@@ -8,7 +8,7 @@ use Rattle.functions.specs.declared.function_text.function.Function.{Function}
 use Rattle.functions.specs.declared.function_text.function.NamedParam.{NamedParam}
 use Rattle.hepurita.specs.Answers.{Builds}
 use Rattle.hepurita.specs.Built.{Judges, accepts, IsRefusal}
-use Rattle.hepurita.specs.declared.optimisation.Optimisation.{Optimisation}
+use Rattle.hepurita.specs.declared.optimised.Optimisation.{Optimisation}
 use Rattle.codegen.specs.image_fields.Fields.{Fields}
 use Rattle.language.specs.Signature.{param_of}
 use Rattle.language.specs.Tree.{ParameterTree, ProcedureTree, ProgramTree}

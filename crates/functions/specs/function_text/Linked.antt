@@ -1,7 +1,7 @@
 -- The function of a text can be called, from wherever its words stand.
 use Rattle.std.specs.Prelude.{ℕ, List}
 use Rattle.functions.specs.function_text.Functions.{Parts, IsFunctionOf}
-use Rattle.hepurita.specs.declared.optimisation.Optimisation.{Optimisation}
+use Rattle.hepurita.specs.declared.optimised.Optimisation.{Optimisation}
 use Rattle.linked_calls.specs.Callable.{IsCallable}
 use Rattle.linked_calls.specs.Calls.{Site, IsSite}
 use Rattle.rv_machine.specs.Machine.{Code}

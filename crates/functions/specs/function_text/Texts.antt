@@ -3,7 +3,7 @@ use Rattle.std.specs.Prelude.{◌≡◌, ℕ, List}
 use Rattle.functions.specs.function_text.AssemblerText.{IsAssemblerText}
 use Rattle.functions.specs.function_text.Functions.{Parts, IsFunctionOf}
 use Rattle.functions.specs.function_text.HeaderText.{header_text}
-use Rattle.hepurita.specs.declared.optimisation.Optimisation.{Optimisation}
+use Rattle.hepurita.specs.declared.optimised.Optimisation.{Optimisation}
 use Rattle.word.specs.declared.profile.Profile.{Profile}
 
 pub record AreTextsOf (optimisation : Optimisation) (profile : Profile) (text assembler header : List ℕ) :

@@ -4,7 +4,7 @@ ghost use Rattle.std.specs.Prelude.{ℕ, ◌≡◌, List};
 ghost use Rattle.functions.specs.function_text.Functions.{Parts, IsFunctionOf};
 ghost use Rattle.functions.specs.function_text.Linked.{FunctionsAreLinked};
 ghost use Rattle.functions.specs.function_text.Texts.{AreTextsOf};
-ghost use Rattle.hepurita.specs.declared.optimisation.Optimisation.{Optimisation};
+ghost use Rattle.hepurita.specs.declared.optimised.Optimisation.{Optimisation};
 ghost use Rattle.word.specs.declared.profile.Profile.{Profile};
 
 use linked_calls::calls_are_linked;

@@ -13,8 +13,8 @@ use Rattle.hepurita.specs.Bases.{frame_base}
 use Rattle.hepurita.specs.Executed.{Executed, refused, out_of_memory, ran, answer_at}
 use Rattle.hepurita.specs.declared.fault.RunFault.{RunFault}
 use Rattle.hepurita.specs.declared.fault.RunFault.TheVariants.{Memory, Stopped}
-use Rattle.hepurita.specs.declared.optimisation.Optimisation.{Optimisation}
-use Rattle.hepurita.specs.declared.optimisation.Optimisation.TheVariants.{Off}
+use Rattle.hepurita.specs.declared.optimised.Optimisation.{Optimisation}
+use Rattle.hepurita.specs.declared.optimised.Optimisation.TheVariants.{Off}
 use Rattle.codegen.specs.image_fields.Fields.{Fields, IsImage, AreSlots, slot_end, is_length}
 use Rattle.codegen.specs.declared.image_fields.slot.Slot.{Slot}
 use Rattle.language.specs.Limits.{most_elements}

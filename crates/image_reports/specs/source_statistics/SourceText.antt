@@ -3,7 +3,7 @@ use Rattle.std.specs.Prelude.{◌≡◌, ℕ, List, [], ◌++◌, codes, Option,
 use Rattle.std.specs.Fmt.{decimal}
 use Rattle.hepurita.specs.Built.{Judges, accepts}
 use Rattle.hepurita.specs.Exact.{image_for}
-use Rattle.hepurita.specs.declared.optimisation.Optimisation.TheVariants.{Off}
+use Rattle.hepurita.specs.declared.optimised.Optimisation.TheVariants.{Off}
 use Rattle.codegen.specs.image_fields.Fields.{Fields}
 use Rattle.inline.specs.Numbering.{flattened}
 use Rattle.intervals.specs.Ranged.{RangedProgram}

@@ -12,7 +12,7 @@ use Rattle.certified_runs.specs.declared.shifts.Shifts.TheVariants.{Hidden}
 use Rattle.codegen.specs.Loaded.{params_of}
 use Rattle.hepurita.specs.Answers.{Builds}
 use Rattle.hepurita.specs.Meant.{Means}
-use Rattle.hepurita.specs.declared.optimisation.Optimisation.TheVariants.{Off}
+use Rattle.hepurita.specs.declared.optimised.Optimisation.TheVariants.{Off}
 use Rattle.codegen.specs.image_fields.Fields.{Fields}
 use Rattle.language.specs.Results.{Results}
 use Rattle.language.specs.Tree.{ProcedureTree, ProgramTree}

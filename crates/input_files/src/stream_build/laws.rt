@@ -2,7 +2,7 @@
 
 ghost use Rattle.std.specs.Prelude.{◌≡◌, ℕ, List, ◌++◌};
 ghost use Rattle.hepurita.specs.Built.{IsBuilt};
-ghost use Rattle.hepurita.specs.declared.optimisation.Optimisation.{Optimisation};
+ghost use Rattle.hepurita.specs.declared.optimised.Optimisation.{Optimisation};
 ghost use Rattle.streams.specs.Streams.{GainsPart, Writes, WritesPart};
 ghost use Rattle.word.specs.declared.profile.Profile.{Profile};
 

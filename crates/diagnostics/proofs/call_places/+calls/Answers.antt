@@ -2,7 +2,7 @@
 use Rattle.std.proofs.Common.{◌≡◌, ◌++◌, List, OnOk, refl, sym, subst, ap, ◌∙◌}
 use Rattle.std.proofs.lemmas.List.{append_assoc}
 use Rattle.diagnostics.proofs.call_places_lemmas.CallLemmas.{conditional_calls, loop_calls}
-use Rattle.call_places.proofs.+calls.Goals as goal
+use Rattle.diagnostics.proofs.call_places.+calls.Goals as goal
 use Rattle.diagnostics.specs.call_places.CallPlaces.{calls_in, calls_in_all}
 use Rattle.language.specs.Tree.{block_tree, statement_tree}
 use Rattle.word.specs.declared.place.Place.{Place}

@@ -1,7 +1,7 @@
 use Rattle.std.proofs.Common.{◌≡◌, ◌++◌, drop}
 use Rattle.diagnostics.specs.call_places.CallPlaces.{calls_in_all}
 use Rattle.language.specs.Tree.{block_tree}
-use Rattle.call_places.proofs.+calls.Given as goal
+use Rattle.diagnostics.proofs.call_places.+calls.Given as goal
 
 -- what is there so far, and the calls in the statements that are left, are all
 abbrev pub invariant-push_calls-loop-statement : goal.invariant-push_calls-loop-statement

@@ -5,7 +5,7 @@ use Rattle.commands.specs.Contents.{IsWritten, IsCutOff}
 use Rattle.commands.specs.TwoFiles.{AreCutOff, in_first, in_second}
 use Rattle.commands.proofs.ImageLemmas.{handed_on}
 use Rattle.commands.proofs.Writing.{err_both}
-use Rattle.commands.proofs.functions.write_both.Goals as goal
+use Rattle.commands.proofs.function_files.write_both.Goals as goal
 
 pub returns-in_err-write_file-clause-cut_off : goal.returns-in_err-write_file-clause-cut_off
 returns-in_err-write_file-clause-cut_off g c = λ tells.

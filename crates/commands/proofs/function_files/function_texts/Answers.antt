@@ -8,7 +8,7 @@ use Rattle.commands.specs.FunctionFiles.{RefusesFunction, not_accepted, taken_na
 use Rattle.commands.specs.Judged as judged
 use Rattle.commands.specs.Judged.{Tells}
 use Rattle.commands.proofs.ImageLemmas.{handed_on}
-use Rattle.commands.proofs.functions.function_texts.Goals as goal
+use Rattle.commands.proofs.function_files.function_texts.Goals as goal
 
 pub returns-in_err-text-clause-refused : goal.returns-in_err-text-clause-refused
 returns-in_err-text-clause-refused g c = λ tells.

@@ -5,7 +5,7 @@ use Rattle.commands.specs.FunctionFiles.{AreFunctionTexts, RefusesFunction}
 use Rattle.commands.specs.TwoFiles.{FailsToWriteTwo, refused, cut_off}
 use Rattle.commands.proofs.ImageLemmas.{handed_on}
 use Rattle.commands.proofs.Writing.{err_both}
-use Rattle.commands.proofs.functions.write_function.Goals as goal
+use Rattle.commands.proofs.function_files.write_function.Goals as goal
 
 pub returns-in_err-texts-clause-refused : goal.returns-in_err-texts-clause-refused
 returns-in_err-texts-clause-refused g c = λ tells.

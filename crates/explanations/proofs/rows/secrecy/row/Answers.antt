@@ -1,5 +1,5 @@
 use Rattle.explanations.specs.Listed.{labels}
-use Rattle.explanations.proofs.rows.labels.row.Goals as goal
+use Rattle.explanations.proofs.rows.secrecy.row.Goals as goal
 
 pub returns-clause-known : goal.returns-clause-known
 unfolding labels
