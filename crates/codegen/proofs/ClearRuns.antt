@@ -5,8 +5,8 @@ use Rattle.codegen.proofs.Machine.{clear_code, statement_code, loop_code, with_n
 use Rattle.codegen.proofs.Machine.{constant_code}
 use Rattle.codegen.proofs.Machine.{Instr, Addi, Add, Sub, Sw, ByteMap, number_at, with_number, sum_of}
 use Rattle.codegen.proofs.Machine.{difference_of, with_register}
-use Rattle.codegen.proofs.Language.{FlatVariable, array_as, path_of_turns, Path, clear, StraightState, with_variable}
-use Rattle.codegen.proofs.Language.{after, IsFilled, Kind, Boolean, array_words}
+use Rattle.codegen.proofs.Language.{FlatVariable, array_as, path_of_turns, Path, array, StraightState, with_variable}
+use Rattle.codegen.proofs.Language.{after, IsFilled, Kind, Boolean, array_words, terms_nodes}
 use Rattle.codegen.proofs.Logic.{cases_eq, cases_lt, length-replicate}
 use Rattle.rv_code.specs.declared.instructions.Instr.TheVariants as instr
 use Rattle.rv_machine.specs.Machine as machine
@@ -312,9 +312,9 @@ module _ (z : Setting) (depth x size : ℕ) (typed : IsFilled z.code.profile z.d
       outside n o (inl h) = beside_at n o (λ b low high. inl (omega (arith, high, h)))
       outside n o (inr h) = beside_at n o (λ b low high. inr (omega (arith, low, h)))
 
-  pub clear_runs : Runs z (32 * (1 + size)) none
-      (statement_code z.declared z.allocation z.controls z.depths depth (clear x size)) (Ready z)
-      (Shown z depth (λ env. after env (clear x size)))
+  pub clear_runs : Runs z (32 * (1 + size + terms_nodes [])) none
+      (statement_code z.declared z.allocation z.controls z.depths depth (array x size [])) (Ready z)
+      (Shown z depth (λ env. after env (array x size [])))
   clear_runs =
       let first = ends_before_result z.declared x d typed.known in
       as_code (ap (λ k. clear_code place (array_words k size)) (kind_known z.declared x d typed.known))

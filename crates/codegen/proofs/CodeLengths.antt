@@ -1,27 +1,25 @@
 -- How long the code of statements is. And well-typed statements that the frame has room for have their places.
 use Rattle.std.proofs.Common.{ℕ, ◌+◌, ◌*◌, ◌≤◌, nat_lt, List, [], ◌∷◌, ◌++◌, length, Option, None, Some, arith}
 use Rattle.std.proofs.Common.{length-append, ◌≡◌, ◌<◌, ◌==◌, Bool, true, false, slice_get, cond}
-use Rattle.codegen.proofs.Language.{statement_nodes, block_nodes, StraightTree, set, clear}
-use Rattle.codegen.proofs.Language.{fill, put, take, set_under, put_under, branch, repeats, StraightBlock, nothing}
-use Rattle.codegen.proofs.Language.{first, FlatVariable, TermTree, array_as, term_nodes, terms_nodes, declared_words}
-use Rattle.codegen.proofs.Language.{Kind}
+use Rattle.codegen.proofs.Language.{statement_nodes, block_nodes, StraightTree, set, array, put, take, branch, repeats}
+use Rattle.codegen.proofs.Language.{StraightBlock, nothing, first, FlatVariable, TermTree, array_as, term_nodes}
+use Rattle.codegen.proofs.Language.{terms_nodes, declared_words, Kind}
 use Rattle.codegen.proofs.BranchLengths.{branching_spans}
 use Rattle.codegen.proofs.LoopLengths.{repeat_spans}
 pub use Rattle.codegen.proofs.WordLengths.{assign_length}
 use Rattle.codegen.proofs.WordLengths.{read_length, stored_length, value_length}
 use Rattle.codegen.specs.private.Loops.{any_sets}
 use Rattle.codegen.proofs.Language.{element_bytes, array_words, IsTyped, AreTyped, types_but, types_of, AllSuit}
-use Rattle.codegen.proofs.Language.{HasType, Boolean, WordType, Profile}
+use Rattle.codegen.proofs.Language.{HasCount, HasType, Boolean, WordType, Profile}
 use Rattle.codegen.specs.private.Emitted.{gives_zero, read_register, stored_register, stored_value}
 use Rattle.codegen.specs.private.Erased.{erase_under_code}
 use Rattle.codegen.specs.private.Emitted.{set_code, set_under_code, taken_code, kept_code, join_code, masks_code}
 use Rattle.codegen.specs.private.Emitted.{unless_unread, element_store_code, clear_code}
-use Rattle.codegen.specs.private.Emitted.{fill_code, into_element_code, statement_code, block_code}
+use Rattle.codegen.specs.private.Emitted.{array_code, fill_code, into_element_code, statement_code, block_code}
 use Rattle.branch_removal.specs.Heights.{height_of_all}
 use Rattle.codegen.specs.private.Emitted.{index_code}
 use Rattle.branch_removal.specs.Heights.{height_in, height_in_all, depth_in, depth_in_all}
-use Rattle.codegen.specs.private.Emitted.{put_code, put_element_code, put_element_under_code, put_under_code}
-use Rattle.codegen.specs.private.Emitted.{put_under_near_code}
+use Rattle.codegen.specs.private.Emitted.{put_code, put_element_code, put_under_code, put_under_near_code}
 use Rattle.codegen.proofs.Machine.{AreNear, far, ArePlacedTerms, control_location, HasPlace, HavePlaces}
 use Rattle.codegen.proofs.Machine.{register_of, variable_offset}
 use Rattle.codegen.proofs.Machine.{next_offset, temporaries_offset, kind_at, near_element, height_of, Instr, slots_to}
@@ -80,10 +78,10 @@ into_element_length declared allocation free kind o e =
     ))
 
 -- a value into an element, at an index or at the offset that the store holds
-put_length : (declared : List FlatVariable) (allocation : Allocation) (free x : ℕ) (index value : TermTree)
-    → length (put_element_code declared allocation free x index value)
+put_length : (declared : List FlatVariable) (allocation : Allocation) (free : ℕ) (within : Option ℕ) (x : ℕ)
+    (index value : TermTree) → length (put_element_code declared allocation free within x index value)
     ≤ 32 * (1 + (1 + term_nodes index) + term_nodes value)
-put_length declared allocation free x index value =
+put_length declared allocation free None x index value =
     let kind = kind_at declared x in
     let other = stored_value allocation kind value in
     let nodes = stored_nodes allocation kind value in
@@ -94,11 +92,8 @@ put_length declared allocation free x index value =
     (variable_offset declared x)) _
     (λ o. omega (arith, nodes, into_element_length declared allocation free kind o other))
     (omega (arith, nodes, length-append {A = Instr}, read_length, address_length))
-
-put_under_length : (declared : List FlatVariable) (allocation : Allocation) (free : ℕ) (control : Location) (x : ℕ)
-    (index value : TermTree) → length (put_element_under_code declared allocation free control x index value)
-    ≤ 32 * (1 + (1 + term_nodes index) + term_nodes value)
-put_under_length declared allocation free control x index value =
+put_length declared allocation free (Some c) x index value =
+    let control = control_location declared allocation c in
     code_length (near_element declared allocation x index)
     (λ o. put_under_near_code declared allocation free control (kind_at declared x) o value)
     (index_code declared allocation free index value
@@ -113,12 +108,6 @@ put_under_length declared allocation free control x index value =
     ))
     (omega (arith, length-append {A = Instr}, read_length, fetch_length, address_length))
 
-set_length : (declared : List FlatVariable) (allocation : Allocation) (free : ℕ) (l : Location) (e : TermTree)
-    → length (set_code declared allocation free l e) ≤ 16 * term_nodes e + 3
-set_length declared allocation free (InRegister home) e =
-    omega (arith, value_length declared allocation free home 0 e)
-set_length declared allocation free (InSlot o) e = assign_length declared allocation free e o
-
 set_under_length : (r : ℕ) (l control : Location) → length (set_under_code r l control) ≤ 12
 set_under_length r (InRegister home) control = simp length-append (omega (arith, fetch_length control 7))
 set_under_length r (InSlot o) control =
@@ -128,6 +117,22 @@ erase_under_length : (l control : Location) → length (erase_under_code l contr
 erase_under_length (InRegister home) control = simp length-append (omega (arith, fetch_length control 7))
 erase_under_length (InSlot o) control =
     simp length-append (omega (arith, load_length 6 o, fetch_length control 7, store_length 5 o))
+
+set_length : (declared : List FlatVariable) (allocation : Allocation) (free : ℕ) (within : Option ℕ) (l : Location)
+    (e : TermTree) → length (set_code declared allocation free within l e) ≤ 32 * (1 + term_nodes e)
+set_length declared allocation free None (InRegister home) e =
+    omega (arith, value_length declared allocation free home 0 e)
+set_length declared allocation free None (InSlot o) e = omega (arith, assign_length declared allocation free e o)
+set_length declared allocation free (Some c) l e =
+    let control = control_location declared allocation c in
+    one_of (gives_zero allocation e) _ _ _
+    (omega (arith, erase_under_length l control))
+    (omega (
+      arith,
+      length-append {A = Instr},
+      read_length,
+      set_under_length (read_register allocation 5 e) l control,
+    ))
 
 pub fill_length : (declared : List FlatVariable) (allocation : Allocation) (free : ℕ) (kind : Kind) (o : ℕ)
     (es : List TermTree) → length (fill_code declared allocation free kind o es) ≤ 32 * terms_nodes es
@@ -143,6 +148,13 @@ fill_length declared allocation free kind o (e ∷ es) =
       fill_length declared allocation free kind (o + element_bytes kind) es,
     ))
 
+array_length : (declared : List FlatVariable) (allocation : Allocation) (free x size : ℕ) (es : List TermTree)
+    → length (array_code declared allocation free x size es) ≤ 32 * (1 + terms_nodes es)
+array_length declared allocation free x size [] =
+    omega (arith, clear_length (variable_offset declared x) (array_words (kind_at declared x) size))
+array_length declared allocation free x size (e ∷ es) =
+    omega (arith, fill_length declared allocation free (kind_at declared x) (variable_offset declared x) (e ∷ es))
+
 -- Statements: at most 32 instructions a node.
 module _ (declared : List FlatVariable) (allocation : Allocation) (controls depths : ℕ) where
   abbrev free : ℕ
@@ -151,48 +163,23 @@ module _ (declared : List FlatVariable) (allocation : Allocation) (controls dept
   mutual
     pub statement_length : (depth : ℕ) (s : StraightTree)
         → length (statement_code declared allocation controls depths depth s) ≤ 32 * statement_nodes s
-    statement_length depth (clear x size) =
-        omega (arith, clear_length (variable_offset declared x) (array_words (kind_at declared x) size))
-    statement_length depth (fill x values) =
-        omega (arith, fill_length declared allocation free (kind_at declared x) (variable_offset declared x) values)
+    statement_length depth (set within x value) =
+        set_length declared allocation free within (variable_location declared allocation x) value
+    statement_length depth (array x size values) = array_length declared allocation free x size values
+    statement_length depth (put within place x size index value) =
+        put_length declared allocation free within x index value
+    statement_length depth (take control within condition) =
+        omega (arith, length-append {A = Instr}, read_length, taken_length, kept_length)
     statement_length depth (branch condition accepted otherwise) =
         let xs = block_code declared allocation controls depths depth accepted in
         let ys = block_code declared allocation controls depths depth otherwise in
         let spans = branching_spans declared allocation free condition xs ys in
         omega (arith, spans.1, block_length depth accepted, block_length depth otherwise)
-    statement_length depth (set x value) =
-        omega (arith, set_length declared allocation free (variable_location declared allocation x) value)
-    statement_length depth (put place x size index value) =
-        omega (arith, put_length declared allocation free x index value)
-    statement_length depth (put_under control place x size index value) =
-        omega (arith, put_under_length declared allocation free (control_location declared allocation control) x index value)
-    statement_length depth (set_under control x value) =
-        one_of (gives_zero allocation value) _ _ _
-        (omega (
-          arith,
-          erase_under_length (variable_location declared allocation x) (control_location declared allocation control),
-        ))
-        (omega (
-          arith,
-          length-append {A = Instr},
-          read_length,
-          set_under_length (read_register allocation 5 value) (variable_location declared allocation x)
-              (control_location declared allocation control),
-        ))
     statement_length depth (repeats x low high body) =
         let ys = block_code declared allocation controls depths (depth + 1) body in
         let spans = repeat_spans declared allocation (next_offset declared controls depth) free ys
         (variable_location declared allocation x) low high (any_sets x body) in
         omega (arith, spans.1, block_length (depth + 1) body)
-    statement_length depth s =
-        omega (
-          arith,
-          length-append {A = Instr},
-          read_length,
-          taken_length,
-          kept_length,
-          address_length,
-        )
 
     pub block_length : (depth : ℕ) (b : StraightBlock)
         → length (block_code declared allocation controls depths depth b) ≤ 32 * block_nodes b
@@ -219,6 +206,11 @@ module _ (declared : List FlatVariable) (allocation : Allocation) (controls dept
 elements_in_words : (kind : Kind) (size : ℕ) → size ≤ 4 * array_words kind size
 elements_in_words Boolean size = omega arith
 elements_in_words kind size = omega arith
+
+-- and no more first values than elements
+values_few : (size : ℕ) (es : List TermTree) → HasCount size es → length es ≤ size
+values_few size [] count = omega arith
+values_few size (e ∷ es) count = omega (arith, count)
 
 known_but : (declared : List FlatVariable) (x y : ℕ) (d : FlatVariable) (b : Bool)
     → cond b None (slice_get declared y) ≡ Some d → y < length declared
@@ -260,33 +252,26 @@ module _ (profile : Profile) (declared : List FlatVariable) (allocation : Alloca
     statement_placed : (depth : ℕ) (s : StraightTree) → IsTyped profile declared controls s
         → base + 4 * slots_to allocation.count (height_in s) ≤ 65536 → depth + depth_in s ≤ depths
         → HasPlace declared allocation controls depths depth s
-    statement_placed depth (set x value) typed room deep =
-        (slice_get_within declared x _ typed.known, term_placed 0 typed.suits.has_type (omega (arith, room)))
-    statement_placed depth (clear x size) typed room deep =
-        (slice_get_within declared x _ typed.known, (fits_in_frame x size typed.word typed.mutable typed.known).0)
-    statement_placed depth (fill x values) typed room deep = (
-      slice_get_within declared x _ typed.known,
-      values_placed x typed.word values typed.suit room,
-      (fits_in_frame x (length values) typed.word typed.mutable typed.known).1,
-    )
-    statement_placed depth (put place x size index value) typed room deep = (
-      slice_get_within declared x _ typed.known,
-      term_placed 0 typed.index_type (omega (arith, room)),
-      term_placed 1 typed.suits.has_type (omega (arith, room)),
-    )
-    statement_placed depth (take control within condition) typed room deep =
-        (typed.0, typed.1, term_placed 0 typed.2.1 (omega (arith, room)))
-    statement_placed depth (set_under control x value) typed room deep = (
+    statement_placed depth (set within x value) typed room deep = (
       typed.0,
       slice_get_within declared x _ typed.1.known,
       term_placed 0 typed.1.suits.has_type (omega (arith, room)),
     )
-    statement_placed depth (put_under control place x size index value) typed room deep = (
+    statement_placed depth (array x size values) typed room deep =
+        let fits = fits_in_frame x size typed.word typed.mutable typed.known in (
+          slice_get_within declared x _ typed.known,
+          fits.0,
+          values_placed x typed.word values typed.suit room,
+          omega (arith, fits.1, values_few size values typed.count),
+        )
+    statement_placed depth (put within place x size index value) typed room deep = (
       typed.0,
       slice_get_within declared x _ typed.1.known,
       term_placed 0 typed.1.index_type (omega (arith, room)),
       term_placed 1 typed.1.suits.has_type (omega (arith, room)),
     )
+    statement_placed depth (take control within condition) typed room deep =
+        (typed.0, typed.1, term_placed 0 typed.2.1 (omega (arith, room)))
     statement_placed depth (branch condition accepted otherwise) typed room deep = (
       term_placed 0 typed.0 (omega (arith, room)),
       blocks_placed depth accepted typed.1 (omega (arith, room)) (omega (arith, deep)),

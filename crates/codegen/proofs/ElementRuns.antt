@@ -8,7 +8,7 @@ use Rattle.std.proofs.Math.Seq.{set-append_seam}
 use Rattle.codegen.proofs.Language.{FlatVariable, with_value, StraightState, with_variable, with_element}
 use Rattle.codegen.proofs.Language.{element_bytes, TermTree, array_as, path_in_all, term_nodes, terms_nodes}
 use Rattle.codegen.proofs.Language.{types_but, Values, value_in, path_in, types_of, AllSuit, indexed, value_at}
-use Rattle.codegen.proofs.Language.{IsFilled, WordType, Suits, fill, after, path_at, IsPut, Kind, Place, Profile}
+use Rattle.codegen.proofs.Language.{IsFilled, WordType, Suits, array, after, path_at, IsPut, Kind, Place, Profile}
 use Rattle.codegen.proofs.Logic.{eqb-true, nil_from_length, but_among, suits_among, one_path_all, all_values}
 use Rattle.codegen.proofs.Logic.{steps_of, kind_known, homes_beside, Held, place_of, place_even, place_before}
 use Rattle.codegen.proofs.Logic.{place_ends, Setting, setting, base_of, Known, by_index, none, Runs, seq, quiet}
@@ -127,8 +127,8 @@ module _ (z : Setting) (depth : ℕ) (place : Place) (x size : ℕ) (index value
   abbrev Puts : List Instr → Type 0
   Puts code =
       Runs z (32 * (1 + (1 + term_nodes index) + term_nodes value))
-      (λ env. path_at env (straight.put place x size index value)) code (Ready z)
-      (Shown z depth (λ env. after env (straight.put place x size index value)))
+      (λ env. path_at env (straight.put None place x size index value)) code (Ready z)
+      (Shown z depth (λ env. after env (straight.put None place x size index value)))
 
   nodes : term_nodes put_value ≤ term_nodes value
   nodes = stored_nodes z.allocation kind value
@@ -140,7 +140,7 @@ module _ (z : Setting) (depth : ℕ) (place : Place) (x size : ℕ) (index value
       along (λ env. ap (λ p. path_in env.variables index ++ indexed place size (number env) ∷ p)
       (sym (stored_path z.allocation kind value env.variables)))
       (cheaper (omega (arith, nodes))
-      (at_element z access (λ env. after env (straight.put place x size index value))
+      (at_element z access (λ env. after env (straight.put None place x size index value))
       (λ i below.
       gives
       (λ env s t fine aimed done.
@@ -171,7 +171,7 @@ module _ (z : Setting) (depth : ℕ) (place : Place) (x size : ℕ) (index value
     at_number : (i : ℕ) → i < size → (b : Bool) → (i == near.i) ≡ b
         → Runs z (16 * term_nodes value + 3) (steps_of value) (near_stored o)
         (Known (setting z) ℕ (λ j. j < size) (Ready z) number i)
-        (Shown z depth (λ env. after env (straight.put place x size index value)))
+        (Shown z depth (λ env. after env (straight.put None place x size index value)))
     at_number i below true same =
         let is : element_at z access i ≡ o = ap (element_at z access) (eqb-true i near.i same) ∙ near_at z access o near in
         weaken
@@ -197,7 +197,7 @@ module _ (z : Setting) (depth : ℕ) (place : Place) (x size : ℕ) (index value
         (by_index z place size number (λ i below. at_number i below (i == near.i) refl)))
 
   pub put_runs : Puts (statement_code z.declared z.allocation z.controls z.depths depth
-      (straight.put place x size index value))
+      (straight.put None place x size index value))
   put_runs =
       as_code (ap (λ k. put_value_code z.declared z.allocation (base_of z) k x index (stored_value z.allocation k value))
       (kind_is z access))
@@ -318,27 +318,28 @@ module _ (z : Setting) (depth : ℕ) (within : depth ≤ z.depths) (x size : ℕ
           ∙ values_there 0 values env [] (env.variables x) suits refl refl long
       by_number false is = other_kept 0 values env y is
 
-pub fill_runs : (z : Setting) (depth x : ℕ) (values : List TermTree)
-    → IsFilled z.code.profile z.declared x (length values) values
-    → base_of z + 4 * slots_to z.allocation.count (height_of_all values) ≤ z.size → depth ≤ z.depths
-    → Runs z (32 * (1 + length values + terms_nodes values)) (λ env. path_at env (fill x values))
-    (statement_code z.declared z.allocation z.controls z.depths depth (fill x values)) (Ready z)
-    (Shown z depth (λ env. after env (fill x values)))
-fill_runs z depth x values typed room within =
-    let d : FlatVariable = array_as typed.word typed.mutable (length values) in
+pub fill_runs : (z : Setting) (depth x size : ℕ) (e : TermTree) (es : List TermTree)
+    → IsFilled z.code.profile z.declared x size (e ∷ es)
+    → base_of z + 4 * slots_to z.allocation.count (height_of_all (e ∷ es)) ≤ z.size → depth ≤ z.depths
+    → Runs z (32 * (1 + size + terms_nodes (e ∷ es))) (λ env. path_at env (array x size (e ∷ es)))
+    (statement_code z.declared z.allocation z.controls z.depths depth (array x size (e ∷ es))) (Ready z)
+    (Shown z depth (λ env. after env (array x size (e ∷ es))))
+fill_runs z depth x size e es typed room within =
+    let values = e ∷ es in
+    let d : FlatVariable = array_as typed.word typed.mutable size in
+    let long : length (e ∷ es) ≡ size = typed.count in
     as_code (ap (λ k. fill_code z.declared z.allocation (base_of z) k (variable_offset z.declared x) values)
     (kind_known z.declared x d typed.known))
     (cheaper (omega arith)
     (gives
     (λ env s t fine ready done. record {
       ready =
-          ready_same z (filled z depth within x (length values) typed.word typed.mutable typed.known 0 values env)
+          ready_same z (filled z depth within x size typed.word typed.mutable typed.known 0 values env)
           (with_variable env x (map (value_at env) values)) t
-          (all_filled z depth within x (length values) typed.word typed.mutable typed.known values env typed.suit
-          (ready.fits x d typed.known).count)
-          (controls_kept z depth within x (length values) typed.word typed.mutable typed.known 0 values env)
-          done.ready;
+          (all_filled z depth within x size typed.word typed.mutable typed.known values env typed.suit
+          ((ready.fits x d typed.known).count ∙ sym long))
+          (controls_kept z depth within x size typed.word typed.mutable typed.known 0 values env) done.ready;
       hidden = done.hidden;
     })
-    (fill_from z depth within x (length values) typed.word typed.mutable typed.known 0 (variable_offset z.declared x)
-    values (omega arith) typed.suit (omega arith) room)))
+    (fill_from z depth within x size typed.word typed.mutable typed.known 0 (variable_offset z.declared x) values
+    (omega arith) typed.suit (omega (arith, long)) room)))

@@ -4,7 +4,7 @@ use Rattle.std.proofs.Common.{◌∷◌, ◌++◌, Option, None, Some, slice_ind
 use Rattle.std.proofs.Common.{eq-eqb, ne_eqb, nat_lt, not, ◌&&◌, ◌≢◌, inl, inr}
 use Rattle.std.proofs.lemmas.Bool.{true≢false}
 use Rattle.codegen.proofs.Language.{FlatVariable, StraightState, with_element, element_bytes, TermTree, array_as}
-use Rattle.codegen.proofs.Language.{term_nodes, put_under, value_in, path_in, indexed, after, path_at, IsPut, Kind}
+use Rattle.codegen.proofs.Language.{term_nodes, value_in, path_in, indexed, after, path_at, IsPut, Kind}
 use Rattle.codegen.proofs.Language.{bits_of, Place}
 use Rattle.codegen.proofs.Logic.{eqb-true, lt-ltb, is_free, registers_after, unwritten, lower_fits, steps_of}
 use Rattle.codegen.proofs.Logic.{HomesKept, homes_beside, homes_moved, homes_then, load_bytes, load_plain, Held}
@@ -18,6 +18,7 @@ use Rattle.codegen.proofs.Machine.{put_under_near_code, statement_code, variable
 use Rattle.codegen.proofs.Machine.{Location, lower_part, address_of, byte_count, index_code, merge_code}
 use Rattle.codegen.proofs.Machine.{read_register, height_of_put, address_code, with_number}
 use Rattle.rv_code.specs.declared.instructions.Instr.TheVariants as instr
+use Rattle.branch_removal.specs.Straight as straight
 use Rattle.rv_machine.specs.Machine as machine
 use Rattle.codegen.proofs.SetRuns.{chosen_fits}
 use Rattle.codegen.proofs.Slots.{Shown, suits_fits, ready_valued, ready_with, wrote_as, IsSource, read_runs}
@@ -316,22 +317,23 @@ module _ (z : Setting) (depth : ℕ) (place : Place) (x size : ℕ) (index value
     abbrev Under : List Instr → Type 0
     Under code =
         Runs z (32 * (1 + (1 + term_nodes index) + term_nodes value))
-        (λ env. path_at env (put_under c place x size index value)) code (Ready z)
-        (Shown z depth (λ env. after env (put_under c place x size index value)))
+        (λ env. path_at env (straight.put (Some c) place x size index value)) code (Ready z)
+        (Shown z depth (λ env. after env (straight.put (Some c) place x size index value)))
 
     under_far : Under (index_code z.declared z.allocation (base_of z) index value
         ++ put_under_code index_register value_register control_at (kind_at z.declared x) offset)
     under_far =
         as_code (ap (λ k. index_code z.declared z.allocation (base_of z) index value
         ++ put_under_code index_register value_register control_at k offset) (kind_is z access))
-        (cheaper (omega arith) (at_element z access (λ env. after env (put_under c place x size index value)) under_piece))
+        (cheaper (omega arith)
+        (at_element z access (λ env. after env (straight.put (Some c) place x size index value)) under_piece))
 
     module _ (o : ℕ) (near : NearElement z.declared x index o) where
       under_number : (i : ℕ) → i < size → (b : Bool) → (i == near.i) ≡ b
           → Runs z (16 * term_nodes value + 10) (steps_of value)
           (put_under_near_code z.declared z.allocation (base_of z) control_at kind o value)
           (Known (setting z) ℕ (λ j. j < size) (Ready z) number i)
-          (Shown z depth (λ env. after env (put_under c place x size index value)))
+          (Shown z depth (λ env. after env (straight.put (Some c) place x size index value)))
       under_number i below true same =
           weaken
           (λ env s fine given. given.given)
@@ -358,7 +360,7 @@ module _ (z : Setting) (depth : ℕ) (place : Place) (x size : ℕ) (index value
           (by_index z place size number (λ i below. under_number i below (i == near.i) refl))))
 
     pub put_under_runs : Under (statement_code z.declared z.allocation z.controls z.depths depth
-        (put_under c place x size index value))
+        (straight.put (Some c) place x size index value))
     put_under_runs = by_test (near_element z.declared z.allocation x index) refl
       where
         by_test : (o : Option ℕ) → near_element z.declared z.allocation x index ≡ o

@@ -8,7 +8,7 @@ use Rattle.std.specs.Int.Bits.{and_zero_r}
 use Rattle.codegen.proofs.Logic.{along, base_of, cheaper, does, eqb-true, gives, homes_moved, homes_then, is_free}
 use Rattle.codegen.proofs.Logic.{IsHome, kept_by, known, lt-ltb, mask_of, move_runs, place_of, put, quiet, Ready}
 use Rattle.codegen.proofs.Logic.{registers_after, Runs, Setting, steps_of, take, then_moves, took, weaken, Wrote}
-use Rattle.codegen.proofs.Language.{after, bits_of, IsSet, path_in, set_under, StraightState, term_nodes, TermTree}
+use Rattle.codegen.proofs.Language.{after, bits_of, IsSet, path_in, set, StraightState, term_nodes, TermTree}
 use Rattle.codegen.proofs.Language.{value_in, Values, word_as}
 use Rattle.codegen.proofs.Machine.{Allocation, at_home, control_location, height_of, home_of, InSlot, Instr, is_unread}
 use Rattle.codegen.proofs.Machine.{number_at, read_code, read_register, set_under_code, slots_to, statement_code}
@@ -42,7 +42,7 @@ module _ (z : Setting) (depth c x : ℕ) (value : TermTree) (among : c < z.contr
     (read : is_unread z.allocation c ≡ false) (typed : IsSet z.code.profile z.declared x value)
     (within : depth ≤ z.depths) where
   abbrev Erases : List Instr → Type 0
-  Erases code = Runs z 32 (λ env. []) code (Ready z) (Shown z depth (λ env. after env (set_under c x value)))
+  Erases code = Runs z 32 (λ env. []) code (Ready z) (Shown z depth (λ env. after env (set (Some c) x value)))
 
   -- a variable becomes 0 under a control value, in its slot or in its home
   erased_by : ((env : StraightState) → value_in env.variables value ≡ 0) → (h : Option ℕ)
@@ -169,10 +169,10 @@ module _ (z : Setting) (depth c x : ℕ) (value : TermTree) (among : c < z.contr
 
   abbrev Sets : List Instr → Type 0
   Sets code = Runs z (32 * (1 + term_nodes value)) (steps_of value) code (Ready z)
-      (Shown z depth (λ env. after env (set_under c x value)))
+      (Shown z depth (λ env. after env (set (Some c) x value)))
 
   pub set_under_runs : base_of z + 4 * slots_to z.allocation.count (height_of value) ≤ z.size
-      → Sets (statement_code z.declared z.allocation z.controls z.depths depth (set_under c x value))
+      → Sets (statement_code z.declared z.allocation z.controls z.depths depth (set (Some c) x value))
   set_under_runs room = by_zero (gives_zero z.allocation value) refl
     where
       by_zero : (b : Bool) → gives_zero z.allocation value ≡ b

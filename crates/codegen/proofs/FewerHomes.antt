@@ -3,14 +3,14 @@ use Rattle.std.proofs.Common.{◌≡◌, ℕ, zero, suc, ◌+◌, ◌<◌, ◌�
 use Rattle.std.proofs.Common.{length, Option, None, Some, refl, sym, ap, ap₂, ◌∙◌, arith, eq-eqb, if◌then◌else◌}
 use Rattle.std.proofs.Common.{is_some}
 use Rattle.std.proofs.lemmas.Bool.{or_parts, true≢false}
-use Rattle.codegen.proofs.Language.{branch, clear, fill, first, FlatVariable, nothing, put, put_under, repeats, set}
-use Rattle.codegen.proofs.Language.{element_bytes, set_under, StraightBlock, StraightTree, take, TermTree}
+use Rattle.codegen.proofs.Language.{array, branch, first, FlatVariable, nothing, put, repeats, set, element_bytes}
+use Rattle.codegen.proofs.Language.{StraightBlock, StraightTree, take, TermTree}
 use Rattle.codegen.proofs.Logic.{none-some}
 use Rattle.codegen.proofs.Machine.{branching_code, condition_code, failing, home_count, operands_or, right_code}
 use Rattle.codegen.proofs.Machine.{right_register, test_of, test_or}
 use Rattle.codegen.proofs.Machine.{Allocation, AllReadKept, at_home, block_code, control_location, home_of, InRegister}
 use Rattle.codegen.proofs.Machine.{InSlot}
-use Rattle.codegen.proofs.Machine.{into_code, Location, next_offset, put_element_code, put_element_under_code}
+use Rattle.codegen.proofs.Machine.{into_code, Location, next_offset, put_element_code}
 use Rattle.codegen.proofs.Machine.{read_code, read_register, ReadsKept, set_code, statement_code, temporaries_offset}
 use Rattle.codegen.proofs.Machine.{result_offset}
 use Rattle.codegen.proofs.Machine.{assign_code, fill_code, home_of_term, IsKeptWithin, result_code, taken_code}
@@ -219,10 +219,12 @@ module _ (declared : List FlatVariable) (a : Allocation) (left_out : ℕ → Boo
       → assign_code declared b free e o ≡ assign_code declared a free e o
   assign_same free e o spares = rw (read_same free 5 0 e spares, register_same 5 e spares) refl
 
-  set_same : (free : ℕ) (l : Location) (e : TermTree) → Spares (λ y. names_in y e)
-      → set_code declared b free l e ≡ set_code declared a free l e
-  set_same free (InRegister home) e spares = into_same free home 0 e spares
-  set_same free (InSlot o) e spares = assign_same free e o spares
+  set_same : (free : ℕ) (within : Option ℕ) (l : Location) (e : TermTree) → Spares (λ y. names_in y e)
+      → set_code declared b free within l e ≡ set_code declared a free within l e
+  set_same free None (InRegister home) e spares = into_same free home 0 e spares
+  set_same free None (InSlot o) e spares = assign_same free e o spares
+  set_same free (Some c) l e spares =
+      rw (control_same c, read_same free 5 0 e spares, register_same 5 e spares) refl
 
   pub result_same : (free : ℕ) (value : Option TermTree) → Spares (λ y. names_in_result y value)
       → result_code declared b free value ≡ result_code declared a free value
@@ -248,9 +250,10 @@ module _ (declared : List FlatVariable) (a : Allocation) (left_out : ℕ → Boo
       ap₂ ◌++◌ (into_element_same free kind o (stored_value a kind e) (stored_spares kind e one))
       (fill_same free kind (o + element_bytes kind) es two)
 
-  put_same : (free x : ℕ) (index value : TermTree) → Spares (λ y. names_in y index) → Spares (λ y. names_in y value)
-      → put_element_code declared b free x index value ≡ put_element_code declared a free x index value
-  put_same free x index value one two =
+  put_same : (free : ℕ) (within : Option ℕ) (x : ℕ) (index value : TermTree) → Spares (λ y. names_in y index)
+      → Spares (λ y. names_in y value)
+      → put_element_code declared b free within x index value ≡ put_element_code declared a free within x index value
+  put_same free None x index value one two =
       let other = stored_value a (kind_at declared x) value in
       let three = stored_spares (kind_at declared x) value two in
       rw (
@@ -261,13 +264,9 @@ module _ (declared : List FlatVariable) (a : Allocation) (left_out : ℕ → Boo
         register_same 6 other three,
         register_same 5 other three,
       ) refl
-
-  put_under_same : (free : ℕ) (control : Location) (x : ℕ) (index value : TermTree) → Spares (λ y. names_in y index)
-      → Spares (λ y. names_in y value)
-      → put_element_under_code declared b free control x index value
-      ≡ put_element_under_code declared a free control x index value
-  put_under_same free control x index value one two =
+  put_same free (Some c) x index value one two =
       rw (
+        control_same c,
         read_same free 5 0 index one,
         read_same free 6 1 value two,
         read_same free 5 0 value two,
@@ -336,19 +335,20 @@ module _ (declared : List FlatVariable) (a : Allocation) (left_out : ℕ → Boo
     mutual
       pub statement_same : (depth : ℕ) (s : StraightTree) → Spares (λ y. names y s)
           → statement_code declared b controls depths depth s ≡ statement_code declared a controls depths depth s
-      statement_same depth (set x value) spares =
+      statement_same depth (set within x value) spares =
           let one = λ (y : ℕ) (out : left_out y ≡ true). (or_parts (x == y) (names_in y value) (spares y out)).0 in
           let two = λ (y : ℕ) (out : left_out y ≡ true). (or_parts (x == y) (names_in y value) (spares y out)).1 in
-          ap (λ l. set_code declared b (temporaries_offset declared controls depths) l value) (location_same x one)
-          ∙ set_same (temporaries_offset declared controls depths) (variable_location declared a x) value two
-      statement_same depth (clear x size) spares = refl
-      statement_same depth (fill x values) spares =
+          let free = temporaries_offset declared controls depths in
+          ap (λ l. set_code declared b free within l value) (location_same x one)
+          ∙ set_same free within (variable_location declared a x) value two
+      statement_same depth (array x size []) spares = refl
+      statement_same depth (array x size (e ∷ es)) spares =
           fill_same (temporaries_offset declared controls depths) (kind_at declared x) (variable_offset declared x)
-          values (λ y out. (or_parts (x == y) (names_in_any y values) (spares y out)).1)
-      statement_same depth (put place x size index value) spares =
+          (e ∷ es) (λ y out. (or_parts (x == y) (names_in_any y (e ∷ es)) (spares y out)).1)
+      statement_same depth (put within place x size index value) spares =
           let parts = λ (y : ℕ) (out : left_out y ≡ true). neither_of_three (x == y) (names_in y index)
           (names_in y value) (spares y out) in
-          put_same (temporaries_offset declared controls depths) x index value (λ y out. (parts y out).1)
+          put_same (temporaries_offset declared controls depths) within x index value (λ y out. (parts y out).1)
           (λ y out. (parts y out).2)
       statement_same depth (take c within condition) spares =
           rw (
@@ -358,22 +358,6 @@ module _ (declared : List FlatVariable) (a : Allocation) (left_out : ℕ → Boo
             control_same (c + 1),
             taken_same _ _ _ _ _ within,
           ) refl
-      statement_same depth (set_under c x value) spares =
-          let one = λ (y : ℕ) (out : left_out y ≡ true). (or_parts (x == y) (names_in y value) (spares y out)).0 in
-          let two = λ (y : ℕ) (out : left_out y ≡ true). (or_parts (x == y) (names_in y value) (spares y out)).1 in
-          rw (
-            location_same x one,
-            control_same c,
-            read_same (temporaries_offset declared controls depths) 5 0 value two,
-            register_same 5 value two,
-          ) refl
-      statement_same depth (put_under c place x size index value) spares =
-          let parts = λ (y : ℕ) (out : left_out y ≡ true). neither_of_three (x == y) (names_in y index)
-          (names_in y value) (spares y out) in
-          let free = temporaries_offset declared controls depths in
-          ap (λ l. put_element_under_code declared b free l x index value) (control_same c)
-          ∙ put_under_same free (control_location declared a c) x index value (λ y out. (parts y out).1)
-          (λ y out. (parts y out).2)
       statement_same depth (branch condition accepted otherwise) spares =
           let parts = λ (y : ℕ) (out : left_out y ≡ true). neither_of_three (names_in y condition)
           (any_names y accepted) (any_names y otherwise) (spares y out) in
@@ -410,13 +394,10 @@ module _ (declared : List FlatVariable) (a : Allocation) (left_out : ℕ → Boo
 
   mutual
     pub reads_same : (s : StraightTree) → ReadsKept a s → ReadsKept b s
-    reads_same (set x value) read = read
-    reads_same (clear x size) read = read
-    reads_same (fill x values) read = read
-    reads_same (put place x size index value) read = read
+    reads_same (set within x value) read = kept_within within read
+    reads_same (array x size values) read = read
+    reads_same (put within place x size index value) read = kept_within within read
     reads_same (take c within condition) read = kept_within within read
-    reads_same (set_under c x value) read = read
-    reads_same (put_under c place x size index value) read = read
     reads_same (branch condition accepted otherwise) read = (all_same accepted read.0, all_same otherwise read.1)
     reads_same (repeats x low high body) read = all_same body read
 

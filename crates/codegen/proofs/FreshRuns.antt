@@ -259,12 +259,12 @@ module _ (z : Setting) where
       (typed : IsSet z.code.profile z.declared x value) (unread : (y : ℕ) → out y ≡ true → names_in y value ≡ false)
       (room : base + 4 * slots_to a.count (height_of value) ≤ z.size) where
     -- into its home
-    home_runs : (home : ℕ) → home_of a.homes x ≡ Some home → Steps_on out (without out x) (set x value)
+    home_runs : (home : ℕ) → home_of a.homes x ≡ Some home → Steps_on out (without out x) (set None x value)
     home_runs home at =
         let is = z.allocated.allowed x home at in
         let same = into_same z.declared a out variables base home 0 value unread in
         as_code
-        (ap (λ h. set_code z.declared a base (at_home h (InSlot (variable_offset z.declared x))) value) at
+        (ap (λ h. set_code z.declared a base None (at_home h (InSlot (variable_offset z.declared x))) value) at
         ∙ sym same)
         (cheaper (omega (arith, set_cost value))
         (gives
@@ -278,20 +278,20 @@ module _ (z : Setting) where
         (in_all out (homed_runs (fewer z out) home is typed.suits.has_type room))))
 
     -- or it has none
-    slot_runs : ReadsKept a (set x value) → length (code_of (set x value)) < far → home_of a.homes x ≡ None
-        → Steps_on out (without out x) (set x value)
-    slot_runs read few away =
+    slot_runs : length (code_of (set None x value)) < far → home_of a.homes x ≡ None
+        → Steps_on out (without out x) (set None x value)
+    slot_runs few away =
         let rest = without out x in
         let fewer_variables = λ (y : ℕ) (is : rest y ≡ true). variables y (both_true (y == x) (out y) is).1 in
         weaken
         (λ env s fine ready. ready_alike out rest variables fewer_variables
         (λ y. same_homes y (y == x) refl) env s ready)
         (λ env s t fine ready done. done)
-        (kept_runs rest fewer_variables (set x value)
+        (kept_runs rest fewer_variables (set None x value)
         (λ y is.
         let both = both_true (y == x) (out y) is in
         or_from (x == y) (names_in y value) (ne_eqb x y (λ e. eqb-false y x both.0 (sym e))) (unread y both.1))
-        typed read room (omega arith) few)
+        (tt, typed) tt room (omega arith) few)
       where
         same_homes : (y : ℕ) (b : Bool) → (y == x) ≡ b
             → home_of (but a (without out x)).homes y ≡ home_of (but a out).homes y
@@ -304,12 +304,11 @@ module _ (z : Setting) where
             home_but a (without out x) y
             ∙ (ap (λ b. if not b && out y then None else home_of a.homes y) q ∙ sym (home_but a out y))
 
-    fresh_runs : ReadsKept a (set x value) → length (code_of (set x value)) < far
-        → Steps_on out (without out x) (set x value)
-    fresh_runs read few = by_home (home_of a.homes x) refl
+    fresh_runs : length (code_of (set None x value)) < far → Steps_on out (without out x) (set None x value)
+    fresh_runs few = by_home (home_of a.homes x) refl
       where
-        by_home : (h : Option ℕ) → home_of a.homes x ≡ h → Steps_on out (without out x) (set x value)
-        by_home None away = slot_runs read few away
+        by_home : (h : Option ℕ) → home_of a.homes x ≡ h → Steps_on out (without out x) (set None x value)
+        by_home None away = slot_runs few away
         by_home (Some home) at = home_runs home at
 
   -- Statements, and the result behind them.
@@ -356,28 +355,28 @@ module _ (z : Setting) where
           → IsTyped z.code.profile z.declared z.controls s → ReadsKept a s
           → base + 4 * slots_to a.count (height_in s) ≤ z.size → depth_in s ≤ z.depths
           → length (code_of s) < far → Stepped out s rest
-      stepped (set x e) rest fresh typed read room within few = by_test (out x) refl
+      stepped (set None x e) rest fresh typed read room within few = by_test (out x) refl
         where
           unread_by : (y : ℕ) → out y ≡ true → (b : Bool) → (x == y) ≡ b → names_in y e ≡ false
           unread_by y on true same = not_read x y (names_in y e) (is_fresh y rest value) same (fresh y on)
           unread_by y on false apart =
-              let ways = two_ways (sets_fresh y (set x e)) (names y (set x e)) (is_fresh y rest value)
+              let ways = two_ways (sets_fresh y (set None x e)) (names y (set None x e)) (is_fresh y rest value)
               (and_left (x == y) (not (names_in y e)) apart) (fresh y on) in
               (or_parts (x == y) (names_in y e) ways.0).1
 
-          by_test : (b : Bool) → out x ≡ b → Stepped out (set x e) rest
+          by_test : (b : Bool) → out x ≡ b → Stepped out (set None x e) rest
           by_test true is = record {
             left = without out x;
             variables = λ y on. variables y (both_true (y == x) (out y) on).1;
             fresh = λ y on.
                 let both = both_true (y == x) (out y) on in
                 let apart = ne_eqb x y (λ same. eqb-false y x both.0 (sym same)) in
-                (two_ways (sets_fresh y (set x e)) (names y (set x e)) (is_fresh y rest value)
+                (two_ways (sets_fresh y (set None x e)) (names y (set None x e)) (is_fresh y rest value)
                 (and_left (x == y) (not (names_in y e)) apart) (fresh y both.1)).1;
-            runs = fresh_runs out variables x e typed (λ y on. unread_by y on (x == y) refl) room read few;
+            runs = fresh_runs out variables x e typed.1 (λ y on. unread_by y on (x == y) refl) room few;
           }
           by_test false is =
-              stepped_on (set x e) rest fresh
+              stepped_on (set None x e) rest fresh
               (λ y on. and_left (x == y) (not (names_in y e))
               (ne_eqb x y (λ same. true≢false (sym on ∙ (ap out (sym same) ∙ is)))))
               typed read room within few

@@ -15,7 +15,7 @@ use Rattle.codegen.proofs.Machine.{result_code, slots_from, result_offset, HasRo
 use Rattle.codegen.proofs.FewerHomes.{homes_fewer}
 use Rattle.codegen.specs.private.Fresh.{homes_but, starts_fresh}
 use Rattle.codegen.proofs.Machine.{Allocation, depth_in_all, entry_code, HavePlaces, home_count, IsAmong, IsFitting}
-use Rattle.codegen.proofs.Machine.{AllReadKept, Instr, plain, ReadsKept, word_offset}
+use Rattle.codegen.proofs.Machine.{AllReadKept, Instr, IsKeptWithin, plain, ReadsKept, word_offset}
 use Rattle.branch_removal.specs.Straight as straight
 use Rattle.codegen.proofs.Language.{StraightBlock, StraightTree, first, nothing}
 use Rattle.codegen.proofs.Language.{StraightProgram, most_elements, Form, SingleWord, Kind, Boolean, Param, WordType}
@@ -272,16 +272,17 @@ body_placed a p room =
     (omega (arith, d, n, f)) (omega arith)
 
 -- plain code keeps every control value
+
+plain_within : (within : Option ℕ) → IsKeptWithin plain within
+plain_within None = tt
+plain_within (Some control) = refl
+
 mutual
   plain_read : (s : StraightTree) → ReadsKept plain s
-  plain_read (straight.set x value) = tt
-  plain_read (straight.clear x size) = tt
-  plain_read (straight.fill x values) = tt
-  plain_read (straight.put place x size index value) = tt
-  plain_read (straight.take control None condition) = tt
-  plain_read (straight.take control (Some enclosing) condition) = refl
-  plain_read (straight.set_under control x value) = refl
-  plain_read (straight.put_under control place x size index value) = refl
+  plain_read (straight.set within x value) = plain_within within
+  plain_read (straight.array x size values) = tt
+  plain_read (straight.put within place x size index value) = plain_within within
+  plain_read (straight.take control within condition) = plain_within within
   plain_read (straight.branch condition accepted otherwise) = (plain_reads accepted, plain_reads otherwise)
   plain_read (straight.repeats x low high body) = plain_reads body
 

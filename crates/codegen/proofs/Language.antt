@@ -2,9 +2,9 @@
 pub use Rattle.language.specs.arguments.Within.{AreWithin, HasShape, IsWithin, greatest_of, words_of}
 pub use Rattle.branch_removal.specs.Bounds.{IsBounded, IsCounted, block_nodes, block_work, set_work, statement_nodes}
 pub use Rattle.branch_removal.specs.Bounds.{statement_work}
-pub use Rattle.branch_removal.specs.Straight.{StraightBlock, StraightProgram, StraightTree, branch, clear, fill}
-pub use Rattle.branch_removal.specs.Straight.{first, nothing, put, put_under, repeats, set, set_under, straight_block}
-pub use Rattle.branch_removal.specs.Straight.{straight_row, straight_tree, take}
+pub use Rattle.branch_removal.specs.Straight.{StraightBlock, StraightProgram, StraightTree, array, branch, first}
+pub use Rattle.branch_removal.specs.Straight.{nothing, put, repeats, set, straight_block, straight_row, straight_tree}
+pub use Rattle.branch_removal.specs.Straight.{take}
 pub use Rattle.branch_removal.specs.StraightMeaning.{StraightState, after, after_all, counted, holds, outcome_of}
 pub use Rattle.branch_removal.specs.StraightMeaning.{path_along, path_at, path_of, value_at, with_controls}
 pub use Rattle.branch_removal.specs.StraightMeaning.{with_element, with_variable}
@@ -16,7 +16,7 @@ pub use Rattle.inline.specs.Flat.{TermTree, array_as, declaration_of, numbers_in
 pub use Rattle.inline.specs.FlatMeaning.{Values, array_of, arrays_from, given, path_in, path_in_all, path_of_result}
 pub use Rattle.inline.specs.FlatMeaning.{path_of_turns, turns, value_in, with_value}
 pub use Rattle.inline.specs.FlatSize.{HasLength, declared_words, term_nodes, terms_nodes, value_nodes}
-pub use Rattle.inline.specs.FlatTyping.{AllSuit, HasType, IsResult, Suits, Types, counter_type, types_of}
+pub use Rattle.inline.specs.FlatTyping.{AllSuit, HasCount, HasType, IsResult, Suits, Types, counter_type, types_of}
 pub use Rattle.inline.specs.Path.{AreFine, Path, bounded, indexed, seen}
 pub use Rattle.inline.specs.declared.flat.FlatVariable.{FlatVariable}
 pub use Rattle.inline.specs.declared.flat.Term.{Term}

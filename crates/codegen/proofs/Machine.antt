@@ -14,7 +14,6 @@ pub use Rattle.branch_removal.specs.Heights.{height_of_put}
 pub use Rattle.codegen.specs.private.Emitted.{merge_code, put_code, put_under_code, read_code, read_register}
 pub use Rattle.codegen.specs.private.Emitted.{set_code, set_under_code, statement_code, store_by, test_code}
 pub use Rattle.codegen.specs.private.Emitted.{taken_code, unless_home, unless_unread, put_element_code}
-pub use Rattle.codegen.specs.private.Emitted.{put_element_under_code}
 pub use Rattle.codegen.specs.private.Emitted.{is_zero, put_under_near_code, stored_code, stored_register, gives_zero}
 pub use Rattle.branch_removal.specs.Heights.{depth_in, height_in, height_in_all}
 pub use Rattle.codegen.specs.private.Generated.{body_of, entry_code, home_count, image_of, program_base, program_code}

@@ -50,15 +50,12 @@ within_stays n (Some x) c weights below weighs = used_stays n x c weights below 
 mutual
   stays : (n : ℕ) (s : StraightTree) (c : ℕ) (weights : List ℕ) → c < length weights → Weighs weights c
       → Weighs (controls_read_by n s weights) c
-  stays n (straight.set x value) c weights below weighs = weighs
-  stays n (straight.clear x size) c weights below weighs = weighs
-  stays n (straight.fill x values) c weights below weighs = weighs
-  stays n (straight.put place x size index value) c weights below weighs = weighs
+  stays n (straight.set within x value) c weights below weighs = within_stays n within c weights below weighs
+  stays n (straight.array x size values) c weights below weighs = weighs
+  stays n (straight.put within place x size index value) c weights below weighs =
+      within_stays n within c weights below weighs
   stays n (straight.take control within condition) c weights below weighs =
       within_stays n within c weights below weighs
-  stays n (straight.set_under control x value) c weights below weighs = used_stays n control c weights below weighs
-  stays n (straight.put_under control place x size index value) c weights below weighs =
-      used_stays n control c weights below weighs
   stays n (straight.branch condition accepted otherwise) c weights below weighs =
       let more = all_read_length n accepted weights in
       all_stay n otherwise c (controls_read_by_all n accepted weights) (omega (arith, below, more))
@@ -82,27 +79,21 @@ module _ (p : StraightProgram) where
   abbrev Keeps : List ℕ → Type 0
   Keeps weights = (c : ℕ) → (c < length weights → Weighs weights c) → IsKept c
 
-  read_here : (n x : ℕ) (weights : List ℕ) → 0 < n → Keeps (used n x weights) → IsKept x
-  read_here n x weights some keeps =
-      keeps x (λ below. let same = used_length n x weights in
-      used_weighs n x weights some (omega (arith, below, same)))
-
   within_here : (n : ℕ) (within : Option ℕ) (weights : List ℕ) → 0 < n → Keeps (used_within n within weights)
       → IsKeptWithin (word_homes p) within
   within_here n None weights some keeps = tt
-  within_here n (Some x) weights some keeps = read_here n x weights some keeps
+  within_here n (Some x) weights some keeps =
+      keeps x (λ below. let same = used_length n x weights in
+      used_weighs n x weights some (omega (arith, below, same)))
 
   mutual
     kept : (n : ℕ) (s : StraightTree) (weights : List ℕ) → 0 < n → Keeps (controls_read_by n s weights)
         → ReadsKept (word_homes p) s
-    kept n (straight.set x value) weights some keeps = tt
-    kept n (straight.clear x size) weights some keeps = tt
-    kept n (straight.fill x values) weights some keeps = tt
-    kept n (straight.put place x size index value) weights some keeps = tt
+    kept n (straight.set within x value) weights some keeps = within_here n within weights some keeps
+    kept n (straight.array x size values) weights some keeps = tt
+    kept n (straight.put within place x size index value) weights some keeps =
+        within_here n within weights some keeps
     kept n (straight.take control within condition) weights some keeps = within_here n within weights some keeps
-    kept n (straight.set_under control x value) weights some keeps = read_here n control weights some keeps
-    kept n (straight.put_under control place x size index value) weights some keeps =
-        read_here n control weights some keeps
     kept n (straight.branch condition accepted otherwise) weights some keeps =
         let between = controls_read_by_all n accepted weights in
         let more = all_read_length n otherwise between in (

@@ -11,7 +11,7 @@ use Rattle.codegen.proofs.Logic.{took}
 use Rattle.codegen.proofs.Language.{TermTree, set_work, word_as, value_in, path_of_result, term_nodes, value_nodes}
 use Rattle.codegen.proofs.Language.{types_of}
 use Rattle.inline.specs.Flat as flat
-use Rattle.codegen.proofs.Language.{IsResult, set_under, StraightState, with_variable, with_element}
+use Rattle.codegen.proofs.Language.{IsResult, set, StraightState, with_variable, with_element}
 use Rattle.codegen.proofs.Language.{after, IsSet, WordType, bits_of}
 use Rattle.codegen.proofs.Machine.{at_home, control_location, fetch_code, home_of, InSlot, Instr}
 use Rattle.codegen.proofs.Machine.{is_unread, merge_code, set_code}
@@ -42,7 +42,7 @@ behind_one a b c d e =
     ∙ append_assoc a ((b ++ c) ++ d) e
 
 -- a value and a store take no more than the work of setting a word
-pub set_cost : (value : TermTree) → 16 * term_nodes value + 3 ≤ 32 * set_work value
+pub set_cost : (value : TermTree) → 16 * term_nodes value + 3 ≤ 32 * set_work None value
 set_cost (flat.number value kind) = omega arith
 set_cost (flat.truth value) = omega arith
 set_cost (flat.variable x) = omega arith
@@ -58,8 +58,8 @@ module _ (z : Setting) where
   set_by : (depth x : ℕ) (value : TermTree) → IsSet z.code.profile z.declared x value
       → base_of z + 4 * slots_to z.allocation.count (height_of value) ≤ z.size → depth ≤ z.depths
       → (h : Option ℕ) → home_of z.allocation.homes x ≡ h
-      → Runs z (32 * set_work value) (steps_of value)
-      (set_code z.declared z.allocation (base_of z) (at_home h (InSlot (variable_offset z.declared x))) value)
+      → Runs z (32 * set_work None value) (steps_of value)
+      (set_code z.declared z.allocation (base_of z) None (at_home h (InSlot (variable_offset z.declared x))) value)
       (Ready z) (Shown z depth (λ env. with_variable env x (value_in env.variables value ∷ [])))
   set_by depth x value typed room within None away =
       let o = variable_offset z.declared x in
@@ -94,8 +94,8 @@ module _ (z : Setting) where
 
   pub set_runs : (depth x : ℕ) (value : TermTree) → IsSet z.code.profile z.declared x value
       → base_of z + 4 * slots_to z.allocation.count (height_of value) ≤ z.size → depth ≤ z.depths
-      → Runs z (32 * set_work value) (steps_of value)
-      (set_code z.declared z.allocation (base_of z) (variable_location z.declared z.allocation x) value)
+      → Runs z (32 * set_work None value) (steps_of value)
+      (set_code z.declared z.allocation (base_of z) None (variable_location z.declared z.allocation x) value)
       (Ready z) (Shown z depth (λ env. with_variable env x (value_in env.variables value ∷ [])))
   set_runs depth x value typed room within =
       set_by depth x value typed room within (home_of z.allocation.homes x) refl
@@ -127,7 +127,7 @@ module _ (z : Setting) where
       → (h : Option ℕ) → home_of z.allocation.homes x ≡ h
       → Runs z (32 * (1 + term_nodes value)) (steps_of value) (read_code z.declared z.allocation (base_of z) 5 0 value
       ++ set_under_code (read_register z.allocation 5 value) (at_home h (InSlot (variable_offset z.declared x)))
-      (control_location z.declared z.allocation c)) (Ready z) (Shown z depth (λ env. after env (set_under c x value)))
+      (control_location z.declared z.allocation c)) (Ready z) (Shown z depth (λ env. after env (set (Some c) x value)))
   under_by depth c x value among read typed room within None away =
       let o = variable_offset z.declared x in
       let d = word_as typed.word typed.mutable in

@@ -1,11 +1,8 @@
 -- The code of a statement makes of the state what the statement makes of it.
-use Rattle.std.proofs.Common.{ℕ, ◌+◌, ◌*◌, ◌<◌, ◌≤◌, length, length-append, refl, arith}
-use Rattle.codegen.proofs.Language.{statement_work, block_work, StraightTree, set}
-use Rattle.codegen.proofs.Language.{clear}
-use Rattle.codegen.proofs.Language.{fill, put, take, set_under, put_under, branch, repeats, StraightBlock, nothing}
-use Rattle.codegen.proofs.Language.{first, after, after_all, path_at, path_along, IsTyped, AreTyped, labelled}
-use Rattle.codegen.proofs.Language.{Boolean}
-use Rattle.codegen.proofs.Language.{Public}
+use Rattle.std.proofs.Common.{ℕ, ◌+◌, ◌*◌, ◌<◌, ◌≤◌, [], ◌∷◌, None, Some, length, length-append, refl, arith}
+use Rattle.codegen.proofs.Language.{statement_work, block_work, StraightTree, set, array, put, take, branch, repeats}
+use Rattle.codegen.proofs.Language.{StraightBlock, nothing, first, after, after_all, path_at, path_along, IsTyped}
+use Rattle.codegen.proofs.Language.{AreTyped, labelled, Boolean, Public}
 use Rattle.codegen.proofs.Machine.{AllReadKept, ReadsKept, statement_code, block_code, height_in, height_in_all}
 use Rattle.codegen.proofs.Machine.{depth_in, depth_in_all}
 use Rattle.codegen.proofs.Machine.{far, next_offset, slots_to, Instr, variable_location}
@@ -33,20 +30,20 @@ module _ (z : Setting) where
         → Runs z (32 * statement_work z.counts s) (λ env. path_at env s)
         (statement_code z.declared z.allocation z.controls z.depths depth s) (Ready z)
         (Shown z depth (λ env. after env s))
-    statement_runs depth (set x value) typed read room within few =
-        set_runs z depth x value typed room (omega (arith, within))
-    statement_runs depth (clear x size) typed read room within few =
+    statement_runs depth (set None x value) typed read room within few =
+        set_runs z depth x value typed.1 room (omega (arith, within))
+    statement_runs depth (set (Some c) x value) typed read room within few =
+        set_under_runs z depth c x value typed.0 read typed.1 (omega (arith, within)) room
+    statement_runs depth (array x size []) typed read room within few =
         clear_runs z depth x size typed (omega (arith, within))
-    statement_runs depth (fill x values) typed read room within few =
-        fill_runs z depth x values typed room (omega (arith, within))
-    statement_runs depth (put place x size index value) typed read room within few =
-        put_runs z depth place x size index value typed room (omega (arith, within))
+    statement_runs depth (array x size (e ∷ es)) typed read room within few =
+        fill_runs z depth x size e es typed room (omega (arith, within))
+    statement_runs depth (put None place x size index value) typed read room within few =
+        put_runs z depth place x size index value typed.1 room (omega (arith, within))
+    statement_runs depth (put (Some c) place x size index value) typed read room within few =
+        put_under_runs z depth place x size index value typed.1 room (omega (arith, within)) c typed.0 read
     statement_runs depth (take c enclosing condition) typed read room within few =
         take_runs z depth c enclosing condition typed.2.0 typed.0 typed.2.1 room (omega (arith, within)) typed.1 read
-    statement_runs depth (set_under c x value) typed read room within few =
-        set_under_runs z depth c x value typed.0 read typed.1 (omega (arith, within)) room
-    statement_runs depth (put_under c place x size index value) typed read room within few =
-        put_under_runs z depth place x size index value typed.1 room (omega (arith, within)) c typed.0 read
     statement_runs depth (branch condition accepted otherwise) typed read room within few =
         let near = arms_near z.declared z.allocation z.controls z.depths depth condition accepted otherwise few in
         cheaper (omega arith)

@@ -3,9 +3,9 @@ use Rattle.std.proofs.Common.{◌≡◌, ℕ, zero, suc, ◌+◌, ◌-◌, ◌==
 use Rattle.std.proofs.Common.{List, []}
 use Rattle.std.proofs.Common.{◌∷◌, refl, sym, ap, ◌∙◌}
 use Rattle.std.proofs.lemmas.Bool.{eqb-false, ne_eqb}
-use Rattle.codegen.proofs.Language.{StraightTree, set, clear, fill, put, take, set_under, put_under, branch, repeats}
-use Rattle.codegen.proofs.Language.{StraightBlock, nothing, first, StraightState, with_variable, counted, after}
-use Rattle.codegen.proofs.Language.{after_all, turns, value_in, Values}
+use Rattle.codegen.proofs.Language.{StraightTree, set, array, put, take, branch, repeats, StraightBlock, nothing}
+use Rattle.codegen.proofs.Language.{first, StraightState, with_variable, counted, after, after_all, holds, turns}
+use Rattle.codegen.proofs.Language.{value_in, Values}
 use Rattle.codegen.specs.private.Loops.{any_sets, sets}
 use Rattle.inline.specs.FlatMeaning.{with_value}
 
@@ -40,14 +40,10 @@ turns_keep turn y keep (suc n) i s = turns_keep turn y keep n (i + 1) (turn i s)
 mutual
   left_alone : (statement : StraightTree) (y : ℕ) → sets y statement ≡ false → (s : StraightState)
       → (after s statement).variables y ≡ s.variables y
-  left_alone (set x value) y unset s = beside s.variables x y _ unset
-  left_alone (clear x size) y unset s = beside s.variables x y _ unset
-  left_alone (fill x values) y unset s = beside s.variables x y _ unset
-  left_alone (put place x size index value) y unset s = beside s.variables x y _ unset
+  left_alone (set within x value) y unset s = beside_under (holds s within) s x y _ unset
+  left_alone (array x size values) y unset s = beside s.variables x y _ unset
+  left_alone (put within place x size index value) y unset s = beside_under (holds s within) s x y _ unset
   left_alone (take control within condition) y unset s = refl
-  left_alone (set_under control x value) y unset s = beside_under (s.controls control) s x y _ unset
-  left_alone (put_under control place x size index value) y unset s =
-      beside_under (s.controls control) s x y _ unset
   left_alone (branch condition accepted otherwise) y unset s =
       either (value_in s.variables condition == 0) (after_all s otherwise) (after_all s accepted) s y
       (all_left_alone otherwise y (none_right (any_sets y accepted) (any_sets y otherwise) unset) s)

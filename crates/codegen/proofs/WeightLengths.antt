@@ -35,17 +35,12 @@ terms_length weight (e ∷ es) weights =
 
 mutual
   by_length : (weight : ℕ) (s : StraightTree) (weights : List ℕ) → length (used_by weight s weights) ≡ length weights
-  by_length weight (straight.set x value) weights =
+  by_length weight (straight.set within x value) weights =
       used_length weight x (used_in weight value weights) ∙ in_length weight value weights
-  by_length weight (straight.clear x size) weights = refl
-  by_length weight (straight.fill x values) weights = terms_length weight values weights
-  by_length weight (straight.put place x size index value) weights =
+  by_length weight (straight.array x size values) weights = terms_length weight values weights
+  by_length weight (straight.put within place x size index value) weights =
       in_length weight value (used_in weight index weights) ∙ in_length weight index weights
   by_length weight (straight.take control within condition) weights = in_length weight condition weights
-  by_length weight (straight.set_under control x value) weights =
-      used_length weight x (used_in weight value weights) ∙ in_length weight value weights
-  by_length weight (straight.put_under control place x size index value) weights =
-      in_length weight value (used_in weight index weights) ∙ in_length weight index weights
   by_length weight (straight.branch condition accepted otherwise) weights =
       all_length weight otherwise (used_by_all weight accepted (used_in weight condition weights))
       ∙ (all_length weight accepted (used_in weight condition weights) ∙ in_length weight condition weights)
@@ -73,14 +68,10 @@ within_length weight (Some control) weights = used_length _ control weights
 mutual
   pub read_length : (weight : ℕ) (s : StraightTree) (weights : List ℕ)
       → length (controls_read_by weight s weights) ≡ length weights
-  read_length weight (straight.set x value) weights = refl
-  read_length weight (straight.clear x size) weights = refl
-  read_length weight (straight.fill x values) weights = refl
-  read_length weight (straight.put place x size index value) weights = refl
+  read_length weight (straight.set within x value) weights = within_length weight within weights
+  read_length weight (straight.array x size values) weights = refl
+  read_length weight (straight.put within place x size index value) weights = within_length weight within weights
   read_length weight (straight.take control within condition) weights = within_length weight within weights
-  read_length weight (straight.set_under control x value) weights = used_length weight control weights
-  read_length weight (straight.put_under control place x size index value) weights =
-      used_length weight control weights
   read_length weight (straight.branch condition accepted otherwise) weights =
       all_read_length weight otherwise (controls_read_by_all weight accepted weights)
       ∙ all_read_length weight accepted weights

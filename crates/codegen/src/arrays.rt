@@ -2,8 +2,9 @@
 
 ghost use Rattle.std.specs.Prelude.{◌≡◌, ◌≤◌, ◌<◌, ◌+◌, ◌*◌, ◌++◌, ◌∷◌, [], map, length, IfOk, OnOk};
 ghost use Rattle.codegen.specs.private.Emitted.{store_by, element_store_code, clear_code, fill_code, index_code};
-ghost use Rattle.codegen.specs.private.Emitted.{put_code, put_element_code, put_under_code, put_under_near_code};
-ghost use Rattle.codegen.specs.private.Emitted.{put_element_under_code, into_element_code, read_register};
+ghost use Rattle.branch_removal.specs.StraightTyping.{IsAmong};
+ghost use Rattle.codegen.specs.private.Emitted.{into_element_code, put_code, put_element_code, put_under_code};
+ghost use Rattle.codegen.specs.private.Emitted.{put_under_near_code, read_register};
 ghost use Rattle.codegen.specs.private.Jumps.{loop_code};
 ghost use Rattle.codegen.specs.expression_code.Layout.{temporaries_offset};
 ghost use Rattle.codegen.specs.expression_code.Registers.{zero_register, value_register, second_register, third_register};
@@ -165,29 +166,6 @@ fn put_at(
     Ok(())
 }
 
-/// A value into an element of an array. Where the index is a number and the store holds the element's offset, no address
-/// is computed.
-pub fn put(
-    code: &mut Vec<Instr>,
-    layout: &Layout<'_>,
-    array: u32,
-    place: &Term,
-    value: &Term,
-) -> Result<(), AllocError>
-    requires array { array < length layout.now.declared }
-    requires index { IsPlaced (length layout.now.declared) layout.now.allocation.count (temporaries_offset layout.now.declared layout.now.controls layout.now.depths) 0 (term_tree place.now) }
-    requires value { IsPlaced (length layout.now.declared) layout.now.allocation.count (temporaries_offset layout.now.declared layout.now.controls layout.now.depths) 1 (term_tree value.now) }
-    ensures { OnOk result (code.new.items ≡ code.old.items ++ put_element_code layout.now.declared layout.now.allocation (temporaries_offset layout.now.declared layout.now.controls layout.now.depths) array (term_tree place.now) (term_tree value.now)) }
-{
-    let kind = layout.kind(array);
-    let value = stored_value(layout, kind, value);
-    if let Some(offset) = layout.near_element(array, place) {
-        return into_element(code, layout, kind, offset, value);
-    }
-    let (index, value) = index(code, layout, place, value)?;
-    put_at(code, index, value, kind, layout.variable(array))
-}
-
 /// The same where a control value is true, and else what the element holds.
 fn put_under_at(
     code: &mut Vec<Instr>,
@@ -230,24 +208,36 @@ fn put_under_near(
     store_element(code, Reg::X5, kind, offset)
 }
 
-/// A value into an element of an array where a control value is true: the element is written in any case.
-pub fn put_under(
+/// A value into an element of an array. Within a control value it is written in any case. Where the index is a number
+/// and the store holds the element's offset, no address is computed.
+pub fn put(
     code: &mut Vec<Instr>,
     layout: &Layout<'_>,
-    control: &Location,
+    within: Option<u32>,
     array: u32,
     place: &Term,
     value: &Term,
 ) -> Result<(), AllocError>
+    requires control { IsAmong layout.now.controls within }
     requires array { array < length layout.now.declared }
     requires index { IsPlaced (length layout.now.declared) layout.now.allocation.count (temporaries_offset layout.now.declared layout.now.controls layout.now.depths) 0 (term_tree place.now) }
     requires value { IsPlaced (length layout.now.declared) layout.now.allocation.count (temporaries_offset layout.now.declared layout.now.controls layout.now.depths) 1 (term_tree value.now) }
-    ensures { OnOk result (code.new.items ≡ code.old.items ++ put_element_under_code layout.now.declared layout.now.allocation (temporaries_offset layout.now.declared layout.now.controls layout.now.depths) control.now array (term_tree place.now) (term_tree value.now)) }
+    ensures { OnOk result (code.new.items ≡ code.old.items ++ put_element_code layout.now.declared layout.now.allocation (temporaries_offset layout.now.declared layout.now.controls layout.now.depths) within array (term_tree place.now) (term_tree value.now)) }
 {
     let kind = layout.kind(array);
-    if let Some(offset) = layout.near_element(array, place) {
-        return put_under_near(code, layout, control, kind, offset, value);
+    let known = layout.near_element(array, place);
+    let Some(control) = within else {
+        let value = stored_value(layout, kind, value);
+        if let Some(offset) = known {
+            return into_element(code, layout, kind, offset, value);
+        }
+        let (index, value) = index(code, layout, place, value)?;
+        return put_at(code, index, value, kind, layout.variable(array));
+    };
+    let control = layout.control_location(control);
+    if let Some(offset) = known {
+        return put_under_near(code, layout, &control, kind, offset, value);
     }
     let (index, value) = index(code, layout, place, value)?;
-    put_under_at(code, index, value, control, kind, layout.variable(array))
+    put_under_at(code, index, value, &control, kind, layout.variable(array))
 }

@@ -23,15 +23,10 @@ fn count_by(weights: &mut [u64], weight: u64, statement: &StraightStatement)
     ensures { weights.new ≡ controls_read_by weight (straight_tree statement.now) weights.old }
 {
     match statement {
-        StraightStatement::Set(_, _)
-        | StraightStatement::Clear(_, _)
-        | StraightStatement::Fill(_, _)
-        | StraightStatement::Put(_, _, _, _, _) => {}
-        StraightStatement::Take(_, within, _) => count_within(weights, weight, *within),
-        StraightStatement::SetUnder(control, _, _)
-        | StraightStatement::PutUnder(control, _, _, _, _, _) => {
-            count_use(weights, weight, *control);
-        }
+        StraightStatement::Array(_, _, _) => {}
+        StraightStatement::Set(within, _, _)
+        | StraightStatement::Put(within, _, _, _, _, _)
+        | StraightStatement::Take(_, within, _) => count_within(weights, weight, *within),
         StraightStatement::Branch(_, accepted, otherwise) => {
             count_by_all(weights, weight, accepted);
             count_by_all(weights, weight, otherwise);

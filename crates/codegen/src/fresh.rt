@@ -47,14 +47,12 @@ fn names(statement: &StraightStatement, variable: usize) -> bool
     ensures { result ≡ names variable (straight_tree statement.now) }
 {
     match statement {
-        StraightStatement::Set(set, value) | StraightStatement::SetUnder(_, set, value) => {
+        StraightStatement::Set(_, set, value) => {
             *set as usize == variable || names_in(value, variable)
         }
-        StraightStatement::Clear(set, _) => *set as usize == variable,
-        StraightStatement::Fill(set, values) => *set as usize == variable
+        StraightStatement::Array(set, _, values) => *set as usize == variable
             || names_in_any(values, variable),
-        StraightStatement::Put(_, set, _, index, value)
-        | StraightStatement::PutUnder(_, _, set, _, index, value) => {
+        StraightStatement::Put(_, _, set, _, index, value) => {
             *set as usize == variable || (names_in(index, variable) || names_in(value, variable))
         }
         StraightStatement::Take(_, _, condition) => names_in(condition, variable),
@@ -88,8 +86,8 @@ fn sets_fresh(statement: &StraightStatement, variable: usize) -> bool
     ensures { result ≡ sets_fresh variable (straight_tree statement.now) }
 {
     match statement {
-        StraightStatement::Set(set, value) => *set as usize == variable
-            && !names_in(value, variable),
+        StraightStatement::Set(within, set, value) => within.is_none()
+            && (*set as usize == variable && !names_in(value, variable)),
         _ => false,
     }
 }

@@ -34,15 +34,9 @@ fn height_in(statement: &StraightStatement) -> u32
     ensures { result ≡ height_in (straight_tree statement.now) }
 {
     match statement {
-        StraightStatement::Set(_, value) | StraightStatement::SetUnder(_, _, value) => height(
-            value,
-        ),
-        StraightStatement::Clear(_, _) => 0,
-        StraightStatement::Fill(_, values) => height_of_all(values),
-        StraightStatement::Put(_, _, _, index, value)
-        | StraightStatement::PutUnder(_, _, _, _, index, value) => {
-            height(index).max(1 + height(value))
-        }
+        StraightStatement::Set(_, _, value) => height(value),
+        StraightStatement::Array(_, _, values) => height_of_all(values),
+        StraightStatement::Put(_, _, _, _, index, value) => height(index).max(1 + height(value)),
         StraightStatement::Take(_, _, condition) => height(condition),
         StraightStatement::Branch(condition, accepted, otherwise) => {
             height(condition).max(greatest_height(accepted).max(greatest_height(otherwise)))

@@ -12,12 +12,9 @@ fn sets(statement: &StraightStatement, variable: u32) -> bool
     ensures { result ≡ sets variable (straight_tree statement.now) }
 {
     match statement {
-        StraightStatement::Set(set, _)
-        | StraightStatement::Clear(set, _)
-        | StraightStatement::Fill(set, _)
-        | StraightStatement::Put(_, set, _, _, _)
-        | StraightStatement::SetUnder(_, set, _)
-        | StraightStatement::PutUnder(_, _, set, _, _, _) => *set == variable,
+        StraightStatement::Set(_, set, _)
+        | StraightStatement::Array(set, _, _)
+        | StraightStatement::Put(_, _, set, _, _, _) => *set == variable,
         StraightStatement::Take(_, _, _) => false,
         StraightStatement::Branch(_, accepted, otherwise) => {
             any_sets(accepted, variable) || any_sets(otherwise, variable)

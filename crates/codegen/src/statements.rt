@@ -36,20 +36,62 @@ fn words(kind: Kind, size: u32) -> u32
     (size * u32::from(kind.element_bytes())).div_ceil(4)
 }
 
-/// Sets a variable.
+/// Sets a variable. Within a control value it is written in any case.
 fn set(
     code: &mut Vec<Instr>,
     layout: &Layout<'_>,
+    within: Option<u32>,
     variable: u32,
     value: &Term,
 ) -> Result<(), AllocError>
-    requires { HasPlace layout.now.declared layout.now.allocation layout.now.controls layout.now.depths 0 (straight.set variable (term_tree value.now)) }
-    ensures { OnOk result (code.new.items ≡ code.old.items ++ statement_code layout.now.declared layout.now.allocation layout.now.controls layout.now.depths 0 (straight.set variable (term_tree value.now))) }
+    requires { HasPlace layout.now.declared layout.now.allocation layout.now.controls layout.now.depths 0 (straight.set within variable (term_tree value.now)) }
+    ensures { OnOk result (code.new.items ≡ code.old.items ++ statement_code layout.now.declared layout.now.allocation layout.now.controls layout.now.depths 0 (straight.set within variable (term_tree value.now))) }
 {
-    match layout.variable_location(variable) {
-        Location::InRegister(home) => into(layout, code, home, 0, value),
-        Location::InSlot(offset) => assign(code, layout, value, offset),
+    let variable = layout.variable_location(variable);
+    let Some(control) = within else {
+        return match variable {
+            Location::InRegister(home) => into(layout, code, home, 0, value),
+            Location::InSlot(offset) => assign(code, layout, value, offset),
+        };
+    };
+    let control = layout.control_location(control);
+    if gives_zero(layout, value) {
+        return masking::erase_under(code, &variable, &control);
     }
+    let value = read(code, layout, Reg::X5, 0, value)?;
+    let mask = control.register(Reg::X7);
+    match variable {
+        Location::InRegister(home) => {
+            fetch(code, &control, Reg::X7)?;
+            masking::merge(code, home, Reg::X5, value, home, mask)
+        }
+        Location::InSlot(offset) => {
+            emit::load(code, Reg::X6, offset)?;
+            fetch(code, &control, Reg::X7)?;
+            masking::merge(code, Reg::X5, Reg::X5, value, Reg::X6, mask)?;
+            emit::store(code, Reg::X5, offset)
+        }
+    }
+}
+
+/// A new array of so many elements: its first values, or zeros where none are given.
+fn array(
+    alloc: Global,
+    code: &mut Vec<Instr>,
+    layout: &Layout<'_>,
+    variable: u32,
+    size: u32,
+    values: &[Term],
+) -> Result<(), AllocError>
+    requires { HasPlace layout.now.declared layout.now.allocation layout.now.controls layout.now.depths 0 (straight.array variable size (map term_tree values.now)) }
+    ensures { OnOk result (code.new.items ≡ code.old.items ++ statement_code layout.now.declared layout.now.allocation layout.now.controls layout.now.depths 0 (straight.array variable size (map term_tree values.now))) }
+{
+    let kind = layout.kind(variable);
+    let offset = layout.variable(variable);
+    if values.is_empty() {
+        return arrays::clear(alloc, code, offset, words(kind, size));
+    }
+    arrays::fill(code, layout, kind, offset, values)
 }
 
 /// A condition, taken into a control value and the next.
@@ -69,38 +111,6 @@ fn take(
     masking::taken(code, layout, &accepted, &otherwise, condition, within)?;
     masking::keep(code, layout, control, Reg::X7)?;
     masking::keep(code, layout, control + 1, Reg::X5)
-}
-
-/// Sets a variable under a control value: it is written in any case.
-fn set_under(
-    code: &mut Vec<Instr>,
-    layout: &Layout<'_>,
-    control: u32,
-    variable: u32,
-    value: &Term,
-) -> Result<(), AllocError>
-    requires { HasPlace layout.now.declared layout.now.allocation layout.now.controls layout.now.depths 0 (straight.set_under control variable (term_tree value.now)) }
-    ensures { OnOk result (code.new.items ≡ code.old.items ++ statement_code layout.now.declared layout.now.allocation layout.now.controls layout.now.depths 0 (straight.set_under control variable (term_tree value.now))) }
-{
-    let control = layout.control_location(control);
-    let variable = layout.variable_location(variable);
-    if gives_zero(layout, value) {
-        return masking::erase_under(code, &variable, &control);
-    }
-    let value = read(code, layout, Reg::X5, 0, value)?;
-    let mask = control.register(Reg::X7);
-    match variable {
-        Location::InRegister(home) => {
-            fetch(code, &control, Reg::X7)?;
-            masking::merge(code, home, Reg::X5, value, home, mask)
-        }
-        Location::InSlot(offset) => {
-            emit::load(code, Reg::X6, offset)?;
-            fetch(code, &control, Reg::X7)?;
-            masking::merge(code, Reg::X5, Reg::X5, value, Reg::X6, mask)?;
-            emit::store(code, Reg::X5, offset)
-        }
-    }
 }
 
 /// Of two arms one, by a condition, which a branch over a short arm tests where numbers go into instructions.
@@ -141,27 +151,17 @@ fn statement(
     ensures far { IfErr result (IsFar (length (statement_code layout.now.declared layout.now.allocation layout.now.controls layout.now.depths depth (straight_tree statement.now)))) }
 {
     match statement {
-        StraightStatement::Set(variable, value) => Ok(set(code, layout, *variable, value)?),
-        StraightStatement::Clear(array, size) => {
-            let words = words(layout.kind(*array), *size);
-            Ok(arrays::clear(alloc, code, layout.variable(*array), words)?)
+        StraightStatement::Set(within, variable, value) => {
+            Ok(set(code, layout, *within, *variable, value)?)
         }
-        StraightStatement::Fill(array, values) => {
-            let offset = layout.variable(*array);
-            Ok(arrays::fill(code, layout, layout.kind(*array), offset, values)?)
+        StraightStatement::Array(variable, size, values) => {
+            Ok(array(alloc, code, layout, *variable, *size, values)?)
         }
-        StraightStatement::Put(_, array, _, index, value) => {
-            Ok(arrays::put(code, layout, *array, index, value)?)
+        StraightStatement::Put(within, _, variable, _, index, value) => {
+            Ok(arrays::put(code, layout, *within, *variable, index, value)?)
         }
         StraightStatement::Take(control, within, condition) => {
             Ok(take(code, layout, *control, *within, condition)?)
-        }
-        StraightStatement::SetUnder(control, variable, value) => {
-            Ok(set_under(code, layout, *control, *variable, value)?)
-        }
-        StraightStatement::PutUnder(control, _, array, _, index, value) => {
-            let control = layout.control_location(*control);
-            Ok(arrays::put_under(code, layout, &control, *array, index, value)?)
         }
         StraightStatement::Branch(condition, accepted, otherwise) => {
             let mut one = Vec::new(alloc);

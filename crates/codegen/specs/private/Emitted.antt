@@ -1,8 +1,8 @@
 -- The instructions that are emitted for statements.
 use Rattle.std.specs.Prelude.{ℕ, ◌+◌, ◌*◌, ◌==◌, Bool, true, false, List, [], ◌∷◌, ◌++◌, Option, None, Some}
 use Rattle.std.specs.Prelude.{if◌then◌else◌}
-use Rattle.branch_removal.specs.Straight.{StraightTree, set, clear, fill, put, take, set_under, put_under, branch}
-use Rattle.branch_removal.specs.Straight.{repeats, StraightBlock, nothing, first}
+use Rattle.branch_removal.specs.Straight.{StraightTree, set, array, put, take, branch, repeats}
+use Rattle.branch_removal.specs.Straight.{StraightBlock, nothing, first}
 pub use Rattle.codegen.specs.private.Compared.{branching_code}
 use Rattle.codegen.specs.private.Jumps.{loop_code}
 pub use Rattle.codegen.specs.private.Erased.{erase_code, erase_under_code}
@@ -82,11 +82,6 @@ merge_code d t new old mask = Register Xor t new old ∷ Register And t t mask �
 
 -- Words.
 
--- the value of an expression into a variable
-abbrev pub set_code : List FlatVariable → Allocation → ℕ → Location → TermTree → List Instr
-set_code declared allocation free (InRegister home) e = into_code declared allocation free home 0 e
-set_code declared allocation free (InSlot offset) e = assign_code declared allocation free e offset
-
 -- a register's value where a control value is true, and else the old one, into a variable
 abbrev pub set_under_code : ℕ → Location → Location → List Instr
 set_under_code value (InRegister home) control =
@@ -96,6 +91,16 @@ set_under_code value (InSlot offset) control =
     load_code second_register offset ++ fetch_code control third_register
     ++ merge_code value_register value_register value second_register (register_of control third_register)
     ++ store_code value_register offset
+
+-- the value of an expression into a variable; within a control value where that is true, and else the old one
+abbrev pub set_code : List FlatVariable → Allocation → ℕ → Option ℕ → Location → TermTree → List Instr
+set_code declared allocation free None (InRegister home) e = into_code declared allocation free home 0 e
+set_code declared allocation free None (InSlot offset) e = assign_code declared allocation free e offset
+set_code declared allocation free (Some control) variable e =
+    if gives_zero allocation e then erase_under_code variable (control_location declared allocation control)
+    else read_code declared allocation free value_register 0 e
+    ++ set_under_code (read_register allocation value_register e) variable
+    (control_location declared allocation control)
 
 -- Arrays.
 
@@ -138,6 +143,13 @@ fill_code declared allocation free kind offset (e ∷ es) =
     into_element_code declared allocation free kind offset (stored_value allocation kind e)
     ++ fill_code declared allocation free kind (offset + element_bytes kind) es
 
+-- the first values of an array of so many elements, or zeros where none are given
+abbrev pub array_code : List FlatVariable → Allocation → ℕ → ℕ → ℕ → List TermTree → List Instr
+array_code declared allocation free x size [] =
+    clear_code (variable_offset declared x) (array_words (kind_at declared x) size)
+array_code declared allocation free x size (e ∷ es) =
+    fill_code declared allocation free (kind_at declared x) (variable_offset declared x) (e ∷ es)
+
 -- an index and a value, the first two temporaries where they are not at home
 abbrev pub index_code : List FlatVariable → Allocation → ℕ → TermTree → TermTree → List Instr
 index_code declared allocation free index value =
@@ -159,12 +171,6 @@ put_value_code declared allocation free kind x index value =
     ++ put_code (read_register allocation value_register index) (read_register allocation second_register value) kind
     (variable_offset declared x))
 
--- the same of what is put into the element for an expression
-abbrev pub put_element_code : List FlatVariable → Allocation → ℕ → ℕ → TermTree → TermTree → List Instr
-put_element_code declared allocation free x index value =
-    put_value_code declared allocation free (kind_at declared x) x index
-    (stored_value allocation (kind_at declared x) value)
-
 -- the value where the control value is true, and else the old one, into the element
 abbrev pub put_under_code : ℕ → ℕ → Location → Kind → ℕ → List Instr
 put_under_code index value control kind offset =
@@ -183,15 +189,19 @@ put_under_near_code declared allocation free control kind offset value =
     (register_of control third_register)
     ++ element_store_code value_register kind offset
 
--- and into the element at an index
-abbrev pub put_element_under_code : List FlatVariable → Allocation → ℕ → Location → ℕ → TermTree → TermTree
-    → List Instr
-put_element_under_code declared allocation free control x index value =
+-- what is put into the element at an index for an expression; within a control value where that is true, and else the
+-- old one
+abbrev pub put_element_code : List FlatVariable → Allocation → ℕ → Option ℕ → ℕ → TermTree → TermTree → List Instr
+put_element_code declared allocation free None x index value =
+    put_value_code declared allocation free (kind_at declared x) x index
+    (stored_value allocation (kind_at declared x) value)
+put_element_code declared allocation free (Some control) x index value =
     code_by (near_element declared allocation x index)
-    (λ offset. put_under_near_code declared allocation free control (kind_at declared x) offset value)
+    (λ offset. put_under_near_code declared allocation free (control_location declared allocation control)
+    (kind_at declared x) offset value)
     (index_code declared allocation free index value
     ++ put_under_code (read_register allocation value_register index) (read_register allocation second_register value)
-    control (kind_at declared x) (variable_offset declared x))
+    (control_location declared allocation control) (kind_at declared x) (variable_offset declared x))
 
 -- Statements of a program with these variables, with registers given out so, so many control values, and room for so
 -- many loops, one in the other.
@@ -211,12 +221,10 @@ module _ (declared : List FlatVariable) (allocation : Allocation) (controls dept
   abbrev mutual
     -- of a statement that so many loops are around
     pub statement_code : ℕ → StraightTree → List Instr
-    statement_code depth (set x value) = set_code declared allocation free_slots (location x) value
-    statement_code depth (clear x size) = clear_code (variable_offset declared x) (array_words (kind_at declared x) size)
-    statement_code depth (fill x values) =
-        fill_code declared allocation free_slots (kind_at declared x) (variable_offset declared x) values
-    statement_code depth (put place x size index value) =
-        put_element_code declared allocation free_slots x index value
+    statement_code depth (set within x value) = set_code declared allocation free_slots within (location x) value
+    statement_code depth (array x size values) = array_code declared allocation free_slots x size values
+    statement_code depth (put within place x size index value) =
+        put_element_code declared allocation free_slots within x index value
     statement_code depth (take control within condition) =
         read_code declared allocation free_slots value_register 0 condition
         ++ taken_code declared allocation (is_unread allocation control) (is_unread allocation (control + 1))
@@ -224,12 +232,6 @@ module _ (declared : List FlatVariable) (allocation : Allocation) (controls dept
         (read_register allocation value_register condition) within
         ++ unless_unread (is_unread allocation control) (kept_code (control_at control) third_register)
         ++ unless_unread (is_unread allocation (control + 1)) (kept_code (control_at (control + 1)) value_register)
-    statement_code depth (set_under control x value) =
-        if gives_zero allocation value then erase_under_code (location x) (control_at control)
-        else read_code declared allocation free_slots value_register 0 value
-        ++ set_under_code (read_register allocation value_register value) (location x) (control_at control)
-    statement_code depth (put_under control place x size index value) =
-        put_element_under_code declared allocation free_slots (control_at control) x index value
     statement_code depth (branch condition accepted otherwise) =
         branching_code declared allocation free_slots condition (block_code depth accepted)
         (block_code depth otherwise)

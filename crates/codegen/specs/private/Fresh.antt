@@ -1,9 +1,9 @@
 -- Which variables need not hold anything at first: the first statement that names one sets it and does not read it, or
 -- none names it.
 use Rattle.std.specs.Prelude.{ℕ, ◌+◌, ◌==◌, ◌&&◌, ◌||◌, Bool, false, not, nat_lt, List, [], ◌∷◌, length}
-use Rattle.std.specs.Prelude.{Option, None, Some, if◌then◌else◌}
-use Rattle.branch_removal.specs.Straight.{StraightTree, set, clear, fill, put, take, set_under, put_under, branch}
-use Rattle.branch_removal.specs.Straight.{repeats, StraightBlock, nothing, first, StraightProgram}
+use Rattle.std.specs.Prelude.{Option, None, Some, is_none, if◌then◌else◌}
+use Rattle.branch_removal.specs.Straight.{StraightTree, set, array, put, take, branch, repeats}
+use Rattle.branch_removal.specs.Straight.{StraightBlock, nothing, first, StraightProgram}
 use Rattle.inline.specs.Flat.{TermTree, number, truth, variable, prefix, binary, rotate, convert, select, element}
 
 -- whether an expression names a variable
@@ -27,13 +27,10 @@ names_in_any y (e ∷ es) = names_in y e || names_in_any y es
 abbrev mutual
   -- whether a statement does
   pub names : ℕ → StraightTree → Bool
-  names y (set x value) = (x == y) || names_in y value
-  names y (clear x size) = x == y
-  names y (fill x values) = (x == y) || names_in_any y values
-  names y (put place x size index value) = (x == y) || (names_in y index || names_in y value)
+  names y (set within x value) = (x == y) || names_in y value
+  names y (array x size values) = (x == y) || names_in_any y values
+  names y (put within place x size index value) = (x == y) || (names_in y index || names_in y value)
   names y (take control within condition) = names_in y condition
-  names y (set_under control x value) = (x == y) || names_in y value
-  names y (put_under control place x size index value) = (x == y) || (names_in y index || names_in y value)
   names y (branch condition accepted otherwise) =
       names_in y condition || (any_names y accepted || any_names y otherwise)
   names y (repeats x low high body) = (x == y) || (names_in y low || (names_in y high || any_names y body))
@@ -50,7 +47,7 @@ names_in_result y (Some value) = names_in y value
 
 -- whether a statement sets a variable and reads what it held before nowhere
 abbrev pub sets_fresh : ℕ → StraightTree → Bool
-sets_fresh y (set x value) = (x == y) && not (names_in y value)
+sets_fresh y (set within x value) = is_none within && ((x == y) && not (names_in y value))
 sets_fresh y statement = false
 
 -- whether the first statement that names a variable is one of these, or neither one nor the result names it

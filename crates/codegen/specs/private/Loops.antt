@@ -3,8 +3,8 @@
 -- next number lies in the frame, and the test comes first.
 use Rattle.std.specs.Prelude.{ℕ, ◌+◌, ◌==◌, ◌&&◌, ◌||◌, Bool, false, not, nat_lt, List, [], ◌∷◌, ◌++◌, length}
 use Rattle.std.specs.Prelude.{Option, None, Some, if◌then◌else◌}
-use Rattle.branch_removal.specs.Straight.{StraightTree, set, clear, fill, put, take, set_under, put_under, branch}
-use Rattle.branch_removal.specs.Straight.{repeats, StraightBlock, nothing, first}
+use Rattle.branch_removal.specs.Straight.{StraightTree, set, array, put, take, branch, repeats}
+use Rattle.branch_removal.specs.Straight.{StraightBlock, nothing, first}
 use Rattle.codegen.specs.private.Jumps.{again_code, branch_code, loop_code}
 use Rattle.codegen.specs.private.Words.{assign_code, put_word_code, read_code, read_register}
 use Rattle.codegen.specs.expression_code.Allocation.{Allocation}
@@ -24,13 +24,10 @@ use Rattle.rv_code.specs.declared.operations.RegisterOperation.TheVariants.{Sltu
 abbrev mutual
   -- whether a statement sets a variable
   pub sets : ℕ → StraightTree → Bool
-  sets y (set x value) = x == y
-  sets y (clear x size) = x == y
-  sets y (fill x values) = x == y
-  sets y (put place x size index value) = x == y
+  sets y (set within x value) = x == y
+  sets y (array x size values) = x == y
+  sets y (put within place x size index value) = x == y
   sets y (take control within condition) = false
-  sets y (set_under control x value) = x == y
-  sets y (put_under control place x size index value) = x == y
   sets y (branch condition accepted otherwise) = any_sets y accepted || any_sets y otherwise
   sets y (repeats x low high body) = (x == y) || any_sets y body
 

@@ -1,7 +1,7 @@
 -- Statements whose variables and control values are there, and whose temporaries lie in the frame.
 use Rattle.std.specs.Prelude.{ℕ, ◌+◌, ◌*◌, ◌<◌, ◌≤◌, List, [], ◌∷◌, length}
-use Rattle.branch_removal.specs.Straight.{StraightTree, set, clear, fill, put, take, set_under, put_under, branch}
-use Rattle.branch_removal.specs.Straight.{repeats, StraightBlock, nothing, first}
+use Rattle.branch_removal.specs.Straight.{StraightTree, set, array, put, take, branch, repeats}
+use Rattle.branch_removal.specs.Straight.{StraightBlock, nothing, first}
 use Rattle.branch_removal.specs.StraightTyping.{IsAmong as IsControl}
 use Rattle.codegen.specs.expression_code.Allocation.{Allocation, slots_to}
 use Rattle.codegen.specs.expression_code.Layout.{variable_offset, temporaries_offset}
@@ -27,23 +27,19 @@ module _ (declared : List FlatVariable) (allocation : Allocation) (controls dept
   abbrev mutual
     -- a statement that so many loops are around
     pub HasPlace : ℕ → StraightTree → Type 0
-    HasPlace depth (set x value) = (x < length declared)
+    HasPlace depth (set within x value) =
+        IsControl controls within × (x < length declared)
         × IsPlaced (length declared) allocation.count free_from 0 value
-    HasPlace depth (clear x size) = (x < length declared) × (size ≤ 65536)
-    HasPlace depth (fill x values) =
-        (x < length declared) × ArePlacedTerms (length declared) allocation.count free_from values
+    HasPlace depth (array x size values) =
+        (x < length declared) × (size ≤ 65536) × ArePlacedTerms (length declared) allocation.count free_from values
         × (variable_offset declared x + 4 * length values ≤ 262144)
-    HasPlace depth (put place x size index value) =
-        (x < length declared) × IsPlaced (length declared) allocation.count free_from 0 index
+    HasPlace depth (put within place x size index value) =
+        IsControl controls within × (x < length declared)
+        × IsPlaced (length declared) allocation.count free_from 0 index
         × IsPlaced (length declared) allocation.count free_from 1 value
     HasPlace depth (take control within condition) =
         (control + 1 < controls) × IsControl controls within
         × IsPlaced (length declared) allocation.count free_from 0 condition
-    HasPlace depth (set_under control x value) =
-        (control < controls) × (x < length declared) × IsPlaced (length declared) allocation.count free_from 0 value
-    HasPlace depth (put_under control place x size index value) =
-        (control < controls) × (x < length declared) × IsPlaced (length declared) allocation.count free_from 0 index
-        × IsPlaced (length declared) allocation.count free_from 1 value
     HasPlace depth (branch condition accepted otherwise) =
         IsPlaced (length declared) allocation.count free_from 0 condition × HavePlaces depth accepted
         × HavePlaces depth otherwise

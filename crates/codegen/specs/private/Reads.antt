@@ -1,7 +1,7 @@
 -- Which control values are read: code keeps no others.
 use Rattle.std.specs.Prelude.{◌≡◌, ℕ, ◌==◌, false, Bool, List, map, Option, None, Some}
-use Rattle.branch_removal.specs.Straight.{StraightTree, set, clear, fill, put, take, set_under, put_under, branch}
-use Rattle.branch_removal.specs.Straight.{repeats, StraightBlock, nothing, first, StraightProgram}
+use Rattle.branch_removal.specs.Straight.{StraightTree, set, array, put, take, branch, repeats}
+use Rattle.branch_removal.specs.Straight.{StraightBlock, nothing, first, StraightProgram}
 use Rattle.codegen.specs.private.Uses.{control_weights_of}
 use Rattle.codegen.specs.expression_code.Allocation.{Allocation, is_unread}
 
@@ -17,13 +17,10 @@ IsKeptWithin allocation (Some control) = is_unread allocation control ≡ false
 abbrev mutual
   -- a statement reads none but those that are kept
   pub ReadsKept : Allocation → StraightTree → Type 0
-  ReadsKept allocation (set x value) = Unit {0}
-  ReadsKept allocation (clear x size) = Unit {0}
-  ReadsKept allocation (fill x values) = Unit {0}
-  ReadsKept allocation (put place x size index value) = Unit {0}
+  ReadsKept allocation (set within x value) = IsKeptWithin allocation within
+  ReadsKept allocation (array x size values) = Unit {0}
+  ReadsKept allocation (put within place x size index value) = IsKeptWithin allocation within
   ReadsKept allocation (take control within condition) = IsKeptWithin allocation within
-  ReadsKept allocation (set_under control x value) = is_unread allocation control ≡ false
-  ReadsKept allocation (put_under control place x size index value) = is_unread allocation control ≡ false
   ReadsKept allocation (branch condition accepted otherwise) =
       AllReadKept allocation accepted × AllReadKept allocation otherwise
   ReadsKept allocation (repeats x low high body) = AllReadKept allocation body

@@ -1,8 +1,8 @@
 -- How much each word of a program is used: variables, and in the same way control values, over the places in which they
 -- are read.
 use Rattle.std.specs.Prelude.{ℕ, List, ◌++◌, Option, None, Some, replicate}
-use Rattle.branch_removal.specs.Straight.{StraightTree, set, clear, fill, put, take, set_under, put_under, branch}
-use Rattle.branch_removal.specs.Straight.{repeats, StraightBlock, nothing, first, StraightProgram}
+use Rattle.branch_removal.specs.Straight.{StraightTree, set, array, put, take, branch, repeats}
+use Rattle.branch_removal.specs.Straight.{StraightBlock, nothing, first, StraightProgram}
 use Rattle.branch_removal.specs.Uses.{used, weight_inside, weights_of}
 
 abbrev pub used_within : ℕ → Option ℕ → List ℕ → List ℕ
@@ -12,13 +12,10 @@ used_within weight (Some control) weights = used weight control weights
 abbrev mutual
   -- the weights of control values with those that a statement reads
   pub controls_read_by : ℕ → StraightTree → List ℕ → List ℕ
-  controls_read_by weight (set x value) weights = weights
-  controls_read_by weight (clear x size) weights = weights
-  controls_read_by weight (fill x values) weights = weights
-  controls_read_by weight (put place x size index value) weights = weights
+  controls_read_by weight (set within x value) weights = used_within weight within weights
+  controls_read_by weight (array x size values) weights = weights
+  controls_read_by weight (put within place x size index value) weights = used_within weight within weights
   controls_read_by weight (take control within condition) weights = used_within weight within weights
-  controls_read_by weight (set_under control x value) weights = used weight control weights
-  controls_read_by weight (put_under control place x size index value) weights = used weight control weights
   controls_read_by weight (branch condition accepted otherwise) weights =
       controls_read_by_all weight otherwise (controls_read_by_all weight accepted weights)
   controls_read_by weight (repeats x low high body) weights =

@@ -10,7 +10,7 @@ names-any_names-requires t c =
     search (
       rules,
       accepted_smaller c.in-Branch.accepted c.in-Branch.otherwise c.in-Branch.is
-          c.deref-else-names_in.ensures.value refl,
+          c.deref-else-names_in-2.ensures.value refl,
     )
 
 pub names-any_names-requires-else-any_names : goal.names-any_names-requires-else-any_names
@@ -21,37 +21,37 @@ names-any_names-requires-else-any_names t c =
           c.deref-else-any_names.ensures.value,
     )
 
-pub names-any_names-requires-else-names_in-3 : goal.names-any_names-requires-else-names_in-3
-names-any_names-requires-else-names_in-3 t c =
-    search (rules, body_smaller c.in-Repeat.body c.in-Repeat.is c.deref-else-names_in-3.ensures.value)
+pub names-any_names-requires-else-names_in-4 : goal.names-any_names-requires-else-names_in-4
+names-any_names-requires-else-names_in-4 t c =
+    search (rules, body_smaller c.in-Repeat.body c.in-Repeat.is c.deref-else-names_in-4.ensures.value)
 
 pub names-returns-then-any_names : goal.names-returns-then-any_names
 names-returns-then-any_names t c =
     let other = straight_block c.in-Branch.otherwise.items in
     let tree = tree_of_branch c.in-Branch.accepted c.in-Branch.otherwise c.in-Branch.is
-    c.deref-else-names_in.ensures.value refl in
+    c.deref-else-names_in-2.ensures.value refl in
     c.if-any_names.true
     ∙ (ap₂ (λ b d. b || (d || any_names c.args.variable other))
-    (sym c.if-names_in.false ∙ c.names_in-in-Branch.ensures) (sym c.if-any_names.true ∙ c.any_names.ensures)
+    (sym c.if-names_in-2.false ∙ c.names_in-in-Branch.ensures) (sym c.if-any_names.true ∙ c.any_names.ensures)
     ∙ sym (ap (names c.args.variable) tree))
 
 pub names-returns-else-any_names : goal.names-returns-else-any_names
 names-returns-else-any_names t c =
     let other = straight_block c.deref-else-any_names.result.now in
     let tree = tree_of_branch c.in-Branch.accepted c.in-Branch.otherwise c.in-Branch.is
-    c.deref-else-names_in.ensures.value c.deref-else-any_names.ensures.value in
+    c.deref-else-names_in-2.ensures.value c.deref-else-any_names.ensures.value in
     c.any_names-else-any_names.ensures
     ∙ (ap₂ (λ b d. b || (d || any_names c.args.variable other))
-    (sym c.if-names_in.false ∙ c.names_in-in-Branch.ensures) (sym c.if-any_names.false ∙ c.any_names.ensures)
+    (sym c.if-names_in-2.false ∙ c.names_in-in-Branch.ensures) (sym c.if-any_names.false ∙ c.any_names.ensures)
     ∙ sym (ap (names c.args.variable) tree))
 
-pub names-returns-else-names_in-3 : goal.names-returns-else-names_in-3
-names-returns-else-names_in-3 t c =
-    let body = straight_block c.deref-else-names_in-3.result.now in
-    let tree = tree_of_loop c.in-Repeat.body c.in-Repeat.is c.deref-else-names_in-3.ensures.value in
-    let low = sym c.if-names_in-2.false ∙ c.names_in-else-counter-variable.ensures in
-    let high = sym c.if-names_in-3.false ∙ c.names_in-else-names_in-2.ensures in
-    c.any_names-else-names_in-3.ensures
+pub names-returns-else-names_in-4 : goal.names-returns-else-names_in-4
+names-returns-else-names_in-4 t c =
+    let body = straight_block c.deref-else-names_in-4.result.now in
+    let tree = tree_of_loop c.in-Repeat.body c.in-Repeat.is c.deref-else-names_in-4.ensures.value in
+    let low = sym c.if-names_in-3.false ∙ c.names_in-else-counter-variable.ensures in
+    let high = sym c.if-names_in-4.false ∙ c.names_in-else-names_in-3.ensures in
+    c.any_names-else-names_in-4.ensures
     ∙ (ap₂ (λ b d. b || d) (sym (ne_eqb c.in-Repeat.counter c.args.variable c.if-counter-variable.false))
     (ap₂ (λ b d. b || (d || any_names c.args.variable body)) low high)
     ∙ sym (ap (names c.args.variable) tree))

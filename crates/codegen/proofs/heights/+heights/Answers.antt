@@ -50,8 +50,8 @@ height_in-returns-in-Branch t c =
     ap height_in (tree_of_branch c.in-Branch.accepted c.in-Branch.otherwise c.in-Branch.is
     c.deref-in-Branch.ensures.value c.deref-in-Branch-2.ensures.value) in
     rw (
+      c.max-in-Branch-2.ensures,
       c.max-in-Branch.ensures,
-      c.max.ensures,
       c.height-in-Branch.ensures,
       c.greatest_height.ensures,
       c.greatest_height-in-Branch.ensures,
