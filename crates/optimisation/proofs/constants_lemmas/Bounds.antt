@@ -1,21 +1,19 @@
 -- Simpler statements are no more work, and need no more of a frame.
 use Rattle.std.proofs.Common.{◌≡◌, ℕ, zero, suc, ◌+◌, ◌-◌, ◌*◌, ◌≤◌, List, map, Option, None, Some}
 use Rattle.std.proofs.Common.{option_map, slice_index, arith}
-use Rattle.std.proofs.lemmas.List.{length-map}
 use Rattle.std.proofs.Math.Nat.{mul-le-mul_left, mul-le-mul_right}
 use Rattle.inline.specs.declared.flat.FlatVariable.{FlatVariable}
-use Rattle.inline.specs.Flat.{TermTree, counter_type, number, truth, variable, prefix, binary, rotate, convert}
-use Rattle.inline.specs.Flat.{select, element}
+use Rattle.inline.specs.Flat.{TermTree, counter_type, number}
 use Rattle.inline.specs.FlatSize.{term_nodes, value_nodes}
 use Rattle.branch_removal.specs.Bounds.{statement_work, block_work, set_work}
 use Rattle.branch_removal.specs.Heights.{depth_in, depth_in_all, height_in, height_in_all, result_height}
-use Rattle.branch_removal.specs.Straight.{StraightTree, set, clear, fill, put, take, set_under, put_under, branch}
-use Rattle.branch_removal.specs.Straight.{repeats, StraightBlock, nothing, first, chain}
+use Rattle.branch_removal.specs.Straight.{StraightTree, set, array, put, take, branch, repeats}
+use Rattle.branch_removal.specs.Straight.{StraightBlock, nothing, first, chain}
 use Rattle.optimisation.specs.constants.private.Folding.{simple, constant_of, decision, numbers_of}
 use Rattle.optimisation.specs.constants.private.Known.{Words, forgotten_all, in_loop}
 use Rattle.optimisation.specs.constants.private.Choice.{AreAllowed}
 use Rattle.optimisation.specs.constants.private.Simplification.{at_turn, code_of_turns, knowing, knowing_all, single}
-use Rattle.optimisation.specs.constants.private.Simplification.{simplified, simplified_all}
+use Rattle.optimisation.specs.constants.private.Simplification.{simplified, simplified_all, turns_code}
 use Rattle.optimisation.proofs.constants_lemmas.TermSizes.{fewer_nodes, fewer_nodes_all, lower, lower_all}
 use Rattle.optimisation.proofs.constants_lemmas.Decisions.{bounds_of, unrolled_by}
 use Rattle.optimisation.proofs.constants_lemmas.Turns.{of_all_turns}
@@ -54,20 +52,15 @@ module _ (copies : List ℕ) (declared : List FlatVariable) where
   mutual
     pub stays_low : (words : Words) (statement : StraightTree)
         → IsLow (height_in statement) (depth_in statement) (simplified copies declared words statement)
-    stays_low words (set x value) = low_single _ _ (set x (simple words value)) (lower words value) (omega arith)
-    stays_low words (clear x size) = low_single _ _ (clear x size) (omega arith) (omega arith)
-    stays_low words (fill x values) =
-        low_single _ _ (fill x (map (simple words) values)) (lower_all words values) (omega arith)
-    stays_low words (put place x size index value) =
-        low_single _ _ (put place x size (simple words index) (simple words value))
+    stays_low words (set within x value) =
+        low_single _ _ (set within x (simple words value)) (lower words value) (omega arith)
+    stays_low words (array x size values) =
+        low_single _ _ (array x size (map (simple words) values)) (lower_all words values) (omega arith)
+    stays_low words (put within place x size index value) =
+        low_single _ _ (put within place x size (simple words index) (simple words value))
         (omega (arith, lower words index, lower words value)) (omega arith)
     stays_low words (take control within condition) =
         low_single _ _ (take control within (simple words condition)) (lower words condition) (omega arith)
-    stays_low words (set_under control x value) =
-        low_single _ _ (set_under control x (simple words value)) (lower words value) (omega arith)
-    stays_low words (put_under control place x size index value) =
-        low_single _ _ (put_under control place x size (simple words index) (simple words value))
-        (omega (arith, lower words index, lower words value)) (omega arith)
     stays_low words (branch condition accepted otherwise) =
         let whole = branch condition accepted otherwise in
         let arm = forgotten_all (knowing_all copies declared words accepted) accepted in
@@ -89,11 +82,10 @@ module _ (copies : List ℕ) (declared : List FlatVariable) where
         let simpler = repeats x (simple words low) (simple words high) (simplified_all copies declared inside body) in
         unrolled_any (IsLow (height_in whole) (depth_in whole))
         (numbers_of (slice_index copies x) (constant_of (simple words low)) (constant_of (simple words high)))
-        (λ each. code_of_turns (each.high - each.low) each.low (λ i w. knowing_all copies declared (at_turn x i w) body)
-        (λ i w. first (set x (number i counter_type.kind)) (simplified_all copies declared (at_turn x i w) body)) words)
+        (λ each. turns_code copies declared words x each body)
         (single simpler)
         (λ each. of_all_turns (λ i w. knowing_all copies declared (at_turn x i w) body)
-        (λ i w. first (set x (number i counter_type.kind)) (simplified_all copies declared (at_turn x i w) body))
+        (λ i w. first (set None x (number i counter_type.kind)) (simplified_all copies declared (at_turn x i w) body))
         (IsLow (height_in whole) (depth_in whole)) (record { height = omega arith; depth = omega arith })
         (low-chain (height_in whole) (depth_in whole))
         (λ i w. let turn = stays_low_all (at_turn x i w) body in
@@ -127,31 +119,17 @@ work-chain : (turns : List ℕ) (these those : StraightBlock)
 work-chain turns nothing those = omega arith
 work-chain turns (first statement these) those = omega (arith, work-chain turns these those)
 
-set_at_most : (e : TermTree) → set_work e ≤ 1 + term_nodes e
-set_at_most (number value kind) = omega arith
-set_at_most (truth value) = omega arith
-set_at_most (variable x) = omega arith
-set_at_most (prefix operator width operand) = omega arith
-set_at_most (binary place operator width left right) = omega arith
-set_at_most (rotate width operand amount) = omega arith
-set_at_most (convert kind operand) = omega arith
-set_at_most (select condition accepted otherwise) = omega arith
-set_at_most (element place x size index) = omega arith
+set_at_most : (within : Option ℕ) (e : TermTree) → set_work within e ≤ 1 + term_nodes e
+set_at_most None (number value kind) = omega arith
+set_at_most within e = omega arith
 
 module _ (words : Words) where
-  by_nodes : (e : TermTree) → set_work (simple words e) ≤ 1 + term_nodes e
-  by_nodes e = omega (arith, set_at_most (simple words e), fewer_nodes words e)
+  by_nodes : (within : Option ℕ) (e : TermTree) → set_work within (simple words e) ≤ 1 + term_nodes e
+  by_nodes within e = omega (arith, set_at_most within (simple words e), fewer_nodes words e)
 
-  set_less : (e : TermTree) → set_work (simple words e) ≤ set_work e
-  set_less (number value kind) = omega arith
-  set_less (truth value) = by_nodes (truth value)
-  set_less (variable x) = by_nodes (variable x)
-  set_less (prefix operator width operand) = by_nodes (prefix operator width operand)
-  set_less (binary place operator width left right) = by_nodes (binary place operator width left right)
-  set_less (rotate width operand amount) = by_nodes (rotate width operand amount)
-  set_less (convert kind operand) = by_nodes (convert kind operand)
-  set_less (select condition accepted otherwise) = by_nodes (select condition accepted otherwise)
-  set_less (element place x size index) = by_nodes (element place x size index)
+  set_less : (within : Option ℕ) (e : TermTree) → set_work within (simple words e) ≤ set_work within e
+  set_less None (number value kind) = omega arith
+  set_less within e = by_nodes within e
 
 module _ (counts : List ℕ) where
   -- the work of so many turns, each at most so much
@@ -172,14 +150,11 @@ module _ (copies : List ℕ) (declared : List FlatVariable) (counts : List ℕ) 
   mutual
     less : (words : Words) (statement : StraightTree)
         → block_work counts (simplified copies declared words statement) ≤ statement_work counts statement
-    less words (set x value) = omega (arith, set_less words value)
-    less words (clear x size) = omega arith
-    less words (fill x values) = omega (arith, fewer_nodes_all words values, length-map values (simple words))
-    less words (put place x size index value) = omega (arith, fewer_nodes words index, fewer_nodes words value)
-    less words (take control within condition) = omega (arith, fewer_nodes words condition)
-    less words (set_under control x value) = omega (arith, fewer_nodes words value)
-    less words (put_under control place x size index value) =
+    less words (set within x value) = omega (arith, set_less words within value)
+    less words (array x size values) = omega (arith, fewer_nodes_all words values)
+    less words (put within place x size index value) =
         omega (arith, fewer_nodes words index, fewer_nodes words value)
+    less words (take control within condition) = omega (arith, fewer_nodes words condition)
     less words (branch condition accepted otherwise) =
         let arm = forgotten_all (knowing_all copies declared words accepted) accepted in
         let one = less_all words accepted in
@@ -200,12 +175,11 @@ module _ (copies : List ℕ) (declared : List FlatVariable) (counts : List ℕ) 
         mul-le-mul_left (slice_index counts x + 1) (omega (arith, inner)) in
         unrolled_by (λ (b : StraightBlock). block_work counts b ≤ statement_work counts (repeats x low high body))
         (numbers_of (slice_index copies x) (constant_of (simple words low)) (constant_of (simple words high)))
-        (λ each. code_of_turns (each.high - each.low) each.low (λ i w. knowing_all copies declared (at_turn x i w) body)
-        (λ i w. first (set x (number i counter_type.kind)) (simplified_all copies declared (at_turn x i w) body)) words)
+        (λ each. turns_code copies declared words x each body)
         (single (repeats x (simple words low) (simple words high) code))
         (λ each numbers.
         let all = work_of_turns counts (λ i w. knowing_all copies declared (at_turn x i w) body)
-        (λ i w. first (set x (number i counter_type.kind)) (simplified_all copies declared (at_turn x i w) body))
+        (λ i w. first (set None x (number i counter_type.kind)) (simplified_all copies declared (at_turn x i w) body))
         (1 + block_work counts body) (λ i w. omega (arith, less_all (at_turn x i w) body))
         (each.high - each.low) each.low words in
         let few : each.high - each.low ≤ slice_index counts x + 1 =

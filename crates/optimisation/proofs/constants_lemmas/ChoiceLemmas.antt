@@ -1,8 +1,8 @@
 -- Choosing: counts, and how many turns are allowed.
 use Rattle.std.proofs.Common.{◌≡◌, ℕ, zero, suc, ◌+◌, ◌-◌, ◌*◌, ◌∙◌, Bool, true, false, List, [], ◌∷◌, nat_le, ap}
 use Rattle.std.proofs.Common.{◌&&◌, if◌then◌else◌, slice_index, slice_set, arith}
-use Rattle.branch_removal.specs.Straight.{StraightTree, set, clear, fill, put, take, set_under, put_under, branch}
-use Rattle.branch_removal.specs.Straight.{repeats, StraightBlock, nothing, first, StraightProgram}
+use Rattle.branch_removal.specs.Straight.{StraightTree, set, array, put, take, branch, repeats}
+use Rattle.branch_removal.specs.Straight.{StraightBlock, nothing, first, StraightProgram}
 use Rattle.optimisation.specs.constants.private.Choice.{AreAllowed, Chosen, begun, chosen, chosen_all, copies_of, counted, grown}
 use Rattle.optimisation.specs.constants.private.Choice.{most_nodes_of, settled, term_size}
 
@@ -62,13 +62,10 @@ module _ (turns : List ℕ) where
   mutual
     chosen_allowed : (so_far : Chosen) (statement : StraightTree) → AreAllowed so_far.copies turns
         → AreAllowed (chosen so_far statement).copies turns
-    chosen_allowed so_far (set x value) allowed = allowed
-    chosen_allowed so_far (clear x size) allowed = allowed
-    chosen_allowed so_far (fill x values) allowed = allowed
-    chosen_allowed so_far (put place x size index value) allowed = allowed
+    chosen_allowed so_far (set within x value) allowed = allowed
+    chosen_allowed so_far (array x size values) allowed = allowed
+    chosen_allowed so_far (put within place x size index value) allowed = allowed
     chosen_allowed so_far (take control within condition) allowed = allowed
-    chosen_allowed so_far (set_under control x value) allowed = allowed
-    chosen_allowed so_far (put_under control place x size index value) allowed = allowed
     chosen_allowed so_far (branch condition accepted otherwise) allowed =
         all_allowed (chosen_all (grown so_far (1 + term_size condition)) accepted) otherwise
         (all_allowed (grown so_far (1 + term_size condition)) accepted allowed)

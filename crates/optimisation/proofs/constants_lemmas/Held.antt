@@ -1,7 +1,7 @@
 -- Well-typed straight code keeps in each variable what it is declared as.
 use Rattle.std.proofs.Common.{◌≡◌, ℕ, zero, suc, ◌-◌, ◌^◌, ◌<◌, ◌≤◌, ◌==◌, Bool, true, false, cond, List, []}
 use Rattle.std.proofs.Common.{◌∷◌, ◌++◌, length, map, take as first_of, drop, replicate, All, slice_get, slice_set}
-use Rattle.std.proofs.Common.{None, Some, if◌then◌else◌, sym, ap, ◌∙◌, subst, arith}
+use Rattle.std.proofs.Common.{None, Some, sym, ap, ◌∙◌, subst, arith}
 use Rattle.std.proofs.lemmas.List.{length-set, length-replicate, length-map, take-append-drop}
 use Rattle.std.proofs.lemmas.List.Elements.{All-nil, All-cons, All-set, All-replicate}
 use Rattle.std.proofs.lemmas.Option.{none-some, same_Some}
@@ -14,10 +14,11 @@ use Rattle.inline.specs.FlatTyping.{Types, types_of, AllSuit}
 use Rattle.inline.proofs.Fitting.{value_fits, suited_fits, some_bit}
 use Rattle.inline.proofs.FittingBodies.{fits_assigned, one_held}
 use Rattle.inline.proofs.Parameters.{argument_count}
-use Rattle.branch_removal.specs.Straight.{StraightTree, set, clear, fill, put, take, set_under, put_under, branch}
-use Rattle.branch_removal.specs.Straight.{repeats, StraightBlock, nothing, first}
-use Rattle.branch_removal.specs.StraightMeaning.{StraightState, value_at, with_variable, counted, after, after_all}
-use Rattle.branch_removal.specs.StraightTyping.{types_but, IsSet, IsPut, IsTyped, AreTyped}
+use Rattle.branch_removal.specs.Straight.{StraightTree, set, array, put, take, branch, repeats}
+use Rattle.branch_removal.specs.Straight.{StraightBlock, nothing, first}
+use Rattle.branch_removal.specs.StraightMeaning.{StraightState, holds, value_at, with_variable, with_element}
+use Rattle.branch_removal.specs.StraightMeaning.{counted, after, after_all}
+use Rattle.branch_removal.specs.StraightTyping.{types_but, IsTyped, AreTyped}
 use Rattle.language.specs.declared.signature.Kind.{Kind}
 use Rattle.language.specs.declared.signature.Kind.TheVariants.{Boolean, Uint8, Uint16, Uint32}
 use Rattle.language.specs.declared.signature.Param.{Param}
@@ -26,6 +27,7 @@ use Rattle.language.specs.declared.values.Arg.{Arg}
 use Rattle.language.specs.Types.{bits_of}
 use Rattle.word.specs.declared.profile.Profile.{Profile}
 use Rattle.optimisation.proofs.constants_lemmas.Turns.{kept_below}
+use Rattle.optimisation.proofs.constants_lemmas.Unset.{either_any}
 
 -- first values of an array
 all_held : (types : Types) (m : Values) → Fits types m → (word : WordType) (es : List TermTree)
@@ -33,12 +35,6 @@ all_held : (types : Types) (m : Values) → Fits types m → (word : WordType) (
 all_held types m fits word [] suit = All-nil (IsWithinKind word.kind)
 all_held types m fits word (e ∷ es) suit = All-cons (IsWithinKind word.kind) (value_in m e) (map (value_in m) es)
     (suited_fits types m fits word e suit.0) (all_held types m fits word es suit.1)
-
--- of two states the one that is had
-either_held : (P : StraightState → Type 0) (b : Bool) (one other : StraightState) → P one → P other
-    → P (if b then one else other)
-either_held P true one other a b = a
-either_held P false one other a b = b
 
 -- all numbers of a loop are below this
 abbrev pub counter_limit : ℕ
@@ -55,26 +51,6 @@ module _ (profile : Profile) (declared : List FlatVariable) where
       by_number true h = absurd (none-some d h)
       by_number false h = fits y d h
 
-  set_fits : (x : ℕ) (value : TermTree) → IsSet profile declared x value → (s : StraightState)
-      → Fits types s.variables → Fits types (with_variable s x (value_at s value ∷ [])).variables
-  set_fits x value is s fits =
-      fits_assigned types s.variables x (value_at s value ∷ []) (word_as is.word is.mutable) is.known
-      (one_held is.word is.mutable (value_at s value) (suited_fits types s.variables fits is.word value is.suits)) fits
-
-  put_fits : (x size : ℕ) (index value : TermTree) → IsPut profile declared x size index value
-      → (s : StraightState) → Fits types s.variables
-      → Fits types (with_variable s x (slice_set (s.variables x) (value_at s index) (value_at s value))).variables
-  put_fits x size index value is s fits =
-      let old = fits x (array_as is.word is.mutable size) is.known in
-      let v = value_at s value in
-      fits_assigned types s.variables x (slice_set (s.variables x) (value_at s index) v)
-      (array_as is.word is.mutable size) is.known
-      (record {
-        count = length-set (s.variables x) (value_at s index) v ∙ old.count;
-        within = All-set (IsWithinKind is.word.kind) (s.variables x) (value_at s index) v
-            (suited_fits types s.variables fits is.word value is.suits) old.within;
-      }) fits
-
   -- where a turn begins
   pub counted_fits : (x i : ℕ) → slice_get declared x ≡ Some (word_as counter_type false) → i < counter_limit
       → (s : StraightState) → Fits types s.variables → Fits types (counted x i s).variables
@@ -86,32 +62,41 @@ module _ (profile : Profile) (declared : List FlatVariable) where
     mutual
       pub fits_after : (statement : StraightTree) → IsTyped profile declared controls statement
           → (s : StraightState) → Fits types s.variables → Fits types (after s statement).variables
-      fits_after (set x value) is s fits = set_fits x value is s fits
-      fits_after (clear x size) is s fits =
+      fits_after (set within x value) is s fits =
+          let v = value_at s value in
+          either_any (λ (t : StraightState). Fits types t.variables) (holds s within) (with_variable s x (v ∷ [])) s
+          (fits_assigned types s.variables x (v ∷ []) (word_as is.1.word is.1.mutable) is.1.known
+          (one_held is.1.word is.1.mutable v (suited_fits types s.variables fits is.1.word value is.1.suits)) fits)
+          fits
+      fits_after (array x size []) is s fits =
           fits_assigned types s.variables x (replicate size 0) (array_as is.word is.mutable size) is.known
           (record {
             count = length-replicate size 0;
             within = All-replicate (IsWithinKind is.word.kind) size 0 (some_bit is.word.kind);
           }) fits
-      fits_after (fill x values) is s fits =
-          fits_assigned types s.variables x (map (value_at s) values) (array_as is.word is.mutable (length values))
-          is.known
+      fits_after (array x size (e ∷ es)) is s fits =
+          fits_assigned types s.variables x (map (value_at s) (e ∷ es)) (array_as is.word is.mutable size) is.known
           (record {
-            count = length-map values (value_at s);
-            within = all_held (types_but profile declared x) s.variables (fewer_fit x s.variables fits) is.word values
-                is.suit;
+            count = length-map (e ∷ es) (value_at s) ∙ is.count;
+            within = all_held (types_but profile declared x) s.variables (fewer_fit x s.variables fits) is.word
+                (e ∷ es) is.suit;
           }) fits
-      fits_after (put place x size index value) is s fits = put_fits x size index value is s fits
+      fits_after (put within place x size index value) is s fits =
+          let v = value_at s value in
+          let own = array_as is.1.word is.1.mutable size in
+          let old = fits x own is.1.known in
+          either_any (λ (t : StraightState). Fits types t.variables) (holds s within)
+          (with_element s x (value_at s index) v) s
+          (fits_assigned types s.variables x (slice_set (s.variables x) (value_at s index) v) own is.1.known
+          (record {
+            count = length-set (s.variables x) (value_at s index) v ∙ old.count;
+            within = All-set (IsWithinKind is.1.word.kind) (s.variables x) (value_at s index) v
+                (suited_fits types s.variables fits is.1.word value is.1.suits) old.within;
+          }) fits)
+          fits
       fits_after (take control within condition) is s fits = fits
-      fits_after (set_under control x value) is s fits =
-          either_held (λ (t : StraightState). Fits types t.variables) (s.controls control)
-          (with_variable s x (value_at s value ∷ [])) s (set_fits x value is.1 s fits) fits
-      fits_after (put_under control place x size index value) is s fits =
-          either_held (λ (t : StraightState). Fits types t.variables) (s.controls control)
-          (with_variable s x (slice_set (s.variables x) (value_at s index) (value_at s value))) s
-          (put_fits x size index value is.1 s fits) fits
       fits_after (branch condition accepted otherwise) is s fits =
-          either_held (λ (t : StraightState). Fits types t.variables) (value_at s condition == 0)
+          either_any (λ (t : StraightState). Fits types t.variables) (value_at s condition == 0)
           (after_all s otherwise) (after_all s accepted)
           (fits_after_all otherwise is.2 s fits) (fits_after_all accepted is.1 s fits)
       fits_after (repeats x low high body) is s fits =

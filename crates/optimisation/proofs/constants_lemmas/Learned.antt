@@ -13,8 +13,8 @@ use Rattle.inline.specs.Fitting.{Fits}
 use Rattle.inline.specs.Flat.{TermTree, counter_type, word_as}
 use Rattle.inline.specs.FlatMeaning.{Values, with_value, value_in, turns}
 use Rattle.inline.specs.FlatTyping.{Types, types_of, HasType}
-use Rattle.branch_removal.specs.Straight.{StraightTree, set, clear, fill, put, take, set_under, put_under, branch}
-use Rattle.branch_removal.specs.Straight.{repeats, StraightBlock, nothing, first}
+use Rattle.branch_removal.specs.Straight.{StraightTree, set, array, put, take, branch, repeats}
+use Rattle.branch_removal.specs.Straight.{StraightBlock, nothing, first}
 use Rattle.branch_removal.specs.StraightMeaning.{StraightState, value_at, counted, after, after_all}
 use Rattle.branch_removal.specs.StraightTyping.{IsTyped, AreTyped}
 use Rattle.optimisation.specs.declared.constants.known.Constant.{Constant}
@@ -112,7 +112,7 @@ noted words m x v word agrees right (copy c) is =
 -- and where it is a copy, that too
 noted_copy : (declared : List FlatVariable) (words : Words) (m : Values) (x v : ℕ) (e : TermTree) → Agrees words m
     → v ≡ value_in m e
-    → Agrees (set_to declared words x e) (with_value m x (v ∷ []))
+    → Agrees (set_to declared words None x e) (with_value m x (v ∷ []))
 noted_copy declared words m x v e agrees same f is = by_variable (variable_of e) refl is
   where
     after_set : Agrees (with_word words x (constant_of e)) (with_value m x (v ∷ []))
@@ -186,23 +186,19 @@ module _ (copies : List ℕ) (profile : Profile) (declared : List FlatVariable) 
     pub learned : (words : Words) (statement : StraightTree) → IsTyped profile declared controls statement
         → (s : StraightState) → AllHolds words s
         → Agrees (knowing copies declared words statement) (after s statement).variables
-    learned words (set x value) is s holds =
+    learned words (set None x value) is s holds =
         noted_copy declared words s.variables x (value_at s value) (simple words value) holds.agrees
-        (sym (same_suited (types_of profile declared) words s.variables holds is.suits))
-    learned words (clear x size) is s holds =
-        unknown words x (clear x size) s holds.agrees (λ f apart y about. left_alone (clear x size) f apart y about s)
-    learned words (fill x values) is s holds =
-        unknown words x (fill x values) s holds.agrees (λ f apart y about. left_alone (fill x values) f apart y about s)
-    learned words (put place x size index value) is s holds =
-        unknown words x (put place x size index value) s holds.agrees
-        (λ f apart y about. left_alone (put place x size index value) f apart y about s)
+        (sym (same_suited (types_of profile declared) words s.variables holds is.1.suits))
+    learned words (set (Some control) x value) is s holds =
+        unknown words x (set (Some control) x value) s holds.agrees
+        (λ f apart y about. left_alone (set (Some control) x value) f apart y about s)
+    learned words (array x size values) is s holds =
+        unknown words x (array x size values) s holds.agrees
+        (λ f apart y about. left_alone (array x size values) f apart y about s)
+    learned words (put within place x size index value) is s holds =
+        unknown words x (put within place x size index value) s holds.agrees
+        (λ f apart y about. left_alone (put within place x size index value) f apart y about s)
     learned words (take control within condition) is s holds = holds.agrees
-    learned words (set_under control x value) is s holds =
-        unknown words x (set_under control x value) s holds.agrees
-        (λ f apart y about. left_alone (set_under control x value) f apart y about s)
-    learned words (put_under control place x size index value) is s holds =
-        unknown words x (put_under control place x size index value) s holds.agrees
-        (λ f apart y about. left_alone (put_under control place x size index value) f apart y about s)
     learned words (branch condition accepted otherwise) is s holds =
         let whole = branch condition accepted otherwise in
         let arm = forgotten_all (knowing_all copies declared words accepted) accepted in

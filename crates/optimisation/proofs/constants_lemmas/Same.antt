@@ -1,7 +1,7 @@
 -- Simpler statements leave the state that the statements leave, and their path is fine where that of the statements
 -- is.
 use Rattle.std.proofs.Common.{◌≡◌, ℕ, zero, suc, ◌+◌, ◌-◌, ◌<◌, ◌≤◌, ◌==◌, ◌&&◌, not, Bool, true, false}
-use Rattle.std.proofs.Common.{if◌then◌else◌, List, [], ◌∷◌, ◌++◌, length, map, refl, sym, ap, ap₂, ◌∙◌, subst}
+use Rattle.std.proofs.Common.{if◌then◌else◌, List, [], ◌∷◌, ◌++◌, map, None, refl, sym, ap, ap₂, ◌∙◌, subst}
 use Rattle.std.proofs.Common.{slice_index, arith}
 use Rattle.std.proofs.lemmas.Bool.{cond-false, cond-true}
 use Rattle.word.specs.declared.profile.Profile.{Profile}
@@ -11,8 +11,8 @@ use Rattle.inline.specs.FlatMeaning.{Values, path_in, path_in_all, turns, path_o
 use Rattle.inline.specs.FlatTyping.{Types, types_of}
 use Rattle.inline.specs.Path.{Path, AreFine, decided as decided_mark, bounded, indexed}
 use Rattle.word.specs.declared.place.Place.{Place}
-use Rattle.branch_removal.specs.Straight.{StraightTree, set, clear, fill, put, take, set_under, put_under, branch}
-use Rattle.branch_removal.specs.Straight.{repeats, StraightBlock, nothing, first}
+use Rattle.branch_removal.specs.Straight.{StraightTree, set, array, put, take, branch, repeats}
+use Rattle.branch_removal.specs.Straight.{StraightBlock, nothing, first}
 use Rattle.branch_removal.specs.StraightMeaning.{StraightState, holds as holds_under, with_variable, with_element}
 use Rattle.branch_removal.specs.StraightMeaning.{with_controls}
 use Rattle.branch_removal.specs.StraightMeaning.{value_at, counted, after, after_all, path_at, path_along}
@@ -22,7 +22,7 @@ use Rattle.optimisation.specs.constants.private.Folding.{simple, constant_of, de
 use Rattle.optimisation.specs.constants.private.Known.{Words, forgotten_all, in_loop}
 use Rattle.optimisation.specs.declared.constants.terms.Numbers.{Numbers}
 use Rattle.optimisation.specs.constants.private.Simplification.{at_turn, code_of_turns, knowing, knowing_all}
-use Rattle.optimisation.specs.constants.private.Simplification.{single, simplified, simplified_all}
+use Rattle.optimisation.specs.constants.private.Simplification.{single, simplified, simplified_all, turns_code}
 use Rattle.optimisation.proofs.constants_lemmas.KnownLemmas.{Holds}
 use Rattle.optimisation.proofs.constants_lemmas.TermLemmas.{same_value, same_suited, same_values, fine_path, fine_suited, fine_path_all}
 use Rattle.optimisation.proofs.constants_lemmas.Held.{counter_limit, fewer_fit}
@@ -62,13 +62,11 @@ module _ (copies : List ℕ) (profile : Profile) (declared : List FlatVariable) 
   types = types_of profile declared
 
   -- what holds where an array gets its first values
-  pub holds_but : (words : Words) (x : ℕ) (values : List TermTree)
-      → IsFilled profile declared x (length values) values → (m : Values) → Holds types words m
-      → Holds (types_but profile declared x) words m
-  holds_but words x values is m holds = record {
+  pub holds_but : (words : Words) (x size : ℕ) (values : List TermTree) → IsFilled profile declared x size values
+      → (m : Values) → Holds types words m → Holds (types_but profile declared x) words m
+  holds_but words x size values is m holds = record {
     agrees = holds.agrees;
-    kinds = but_kinds copies profile declared controls words x is.word is.mutable (length values) is.known
-        holds.kinds;
+    kinds = but_kinds copies profile declared controls words x is.word is.mutable size is.known holds.kinds;
     fits = fewer_fit profile declared x m holds.fits;
   }
 
@@ -76,27 +74,21 @@ module _ (copies : List ℕ) (profile : Profile) (declared : List FlatVariable) 
     pub same_after : (words : Words) (statement : StraightTree) → IsTyped profile declared controls statement
         → (s : StraightState) → AllHolds copies profile declared controls words s
         → after_all s (simplified copies declared words statement) ≡ after s statement
-    same_after words (set x value) is s holds =
-        ap (λ v. with_variable s x (v ∷ [])) (same_suited types words s.variables holds is.suits)
-    same_after words (clear x size) is s holds = refl
-    same_after words (fill x values) is s holds =
+    same_after words (set within x value) is s holds =
+        ap (λ v. if holds_under s within then with_variable s x (v ∷ [])
+        else s) (same_suited types words s.variables holds is.1.suits)
+    same_after words (array x size []) is s holds = refl
+    same_after words (array x size (e ∷ es)) is s holds =
         ap (with_variable s x)
-        (same_values (types_but profile declared x) words s.variables (holds_but words x values is s.variables holds)
-        is.word
-        values is.suit)
-    same_after words (put place x size index value) is s holds =
-        ap₂ (with_element s x) (same_value types words s.variables holds is.index_type)
-        (same_suited types words s.variables holds is.suits)
+        (same_values (types_but profile declared x) words s.variables
+        (holds_but words x size (e ∷ es) is s.variables holds) is.word (e ∷ es) is.suit)
+    same_after words (put within place x size index value) is s holds =
+        ap₂ (λ i v. if holds_under s within then with_element s x i v else s)
+        (same_value types words s.variables holds is.1.index_type)
+        (same_suited types words s.variables holds is.1.suits)
     same_after words (take control within condition) is s holds =
         ap (λ v. with_controls s control (holds_under s within && not (v == 0)) (holds_under s within && (v == 0)))
         (same_value types words s.variables holds is.2.1)
-    same_after words (set_under control x value) is s holds =
-        ap (λ v. if s.controls control then with_variable s x (v ∷ [])
-        else s) (same_suited types words s.variables holds is.1.suits)
-    same_after words (put_under control place x size index value) is s holds =
-        ap₂ (λ i v. if s.controls control then with_element s x i v else s)
-        (same_value types words s.variables holds is.1.index_type)
-        (same_suited types words s.variables holds is.1.suits)
     same_after words (branch condition accepted otherwise) is s holds =
         let whole = branch condition accepted otherwise in
         let arm = forgotten_all (knowing_all copies declared words accepted) accepted in
@@ -123,13 +115,12 @@ module _ (copies : List ℕ) (profile : Profile) (declared : List FlatVariable) 
         let simpler : ℕ → StraightState → StraightState = λ i t. after_all (counted x i t) code in
         unrolled_by (λ (b : StraightBlock). after_all s b ≡ after s whole)
         (numbers_of (slice_index copies x) (constant_of (simple words low)) (constant_of (simple words high)))
-        (λ each. code_of_turns (each.high - each.low) each.low (λ i w. knowing_all copies declared (at_turn x i w) body)
-        (λ i w. first (set x (number i counter_type.kind)) (simplified_all copies declared (at_turn x i w) body)) words)
+        (λ each. turns_code copies declared words x each body)
         (single (repeats x (simple words low) (simple words high) code))
         (λ each numbers. same_turns (AllHolds copies profile declared controls)
         (λ i w. knowing_all copies declared (at_turn x i w) body)
-        (λ i w. first (set x (number i counter_type.kind)) (simplified_all copies declared (at_turn x i w) body)) turn
-        counter_limit
+        (λ i w. first (set None x (number i counter_type.kind)) (simplified_all copies declared (at_turn x i w) body))
+        turn counter_limit
         (λ i w t below known. same_after_all (at_turn x i w) body is.3 (counted x i t)
         (turn_known copies profile declared controls w t x i is.2 below known))
         (λ i w t below known. hold_after_all copies profile declared controls (at_turn x i w) body is.3 (counted x i t)
@@ -247,24 +238,19 @@ module _ (most : List ℕ) where
           → (s : StraightState) → AllHolds copies profile declared controls words s
           → AreFine most (path_at s statement)
           → AreFine most (path_along s (simplified copies declared words statement))
-      still_fine words (set x value) is s holds fine =
+      still_fine words (set within x value) is s holds fine =
           fine_alone most (path_in s.variables (simple words value))
-          (fine_suited most all_types words s.variables holds is.suits fine)
-      still_fine words (clear x size) is s holds fine = tt
-      still_fine words (fill x values) is s holds fine =
+          (fine_suited most all_types words s.variables holds is.1.suits fine)
+      still_fine words (array x size values) is s holds fine =
           fine_alone most (path_in_all s.variables (map (simple words) values))
           (fine_path_all most (types_but profile declared x) words s.variables
-          (holds_but copies profile declared controls words x values is s.variables holds) is.word values is.suit fine)
-      still_fine words (put place x size index value) is s holds fine =
-          put_fine profile declared words place x size index value is s holds fine
+          (holds_but copies profile declared controls words x size values is s.variables holds) is.word values is.suit
+          fine)
+      still_fine words (put within place x size index value) is s holds fine =
+          put_fine profile declared words place x size index value is.1 s holds fine
       still_fine words (take control within condition) is s holds fine =
           fine_alone most (path_in s.variables (simple words condition))
           (fine_path most all_types words s.variables holds is.2.1 fine)
-      still_fine words (set_under control x value) is s holds fine =
-          fine_alone most (path_in s.variables (simple words value))
-          (fine_suited most all_types words s.variables holds is.1.suits fine)
-      still_fine words (put_under control place x size index value) is s holds fine =
-          put_fine profile declared words place x size index value is.1 s holds fine
       still_fine words (branch condition accepted otherwise) is s holds fine =
           let c = simple words condition in
           let arm = forgotten_all (knowing_all copies declared words accepted) accepted in
@@ -315,16 +301,13 @@ module _ (most : List ℕ) where
           let inner = fine_back most bounds run fine in
           unrolled_by (λ (b : StraightBlock). AreFine most (path_along s b))
           (numbers_of (slice_index copies x) (constant_of l) (constant_of h))
-          (λ each. code_of_turns (each.high - each.low) each.low
-          (λ i w. knowing_all copies declared (at_turn x i w) body)
-          (λ i w. first (set x (number i counter_type.kind)) (simplified_all copies declared (at_turn x i w) body))
-          words)
+          (λ each. turns_code copies declared words x each body)
           (single (repeats x l h code))
           (λ each numbers.
           let both = first_and_end all_types words s holds is.0 is.1 (slice_index copies x) each numbers in
           copies_fine (AllHolds copies profile declared controls)
           (λ i w. knowing_all copies declared (at_turn x i w) body)
-          (λ i w. first (set x (number i counter_type.kind)) (simplified_all copies declared (at_turn x i w) body))
+          (λ i w. first (set None x (number i counter_type.kind)) (simplified_all copies declared (at_turn x i w) body))
           turn along
           counter_limit
           (λ i w t below known. same_after_all copies profile declared controls (at_turn x i w) body is.3

@@ -108,7 +108,7 @@ module _ (copies : List ℕ) (declared : List FlatVariable) (x : ℕ) (body : St
   turn_learns i w = knowing_all copies declared (at_turn x i w) body
 
   abbrev turn_code : ℕ → Words → StraightBlock
-  turn_code i w = first (set x (number i counter_type.kind)) (simplified_all copies declared (at_turn x i w) body)
+  turn_code i w = first (set None x (number i counter_type.kind)) (simplified_all copies declared (at_turn x i w) body)
 
   abbrev pub turns_left : ℕ → ℕ → StraightBlock → Words → StraightBlock
   turns_left high i front words = chain front (code_of_turns (high - i) i turn_learns turn_code words)
@@ -119,7 +119,7 @@ module _ (copies : List ℕ) (declared : List FlatVariable) (x : ℕ) (body : St
   pub turn_passed : (high i : ℕ) (words noted after : Words) (before counter_set behind whole : StraightBlock)
       → i < high
       → turns_left high i before words ≡ whole → noted ≡ at_turn x i words
-      → counter_set ≡ chain before (first (set x (number i counter_type.kind)) nothing)
+      → counter_set ≡ chain before (first (set None x (number i counter_type.kind)) nothing)
       → behind ≡ chain counter_set (simplified_all copies declared noted body)
       → after ≡ knowing_all copies declared noted body
       → turns_left high (i + 1) behind after ≡ whole
@@ -128,7 +128,7 @@ module _ (copies : List ℕ) (declared : List FlatVariable) (x : ℕ) (body : St
       let rest = code_of_turns (high - (i + 1)) (i + 1) turn_learns turn_code (turn_learns i words) in
       ap₂ (λ front w. chain front (code_of_turns (high - (i + 1)) (i + 1) turn_learns turn_code w))
       (turn ∙ ap₂ (λ front w. chain front (simplified_all copies declared w body)) counter here
-      ∙ chain-assoc before (first (set x (number i counter_type.kind)) nothing)
+      ∙ chain-assoc before (first (set None x (number i counter_type.kind)) nothing)
       (simplified_all copies declared (at_turn x i words) body))
       (known ∙ ap (λ w. knowing_all copies declared w body) here)
       ∙ (chain-assoc before (turn_code i words) rest

@@ -1,5 +1,5 @@
 -- Simpler statements are well typed where the statements are, and set under a control value what those set.
-use Rattle.std.proofs.Common.{◌≡◌, ℕ, ◌==◌, ◌⊎◌, inl, inr, Bool, true, false, cond, List, map, length, Option}
+use Rattle.std.proofs.Common.{◌≡◌, ℕ, ◌==◌, ◌⊎◌, inl, inr, Bool, true, false, cond, List, [], ◌∷◌, map, Option}
 use Rattle.std.proofs.Common.{None, Some, slice_get, slice_index, ◌+◌, ◌-◌, ◌^◌, ◌≤◌, ◌<◌, refl, sym, ap, ◌∙◌, subst}
 use Rattle.std.proofs.Common.{arith}
 use Rattle.language.specs.declared.typing.WordType.{WordType}
@@ -11,10 +11,10 @@ use Rattle.inline.specs.declared.flat.FlatVariable.{FlatVariable}
 use Rattle.inline.specs.Fitting.{IsWithinKind}
 use Rattle.inline.specs.Flat.{TermTree, number, counter_type, word_as, array_as}
 use Rattle.inline.specs.FlatMeaning.{turns}
-use Rattle.inline.specs.FlatTyping.{types_of, HasType, of_number}
+use Rattle.inline.specs.FlatTyping.{types_of, HasType, HasCount, of_number}
 use Rattle.word.specs.declared.profile.Profile.{Profile}
-use Rattle.branch_removal.specs.Straight.{StraightTree, set, clear, fill, put, take, set_under, put_under, branch}
-use Rattle.branch_removal.specs.Straight.{repeats, StraightBlock, nothing, first, chain}
+use Rattle.branch_removal.specs.Straight.{StraightTree, set, array, put, take, branch, repeats}
+use Rattle.branch_removal.specs.Straight.{StraightBlock, nothing, first, chain}
 use Rattle.branch_removal.specs.StraightTyping.{IsSet, IsFilled, IsPut, types_but, IsTyped, AreTyped, IsHidden}
 use Rattle.branch_removal.specs.StraightTyping.{AreHidden}
 use Rattle.optimisation.specs.declared.constants.known.Constant.{Constant}
@@ -22,9 +22,9 @@ use Rattle.optimisation.specs.constants.private.Folding.{simple, constant_of, de
 use Rattle.optimisation.specs.declared.constants.known.WordCopy.{WordCopy}
 use Rattle.optimisation.specs.constants.private.Known.{Words, known, with_word, without, forgotten_all, in_loop}
 use Rattle.optimisation.specs.declared.constants.terms.Numbers.{Numbers}
-use Rattle.optimisation.specs.constants.private.Simplification.{at_turn, code_of_turns, copied, copied_where, may_be_read_as}
+use Rattle.optimisation.specs.constants.private.Simplification.{at_turn, copied, copied_where, may_be_read_as}
 use Rattle.optimisation.specs.constants.private.Simplification.{set_to, variable_of, knowing, knowing_all}
-use Rattle.optimisation.specs.constants.private.Simplification.{single, simplified, simplified_all}
+use Rattle.optimisation.specs.constants.private.Simplification.{single, simplified, simplified_all, turns_code}
 use Rattle.optimisation.proofs.constants_lemmas.KnownLemmas.{Fact, valued, copy, IsIn, Knows, in_more, known_beside, known_here, still_copy}
 use Rattle.optimisation.proofs.constants_lemmas.KnownLemmas.{without_same, IsSuited, AreOfKind, IsBelow}
 use Rattle.optimisation.proofs.constants_lemmas.CopyLemmas.{source_alike}
@@ -44,13 +44,10 @@ module _ (copies : List ℕ) (declared : List FlatVariable) where
   mutual
     pub still_hidden : (words : Words) (statement : StraightTree) → IsHidden declared statement
         → AreHidden declared (simplified copies declared words statement)
-    still_hidden words (set x value) hidden = (tt, tt)
-    still_hidden words (clear x size) hidden = (tt, tt)
-    still_hidden words (fill x values) hidden = (tt, tt)
-    still_hidden words (put place x size index value) hidden = (tt, tt)
+    still_hidden words (set within x value) hidden = (hidden, tt)
+    still_hidden words (array x size values) hidden = (tt, tt)
+    still_hidden words (put within place x size index value) hidden = (hidden, tt)
     still_hidden words (take control within condition) hidden = (tt, tt)
-    still_hidden words (set_under control x value) hidden = (hidden, tt)
-    still_hidden words (put_under control place x size index value) hidden = (hidden, tt)
     still_hidden words (branch condition accepted otherwise) hidden =
         let arm = forgotten_all (knowing_all copies declared words accepted) accepted in
         let one = still_hidden_all words accepted hidden.0 in
@@ -64,11 +61,10 @@ module _ (copies : List ℕ) (declared : List FlatVariable) where
         let inside = in_loop words x body in
         unrolled_any (AreHidden declared)
         (numbers_of (slice_index copies x) (constant_of (simple words low)) (constant_of (simple words high)))
-        (λ each. code_of_turns (each.high - each.low) each.low (λ i w. knowing_all copies declared (at_turn x i w) body)
-        (λ i w. first (set x (number i counter_type.kind)) (simplified_all copies declared (at_turn x i w) body)) words)
+        (λ each. turns_code copies declared words x each body)
         (single (repeats x (simple words low) (simple words high) (simplified_all copies declared inside body)))
         (λ each. of_all_turns (λ i w. knowing_all copies declared (at_turn x i w) body)
-        (λ i w. first (set x (number i counter_type.kind)) (simplified_all copies declared (at_turn x i w) body))
+        (λ i w. first (set None x (number i counter_type.kind)) (simplified_all copies declared (at_turn x i w) body))
         (AreHidden declared) tt hidden-chain
         (λ i w. (tt, still_hidden_all (at_turn x i w) body hidden))
         (each.high - each.low) each.low words)
@@ -83,6 +79,12 @@ module _ (copies : List ℕ) (declared : List FlatVariable) where
         (still_hidden words statement hidden.0)
         (still_hidden_all (knowing copies declared words statement) rest hidden.1)
 
+-- as many values as elements, or none
+still_counted : (words : Words) (size : ℕ) (values : List TermTree) → HasCount size values
+    → HasCount size (map (simple words) values)
+still_counted words size [] count = tt
+still_counted words size (e ∷ es) count = length-map (e ∷ es) (simple words) ∙ count
+
 module _ (copies : List ℕ) (profile : Profile) (declared : List FlatVariable) (controls : ℕ) where
   abbrev pub AreKinds : Words → Type 0
   AreKinds words = AreOfKind (types_of profile declared) words
@@ -95,7 +97,7 @@ module _ (copies : List ℕ) (profile : Profile) (declared : List FlatVariable) 
   pub but_kinds : (words : Words) (x : ℕ) (own : WordType) (mutable : Bool) (size : ℕ)
       → slice_get declared x ≡ Some (array_as own mutable size) → AreKinds words
       → AreOfKind (types_but profile declared x) words
-  but_kinds words x own mutable size array kinds f is = fewer f (kinds f is)
+  but_kinds words x own mutable size listed kinds f is = fewer f (kinds f is)
     where
       inside : (y : ℕ) (d : FlatVariable) (b : Bool) → cond b None (slice_get declared y) ≡ Some d
           → slice_get declared y ≡ Some d
@@ -107,7 +109,7 @@ module _ (copies : List ℕ) (profile : Profile) (declared : List FlatVariable) 
           → ⊥
       not_array y word other there here =
           let same : word_as word other ≡ array_as own mutable size =
-          same_Some _ _ (sym there ∙ (ap (slice_get declared) here ∙ array)) in
+          same_Some _ _ (sym there ∙ (ap (slice_get declared) here ∙ listed)) in
           none-some size (ap (λ (d : FlatVariable). d.elements) same)
 
       fewer : (g : Fact) → IsSuited (types_of profile declared) g → IsSuited (types_but profile declared x) g
@@ -163,9 +165,10 @@ module _ (copies : List ℕ) (profile : Profile) (declared : List FlatVariable) 
   word_kinds words x e kinds is (copy c) found = kinds (copy c) (still_copy words x (constant_of e) c found).0
 
   -- and a copy is of its source's type
-  set_kinds : (words : Words) (x : ℕ) (e : TermTree) → AreKinds words → IsSet profile declared x e
-      → AreKinds (set_to declared words x e)
-  set_kinds words x e kinds is f found = by_variable (variable_of e) found
+  set_kinds : (words : Words) (within : Option ℕ) (x : ℕ) (e : TermTree) → AreKinds words → IsSet profile declared x e
+      → AreKinds (set_to declared words within x e)
+  set_kinds words (Some control) x e kinds is f found = without_kinds words x kinds f found
+  set_kinds words None x e kinds is f found = by_variable (variable_of e) found
     where
       inner_kinds : AreKinds (with_word words x (constant_of e))
       inner_kinds = word_kinds words x e kinds is
@@ -238,14 +241,11 @@ module _ (copies : List ℕ) (profile : Profile) (declared : List FlatVariable) 
   mutual
     pub kinds_after : (words : Words) (statement : StraightTree) → AreKinds words
         → IsTyped profile declared controls statement → AreKinds (knowing copies declared words statement)
-    kinds_after words (set x value) kinds is =
-        set_kinds words x (simple words value) kinds (still_set words x value kinds is)
-    kinds_after words (clear x size) kinds is = without_kinds words x kinds
-    kinds_after words (fill x values) kinds is = without_kinds words x kinds
-    kinds_after words (put place x size index value) kinds is = without_kinds words x kinds
+    kinds_after words (set within x value) kinds is =
+        set_kinds words within x (simple words value) kinds (still_set words x value kinds is.1)
+    kinds_after words (array x size values) kinds is = without_kinds words x kinds
+    kinds_after words (put within place x size index value) kinds is = without_kinds words x kinds
     kinds_after words (take control within condition) kinds is = kinds
-    kinds_after words (set_under control x value) kinds is = without_kinds words x kinds
-    kinds_after words (put_under control place x size index value) kinds is = without_kinds words x kinds
     kinds_after words (branch condition accepted otherwise) kinds is =
         let arm = forgotten_all (knowing_all copies declared words accepted) accepted in
         decided_any AreKinds (decision (simple words condition)) (knowing_all copies declared words accepted)
@@ -281,16 +281,15 @@ module _ (copies : List ℕ) (profile : Profile) (declared : List FlatVariable) 
     suits = still_suits (types_of profile declared) words kinds is.suits;
   }
 
-  still_filled : (words : Words) (x : ℕ) (values : List TermTree) → AreKinds words
-      → IsFilled profile declared x (length values) values
-      → IsFilled profile declared x (length (map (simple words) values)) (map (simple words) values)
-  still_filled words x values kinds is = record {
+  still_filled : (words : Words) (x size : ℕ) (values : List TermTree) → AreKinds words
+      → IsFilled profile declared x size values → IsFilled profile declared x size (map (simple words) values)
+  still_filled words x size values kinds is = record {
     word = is.word;
     mutable = is.mutable;
-    known = subst (λ n. slice_get declared x ≡ Some (array_as is.word is.mutable n))
-        (sym (length-map values (simple words))) is.known;
+    known = is.known;
     suit = all_still_suit (types_but profile declared x) words
-        (but_kinds words x is.word is.mutable (length values) is.known kinds) is.word values is.suit;
+        (but_kinds words x is.word is.mutable size is.known kinds) is.word values is.suit;
+    count = still_counted words size values is.count;
   }
 
   typed-chain : (these those : StraightBlock) → AreTyped profile declared controls these
@@ -302,15 +301,12 @@ module _ (copies : List ℕ) (profile : Profile) (declared : List FlatVariable) 
     pub still_well_typed : (words : Words) (statement : StraightTree) → AreKinds words
         → IsTyped profile declared controls statement
         → AreTyped profile declared controls (simplified copies declared words statement)
-    still_well_typed words (set x value) kinds is = (still_set words x value kinds is, tt)
-    still_well_typed words (clear x size) kinds is = (is, tt)
-    still_well_typed words (fill x values) kinds is = (still_filled words x values kinds is, tt)
-    still_well_typed words (put place x size index value) kinds is = (still_put words x size index value kinds is, tt)
+    still_well_typed words (set within x value) kinds is = ((is.0, still_set words x value kinds is.1), tt)
+    still_well_typed words (array x size values) kinds is = (still_filled words x size values kinds is, tt)
+    still_well_typed words (put within place x size index value) kinds is =
+        ((is.0, still_put words x size index value kinds is.1), tt)
     still_well_typed words (take control within condition) kinds is =
         ((is.0, is.1, still_typed (types_of profile declared) words kinds is.2.1), tt)
-    still_well_typed words (set_under control x value) kinds is = ((is.0, still_set words x value kinds is.1), tt)
-    still_well_typed words (put_under control place x size index value) kinds is =
-        ((is.0, still_put words x size index value kinds is.1), tt)
     still_well_typed words (branch condition accepted otherwise) kinds is =
         let arm = forgotten_all (knowing_all copies declared words accepted) accepted in
         let one = still_all_typed words accepted kinds is.1 in
@@ -330,14 +326,15 @@ module _ (copies : List ℕ) (profile : Profile) (declared : List FlatVariable) 
         let inside = in_loop words x body in
         unrolled_by (AreTyped profile declared controls)
         (numbers_of (slice_index copies x) (constant_of (simple words low)) (constant_of (simple words high)))
-        (λ each. code_of_turns (each.high - each.low) each.low (λ i w. knowing_all copies declared (at_turn x i w) body)
-        (λ i w. first (set x (number i counter_type.kind)) (simplified_all copies declared (at_turn x i w) body)) words)
+        (λ each. turns_code copies declared words x each body)
         (single (repeats x (simple words low) (simple words high) (simplified_all copies declared inside body)))
         (λ each numbers. of_turns_below (λ i w. knowing_all copies declared (at_turn x i w) body)
-        (λ i w. first (set x (number i counter_type.kind)) (simplified_all copies declared (at_turn x i w) body))
+        (λ i w. first (set None x (number i counter_type.kind)) (simplified_all copies declared (at_turn x i w) body))
         (AreTyped profile declared controls) tt typed-chain AreKinds counter_limit
-        (λ i w below known.
-        (counter_set x i is.2 below, still_all_typed (at_turn x i w) body (turn_kinds w x i known is.2 below) is.3))
+        (λ i w below known. (
+          (tt, counter_set x i is.2 below),
+          still_all_typed (at_turn x i w) body (turn_kinds w x i known is.2 below) is.3,
+        ))
         (λ i w below known. kinds_after_all (at_turn x i w) body (turn_kinds w x i known is.2 below) is.3)
         (each.high - each.low) each.low words (within_limit words x low high each kinds is.0 is.1 numbers) kinds) (
           (

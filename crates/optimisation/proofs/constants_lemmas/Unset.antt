@@ -5,9 +5,10 @@ use Rattle.std.proofs.lemmas.Bool.{cond-false, cond-true, eq-eqb, ne_eqb}
 use Rattle.inline.specs.declared.flat.FlatVariable.{FlatVariable}
 use Rattle.inline.specs.Flat.{TermTree}
 use Rattle.inline.specs.FlatMeaning.{Values, with_value, turns}
-use Rattle.branch_removal.specs.Straight.{StraightTree, set, clear, fill, put, take, set_under, put_under, branch}
-use Rattle.branch_removal.specs.Straight.{repeats, StraightBlock, nothing, first}
-use Rattle.branch_removal.specs.StraightMeaning.{StraightState, with_variable, value_at, counted, after, after_all}
+use Rattle.branch_removal.specs.Straight.{StraightTree, set, array, put, take, branch, repeats}
+use Rattle.branch_removal.specs.Straight.{StraightBlock, nothing, first}
+use Rattle.branch_removal.specs.StraightMeaning.{StraightState, holds, with_variable, value_at, counted}
+use Rattle.branch_removal.specs.StraightMeaning.{after, after_all}
 use Rattle.optimisation.specs.declared.constants.known.WordCopy.{WordCopy}
 use Rattle.optimisation.specs.constants.private.Folding.{simple, constant_of, decision, numbers_of}
 use Rattle.optimisation.specs.constants.private.Known.{Words, with_word, without, all_short, forgotten, forgotten_all, in_loop}
@@ -20,13 +21,10 @@ use Rattle.optimisation.proofs.constants_lemmas.KnownLemmas.{without_apart, with
 abbrev mutual
   -- a statement does not set what a fact is about
   pub IsUnset : Fact → StraightTree → Type 0
-  IsUnset f (set x value) = IsFree x f
-  IsUnset f (clear x size) = IsFree x f
-  IsUnset f (fill x values) = IsFree x f
-  IsUnset f (put place x size index value) = IsFree x f
+  IsUnset f (set within x value) = IsFree x f
+  IsUnset f (array x size values) = IsFree x f
+  IsUnset f (put within place x size index value) = IsFree x f
   IsUnset f (take control within condition) = Unit {0}
-  IsUnset f (set_under control x value) = IsFree x f
-  IsUnset f (put_under control place x size index value) = IsFree x f
   IsUnset f (branch condition accepted otherwise) = AreUnset f accepted × AreUnset f otherwise
   IsUnset f (repeats x low high body) = IsFree x f × AreUnset f body
 
@@ -38,14 +36,11 @@ mutual
   -- what is not forgotten was known, and is about nothing that is set
   pub remembered : (words : Words) (statement : StraightTree) (f : Fact) → Knows (forgotten words statement) f
       → Knows words f × IsUnset f statement
-  remembered words (set x value) f is = (without_same words x f is, without_apart words x f is)
-  remembered words (clear x size) f is = (without_same words x f is, without_apart words x f is)
-  remembered words (fill x values) f is = (without_same words x f is, without_apart words x f is)
-  remembered words (put place x size index value) f is = (without_same words x f is, without_apart words x f is)
-  remembered words (take control within condition) f is = (is, tt)
-  remembered words (set_under control x value) f is = (without_same words x f is, without_apart words x f is)
-  remembered words (put_under control place x size index value) f is =
+  remembered words (set within x value) f is = (without_same words x f is, without_apart words x f is)
+  remembered words (array x size values) f is = (without_same words x f is, without_apart words x f is)
+  remembered words (put within place x size index value) f is =
       (without_same words x f is, without_apart words x f is)
+  remembered words (take control within condition) f is = (is, tt)
   remembered words (branch condition accepted otherwise) f is =
       let behind = remembered_all (forgotten_all words accepted) otherwise f is in
       let front = remembered_all words accepted f behind.0 in
@@ -86,9 +81,10 @@ turns_keep P turn keep zero i s p = p
 turns_keep P turn keep (suc n) i s p = turns_keep P turn keep n (i + 1) (turn i s) (keep i s p)
 
 -- what is known where a variable has been set, and is not about it, was known before
-known_before : (declared : List FlatVariable) (words : Words) (x : ℕ) (e : TermTree) (f : Fact) → IsFree x f
-    → Knows (set_to declared words x e) f → Knows words f
-known_before declared words x e f free is = by_variable (variable_of e) is
+known_before : (declared : List FlatVariable) (words : Words) (within : Option ℕ) (x : ℕ) (e : TermTree) (f : Fact)
+    → IsFree x f → Knows (set_to declared words within x e) f → Knows words f
+known_before declared words (Some control) x e f free is = without_same words x f is
+known_before declared words None x e f free is = by_variable (variable_of e) is
   where
     by_choice : (b : Bool) (y : ℕ) (g : Fact) → IsFree x g
         → Knows (copied_where b x y (with_word words x (constant_of e))) g → Knows words g
@@ -111,13 +107,11 @@ module _ (copies : List ℕ) (declared : List FlatVariable) where
     -- nothing is learned of what is not set
     pub unlearned : (words : Words) (statement : StraightTree) (f : Fact) → IsUnset f statement
         → Knows (knowing copies declared words statement) f → Knows words f
-    unlearned words (set x value) f unset is = known_before declared words x (simple words value) f unset is
-    unlearned words (clear x size) f unset is = without_same words x f is
-    unlearned words (fill x values) f unset is = without_same words x f is
-    unlearned words (put place x size index value) f unset is = without_same words x f is
+    unlearned words (set within x value) f unset is =
+        known_before declared words within x (simple words value) f unset is
+    unlearned words (array x size values) f unset is = without_same words x f is
+    unlearned words (put within place x size index value) f unset is = without_same words x f is
     unlearned words (take control within condition) f unset is = is
-    unlearned words (set_under control x value) f unset is = without_same words x f is
-    unlearned words (put_under control place x size index value) f unset is = without_same words x f is
     unlearned words (branch condition accepted otherwise) f unset is =
         let arm = forgotten_all (knowing_all copies declared words accepted) accepted in
         decided_any (λ (w : Words). Knows w f → Knows words f) (decision (simple words condition))
@@ -186,15 +180,11 @@ mutual
   -- a variable that a fact is about, and that is not set, holds what it held
   pub left_alone : (statement : StraightTree) (f : Fact) → IsUnset f statement → (y : ℕ) → IsAbout y f
       → (s : StraightState) → (after s statement).variables y ≡ s.variables y
-  left_alone (set x value) f unset y about s = beside s.variables x y _ (unset y about)
-  left_alone (clear x size) f unset y about s = beside s.variables x y _ (unset y about)
-  left_alone (fill x values) f unset y about s = beside s.variables x y _ (unset y about)
-  left_alone (put place x size index value) f unset y about s = beside s.variables x y _ (unset y about)
+  left_alone (set within x value) f unset y about s = beside_under s (holds s within) x y _ (unset y about)
+  left_alone (array x size values) f unset y about s = beside s.variables x y _ (unset y about)
+  left_alone (put within place x size index value) f unset y about s =
+      beside_under s (holds s within) x y _ (unset y about)
   left_alone (take control within condition) f unset y about s = refl
-  left_alone (set_under control x value) f unset y about s =
-      beside_under s (s.controls control) x y _ (unset y about)
-  left_alone (put_under control place x size index value) f unset y about s =
-      beside_under s (s.controls control) x y _ (unset y about)
   left_alone (branch condition accepted otherwise) f unset y about s =
       either_any (λ (t : StraightState). t.variables y ≡ s.variables y) (value_at s condition == 0)
       (after_all s otherwise) (after_all s accepted)

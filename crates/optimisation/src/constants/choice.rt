@@ -146,13 +146,13 @@ impl Choice {
         ensures { choice_of self.new ≡ chosen (choice_of self.old) (straight_tree statement.now) }
     {
         match statement {
-            StraightStatement::Set(_, value)
-            | StraightStatement::SetUnder(_, _, value)
-            | StraightStatement::Take(_, _, value) => self.grow(nodes_in(value).saturating_add(1)),
-            StraightStatement::Clear(_, _) => self.grow(1),
-            StraightStatement::Fill(_, values) => self.grow(nodes_in_all(values).saturating_add(1)),
-            StraightStatement::Put(_, _, _, index, value)
-            | StraightStatement::PutUnder(_, _, _, _, index, value) => {
+            StraightStatement::Set(_, _, value) | StraightStatement::Take(_, _, value) => {
+                self.grow(nodes_in(value).saturating_add(1));
+            }
+            StraightStatement::Array(_, _, values) => {
+                self.grow(nodes_in_all(values).saturating_add(1));
+            }
+            StraightStatement::Put(_, _, _, _, index, value) => {
                 let nodes = (nodes_in(index) / INDEX_NODES).saturating_add(nodes_in(value));
                 self.grow(nodes.saturating_add(1));
             }

@@ -84,7 +84,8 @@ pub fn learn(
     variable: u32,
     value: &Term,
 ) -> Result<(), AllocError>
-    ensures { OnOk result (words_of known.new ≡ set_to declared.now (words_of known.old) variable (term_tree value.now)) }
+    ensures { OnOk result (words_of known.new
+        ≡ set_to declared.now (words_of known.old) None variable (term_tree value.now)) }
 {
     known.note(variable, constant_of(value));
     match variable_of(value) {

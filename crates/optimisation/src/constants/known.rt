@@ -132,12 +132,9 @@ impl Known {
         ensures { words_of self.new ≡ forgotten (words_of self.old) (straight_tree statement.now) }
     {
         match statement {
-            StraightStatement::Set(variable, _)
-            | StraightStatement::Clear(variable, _)
-            | StraightStatement::Fill(variable, _)
-            | StraightStatement::Put(_, variable, _, _, _)
-            | StraightStatement::SetUnder(_, variable, _)
-            | StraightStatement::PutUnder(_, _, variable, _, _, _) => self.note(*variable, None),
+            StraightStatement::Set(_, variable, _)
+            | StraightStatement::Array(variable, _, _)
+            | StraightStatement::Put(_, _, variable, _, _, _) => self.note(*variable, None),
             StraightStatement::Take(_, _, _) => {}
             StraightStatement::Branch(_, accepted, otherwise) => {
                 self.forget_all(accepted);

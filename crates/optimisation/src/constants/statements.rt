@@ -1,7 +1,7 @@
 // Statements in which what is known is a number, each put behind what there is. A loop becomes its turns where it may.
 
 ghost use Rattle.std.specs.Prelude.{◌≡◌, IfOk, OnOk};
-ghost use Rattle.branch_removal.specs.Straight.{chain, put, put_under, set, straight_block, straight_tree};
+ghost use Rattle.branch_removal.specs.Straight.{chain, set, straight_block, straight_tree};
 ghost use Rattle.inline.specs.Flat.{term_tree};
 ghost use Rattle.optimisation.specs.constants.private.Folding.{simple};
 ghost use Rattle.optimisation.specs.constants.private.Known.{forgotten_all, words_of};
@@ -17,7 +17,6 @@ use branch_removal::{StraightStatement, branch_of, loop_of};
 use inline::{FlatVariable, Term};
 use language::Kind;
 use std::alloc::{AllocError, Global};
-use word::Place;
 
 /// How statements are made simpler.
 #[derive(Drop)]
@@ -43,63 +42,28 @@ fn push(code: &mut Vec<StraightStatement>, statement: StraightStatement) -> Resu
     Ok(())
 }
 
-/// A variable is set to a value, which is learnt.
+/// A variable is set to a value, which is learnt where no control value decides.
 fn set_simple(
     pass: &Pass<'_>,
     known: &mut Known,
     code: &mut Vec<StraightStatement>,
+    within: Option<u32>,
     variable: u32,
     value: &Term,
 ) -> Result<(), AllocError>
     ensures code { OnOk result (straight_block code.new.items
         ≡ chain (straight_block code.old.items)
-        (single (set variable (simple (words_of known.old) (term_tree value.now))))) }
+        (single (set within variable (simple (words_of known.old) (term_tree value.now))))) }
     ensures known { OnOk result (words_of known.new
-        ≡ set_to pass.now.declared.now (words_of known.old) variable
+        ≡ set_to pass.now.declared.now (words_of known.old) within variable
         (simple (words_of known.old) (term_tree value.now))) }
 {
     let value = simple(pass.alloc, known, value)?;
-    learn(pass.declared, known, variable, &value)?;
-    push(code, StraightStatement::Set(variable, value))
-}
-
-/// An element is set to a value, where this is known of the variables.
-fn put_simple(
-    alloc: Global,
-    known: &Known,
-    place: Place,
-    array: u32,
-    size: u32,
-    index: &Term,
-    value: &Term,
-) -> Result<StraightStatement, AllocError>
-    ensures { IfOk result (λ one. straight_tree one
-        ≡ put place array size (simple (words_of known.now) (term_tree index.now))
-        (simple (words_of known.now) (term_tree value.now))) }
-{
-    let index = simple(alloc, known, index)?;
-    let value = simple(alloc, known, value)?;
-    Ok(StraightStatement::Put(place, array, size, index, value))
-}
-
-/// The same under a control value.
-fn put_under_simple(
-    alloc: Global,
-    known: &Known,
-    control: u32,
-    place: Place,
-    array: u32,
-    size: u32,
-    index: &Term,
-    value: &Term,
-) -> Result<StraightStatement, AllocError>
-    ensures { IfOk result (λ one. straight_tree one
-        ≡ put_under control place array size (simple (words_of known.now) (term_tree index.now))
-        (simple (words_of known.now) (term_tree value.now))) }
-{
-    let index = simple(alloc, known, index)?;
-    let value = simple(alloc, known, value)?;
-    Ok(StraightStatement::PutUnder(control, place, array, size, index, value))
+    match within {
+        None => learn(pass.declared, known, variable, &value)?,
+        Some(_) => known.note(variable, None),
+    }
+    push(code, StraightStatement::Set(within, variable, value))
 }
 
 /// The bounds of a loop, where this is known of the variables.
@@ -124,39 +88,26 @@ fn statement(
     ensures known { OnOk result (words_of known.new ≡ knowing pass.now.copies.now pass.now.declared.now (words_of known.old) (straight_tree statement.now)) }
 {
     match statement {
-        StraightStatement::Set(variable, value) => set_simple(pass, known, code, *variable, value),
-        StraightStatement::Clear(array, size) => {
-            known.note(*array, None);
-            push(code, StraightStatement::Clear(*array, *size))
+        StraightStatement::Set(within, variable, value) => {
+            set_simple(pass, known, code, *within, *variable, value)
         }
-        StraightStatement::Fill(array, values) => {
+        StraightStatement::Array(array, size, values) => {
             let values = all_simple(pass.alloc, known, values)?;
             known.note(*array, None);
-            push(code, StraightStatement::Fill(*array, values))
+            push(code, StraightStatement::Array(*array, *size, values))
         }
-        StraightStatement::Put(place, array, size, index, value) => {
-            let one = put_simple(pass.alloc, known, *place, *array, *size, index, value)?;
+        StraightStatement::Put(within, place, array, size, index, value) => {
+            let index = simple(pass.alloc, known, index)?;
+            let value = simple(pass.alloc, known, value)?;
             known.note(*array, None);
-            push(code, one)
+            push(
+                code,
+                StraightStatement::Put(*within, *place, *array, *size, index, value),
+            )
         }
         StraightStatement::Take(control, within, condition) => {
             let condition = simple(pass.alloc, known, condition)?;
             push(code, StraightStatement::Take(*control, *within, condition))
-        }
-        StraightStatement::SetUnder(control, variable, value) => {
-            let value = simple(pass.alloc, known, value)?;
-            known.note(*variable, None);
-            push(
-                code,
-                StraightStatement::SetUnder(*control, *variable, value),
-            )
-        }
-        StraightStatement::PutUnder(control, place, array, size, index, value) => {
-            let one = put_under_simple(
-                pass.alloc, known, *control, *place, *array, *size, index, value,
-            )?;
-            known.note(*array, None);
-            push(code, one)
         }
         StraightStatement::Branch(condition, accepted, otherwise) => {
             let condition = simple(pass.alloc, known, condition)?;
@@ -241,7 +192,10 @@ fn turns(
             kind: Kind::Uint32,
         };
         known.note(counter, Some(number));
-        push(code, StraightStatement::Set(counter, number_of(number)))?;
+        push(
+            code,
+            StraightStatement::Set(None, counter, number_of(number)),
+        )?;
         statements(pass, known, code, body)?;
     }
     Ok(())

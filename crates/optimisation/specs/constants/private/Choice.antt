@@ -5,8 +5,8 @@
 -- longer: they take little more room than the loop did, and what hangs on the counter is known in each of them.
 use Rattle.std.specs.Prelude.{ℕ, ◌+◌, ◌-◌, ◌*◌, ◌/◌, ◌^◌, ◌≤◌, ◌&&◌, List, [], ◌∷◌, min, nat_le, slice_index, slice_set}
 use Rattle.std.specs.Prelude.{if◌then◌else◌}
-use Rattle.branch_removal.specs.Straight.{StraightTree, set, clear, fill, put, take, set_under, put_under, branch}
-use Rattle.branch_removal.specs.Straight.{repeats, StraightBlock, nothing, first, StraightProgram}
+use Rattle.branch_removal.specs.Straight.{StraightTree, set, array, put, take, branch, repeats}
+use Rattle.branch_removal.specs.Straight.{StraightBlock, nothing, first, StraightProgram}
 use Rattle.optimisation.specs.declared.constants.choice.Choice.{Choice}
 use Rattle.inline.specs.Flat.{TermTree, number, truth, variable, prefix, binary, rotate, convert, select, element}
 
@@ -67,14 +67,11 @@ settled before room x own inner =
 abbrev mutual
   -- with the loops in a statement
   pub chosen : Chosen → StraightTree → Chosen
-  chosen so_far (set x value) = grown so_far (1 + term_size value)
-  chosen so_far (clear x size) = grown so_far 1
-  chosen so_far (fill x values) = grown so_far (1 + terms_size values)
-  chosen so_far (put place x size index value) = grown so_far (1 + counted (term_size index) / 4 + term_size value)
-  chosen so_far (take control within condition) = grown so_far (1 + term_size condition)
-  chosen so_far (set_under control x value) = grown so_far (1 + term_size value)
-  chosen so_far (put_under control place x size index value) =
+  chosen so_far (set within x value) = grown so_far (1 + term_size value)
+  chosen so_far (array x size values) = grown so_far (1 + terms_size values)
+  chosen so_far (put within place x size index value) =
       grown so_far (1 + counted (term_size index) / 4 + term_size value)
+  chosen so_far (take control within condition) = grown so_far (1 + term_size condition)
   chosen so_far (branch condition accepted otherwise) =
       chosen_all (chosen_all (grown so_far (1 + term_size condition)) accepted) otherwise
   chosen so_far (repeats x low high body) =

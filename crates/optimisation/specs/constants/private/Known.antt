@@ -2,8 +2,8 @@
 use Rattle.std.specs.Prelude.{ℕ, ◌==◌, ◌||◌, Bool, not, List, [], ◌∷◌, ◌++◌, filter, length, map, Option, None}
 use Rattle.std.specs.Prelude.{Some, if◌then◌else◌, nat_lt, slice_get, slice_set, unwrap_or}
 use Rattle.std.specs.List.{remove}
-use Rattle.branch_removal.specs.Straight.{StraightTree, set, clear, fill, put, take, set_under, put_under, branch}
-use Rattle.branch_removal.specs.Straight.{repeats, StraightBlock, nothing, first}
+use Rattle.branch_removal.specs.Straight.{StraightTree, set, array, put, take, branch, repeats}
+use Rattle.branch_removal.specs.Straight.{StraightBlock, nothing, first}
 use Rattle.optimisation.specs.declared.constants.known.Constant.{Constant}
 use Rattle.optimisation.specs.declared.constants.known.Known.{Known}
 use Rattle.optimisation.specs.declared.constants.known.WordCopy.{WordCopy}
@@ -55,13 +55,10 @@ with_copy words c = record { numbers = words.numbers; copies = latest words.copi
 abbrev mutual
   -- of what a statement sets nothing is known
   pub forgotten : Words → StraightTree → Words
-  forgotten words (set x value) = without words x
-  forgotten words (clear x size) = without words x
-  forgotten words (fill x values) = without words x
-  forgotten words (put place x size index value) = without words x
+  forgotten words (set within x value) = without words x
+  forgotten words (array x size values) = without words x
+  forgotten words (put within place x size index value) = without words x
   forgotten words (take control within condition) = words
-  forgotten words (set_under control x value) = without words x
-  forgotten words (put_under control place x size index value) = without words x
   forgotten words (branch condition accepted otherwise) = forgotten_all (forgotten_all words accepted) otherwise
   forgotten words (repeats x low high body) = forgotten_all (without words x) body
 

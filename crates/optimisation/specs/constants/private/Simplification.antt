@@ -4,8 +4,8 @@
 use Rattle.std.specs.Prelude.{ℕ, zero, suc, ◌+◌, ◌-◌, ◌==◌, ◌&&◌, Bool, true, false, not, List, [], map, length}
 use Rattle.std.specs.Prelude.{replicate, slice_get, slice_index, Option, None, Some}
 use Rattle.std.specs.Option.{option_map}
-use Rattle.branch_removal.specs.Straight.{StraightTree, set, clear, fill, put, take, set_under, put_under, branch}
-use Rattle.branch_removal.specs.Straight.{repeats, StraightBlock, nothing, first, chain, StraightProgram, with_body}
+use Rattle.branch_removal.specs.Straight.{StraightTree, set, array, put, take, branch, repeats}
+use Rattle.branch_removal.specs.Straight.{StraightBlock, nothing, first, chain, StraightProgram, with_body}
 use Rattle.inline.specs.declared.flat.FlatVariable.{FlatVariable}
 use Rattle.inline.specs.Flat.{TermTree, number, variable, counter_type}
 use Rattle.inline.specs.FlatMeaning.{turns}
@@ -60,9 +60,11 @@ abbrev pub copied : List FlatVariable → ℕ → Option ℕ → Words → Words
 copied declared x None words = words
 copied declared x (Some y) words = copied_where (may_be_read_as declared x y) x y words
 
--- what is known where a variable has been set to the value of an expression
-abbrev pub set_to : List FlatVariable → Words → ℕ → TermTree → Words
-set_to declared words x e = copied declared x (variable_of e) (with_word words x (constant_of e))
+-- what is known where a variable has been set to the value of an expression: within a control value it may have kept
+-- what it held
+abbrev pub set_to : List FlatVariable → Words → Option ℕ → ℕ → TermTree → Words
+set_to declared words None x e = copied declared x (variable_of e) (with_word words x (constant_of e))
+set_to declared words (Some control) x e = without words x
 
 -- the code of so many turns, the first at this number. Each has its own, by its number and by what is known where it
 -- begins, and so has what is known behind it
@@ -75,13 +77,10 @@ abbrev mutual
   -- what is known after a statement. Of two arms one runs, and a loop makes some turns: of what they set nothing is
   -- known
   pub knowing : List ℕ → List FlatVariable → Words → StraightTree → Words
-  knowing copies declared words (set x value) = set_to declared words x (simple words value)
-  knowing copies declared words (clear x size) = without words x
-  knowing copies declared words (fill x values) = without words x
-  knowing copies declared words (put place x size index value) = without words x
+  knowing copies declared words (set within x value) = set_to declared words within x (simple words value)
+  knowing copies declared words (array x size values) = without words x
+  knowing copies declared words (put within place x size index value) = without words x
   knowing copies declared words (take control within condition) = words
-  knowing copies declared words (set_under control x value) = without words x
-  knowing copies declared words (put_under control place x size index value) = without words x
   knowing copies declared words (branch condition accepted otherwise) =
       decided (decision (simple words condition)) (knowing_all copies declared words accepted)
       (knowing_all copies declared words otherwise)
@@ -103,16 +102,12 @@ single statement = first statement nothing
 abbrev mutual
   -- a statement, where this is known of the variables
   pub simplified : List ℕ → List FlatVariable → Words → StraightTree → StraightBlock
-  simplified copies declared words (set x value) = single (set x (simple words value))
-  simplified copies declared words (clear x size) = single (clear x size)
-  simplified copies declared words (fill x values) = single (fill x (map (simple words) values))
-  simplified copies declared words (put place x size index value) =
-      single (put place x size (simple words index) (simple words value))
+  simplified copies declared words (set within x value) = single (set within x (simple words value))
+  simplified copies declared words (array x size values) = single (array x size (map (simple words) values))
+  simplified copies declared words (put within place x size index value) =
+      single (put within place x size (simple words index) (simple words value))
   simplified copies declared words (take control within condition) =
       single (take control within (simple words condition))
-  simplified copies declared words (set_under control x value) = single (set_under control x (simple words value))
-  simplified copies declared words (put_under control place x size index value) =
-      single (put_under control place x size (simple words index) (simple words value))
   simplified copies declared words (branch condition accepted otherwise) =
       decided (decision (simple words condition)) (simplified_all copies declared words accepted)
       (simplified_all copies declared words otherwise)
@@ -121,7 +116,8 @@ abbrev mutual
   simplified copies declared words (repeats x low high body) =
       unrolled (numbers_of (slice_index copies x) (constant_of (simple words low)) (constant_of (simple words high)))
       (λ each. code_of_turns (each.high - each.low) each.low (λ i w. knowing_all copies declared (at_turn x i w) body)
-      (λ i w. first (set x (number i counter_type.kind)) (simplified_all copies declared (at_turn x i w) body)) words)
+      (λ i w. first (set None x (number i counter_type.kind)) (simplified_all copies declared (at_turn x i w) body))
+      words)
       (single (repeats x (simple words low) (simple words high)
       (simplified_all copies declared (in_loop words x body) body)))
 
@@ -154,7 +150,7 @@ turns_known copies declared words x each body =
 abbrev pub turns_code : List ℕ → List FlatVariable → Words → ℕ → Numbers → StraightBlock → StraightBlock
 turns_code copies declared words x each body =
     code_of_turns (each.high - each.low) each.low (λ i w. knowing_all copies declared (at_turn x i w) body)
-    (λ i w. first (set x (number i counter_type.kind)) (simplified_all copies declared (at_turn x i w) body)) words
+    (λ i w. first (set None x (number i counter_type.kind)) (simplified_all copies declared (at_turn x i w) body)) words
 
 abbrev pub loop_known : List ℕ → List FlatVariable → Words → ℕ → TermTree → TermTree → StraightBlock → Words
 loop_known copies declared words x low high body =

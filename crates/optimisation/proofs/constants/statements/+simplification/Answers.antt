@@ -1,4 +1,4 @@
-use Rattle.std.proofs.Common.{◌≡◌, ◌+◌, ◌*◌, ◌<◌, drop, rules, refl, ap, sym, subst, ◌∙◌, arith, OnOk}
+use Rattle.std.proofs.Common.{◌≡◌, ◌+◌, ◌*◌, ◌<◌, None, drop, rules, refl, ap, sym, subst, ◌∙◌, arith, OnOk}
 use Rattle.std.proofs.lemmas.List.{at_drop_all}
 use Rattle.branch_removal.specs.Bounds.{block_nodes, statement_nodes}
 use Rattle.branch_removal.specs.Straight.{chain, set, straight_block, straight_tree}
@@ -112,7 +112,7 @@ turns-loop-value-preserved t c =
     let declared = c.args.pass.now.declared.now in
     let body = straight_block c.args.body.now in
     let counter = c.in_ok-push.ensures
-    ∙ ap (λ e. chain (straight_block l.code.items) (single (set c.args.counter e))) c.number_of.ensures in
+    ∙ ap (λ e. chain (straight_block l.code.items) (single (set None c.args.counter e))) c.number_of.ensures in
     record {
       code = turn_passed copies declared c.args.counter body c.args.numbers.high l.value (words_of l.known) _ _
           (straight_block l.code.items) _ _ _ c.loop-value-test.true l.invariant.code c.note.ensures counter

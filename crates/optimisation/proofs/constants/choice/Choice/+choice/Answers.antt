@@ -46,7 +46,7 @@ choose-returns-in-Branch t c =
     ∙ ap (λ s. chosen_all s (straight_block c.deref-in-Branch.result.now))
     (c.grow-in-Branch.ensures
     ∙ grown_by (choice_of c.args.self.now) _ (1 + term_size (term_tree c.in-Branch.condition))
-    (omega (arith, c.saturating_add-in-Branch.ensures, c.nodes_in.ensures))))
+    (omega (arith, c.saturating_add-in-Branch.ensures, c.nodes_in-in-Branch.ensures))))
     ∙ sym (ap (chosen (choice_of c.args.self.now))
     (tree_of_branch c.in-Branch.accepted c.in-Branch.otherwise c.in-Branch.is c.deref-in-Branch.ensures.value
     c.deref-in-Branch-2.ensures.value)))
