@@ -1,31 +1,29 @@
 -- The code that sets an element of an array, or fills an array with values.
 use Rattle.std.proofs.Common.{◌≡◌, ℕ, ◌+◌, ◌*◌, ◌%◌, ◌<◌, ◌≤◌, ◌==◌, Bool, true, false, cond, List, [], ◌∷◌, ◌++◌}
-use Rattle.std.proofs.Common.{length, map, Option, None, Some, slice_get, refl, sym, ap, ◌∙◌, subst, arith, eq-eqb}
+use Rattle.std.proofs.Common.{length, map, None, Some, slice_get, refl, sym, ap, ◌∙◌, subst, arith, eq-eqb}
 use Rattle.std.proofs.Common.{append_assoc, length-append}
-use Rattle.std.proofs.lemmas.Bool.{true≢false}
 use Rattle.std.specs.Prelude.{slice_set}
 use Rattle.std.proofs.Math.Seq.{set-append_seam}
-use Rattle.codegen.proofs.Language.{FlatVariable, with_value, StraightState, with_variable, with_element}
-use Rattle.codegen.proofs.Language.{element_bytes, TermTree, array_as, path_in_all, term_nodes, terms_nodes}
-use Rattle.codegen.proofs.Language.{types_but, Values, value_in, path_in, types_of, AllSuit, indexed, value_at}
-use Rattle.codegen.proofs.Language.{IsFilled, WordType, Suits, array, after, path_at, IsPut, Kind, Place, Profile}
-use Rattle.codegen.proofs.Logic.{eqb-true, nil_from_length, but_among, suits_among, one_path_all, all_values}
-use Rattle.codegen.proofs.Logic.{steps_of, kind_known, homes_beside, Held, place_of, place_even, place_before}
-use Rattle.codegen.proofs.Logic.{place_ends, Setting, setting, base_of, Known, by_index, none, Runs, seq, quiet}
-use Rattle.codegen.proofs.Logic.{weaken, gives, cheaper, beside, along, as_code, idle, height, Ready, Wrote, known}
-use Rattle.codegen.proofs.Logic.{near_known, NearElement, never}
+use Rattle.codegen.proofs.Language.{FlatVariable, with_value, StraightState, with_variable, with_element, element_bytes}
+use Rattle.codegen.proofs.Language.{TermTree, array_as, path_in_all, term_nodes, terms_nodes, types_but, Values}
+use Rattle.codegen.proofs.Language.{value_in, path_in, types_of, AllSuit, indexed, value_at, IsFilled, WordType, Suits}
+use Rattle.codegen.proofs.Language.{array, after, path_at, IsPut, Kind, Place, Profile}
+use Rattle.codegen.proofs.Logic.{eqb-true, nil_from_length, but_among, suits_among, one_path_all, all_values, steps_of}
+use Rattle.codegen.proofs.Logic.{kind_known, homes_beside, Held, place_of, place_even, place_before, place_ends}
+use Rattle.codegen.proofs.Logic.{Setting, base_of, none, Runs, seq, quiet, gives, cheaper, beside, along, as_code, idle}
+use Rattle.codegen.proofs.Logic.{height, Ready, Wrote}
 use Rattle.branch_removal.specs.Straight as straight
-use Rattle.codegen.proofs.Machine.{store_by, code_by, near_element, put_code, slots_to, Instr, element_store_code}
-use Rattle.codegen.proofs.Machine.{statement_code, variable_offset, fill_code, height_of, index_code, read_register}
-use Rattle.codegen.proofs.Machine.{height_of_all, stored_register, height_of_put}
+use Rattle.codegen.proofs.Machine.{store_by, put_code, slots_to, Instr, element_store_code, statement_code}
+use Rattle.codegen.proofs.Machine.{variable_offset, fill_code, height_of, index_code, read_register, height_of_all}
+use Rattle.codegen.proofs.Machine.{stored_register, height_of_put}
 use Rattle.codegen.proofs.Slots.{Shown, suits_fits, wrote_as, hidden_valued, hidden_then, ready_same, ready_put}
 use Rattle.codegen.proofs.Slots.{IsOffered, offered_put, offered_register, offered_runs, ready_offered}
 use Rattle.rv_machine.specs.Registers.{register}
 use Rattle.codegen.specs.private.Emitted.{into_element_code, put_value_code}
 use Rattle.codegen.specs.private.StoredValues.{stored_value}
 use Rattle.codegen.proofs.StoredValues.{IsCutTo, stored_cut, stored_height, stored_nodes, stored_path}
-use Rattle.codegen.proofs.Elements.{ElementAccess, addressed_at, at_element, element_at, kind_is, near_at, put_at}
-use Rattle.codegen.proofs.Elements.{store_bytes, stores, value_beside, value_source}
+use Rattle.codegen.proofs.Elements.{ElementAccess, addressed_at, at_element, element_at, kind_is, put_at, store_bytes}
+use Rattle.codegen.proofs.Elements.{stores, value_beside, value_source, put_by, Puts}
 
 -- One element, at a fixed place.
 
@@ -90,10 +88,10 @@ module _ (z : Setting) (depth : ℕ) (place : Place) (x size : ℕ) (index value
   abbrev put_value : TermTree
   put_value = stored_value z.allocation kind value
 
-  is_cut : IsCutTo (types_of z.code.profile z.declared) kind value put_value
+  pub is_cut : IsCutTo (types_of z.code.profile z.declared) kind value put_value
   is_cut = stored_cut z.allocation kind typed.suits.has_type
 
-  put_room : base_of z + 4 * slots_to z.allocation.count (height_of_put index put_value) ≤ z.size
+  pub put_room : base_of z + 4 * slots_to z.allocation.count (height_of_put index put_value) ≤ z.size
   put_room = omega (arith, room, stored_height z.allocation kind value)
 
   abbrev access : ElementAccess z
@@ -124,17 +122,11 @@ module _ (z : Setting) (depth : ℕ) (place : Place) (x size : ℕ) (index value
   abbrev value_register : ℕ
   value_register = read_register z.allocation 6 put_value
 
-  abbrev Puts : List Instr → Type 0
-  Puts code =
-      Runs z (32 * (1 + (1 + term_nodes index) + term_nodes value))
-      (λ env. path_at env (straight.put None place x size index value)) code (Ready z)
-      (Shown z depth (λ env. after env (straight.put None place x size index value)))
-
   nodes : term_nodes put_value ≤ term_nodes value
   nodes = stored_nodes z.allocation kind value
 
   -- where the index is in a register
-  put_far : Puts (index_code z.declared z.allocation (base_of z) index put_value
+  put_far : Puts z access None value (index_code z.declared z.allocation (base_of z) index put_value
       ++ put_code index_register value_register kind (variable_offset z.declared x))
   put_far =
       along (λ env. ap (λ p. path_in env.variables index ++ indexed place size (number env) ∷ p)
@@ -161,54 +153,22 @@ module _ (z : Setting) (depth : ℕ) (place : Place) (x size : ℕ) (index value
       (λ e. let source = value_source z access in omega (arith, source.low, e)) i below)
       (λ env s t aimed done. (done.held, done.address))))))
 
-  -- Where the store holds the element's offset the value is read as a first temporary.
-
+  -- where the store holds the element's offset the value is read as a first temporary
   abbrev near_stored : ℕ → List Instr
   near_stored o = into_element_code z.declared z.allocation (base_of z) kind o put_value
 
-  module _ (o : ℕ) (near : NearElement z.declared x index o) where
-    -- of the indices that there might be, the number is one
-    at_number : (i : ℕ) → i < size → (b : Bool) → (i == near.i) ≡ b
-        → Runs z (16 * term_nodes value + 3) (steps_of value) (near_stored o)
-        (Known (setting z) ℕ (λ j. j < size) (Ready z) number i)
-        (Shown z depth (λ env. after env (straight.put None place x size index value)))
-    at_number i below true same =
-        let is : element_at z access i ≡ o = ap (element_at z access) (eqb-true i near.i same) ∙ near_at z access o near in
-        weaken
-        (λ env s fine given. given.given)
-        (λ env s t fine given done. record {
-          ready =
-              subst (λ j. Ready z (with_element env x j (value_in env.variables value)) t) (sym given.is) done.ready;
-          hidden = done.hidden;
-        })
-        (as_code (ap near_stored (sym is))
-        (one_at z depth within x size typed.word typed.mutable typed.known i value below typed.suits
-        (omega (arith, room))))
-    at_number i below false other =
-        never (λ env s given.
-        true≢false (sym (eq-eqb i near.i (sym given.is ∙ (known index near.i near.is env.variables).0))
-        ∙ other))
-
-    put_near : Puts (near_stored o)
-    put_near =
-        along (λ env. ap (λ p. p ++ indexed place size (number env) ∷ path_in env.variables value)
-        (known index near.i near.is env.variables).1)
-        (cheaper (omega arith)
-        (by_index z place size number (λ i below. at_number i below (i == near.i) refl)))
-
-  pub put_runs : Puts (statement_code z.declared z.allocation z.controls z.depths depth
+  pub put_runs : Puts z access None value (statement_code z.declared z.allocation z.controls z.depths depth
       (straight.put None place x size index value))
   put_runs =
-      as_code (ap (λ k. put_value_code z.declared z.allocation (base_of z) k x index (stored_value z.allocation k value))
+      as_code
+      (ap (λ k. put_value_code z.declared z.allocation (base_of z) k x index (stored_value z.allocation k value))
       (kind_is z access))
-      (by_test (near_element z.declared z.allocation x index) refl)
-    where
-      by_test : (o : Option ℕ) → near_element z.declared z.allocation x index ≡ o
-          → Puts (code_by o near_stored
-          (index_code z.declared z.allocation (base_of z) index put_value
-          ++ put_code index_register value_register kind (variable_offset z.declared x)))
-      by_test None e = put_far
-      by_test (Some o) e = put_near o (near_known z.declared z.allocation x index o e)
+      (put_by z access None value (omega arith) near_stored
+      (λ i o below is near.
+      as_code (ap near_stored (sym is))
+      (one_at z depth within x size typed.word typed.mutable typed.known i value below typed.suits
+      (omega (arith, room))))
+      put_far)
 
 -- All elements, at fixed places.
 

@@ -1,22 +1,19 @@
 -- The code that sets an element of an array where a control value is true.
-use Rattle.std.proofs.Common.{◌≡◌, ℕ, ◌+◌, ◌*◌, ◌%◌, ◌^◌, ◌<◌, ◌≤◌, ◌==◌, Bool, true, false, if◌then◌else◌, List, []}
-use Rattle.std.proofs.Common.{◌∷◌, ◌++◌, Option, None, Some, slice_index, refl, sym, ap, ap₂, ◌∙◌, subst, arith}
-use Rattle.std.proofs.Common.{eq-eqb, ne_eqb, nat_lt, not, ◌&&◌, ◌≢◌, inl, inr}
-use Rattle.std.proofs.lemmas.Bool.{true≢false}
+use Rattle.std.proofs.Common.{◌≡◌, ℕ, ◌+◌, ◌*◌, ◌%◌, ◌^◌, ◌<◌, ◌≤◌, ◌==◌, true, false, if◌then◌else◌, [], ◌∷◌, ◌++◌}
+use Rattle.std.proofs.Common.{Some, slice_index, refl, sym, ap, ap₂, ◌∙◌, subst, arith, ne_eqb, nat_lt, not, ◌&&◌, ◌≢◌}
+use Rattle.std.proofs.Common.{inl, inr}
 use Rattle.codegen.proofs.Language.{FlatVariable, StraightState, with_element, element_bytes, TermTree, array_as}
-use Rattle.codegen.proofs.Language.{term_nodes, value_in, path_in, indexed, after, path_at, IsPut, Kind}
-use Rattle.codegen.proofs.Language.{bits_of, Place}
-use Rattle.codegen.proofs.Logic.{eqb-true, lt-ltb, is_free, registers_after, unwritten, lower_fits, steps_of}
-use Rattle.codegen.proofs.Logic.{HomesKept, homes_beside, homes_moved, homes_then, load_bytes, load_plain, Held}
-use Rattle.codegen.proofs.Logic.{HeldAt, mask_of, merged, merge, put, does, move_runs, then_moves, loading, place_of}
-use Rattle.codegen.proofs.Logic.{place_even, place_ends, Setting, setting, base_of, Known, by_index, none, Runs}
-use Rattle.codegen.proofs.Logic.{quiet, weaken, gives, cheaper, along, as_code, number_or_zero, Ready, Wrote, known}
-use Rattle.codegen.proofs.Logic.{near_known, near_address, NearElement, never}
-use Rattle.codegen.proofs.Machine.{store_by, code_by, near_element, slots_to, load_by, kind_at, Instr, ByteMap}
-use Rattle.codegen.proofs.Machine.{number_at, load_size, sign_extended, sum_of, element_store_code, put_under_code}
-use Rattle.codegen.proofs.Machine.{put_under_near_code, statement_code, variable_offset, control_location, is_unread}
-use Rattle.codegen.proofs.Machine.{Location, lower_part, address_of, byte_count, index_code, merge_code}
-use Rattle.codegen.proofs.Machine.{read_register, height_of_put, address_code, with_number}
+use Rattle.codegen.proofs.Language.{term_nodes, value_in, after, IsPut, Kind, bits_of, Place}
+use Rattle.codegen.proofs.Logic.{lt-ltb, is_free, registers_after, unwritten, lower_fits, steps_of, HomesKept}
+use Rattle.codegen.proofs.Logic.{homes_beside, homes_moved, homes_then, load_bytes, load_plain, Held, HeldAt, mask_of}
+use Rattle.codegen.proofs.Logic.{merged, merge, put, does, move_runs, then_moves, loading, place_of, place_even}
+use Rattle.codegen.proofs.Logic.{place_ends, Setting, base_of, none, Runs, quiet, gives, cheaper, as_code}
+use Rattle.codegen.proofs.Logic.{number_or_zero, Ready, Wrote, near_address}
+use Rattle.codegen.proofs.Machine.{store_by, code_by, near_element, slots_to, load_by, ByteMap, number_at, load_size}
+use Rattle.codegen.proofs.Machine.{sign_extended, sum_of, element_store_code, put_under_code, put_under_near_code}
+use Rattle.codegen.proofs.Machine.{statement_code, variable_offset, control_location, is_unread, Location, lower_part}
+use Rattle.codegen.proofs.Machine.{address_of, byte_count, index_code, merge_code, read_register, height_of_put}
+use Rattle.codegen.proofs.Machine.{address_code, with_number}
 use Rattle.rv_code.specs.declared.instructions.Instr.TheVariants as instr
 use Rattle.branch_removal.specs.Straight as straight
 use Rattle.rv_machine.specs.Machine as machine
@@ -25,8 +22,8 @@ use Rattle.codegen.proofs.Slots.{Shown, suits_fits, ready_valued, ready_with, wr
 use Rattle.codegen.proofs.Slots.{read_source, source_apart, Hidden, hidden_then, hidden_kept, cut_kind, cut_element}
 use Rattle.codegen.proofs.Slots.{ready_chosen}
 use Rattle.codegen.proofs.Masks.{fetched_homes, mask_apart, mask_register, mask_runs, mask_small, mask_some}
-use Rattle.codegen.proofs.Elements.{ElementAccess, addressed_at, Aimed, at_element, away, kind_is, near_at, put_at}
-use Rattle.codegen.proofs.Elements.{store_bytes, stores, value_beside, value_source}
+use Rattle.codegen.proofs.Elements.{ElementAccess, addressed_at, Aimed, at_element, away, kind_is, put_at, store_bytes}
+use Rattle.codegen.proofs.Elements.{stores, value_beside, value_source, put_by, Puts}
 
 -- One element, at a fixed place.
 
@@ -223,8 +220,7 @@ module _ (z : Setting) (depth : ℕ) (place : Place) (x size : ℕ) (index value
     near_under : (i o : ℕ) → i < size → place_at i ≡ o → o < 2048
         → Runs z (16 * term_nodes value + 10) (steps_of value)
         (put_under_near_code z.declared z.allocation (base_of z) control_at kind o value) (Ready z)
-        (λ env s t. Hidden z depth s t
-        × Ready z (if env.controls c then with_element env x i (new_value env) else env) t)
+        (Shown z depth (λ env. if env.controls c then with_element env x i (new_value env) else env))
     near_under i o below is near =
         let n = load_bytes kind in
         let h = place_ends z x array i typed.known below in
@@ -288,10 +284,11 @@ module _ (z : Setting) (depth : ℕ) (place : Place) (x size : ℕ) (index value
         let chosen = chosen_fits mask v old (2 ^ bits_of kind) fits old_fits in
         let end = put_at z access i w w below chosen (cut_element kind size w chosen) env m m3 t ready0
         two.held (two.bytes ∙ (fetched.same ∙ load.2))
-        (homes_then z m m2 m3 homes (homes_moved z (does merges ∷ []) env m2 m3 (simp (few, small)) two)) wrote in (
-          hidden_then z depth s m t (hidden_kept z depth s m within one.kept) end.0,
-          ready_chosen z mask x i v env t end.1,
-        ))
+        (homes_then z m m2 m3 homes (homes_moved z (does merges ∷ []) env m2 m3 (simp (few, small)) two)) wrote in
+        record {
+          ready = ready_chosen z mask x i v env t end.1;
+          hidden = hidden_then z depth s m t (hidden_kept z depth s m within one.kept) end.0;
+        })
         (quiet
         (then_moves z (does merges ∷ []) (simp (few, small)) (tt, tt)
         (quiet
@@ -314,61 +311,19 @@ module _ (z : Setting) (depth : ℕ) (place : Place) (x size : ℕ) (index value
         (omega (arith, h, is)))
         (λ env s t ready done. done.second.held)))
 
-    abbrev Under : List Instr → Type 0
-    Under code =
-        Runs z (32 * (1 + (1 + term_nodes index) + term_nodes value))
-        (λ env. path_at env (straight.put (Some c) place x size index value)) code (Ready z)
-        (Shown z depth (λ env. after env (straight.put (Some c) place x size index value)))
-
-    under_far : Under (index_code z.declared z.allocation (base_of z) index value
-        ++ put_under_code index_register value_register control_at (kind_at z.declared x) offset)
+    under_far : Puts z access (Some c) value (index_code z.declared z.allocation (base_of z) index value
+        ++ put_under_code index_register value_register control_at kind offset)
     under_far =
-        as_code (ap (λ k. index_code z.declared z.allocation (base_of z) index value
-        ++ put_under_code index_register value_register control_at k offset) (kind_is z access))
-        (cheaper (omega arith)
-        (at_element z access (λ env. after env (straight.put (Some c) place x size index value)) under_piece))
+        cheaper (omega arith)
+        (at_element z access (λ env. after env (straight.put (Some c) place x size index value)) under_piece)
 
-    module _ (o : ℕ) (near : NearElement z.declared x index o) where
-      under_number : (i : ℕ) → i < size → (b : Bool) → (i == near.i) ≡ b
-          → Runs z (16 * term_nodes value + 10) (steps_of value)
-          (put_under_near_code z.declared z.allocation (base_of z) control_at kind o value)
-          (Known (setting z) ℕ (λ j. j < size) (Ready z) number i)
-          (Shown z depth (λ env. after env (straight.put (Some c) place x size index value)))
-      under_number i below true same =
-          weaken
-          (λ env s fine given. given.given)
-          (λ env s t fine given done. record {
-            ready = subst (λ j. Ready z (if env.controls c then with_element env x j (new_value env) else env) t)
-                (sym given.is) done.1;
-            hidden = done.0;
-          })
-          (near_under i o below (ap place_at (eqb-true i near.i same) ∙ near_at z access o near) near.near)
-      under_number i below false other =
-          never (λ env s given.
-          true≢false (sym (eq-eqb i near.i (sym given.is ∙ (known index near.i near.is env.variables).0))
-          ∙ other))
-
-      under_near : Under (put_under_near_code z.declared z.allocation (base_of z) control_at
-          (kind_at z.declared x) o value)
-      under_near =
-          as_code
-          (ap (λ k. put_under_near_code z.declared z.allocation (base_of z) control_at k o
-          value) (kind_is z access))
-          (along (λ env. ap (λ p. p ++ indexed place size (number env) ∷ path_in env.variables value)
-          (known index near.i near.is env.variables).1)
-          (cheaper (omega arith)
-          (by_index z place size number (λ i below. under_number i below (i == near.i) refl))))
-
-    pub put_under_runs : Under (statement_code z.declared z.allocation z.controls z.depths depth
+    pub put_under_runs : Puts z access (Some c) value (statement_code z.declared z.allocation z.controls z.depths depth
         (straight.put (Some c) place x size index value))
-    put_under_runs = by_test (near_element z.declared z.allocation x index) refl
-      where
-        by_test : (o : Option ℕ) → near_element z.declared z.allocation x index ≡ o
-            → Under
-            (code_by o (λ a. put_under_near_code z.declared z.allocation (base_of z)
-            control_at (kind_at z.declared x) a value)
-            (index_code z.declared z.allocation (base_of z) index value
-            ++ put_under_code index_register value_register control_at
-            (kind_at z.declared x) offset))
-        by_test None e = under_far
-        by_test (Some o) e = under_near o (near_known z.declared z.allocation x index o e)
+    put_under_runs =
+        as_code
+        (ap (λ k. code_by (near_element z.declared z.allocation x index)
+        (λ o. put_under_near_code z.declared z.allocation (base_of z) control_at k o value)
+        (index_code z.declared z.allocation (base_of z) index value
+        ++ put_under_code index_register value_register control_at k offset)) (kind_is z access))
+        (put_by z access (Some c) value (omega arith)
+        (λ o. put_under_near_code z.declared z.allocation (base_of z) control_at kind o value) near_under under_far)

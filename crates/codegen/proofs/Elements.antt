@@ -1,18 +1,19 @@
 -- Where an element of an array lies, and how its index and a value for it come into registers.
-use Rattle.std.proofs.Common.{◌≡◌, ℕ, ◌+◌, ◌*◌, ◌%◌, ◌^◌, ◌<◌, ◌≤◌, Bool, List, [], ◌∷◌, ◌++◌, None}
-use Rattle.std.proofs.Common.{Some}
-use Rattle.std.proofs.Common.{slice_get, refl, sym, ap, ap₂, ◌∙◌, arith, ◌≢◌, append_assoc}
+use Rattle.std.proofs.Common.{◌≡◌, ℕ, ◌+◌, ◌*◌, ◌%◌, ◌^◌, ◌<◌, ◌≤◌, ◌==◌, Bool, true, false, if◌then◌else◌, List, []}
+use Rattle.std.proofs.Common.{◌∷◌, ◌++◌, Option, None, Some, slice_get, refl, sym, ap, ap₂, subst, ◌∙◌, arith, ◌≢◌}
+use Rattle.std.proofs.Common.{append_assoc, eq-eqb}
+use Rattle.std.proofs.lemmas.Bool.{true≢false}
 use Rattle.codegen.proofs.Language.{FlatVariable, StraightState, with_element, element_bytes, TermTree, array_as}
 use Rattle.codegen.proofs.Language.{term_nodes, value_in, path_in, types_of, indexed, WordType, Kind, Boolean}
-use Rattle.codegen.proofs.Language.{bits_of, Place, HasType, counter_type}
+use Rattle.codegen.proofs.Language.{bits_of, Place, HasType, counter_type, holds, path_at, put}
 use Rattle.codegen.proofs.Logic.{register-at, lower_fits, Addressed, address_runs, steps_of}
 use Rattle.codegen.proofs.Logic.{kind_known, HomesKept, homes_by, HeldAt}
 use Rattle.codegen.proofs.Logic.{free_from, storing, place_of, place_even, place_before, place_ends, Setting, setting}
 use Rattle.codegen.proofs.Logic.{base_of, Known, by_index, none, Runs, seq, quiet, weaken, gives, as_code, Ready}
-use Rattle.codegen.proofs.Logic.{Wrote, ready_after, NearElement}
+use Rattle.codegen.proofs.Logic.{Wrote, ready_after, NearElement, near_known, known, never, along, cheaper, eqb-true}
 use Rattle.codegen.proofs.Machine.{store_by, slots_to, kind_at, Instr, variable_offset, home_of, lower_part}
 use Rattle.codegen.proofs.Machine.{store_size, address_of, byte_count, index_code, read_code, read_register}
-use Rattle.codegen.proofs.Machine.{height_of_put, address_code, with_number}
+use Rattle.codegen.proofs.Machine.{height_of_put, address_code, with_number, code_by, near_element}
 use Rattle.rv_code.specs.declared.instructions.Instr.TheVariants as instr
 use Rattle.rv_machine.specs.Machine as machine
 use Rattle.codegen.proofs.PairRuns.{FirstRead, second_runs}
@@ -183,6 +184,59 @@ module _ (z : Setting) (access : ElementAccess z) where
   kind_is = kind_known z.declared access.x array access.known
 
   -- where an access whose instruction holds the element's offset finds it
-  module _ (o : ℕ) (near : NearElement z.declared access.x access.index o) where
-    pub near_at : element_at near.i ≡ o
-    near_at = ap (λ k. variable_offset z.declared access.x + element_bytes k * near.i) (sym kind_is) ∙ near.at
+  near_at : (o : ℕ) (near : NearElement z.declared access.x access.index o) → element_at near.i ≡ o
+  near_at o near =
+      ap (λ k. variable_offset z.declared access.x + element_bytes k * near.i) (sym kind_is) ∙ near.at
+
+  -- An element that is set to a value, where an enclosing control value is true.
+  module _ (within : Option ℕ) (value : TermTree) where
+    -- the one at this index
+    abbrev pub put_with : ℕ → StraightState → StraightState
+    put_with i env = if holds env within then with_element env access.x i (value_in env.variables value) else env
+
+    -- what code does that puts it
+    abbrev pub Puts : List Instr → Type 0
+    Puts code =
+        Runs z (32 * (1 + (1 + term_nodes access.index) + term_nodes value))
+        (λ env. path_at env (put within access.place access.x access.size access.index value)) code (Ready z)
+        (Shown z access.depth (λ env. put_with (number_of env) env))
+
+    -- the code where its store holds the element's offset, and what that does at each index
+    module _ {n : ℕ} (few : n ≤ 32 * (1 + term_nodes value)) (code : ℕ → List Instr)
+        (one : (i o : ℕ) → i < access.size → element_at i ≡ o → o < 2048
+        → Runs z n (steps_of value) (code o) (Ready z) (Shown z access.depth (put_with i))) where
+      module _ (o : ℕ) (near : NearElement z.declared access.x access.index o) where
+        -- of the indices that there might be, the number is one
+        at_number : (i : ℕ) → i < access.size → (b : Bool) → (i == near.i) ≡ b
+            → Runs z n (steps_of value) (code o)
+            (Known (setting z) ℕ (λ j. j < access.size) (Ready z) number_of i)
+            (Shown z access.depth (λ env. put_with (number_of env) env))
+        at_number i below true same =
+            weaken
+            (λ env s fine given. given.given)
+            (λ env s t fine given done. record {
+              ready = subst (λ j. Ready z (put_with j env) t) (sym given.is) done.ready;
+              hidden = done.hidden;
+            })
+            (one i o below (ap element_at (eqb-true i near.i same) ∙ near_at o near) near.near)
+        at_number i below false other =
+            never (λ env s given.
+            true≢false (sym (eq-eqb i near.i (sym given.is ∙ (known access.index near.i near.is env.variables).0))
+            ∙ other))
+
+        near_runs : Puts (code o)
+        near_runs =
+            along (λ env. ap (λ p. p ++ indexed access.place access.size (number_of env)
+            ∷ path_in env.variables value) (known access.index near.i near.is env.variables).1)
+            (cheaper (omega (arith, few))
+            (by_index z access.place access.size number_of (λ i below. at_number i below (i == near.i) refl)))
+
+      -- of that code and the one for an index in a register, the one that is emitted
+      pub put_by : {far : List Instr} → Puts far
+          → Puts (code_by (near_element z.declared z.allocation access.x access.index) code far)
+      put_by {far} far_runs = by_test (near_element z.declared z.allocation access.x access.index) refl
+        where
+          by_test : (o : Option ℕ) → near_element z.declared z.allocation access.x access.index ≡ o
+              → Puts (code_by o code far)
+          by_test None e = far_runs
+          by_test (Some o) e = near_runs o (near_known z.declared z.allocation access.x access.index o e)
