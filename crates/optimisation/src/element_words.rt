@@ -1,6 +1,6 @@
 // Words for elements: straight code in which a short array that is indexed by numbers alone is so many words, which may
-// lie in registers. It may stand in the place of the code that it is made of: the outcome is the same, and what is public
-// stays public. Stands on `inline` and `branch_removal`.
+// lie in registers. It may stand in the place of the code that it is made of: the outcome is the same, and what is
+// public stays public. Stands on `inline` and `branch_removal`.
 
 mod narrowing;
 mod parts;

@@ -1,7 +1,6 @@
 -- The code with words is no more work, and asks for no more room in a frame.
-use Rattle.std.proofs.Common.{◌≡◌, ℕ, zero, suc, ◌+◌, ◌*◌, ◌≤◌, List, [], ◌∷◌, map, length, Option, None, Some}
+use Rattle.std.proofs.Common.{◌≡◌, ℕ, zero, suc, ◌+◌, ◌*◌, ◌≤◌, List, [], ◌∷◌, map, drop, Option, None, Some}
 use Rattle.std.proofs.Common.{option_map, slice_get, slice_index, max, refl, arith}
-use Rattle.std.proofs.lemmas.List.{length-map}
 use Rattle.std.proofs.Math.Nat.{max-le, mul-le-mul_left}
 use Rattle.inline.specs.declared.flat.FlatVariable.{FlatVariable}
 use Rattle.inline.specs.Flat.{TermTree, number, truth, variable, prefix, binary, rotate, convert, select, element}
@@ -9,16 +8,16 @@ use Rattle.inline.specs.FlatSize.{term_nodes, terms_nodes, value_nodes}
 use Rattle.branch_removal.specs.Bounds.{set_work, statement_work, block_work}
 use Rattle.branch_removal.specs.Heights.{height_of, height_of_all, height_of_put, height_in, height_in_all, depth_in}
 use Rattle.branch_removal.specs.Heights.{depth_in_all, result_height}
-use Rattle.branch_removal.specs.Straight.{StraightTree, set, clear, fill, put, take, set_under, put_under, branch}
-use Rattle.branch_removal.specs.Straight.{repeats, StraightBlock, nothing, first, chain}
+use Rattle.branch_removal.specs.Straight.{StraightTree, set, array, put, take, branch, repeats, StraightBlock, nothing}
+use Rattle.branch_removal.specs.Straight.{first, chain}
 use Rattle.branch_removal.specs.StraightTyping.{IsTyped, AreTyped}
 use Rattle.language.specs.declared.signature.Kind.{Kind}
 use Rattle.word.specs.declared.place.Place.{Place}
 use Rattle.word.specs.declared.profile.Profile.{Profile}
 use Rattle.optimisation.specs.declared.element_words.parts.Part.{Part}
 use Rattle.optimisation.specs.element_words.private.Parts.{Parts, part_of, word_of}
-use Rattle.optimisation.specs.element_words.private.Splitting.{word_or, split, single, zeros, given_values, cleared, filled}
-use Rattle.optimisation.specs.element_words.private.Splitting.{put_in, put_in_under, split_in, split_all}
+use Rattle.optimisation.specs.element_words.private.Splitting.{word_or, split, single, given_words, new_array}
+use Rattle.optimisation.specs.element_words.private.Splitting.{put_in, split_in, split_all}
 use Rattle.optimisation.proofs.element_words_lemmas.PartLemmas.{IsSplitting}
 use Rattle.optimisation.proofs.element_words_lemmas.Values.{part_word}
 
@@ -32,16 +31,9 @@ word_height : (o : Option ℕ) (e : TermTree) → height_of (word_or o e) ≤ he
 word_height None e = omega arith
 word_height (Some word) e = omega arith
 
-work_of_any : (e : TermTree) → set_work e ≤ 1 + term_nodes e
-work_of_any (number value kind) = omega arith
-work_of_any (truth value) = omega arith
-work_of_any (variable x) = omega arith
-work_of_any (prefix operator width operand) = omega arith
-work_of_any (binary place operator width left right) = omega arith
-work_of_any (rotate width operand amount) = omega arith
-work_of_any (convert kind operand) = omega arith
-work_of_any (select condition accepted otherwise) = omega arith
-work_of_any (element place x size index) = omega arith
+work_of_any : (within : Option ℕ) (e : TermTree) → set_work within e ≤ 1 + term_nodes e
+work_of_any None (number value kind) = omega arith
+work_of_any within e = omega arith
 
 -- two heights that are no more
 max_both : (a b c d : ℕ) → a ≤ c → b ≤ d → max a b ≤ max c d
@@ -66,22 +58,9 @@ module _ (parts : Parts) where
   fewer_nodes_all [] = omega arith
   fewer_nodes_all (e ∷ es) = omega (arith, fewer_nodes e, fewer_nodes_all es)
 
-  set_less : (e : TermTree) → set_work (split parts e) ≤ set_work e
-  set_less (number value kind) = omega arith
-  set_less (truth value) = omega arith
-  set_less (variable x) = omega arith
-  set_less (prefix operator width operand) = omega (arith, fewer_nodes operand)
-  set_less (binary place operator width left right) = omega (arith, fewer_nodes left, fewer_nodes right)
-  set_less (rotate width operand amount) = omega (arith, fewer_nodes operand)
-  set_less (convert kind operand) = omega (arith, fewer_nodes operand)
-  set_less (select condition accepted otherwise) =
-      omega (arith, fewer_nodes condition, fewer_nodes accepted, fewer_nodes otherwise)
-  set_less (element place x size index) =
-      omega (
-        arith,
-        work_of_any (split parts (element place x size index)),
-        fewer_nodes (element place x size index),
-      )
+  set_less : (within : Option ℕ) (e : TermTree) → set_work within (split parts e) ≤ set_work within e
+  set_less None (number value kind) = omega arith
+  set_less within e = omega (arith, work_of_any within (split parts e), fewer_nodes e)
 
   pub lower : (e : TermTree) → height_of (split parts e) ≤ height_of e
   lower (number value kind) = omega arith
@@ -136,62 +115,36 @@ height_of_one statement n below = max-le below (omega arith)
 depth_of_one : (statement : StraightTree) (n : ℕ) → depth_in statement ≤ n → depth_in_all (single statement) ≤ n
 depth_of_one statement n below = max-le below (omega arith)
 
-zeros_height : (n base : ℕ) (kind : Kind) → height_in_all (zeros base n kind) ≤ 0
-zeros_height zero base kind = omega arith
-zeros_height (suc n) base kind = max-le (omega arith) (zeros_height n (base + 1) kind)
+words_height : (n base : ℕ) (kind : Kind) (values : List TermTree)
+    → height_in_all (given_words base n kind values) ≤ height_of_all values
+words_height zero base kind values = omega arith
+words_height (suc n) base kind [] = max-le (omega arith) (words_height n (base + 1) kind [])
+words_height (suc n) base kind (e ∷ es) =
+    max_both (height_of e) _ (height_of e) _ (omega arith) (words_height n (base + 1) kind es)
 
-zeros_depth : (n base : ℕ) (kind : Kind) → depth_in_all (zeros base n kind) ≤ 0
-zeros_depth zero base kind = omega arith
-zeros_depth (suc n) base kind = max-le (omega arith) (zeros_depth n (base + 1) kind)
+words_depth : (n base : ℕ) (kind : Kind) (values : List TermTree)
+    → depth_in_all (given_words base n kind values) ≤ 0
+words_depth zero base kind values = omega arith
+words_depth (suc n) base kind values = max-le (omega arith) (words_depth n (base + 1) kind (drop 1 values))
 
-given_height : (values : List TermTree) (n base : ℕ)
-    → height_in_all (given_values base n values) ≤ height_of_all values
-given_height values zero base = omega arith
-given_height [] (suc n) base = omega arith
-given_height (e ∷ es) (suc n) base =
-    max_both (height_of e) _ (height_of e) _ (omega arith) (given_height es n (base + 1))
+array_height : (o : Option Part) (x size : ℕ) (values : List TermTree)
+    → height_in_all (new_array o x size values) ≤ height_of_all values
+array_height None x size values = height_of_one (array x size values) (height_of_all values) (omega arith)
+array_height (Some part) x size values = words_height part.size part.base part.word.kind values
 
-given_depth : (values : List TermTree) (n base : ℕ) → depth_in_all (given_values base n values) ≤ 0
-given_depth values zero base = omega arith
-given_depth [] (suc n) base = omega arith
-given_depth (e ∷ es) (suc n) base = max-le (omega arith) (given_depth es n (base + 1))
+array_depth : (o : Option Part) (x size : ℕ) (values : List TermTree) → depth_in_all (new_array o x size values) ≤ 0
+array_depth None x size values = omega arith
+array_depth (Some part) x size values = words_depth part.size part.base part.word.kind values
 
-clear_height : (o : Option Part) (x size : ℕ) → height_in_all (cleared o x size) ≤ 0
-clear_height None x size = omega arith
-clear_height (Some part) x size = zeros_height part.size part.base part.word.kind
+put_height : (o within : Option ℕ) (place : Place) (x size : ℕ) (index value : TermTree)
+    → height_in (put_in o within place x size index value) ≤ height_of_put index value
+put_height None within place x size index value = omega arith
+put_height (Some word) within place x size index value = omega arith
 
-clear_depth : (o : Option Part) (x size : ℕ) → depth_in_all (cleared o x size) ≤ 0
-clear_depth None x size = omega arith
-clear_depth (Some part) x size = zeros_depth part.size part.base part.word.kind
-
-fill_height : (o : Option Part) (x : ℕ) (values : List TermTree)
-    → height_in_all (filled o x values) ≤ height_of_all values
-fill_height None x values = height_of_one (fill x values) (height_of_all values) (omega arith)
-fill_height (Some part) x values = given_height values part.size part.base
-
-fill_depth : (o : Option Part) (x : ℕ) (values : List TermTree) → depth_in_all (filled o x values) ≤ 0
-fill_depth None x values = omega arith
-fill_depth (Some part) x values = given_depth values part.size part.base
-
-put_height : (o : Option ℕ) (place : Place) (x size : ℕ) (index value : TermTree)
-    → height_in (put_in o place x size index value) ≤ height_of_put index value
-put_height None place x size index value = omega arith
-put_height (Some word) place x size index value = omega arith
-
-put_depth : (o : Option ℕ) (place : Place) (x size : ℕ) (index value : TermTree)
-    → depth_in (put_in o place x size index value) ≤ 0
-put_depth None place x size index value = omega arith
-put_depth (Some word) place x size index value = omega arith
-
-under_height : (o : Option ℕ) (control : ℕ) (place : Place) (x size : ℕ) (index value : TermTree)
-    → height_in (put_in_under o control place x size index value) ≤ height_of_put index value
-under_height None control place x size index value = omega arith
-under_height (Some word) control place x size index value = omega arith
-
-under_depth : (o : Option ℕ) (control : ℕ) (place : Place) (x size : ℕ) (index value : TermTree)
-    → depth_in (put_in_under o control place x size index value) ≤ 0
-under_depth None control place x size index value = omega arith
-under_depth (Some word) control place x size index value = omega arith
+put_depth : (o within : Option ℕ) (place : Place) (x size : ℕ) (index value : TermTree)
+    → depth_in (put_in o within place x size index value) ≤ 0
+put_depth None within place x size index value = omega arith
+put_depth (Some word) within place x size index value = omega arith
 
 module _ (parts : Parts) where
   put_lower : (index value : TermTree)
@@ -202,30 +155,21 @@ module _ (parts : Parts) where
 
   mutual
     pub no_higher : (statement : StraightTree) → height_in_all (split_in parts statement) ≤ height_in statement
-    no_higher (set x value) = height_of_one (set x (split parts value)) (height_of value) (lower parts value)
-    no_higher (clear x size) = clear_height (part_of parts x) x size
-    no_higher (fill x values) =
+    no_higher (set within x value) =
+        height_of_one (set within x (split parts value)) (height_of value) (lower parts value)
+    no_higher (array x size values) =
         omega (
           arith,
-          fill_height (part_of parts x) x (map (split parts) values),
+          array_height (part_of parts x) x size (map (split parts) values),
           lower_all parts values,
         )
-    no_higher (put place x size index value) =
-        let statement = put_in (word_of parts x index) place x size (split parts index) (split parts value) in
-        let here = put_height (word_of parts x index) place x size (split parts index) (split parts value) in
+    no_higher (put within place x size index value) =
+        let statement = put_in (word_of parts x index) within place x size (split parts index) (split parts value) in
+        let here = put_height (word_of parts x index) within place x size (split parts index) (split parts value) in
         let less = put_lower index value in
         height_of_one statement (height_of_put index value) (omega (arith, here, less))
     no_higher (take control within condition) =
         height_of_one (take control within (split parts condition)) (height_of condition) (lower parts condition)
-    no_higher (set_under control x value) =
-        height_of_one (set_under control x (split parts value)) (height_of value) (lower parts value)
-    no_higher (put_under control place x size index value) =
-        let statement = put_in_under (word_of parts x index) control place x size (split parts index)
-        (split parts value) in
-        let here = under_height (word_of parts x index) control place x size (split parts index)
-        (split parts value) in
-        let less = put_lower index value in
-        height_of_one statement (height_of_put index value) (omega (arith, here, less))
     no_higher (branch condition accepted otherwise) =
         height_of_one (branch (split parts condition) (split_all parts accepted) (split_all parts otherwise)) _
         (max_both (height_of (split parts condition)) _ (height_of condition) _ (lower parts condition)
@@ -248,18 +192,12 @@ module _ (parts : Parts) where
 
   mutual
     pub no_deeper : (statement : StraightTree) → depth_in_all (split_in parts statement) ≤ depth_in statement
-    no_deeper (set x value) = omega arith
-    no_deeper (clear x size) = clear_depth (part_of parts x) x size
-    no_deeper (fill x values) = fill_depth (part_of parts x) x (map (split parts) values)
-    no_deeper (put place x size index value) =
-        depth_of_one (put_in (word_of parts x index) place x size (split parts index) (split parts value)) 0
-        (put_depth (word_of parts x index) place x size (split parts index) (split parts value))
+    no_deeper (set within x value) = omega arith
+    no_deeper (array x size values) = array_depth (part_of parts x) x size (map (split parts) values)
+    no_deeper (put within place x size index value) =
+        depth_of_one (put_in (word_of parts x index) within place x size (split parts index) (split parts value)) 0
+        (put_depth (word_of parts x index) within place x size (split parts index) (split parts value))
     no_deeper (take control within condition) = omega arith
-    no_deeper (set_under control x value) = omega arith
-    no_deeper (put_under control place x size index value) =
-        depth_of_one
-        (put_in_under (word_of parts x index) control place x size (split parts index) (split parts value)) 0
-        (under_depth (word_of parts x index) control place x size (split parts index) (split parts value))
     no_deeper (branch condition accepted otherwise) =
         depth_of_one (branch (split parts condition) (split_all parts accepted) (split_all parts otherwise)) _
         (max_both (depth_in_all (split_all parts accepted)) (depth_in_all (split_all parts otherwise))
@@ -284,71 +222,44 @@ work-chain turns nothing those = omega arith
 work-chain turns (first statement these) those = omega (arith, work-chain turns these those)
 
 module _ (turns : List ℕ) where
-  zeros_work : (n base : ℕ) (kind : Kind) → block_work turns (zeros base n kind) ≤ n
-  zeros_work zero base kind = omega arith
-  zeros_work (suc n) base kind = omega (arith, zeros_work n (base + 1) kind)
+  words_work : (n base : ℕ) (kind : Kind) (values : List TermTree)
+      → block_work turns (given_words base n kind values) ≤ n + terms_nodes values
+  words_work zero base kind values = omega arith
+  words_work (suc n) base kind [] = omega (arith, words_work n (base + 1) kind [])
+  words_work (suc n) base kind (e ∷ es) = omega (arith, work_of_any None e, words_work n (base + 1) kind es)
 
-  given_work : (values : List TermTree) (n base : ℕ)
-      → block_work turns (given_values base n values) ≤ length values + terms_nodes values
-  given_work values zero base = omega arith
-  given_work [] (suc n) base = omega arith
-  given_work (e ∷ es) (suc n) base = omega (arith, work_of_any e, given_work es n (base + 1))
+  array_work : (o : Option Part) (x size : ℕ) (values : List TermTree)
+      → ((part : Part) → o ≡ Some part → part.size ≡ size)
+      → block_work turns (new_array o x size values) ≤ 1 + size + terms_nodes values
+  array_work None x size values long = omega arith
+  array_work (Some part) x size values long =
+      omega (arith, words_work part.size part.base part.word.kind values, long part refl)
 
-  clear_work : (o : Option Part) (x size : ℕ) → ((part : Part) → o ≡ Some part → part.size ≡ size)
-      → block_work turns (cleared o x size) ≤ 1 + size
-  clear_work None x size long = omega arith
-  clear_work (Some part) x size long =
-      omega (arith, zeros_work part.size part.base part.word.kind, long part refl)
-
-  fill_work : (o : Option Part) (x : ℕ) (values : List TermTree)
-      → block_work turns (filled o x values) ≤ 1 + length values + terms_nodes values
-  fill_work None x values = omega arith
-  fill_work (Some part) x values = omega (arith, given_work values part.size part.base)
-
-  put_work : (o : Option ℕ) (place : Place) (x size : ℕ) (index value : TermTree)
-      → statement_work turns (put_in o place x size index value) ≤ 1 + (1 + term_nodes index) + term_nodes value
-  put_work None place x size index value = omega arith
-  put_work (Some word) place x size index value = omega (arith, work_of_any value)
-
-  under_work : (o : Option ℕ) (control : ℕ) (place : Place) (x size : ℕ) (index value : TermTree)
-      → statement_work turns (put_in_under o control place x size index value)
+  put_work : (o within : Option ℕ) (place : Place) (x size : ℕ) (index value : TermTree)
+      → statement_work turns (put_in o within place x size index value)
       ≤ 1 + (1 + term_nodes index) + term_nodes value
-  under_work None control place x size index value = omega arith
-  under_work (Some word) control place x size index value = omega arith
+  put_work None within place x size index value = omega arith
+  put_work (Some word) within place x size index value = omega (arith, work_of_any within value)
 
   module _ (declared new : List FlatVariable) (parts : Parts) (is_splitting : IsSplitting declared new parts)
       (profile : Profile) (controls : ℕ) where
     mutual
       pub less : (statement : StraightTree) → IsTyped profile declared controls statement
           → block_work turns (split_in parts statement) ≤ statement_work turns statement
-      less (set x value) is = omega (arith, set_less parts value)
-      less (clear x size) is =
-          clear_work (part_of parts x) x size
+      less (set within x value) is = omega (arith, set_less parts within value)
+      less (array x size values) is =
+          let here = array_work (part_of parts x) x size (map (split parts) values)
           (λ part same. (part_word declared new parts is_splitting profile (λ y. slice_get declared y)
-          (λ y d there. there) x is.word is.mutable size part is.known same).1)
-      less (fill x values) is =
+          (λ y d there. there) x is.word is.mutable size part is.known same).1) in
+          omega (arith, here, fewer_nodes_all parts values)
+      less (put within place x size index value) is =
           omega (
             arith,
-            fill_work (part_of parts x) x (map (split parts) values),
-            fewer_nodes_all parts values,
-            length-map values (split parts),
-          )
-      less (put place x size index value) is =
-          omega (
-            arith,
-            put_work (word_of parts x index) place x size (split parts index) (split parts value),
+            put_work (word_of parts x index) within place x size (split parts index) (split parts value),
             fewer_nodes parts index,
             fewer_nodes parts value,
           )
       less (take control within condition) is = omega (arith, fewer_nodes parts condition)
-      less (set_under control x value) is = omega (arith, fewer_nodes parts value)
-      less (put_under control place x size index value) is =
-          omega (
-            arith,
-            under_work (word_of parts x index) control place x size (split parts index) (split parts value),
-            fewer_nodes parts index,
-            fewer_nodes parts value,
-          )
       less (branch condition accepted otherwise) is =
           omega (
             arith,

@@ -1,63 +1,47 @@
--- Steps of the loops that put words behind a block.
-use Rattle.std.proofs.Common.{◌≡◌, ℕ, zero, suc, ◌+◌, ◌-◌, ◌<◌, List, [], ◌∷◌, map, drop, length, get_or, refl, sym}
-use Rattle.std.proofs.Common.{ap, ap₂, ◌∙◌, arith}
-use Rattle.std.proofs.lemmas.List.{drop_more}
+-- Steps of the loops that put statements behind a block.
+use Rattle.std.proofs.Common.{◌≡◌, ℕ, suc, ◌+◌, ◌-◌, ◌<◌, List, ◌∷◌, map, drop, None}
+use Rattle.std.proofs.Common.{sym, ap, ap₂, ◌∙◌, arith}
+use Rattle.std.proofs.lemmas.List.{drop-map, drop-drop}
 use Rattle.inline.specs.declared.flat.Term.{Term}
-use Rattle.inline.specs.Flat.{TermTree, number, term_tree}
+use Rattle.inline.specs.Flat.{TermTree, term_tree}
 use Rattle.branch_removal.specs.declared.straight.StraightStatement.{StraightStatement}
-use Rattle.branch_removal.specs.Straight.{StraightTree, set, StraightBlock, nothing, first, chain, straight_block}
+use Rattle.branch_removal.specs.Straight.{StraightTree, set, StraightBlock, chain, straight_block}
 use Rattle.branch_removal.specs.Straight.{straight_tree, branch, repeats}
 use Rattle.language.specs.declared.signature.Kind.{Kind}
 use Rattle.optimisation.specs.element_words.private.Parts.{Parts}
-use Rattle.optimisation.specs.element_words.private.Splitting.{single, zeros, given_values, split, split_in, split_all}
+use Rattle.optimisation.specs.element_words.private.Splitting.{single, first_value, given_words, split, split_in, split_all}
 use Rattle.branch_removal.proofs.StatementTrees.{chain-assoc, chain-nothing}
 
-zeros_next : (base n m : ℕ) (kind : Kind) → n ≡ suc m
-    → zeros base n kind ≡ first (set base (number 0 kind)) (zeros (base + 1) m kind)
-zeros_next base n m kind is = ap (λ k. zeros base k kind) is
-
--- one word more becomes 0
-pub zeros_step : (old new whole : StraightBlock) (base size k : ℕ) (kind : Kind) → k < size
-    → new ≡ chain old (single (set (base + k) (number 0 kind)))
-    → chain old (zeros (base + k) (size - k) kind) ≡ whole
-    → chain new (zeros (base + (k + 1)) (size - (k + 1)) kind) ≡ whole
-zeros_step old new whole base size k kind below made so_far =
-    let left : size - k ≡ suc (size - (k + 1)) = omega (arith, below) in
-    let word : base + (k + 1) ≡ base + k + 1 = omega arith in
-    ap₂ (λ b w. chain b (zeros w (size - (k + 1)) kind)) made word
-    ∙ (chain-assoc old (single (set (base + k) (number 0 kind))) (zeros (base + k + 1) (size - (k + 1)) kind)
-    ∙ (ap (chain old) (sym (zeros_next (base + k) (size - k) (size - (k + 1)) kind left)) ∙ so_far))
-
-pub zeros_end : (code whole : StraightBlock) (base n : ℕ) (kind : Kind) → n ≡ 0
-    → chain code (zeros base n kind) ≡ whole → code ≡ whole
-zeros_end code whole base n kind none so_far =
-    sym (chain-nothing code) ∙ (ap (λ k. chain code (zeros base k kind)) (sym none) ∙ so_far)
+values_left : (parts : Parts) (values : List Term) (k : ℕ)
+    → drop 1 (map (split parts) (map term_tree (drop k values)))
+    ≡ map (split parts) (map term_tree (drop (k + 1) values))
+values_left parts values k =
+    drop-map (split parts) 1 (map term_tree (drop k values))
+    ∙ ap (map (split parts)) (drop-map term_tree 1 (drop k values) ∙ ap (map term_tree) (drop-drop 1 k values))
 
 -- one word more gets its value
-pub values_step : (old new whole : StraightBlock) (word left less : ℕ) (value : TermTree) (values : List TermTree)
-    → left ≡ suc less → new ≡ chain old (single (set word value))
-    → chain old (given_values word left (value ∷ values)) ≡ whole
-    → chain new (given_values (word + 1) less values) ≡ whole
-values_step old new whole word left less value values is made so_far =
-    ap (λ b. chain b (given_values (word + 1) less values)) made
-    ∙ (chain-assoc old (single (set word value)) (given_values (word + 1) less values)
-    ∙ (ap (λ n. chain old (given_values word n (value ∷ values))) (sym is) ∙ so_far))
+pub words_step : (parts : Parts) (old new whole : StraightBlock) (base size k : ℕ) (kind : Kind) (values : List Term)
+    → k < size
+    → new ≡ chain old
+    (single (set None (base + k) (first_value kind (map (split parts) (map term_tree (drop k values))))))
+    → chain old (given_words (base + k) (size - k) kind (map (split parts) (map term_tree (drop k values)))) ≡ whole
+    → chain new (given_words (base + (k + 1)) (size - (k + 1)) kind
+    (map (split parts) (map term_tree (drop (k + 1) values)))) ≡ whole
+words_step parts old new whole base size k kind values below made so_far =
+    let here = map (split parts) (map term_tree (drop k values)) in
+    let n = size - (k + 1) in
+    let left : size - k ≡ suc n = omega (arith, below) in
+    let word : base + (k + 1) ≡ base + k + 1 = omega arith in
+    ap₂ (λ (w : ℕ) (vs : List TermTree). chain new (given_words w n kind vs)) word (sym (values_left parts values k))
+    ∙ (ap (λ b. chain b (given_words (base + k + 1) n kind (drop 1 here))) made
+    ∙ (chain-assoc old (single (set None (base + k) (first_value kind here)))
+    (given_words (base + k + 1) n kind (drop 1 here))
+    ∙ (ap (λ m. chain old (given_words (base + k) m kind here)) (sym left) ∙ so_far)))
 
-pub no_values : (word n : ℕ) (values : List TermTree) → n ≡ 0 → given_values word n values ≡ nothing
-no_values word n values none = ap (λ k. given_values word k values) none
-
-pub no_more_values : (word n : ℕ) → given_values word n [] ≡ nothing
-no_more_values word zero = refl
-no_more_values word (suc n) = refl
-
--- the next value
-pub value_here : (parts : Parts) (values : List Term) (i : ℕ) (item : Term) → i < length values
-    → item ≡ get_or values i item
-    → map (split parts) (map term_tree (drop i values))
-    ≡ split parts (term_tree item) ∷ map (split parts) (map term_tree (drop (i + 1) values))
-value_here parts values i item below is =
-    ap (λ xs. map (split parts) (map term_tree xs)) (drop_more values i item below
-    ∙ ap (λ x. x ∷ drop (i + 1) values) (sym is))
+pub words_end : (code whole : StraightBlock) (base n : ℕ) (kind : Kind) (values : List TermTree) → n ≡ 0
+    → chain code (given_words base n kind values) ≡ whole → code ≡ whole
+words_end code whole base n kind values none so_far =
+    sym (chain-nothing code) ∙ (ap (λ k. chain code (given_words base k kind values)) (sym none) ∙ so_far)
 
 -- one statement more
 pub passed : (parts : Parts) (body : List StraightStatement) (i : ℕ) (item : StraightStatement)

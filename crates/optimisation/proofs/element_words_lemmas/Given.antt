@@ -1,13 +1,14 @@
--- The words of an array get values, which do not go by what the array held.
+-- The words of a new array get its first values, which do not go by what the array held.
 use Rattle.std.proofs.Common.{◌≡◌, ℕ, zero, suc, ◌+◌, ◌<◌, ◌≤◌, ◌==◌, Bool, true, false, if◌then◌else◌, List, [], ◌∷◌}
-use Rattle.std.proofs.Common.{map, length, Option, None, Some, slice_get, slice_index, refl, sym, ap, ◌∙◌}
+use Rattle.std.proofs.Common.{map, drop, length, Option, None, Some, slice_get, slice_index, refl, sym, ap, ◌∙◌}
 use Rattle.std.proofs.Common.{arith}
 use Rattle.std.proofs.lemmas.Bool.{eq-eqb, cond-true}
+use Rattle.std.proofs.lemmas.List.{length-map, length-replicate}
 use Rattle.std.proofs.lemmas.Option.{none-some}
 use Rattle.inline.specs.declared.flat.FlatVariable.{FlatVariable}
 use Rattle.inline.specs.Flat.{TermTree}
-use Rattle.inline.specs.FlatMeaning.{Values, with_value, value_in, path_in, path_in_all}
-use Rattle.inline.specs.FlatTyping.{AllSuit}
+use Rattle.inline.specs.FlatMeaning.{Values, with_value, value_in, elements, path_in, path_in_all}
+use Rattle.inline.specs.FlatTyping.{AllSuit, HasCount}
 use Rattle.inline.specs.Path.{AreFine}
 use Rattle.branch_removal.specs.StraightMeaning.{StraightState, with_variable, value_at, after_all, path_along}
 use Rattle.branch_removal.specs.StraightTyping.{types_but}
@@ -16,17 +17,24 @@ use Rattle.language.specs.declared.typing.WordType.{WordType}
 use Rattle.word.specs.declared.profile.Profile.{Profile}
 use Rattle.optimisation.specs.declared.element_words.parts.Part.{Part}
 use Rattle.optimisation.specs.element_words.private.Parts.{Parts, part_of}
-use Rattle.optimisation.specs.element_words.private.Splitting.{split, zeros, given_values}
+use Rattle.optimisation.specs.element_words.private.Splitting.{split, first_value, given_words}
 use Rattle.optimisation.proofs.element_words_lemmas.PartLemmas.{IsSplitting}
 use Rattle.optimisation.proofs.element_words_lemmas.Known.{AllHaveKnown}
 use Rattle.branch_removal.proofs.Sequences.{fine_both, fine_front, fine_back}
 use Rattle.optimisation.proofs.element_words_lemmas.Values.{AreAlike, same_value, still_fine}
-use Rattle.optimisation.proofs.element_words_lemmas.Held.{beside, here, no_word}
+use Rattle.optimisation.proofs.element_words_lemmas.Held.{beside, here, no_word, zeros_at}
 
-pub zeros_fine : (most : List ℕ) (n base : ℕ) (kind : Kind) (t : StraightState)
-    → AreFine most (path_along t (zeros base n kind))
-zeros_fine most zero base kind t = tt
-zeros_fine most (suc n) base kind t = zeros_fine most n (base + 1) kind (with_variable t base (0 ∷ []))
+-- The elements of a new array.
+
+pub elements_count : (m : Values) (size : ℕ) (values : List TermTree) → HasCount size values
+    → length (elements m size values) ≡ size
+elements_count m size [] count = length-replicate size 0
+elements_count m size (e ∷ es) count = length-map (e ∷ es) (value_in m) ∙ count
+
+pub elements_at : (m : Values) (size i : ℕ) (values : List TermTree)
+    → slice_index (map (value_in m) values) i ≡ slice_index (elements m size values) i
+elements_at m size i [] = sym (zeros_at size i)
+elements_at m size i (e ∷ es) = refl
 
 -- the variables but for one
 abbrev pub but : List FlatVariable → ℕ → ℕ → Option FlatVariable
@@ -51,21 +59,22 @@ but_alike declared parts x m k alike = record {
   held = λ y d part there is. alike.held y d part (but_within declared x y d there) is;
 }
 
-pub values_outside : (values : List TermTree) (n base : ℕ) (t : StraightState) (z : ℕ)
+pub words_outside : (n base : ℕ) (kind : Kind) (values : List TermTree) (t : StraightState) (z : ℕ)
     → ((i : ℕ) → i < n → z ≡ base + i → ⊥)
-    → (after_all t (given_values base n values)).variables z ≡ t.variables z
-values_outside values zero base t z apart = refl
-values_outside [] (suc n) base t z apart = refl
-values_outside (e ∷ es) (suc n) base t z apart =
-    values_outside es n (base + 1) (with_variable t base (value_at t e ∷ [])) z
+    → (after_all t (given_words base n kind values)).variables z ≡ t.variables z
+words_outside zero base kind values t z apart = refl
+words_outside (suc n) base kind values t z apart =
+    let v = value_at t (first_value kind values) ∷ [] in
+    words_outside n (base + 1) kind (drop 1 values) (with_variable t base v) z
     (λ i below same. apart (i + 1) (omega (arith, below)) (omega (arith, same)))
-    ∙ beside t.variables base z (value_at t e ∷ []) (λ same. apart 0 (omega arith) (omega (arith, same)))
+    ∙ beside t.variables base z v (λ same. apart 0 (omega arith) (omega (arith, same)))
 
-pub values_controls : (values : List TermTree) (n base : ℕ) (t : StraightState)
-    → (after_all t (given_values base n values)).controls ≡ t.controls
-values_controls values zero base t = refl
-values_controls [] (suc n) base t = refl
-values_controls (e ∷ es) (suc n) base t = values_controls es n (base + 1) (with_variable t base (value_at t e ∷ []))
+pub words_controls : (n base : ℕ) (kind : Kind) (values : List TermTree) (t : StraightState)
+    → (after_all t (given_words base n kind values)).controls ≡ t.controls
+words_controls zero base kind values t = refl
+words_controls (suc n) base kind values t =
+    words_controls n (base + 1) kind (drop 1 values)
+    (with_variable t base (value_at t (first_value kind values) ∷ []))
 
 module _ (declared new : List FlatVariable) (parts : Parts) (is_splitting : IsSplitting declared new parts)
     (profile : Profile) (x : ℕ) (part : Part) (is : part_of parts x ≡ Some part) (m : Values) where
@@ -88,41 +97,48 @@ module _ (declared new : List FlatVariable) (parts : Parts) (is_splitting : IsSp
         };
   }
 
-  pub values_inside : (word : WordType) (values : List TermTree) → AllSuit (types_but profile declared x) word values
-      → AllHaveKnown parts values → (n base : ℕ) (t : StraightState) → AreAlike (but declared x) parts m t.variables
-      → n ≡ length values → (o : ℕ) → base ≡ part.base + o → o + n ≤ part.size
+  pub words_inside : (word : WordType) (values : List TermTree) → AllSuit (types_but profile declared x) word values
+      → AllHaveKnown parts values → (n base : ℕ) (kind : Kind) (t : StraightState)
+      → AreAlike (but declared x) parts m t.variables → (o : ℕ) → base ≡ part.base + o → o + n ≤ part.size
       → (i z : ℕ) → i < n → z ≡ base + i
-      → (after_all t (given_values base n (map (split parts) values))).variables z
+      → (after_all t (given_words base n kind (map (split parts) values))).variables z
       ≡ slice_index (map (value_in m) values) i ∷ []
-  values_inside word values suit known zero base t alike long o at room i z below place =
+  words_inside word values suit known zero base kind t alike o at room i z below place =
       absurd (omega (arith, below))
-  values_inside word [] suit known (suc n) base t alike long o at room i z below place = absurd (omega (arith, long))
-  values_inside word (e ∷ es) suit known (suc n) base t alike long o at room zero z below place =
-      values_outside (map (split parts) es) n (base + 1)
+  words_inside word [] suit known (suc n) base kind t alike o at room zero z below place =
+      words_outside n (base + 1) kind [] (with_variable t base (0 ∷ [])) z (λ i inside same. omega (arith, same, place))
+      ∙ here t.variables base z (0 ∷ []) (omega (arith, place))
+  words_inside word [] suit known (suc n) base kind t alike o at room (suc i) z below place =
+      words_inside word [] suit known n (base + 1) kind (with_variable t base (0 ∷ []))
+      (undisturbed t.variables base o (0 ∷ []) alike at (omega (arith, room))) (o + 1) (omega (arith, at))
+      (omega (arith, room)) i z (omega (arith, below)) (omega (arith, place))
+  words_inside word (e ∷ es) suit known (suc n) base kind t alike o at room zero z below place =
+      words_outside n (base + 1) kind (map (split parts) es)
       (with_variable t base (value_at t (split parts e) ∷ [])) z (λ i inside same. omega (arith, same, place))
       ∙ (here t.variables base z (value_at t (split parts e) ∷ []) (omega (arith, place))
       ∙ ap (λ v. v ∷ []) (same_value declared new parts is_splitting profile (but declared x) (but_within declared x)
       m t.variables alike suit.0.has_type known.0))
-  values_inside word (e ∷ es) suit known (suc n) base t alike long o at room (suc i) z below place =
-      values_inside word es suit.1 known.1 n (base + 1) (with_variable t base (value_at t (split parts e) ∷ []))
-      (undisturbed t.variables base o (value_at t (split parts e) ∷ []) alike at (omega (arith, room)))
-      (omega (arith, long)) (o + 1) (omega (arith, at)) (omega (arith, room)) i z (omega (arith, below))
-      (omega (arith, place))
+  words_inside word (e ∷ es) suit known (suc n) base kind t alike o at room (suc i) z below place =
+      words_inside word es suit.1 known.1 n (base + 1) kind (with_variable t base (value_at t (split parts e) ∷ []))
+      (undisturbed t.variables base o (value_at t (split parts e) ∷ []) alike at (omega (arith, room))) (o + 1)
+      (omega (arith, at)) (omega (arith, room)) i z (omega (arith, below)) (omega (arith, place))
 
-  pub values_fine : (word : WordType) (values : List TermTree) → AllSuit (types_but profile declared x) word values
-      → AllHaveKnown parts values → (n base : ℕ) (t : StraightState) → AreAlike (but declared x) parts m t.variables
-      → n ≡ length values → (o : ℕ) → base ≡ part.base + o → o + n ≤ part.size
+  pub words_fine : (word : WordType) (values : List TermTree) → AllSuit (types_but profile declared x) word values
+      → AllHaveKnown parts values → (n base : ℕ) (kind : Kind) (t : StraightState)
+      → AreAlike (but declared x) parts m t.variables → (o : ℕ) → base ≡ part.base + o → o + n ≤ part.size
       → (most : List ℕ) → AreFine most (path_in_all m values)
-      → AreFine most (path_along t (given_values base n (map (split parts) values)))
-  values_fine word values suit known zero base t alike long o at room most fine = tt
-  values_fine word [] suit known (suc n) base t alike long o at room most fine = tt
-  values_fine word (e ∷ es) suit known (suc n) base t alike long o at room most fine =
+      → AreFine most (path_along t (given_words base n kind (map (split parts) values)))
+  words_fine word values suit known zero base kind t alike o at room most fine = tt
+  words_fine word [] suit known (suc n) base kind t alike o at room most fine =
+      words_fine word [] suit known n (base + 1) kind (with_variable t base (0 ∷ []))
+      (undisturbed t.variables base o (0 ∷ []) alike at (omega (arith, room))) (o + 1) (omega (arith, at))
+      (omega (arith, room)) most fine
+  words_fine word (e ∷ es) suit known (suc n) base kind t alike o at room most fine =
       let next = with_variable t base (value_at t (split parts e) ∷ []) in
       fine_both most (path_in t.variables (split parts e))
-      (path_along next (given_values (base + 1) n (map (split parts) es)))
+      (path_along next (given_words (base + 1) n kind (map (split parts) es)))
       (still_fine declared new parts is_splitting profile (but declared x) (but_within declared x) m t.variables alike
       most suit.0.has_type known.0 (fine_front most (path_in m e) (path_in_all m es) fine))
-      (values_fine word es suit.1 known.1 n (base + 1) next
-      (undisturbed t.variables base o (value_at t (split parts e) ∷ []) alike at (omega (arith, room)))
-      (omega (arith, long)) (o + 1) (omega (arith, at)) (omega (arith, room)) most
-      (fine_back most (path_in m e) (path_in_all m es) fine))
+      (words_fine word es suit.1 known.1 n (base + 1) kind next
+      (undisturbed t.variables base o (value_at t (split parts e) ∷ []) alike at (omega (arith, room))) (o + 1)
+      (omega (arith, at)) (omega (arith, room)) most (fine_back most (path_in m e) (path_in_all m es) fine))

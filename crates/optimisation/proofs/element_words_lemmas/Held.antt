@@ -6,11 +6,8 @@ use Rattle.std.proofs.lemmas.Bool.{cond-false, cond-true, eqb-true, eqb-false, e
 use Rattle.std.proofs.lemmas.Option.{none-some, same_Some, slice_get_within}
 use Rattle.inline.specs.declared.flat.FlatVariable.{FlatVariable}
 use Rattle.inline.specs.FlatMeaning.{Values, with_value}
-use Rattle.branch_removal.specs.StraightMeaning.{StraightState, with_variable, after_all}
-use Rattle.language.specs.declared.signature.Kind.{Kind}
 use Rattle.optimisation.specs.declared.element_words.parts.Part.{Part}
 use Rattle.optimisation.specs.element_words.private.Parts.{Parts, part_of}
-use Rattle.optimisation.specs.element_words.private.Splitting.{zeros}
 use Rattle.optimisation.proofs.element_words_lemmas.PartLemmas.{IsSplitting}
 use Rattle.optimisation.proofs.element_words_lemmas.Values.{IsHeldIn, AreAlike}
 
@@ -137,28 +134,3 @@ module _ (declared new : List FlatVariable) (parts : Parts) (is_splitting : IsSp
           let elsewhere : part.base + j ≡ part.base + i → ⊥ = λ e. apart (omega (arith, e)) in
           beside k (part.base + i) (part.base + j) (w ∷ []) elsewhere
           ∙ (held.each j inside ∙ ap (λ n. n ∷ []) (sym (set_beside (m x) i j v apart)))
-
--- Words that become 0.
-
-pub zeros_outside : (n base : ℕ) (kind : Kind) (t : StraightState) (z : ℕ)
-    → ((i : ℕ) → i < n → z ≡ base + i → ⊥)
-    → (after_all t (zeros base n kind)).variables z ≡ t.variables z
-zeros_outside zero base kind t z apart = refl
-zeros_outside (suc n) base kind t z apart =
-    zeros_outside n (base + 1) kind (with_variable t base (0 ∷ [])) z
-    (λ i below e. apart (i + 1) (omega (arith, below)) (omega (arith, e)))
-    ∙ beside t.variables base z (0 ∷ []) (λ e. apart 0 (omega arith) (omega (arith, e)))
-
-pub zeros_inside : (n base : ℕ) (kind : Kind) (t : StraightState) (i z : ℕ) → i < n → z ≡ base + i
-    → (after_all t (zeros base n kind)).variables z ≡ 0 ∷ []
-zeros_inside zero base kind t i z below at = absurd (omega (arith, below))
-zeros_inside (suc n) base kind t zero z below at =
-    zeros_outside n (base + 1) kind (with_variable t base (0 ∷ [])) z (λ i inside e. omega (arith, e, at))
-    ∙ here t.variables base z (0 ∷ []) (omega (arith, at))
-zeros_inside (suc n) base kind t (suc i) z below at =
-    zeros_inside n (base + 1) kind (with_variable t base (0 ∷ [])) i z (omega (arith, below)) (omega (arith, at))
-
-pub zeros_controls : (n base : ℕ) (kind : Kind) (t : StraightState)
-    → (after_all t (zeros base n kind)).controls ≡ t.controls
-zeros_controls zero base kind t = refl
-zeros_controls (suc n) base kind t = zeros_controls n (base + 1) kind (with_variable t base (0 ∷ []))

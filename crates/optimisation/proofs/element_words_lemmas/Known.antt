@@ -5,8 +5,8 @@ use Rattle.std.specs.Prelude.{nat_lt}
 use Rattle.std.proofs.lemmas.Bool.{ltb-true}
 use Rattle.std.proofs.lemmas.Option.{none-some}
 use Rattle.inline.specs.Flat.{TermTree, number, truth, variable, prefix, binary, rotate, convert, select, element}
-use Rattle.branch_removal.specs.Straight.{StraightTree, set, clear, fill, put, take, set_under, put_under, branch}
-use Rattle.branch_removal.specs.Straight.{repeats, StraightBlock, nothing, first}
+use Rattle.branch_removal.specs.Straight.{StraightTree, set, array, put, take, branch, repeats, StraightBlock, nothing}
+use Rattle.branch_removal.specs.Straight.{first}
 use Rattle.language.specs.declared.signature.Kind.{Kind}
 use Rattle.optimisation.specs.declared.element_words.parts.Part.{Part}
 use Rattle.optimisation.specs.element_words.private.Parts.{Parts, part_of, whole, known_index, word_in, word_of}
@@ -75,13 +75,10 @@ IsPutKnown parts x index value = IsKnown (part_of parts x) index × HasKnown par
 
 abbrev mutual
   pub StatementHasKnown : Parts → StraightTree → Type 0
-  StatementHasKnown parts (set x value) = HasKnown parts value
-  StatementHasKnown parts (clear x size) = Unit {0}
-  StatementHasKnown parts (fill x values) = AllHaveKnown parts values
-  StatementHasKnown parts (put place x size index value) = IsPutKnown parts x index value
+  StatementHasKnown parts (set within x value) = HasKnown parts value
+  StatementHasKnown parts (array x size values) = AllHaveKnown parts values
+  StatementHasKnown parts (put within place x size index value) = IsPutKnown parts x index value
   StatementHasKnown parts (take control within condition) = HasKnown parts condition
-  StatementHasKnown parts (set_under control x value) = HasKnown parts value
-  StatementHasKnown parts (put_under control place x size index value) = IsPutKnown parts x index value
   StatementHasKnown parts (branch condition accepted otherwise) =
       HasKnown parts condition × BlockHasKnown parts accepted × BlockHasKnown parts otherwise
   StatementHasKnown parts (repeats x low high body) =
@@ -186,13 +183,10 @@ module _ (last : Parts) where
   mutual
     pub statement_known : (parts : Parts) (statement : StraightTree) → IsBelow last (narrowed_by parts statement)
         → IsBelow last parts × StatementHasKnown last statement
-    statement_known parts (set x value) below = known parts value below
-    statement_known parts (clear x size) below = (below, tt)
-    statement_known parts (fill x values) below = all_known parts values below
-    statement_known parts (put place x size index value) below = put_known parts x index value below
+    statement_known parts (set within x value) below = known parts value below
+    statement_known parts (array x size values) below = all_known parts values below
+    statement_known parts (put within place x size index value) below = put_known parts x index value below
     statement_known parts (take control within condition) below = known parts condition below
-    statement_known parts (set_under control x value) below = known parts value below
-    statement_known parts (put_under control place x size index value) below = put_known parts x index value below
     statement_known parts (branch condition accepted otherwise) below =
         let third = block_known (narrowed_by_all (narrowed parts condition) accepted) otherwise below in
         let second = block_known (narrowed parts condition) accepted third.0 in

@@ -1,16 +1,15 @@
 -- The code with words runs in step with the code: variables that stay hold the same, the words of an array its
 -- elements. Its path is fine where that of the code is.
 use Rattle.std.proofs.Common.{◌≡◌, ℕ, zero, suc, ◌+◌, ◌-◌, ◌==◌, ◌&&◌, not, Bool, true, false, if◌then◌else◌, List}
-use Rattle.std.proofs.Common.{[], ◌∷◌, ◌++◌, map, length, replicate, Option, None, Some, option_map, slice_get}
+use Rattle.std.proofs.Common.{[], ◌∷◌, ◌++◌, map, Option, None, Some, option_map, slice_get}
 use Rattle.std.proofs.Common.{slice_set, refl, sym, ap, ap₂, ◌∙◌, subst, arith}
-use Rattle.std.proofs.lemmas.List.{length-replicate, length-map}
 use Rattle.inline.specs.declared.flat.FlatVariable.{FlatVariable}
 use Rattle.inline.specs.Flat.{TermTree, word_as, array_as, counter_type}
-use Rattle.inline.specs.FlatMeaning.{path_in, path_in_all, turns, path_of_turns}
+use Rattle.inline.specs.FlatMeaning.{elements, path_in, path_in_all, turns, path_of_turns}
 use Rattle.inline.specs.FlatTyping.{HasType}
 use Rattle.inline.specs.Path.{Path, AreFine, decided, bounded, indexed}
-use Rattle.branch_removal.specs.Straight.{StraightTree, set, clear, fill, put, take, set_under, put_under, branch}
-use Rattle.branch_removal.specs.Straight.{repeats, StraightBlock, nothing, first}
+use Rattle.branch_removal.specs.Straight.{StraightTree, set, array, put, take, branch, repeats, StraightBlock, nothing}
+use Rattle.branch_removal.specs.Straight.{first}
 use Rattle.branch_removal.specs.StraightMeaning.{StraightState, holds, with_variable, with_element, with_controls}
 use Rattle.branch_removal.specs.StraightMeaning.{value_at, counted, after, after_all, path_at, path_along}
 use Rattle.branch_removal.specs.StraightTyping.{IsSet, IsFilled, IsPut, types_but, IsTyped, AreTyped}
@@ -19,18 +18,16 @@ use Rattle.word.specs.declared.place.Place.{Place}
 use Rattle.word.specs.declared.profile.Profile.{Profile}
 use Rattle.optimisation.specs.declared.element_words.parts.Part.{Part}
 use Rattle.optimisation.specs.element_words.private.Parts.{Parts, part_of, word_in, word_of}
-use Rattle.optimisation.specs.element_words.private.Splitting.{split, single, zeros, given_values, cleared, filled, put_in}
-use Rattle.optimisation.specs.element_words.private.Splitting.{put_in_under, split_in, split_all}
+use Rattle.optimisation.specs.element_words.private.Splitting.{split, single, given_words, new_array, put_in}
+use Rattle.optimisation.specs.element_words.private.Splitting.{split_in, split_all}
 use Rattle.optimisation.proofs.element_words_lemmas.PartLemmas.{IsSplitting}
 use Rattle.optimisation.proofs.element_words_lemmas.Known.{IsKnown, HasKnown, AllHaveKnown, StatementHasKnown, BlockHasKnown}
 use Rattle.branch_removal.proofs.Sequences.{after-chain, path-chain, fine_both, fine_front, fine_back}
 use Rattle.optimisation.proofs.element_words_lemmas.Values.{AreAlike, word_stays, part_word, same_value}
-use Rattle.optimisation.proofs.element_words_lemmas.Values.{same_values, still_fine, all_still_fine}
-use Rattle.optimisation.proofs.element_words_lemmas.Held.{both_set, words_set, word_set, zeros_outside, zeros_inside, zeros_controls}
-use Rattle.optimisation.proofs.element_words_lemmas.Held.{zeros_at}
-use Rattle.optimisation.proofs.element_words_lemmas.Given.{values_outside, values_inside, values_controls, values_fine, but_within}
-use Rattle.optimisation.proofs.element_words_lemmas.Given.{but_alike}
-use Rattle.optimisation.proofs.element_words_lemmas.Given.{zeros_fine}
+use Rattle.optimisation.proofs.element_words_lemmas.Values.{same_elements, still_fine, all_still_fine}
+use Rattle.optimisation.proofs.element_words_lemmas.Held.{both_set, words_set, word_set}
+use Rattle.optimisation.proofs.element_words_lemmas.Given.{words_outside, words_inside, words_controls, words_fine, but_within}
+use Rattle.optimisation.proofs.element_words_lemmas.Given.{but_alike, elements_count, elements_at}
 
 -- two loops whose turns keep in step
 turns_in_step : {S : Type 0} (P : S → S → Type 0) (f g : ℕ → S → S)
@@ -73,6 +70,16 @@ module _ (declared new : List FlatVariable) (parts : Parts) (is_splitting : IsSp
       by_side true = one
       by_side false = other
 
+  same_hold : (within : Option ℕ) (s t : StraightState) → AreInStep s t → holds t within ≡ holds s within
+  same_hold None s t step = refl
+  same_hold (Some control) s t step = ap (λ (f : ℕ → Bool). f control) step.equal
+
+  -- what is set within a control value
+  within_step : (within : Option ℕ) (one other s t : StraightState) → AreInStep s t → AreInStep one other
+      → AreInStep (if holds s within then one else s) (if holds t within then other else t)
+  within_step within one other s t step both =
+      either_step (holds s within) (holds t within) one other s t (same_hold within s t step) both step
+
   -- an expression's value in both
   equal_value : (s t : StraightState) → AreInStep s t → {e : TermTree} {word : WordType}
       → HasType (record { profile = profile; at = λ y. slice_get declared y }) e word → HasKnown parts e
@@ -114,27 +121,30 @@ module _ (declared new : List FlatVariable) (parts : Parts) (is_splitting : IsSp
   }
 
   -- an element is set, where its array stays and where it becomes words
-  put_step : (place : Place) (x size : ℕ) (index value : TermTree) (s t : StraightState) → AreInStep s t
+  put_step : (within : Option ℕ) (place : Place) (x size : ℕ) (index value : TermTree) (s t : StraightState)
+      → AreInStep s t
       → IsPut profile declared x size index value → HasKnown parts index → HasKnown parts value
       → (o : Option Part) → part_of parts x ≡ o → IsKnown o index
-      → AreInStep (with_element s x (value_at s index) (value_at s value))
-      (after t (put_in (word_in o index) place x size (split parts index) (split parts value)))
-  put_step place x size index value s t step is index_known value_known None same known = record {
-    variables = both_set declared new parts is_splitting (λ y. slice_get declared y) (λ y d there. there) s.variables
-        t.variables x (array_as is.word is.mutable size)
-        (slice_set (s.variables x) (value_at s index) (value_at s value))
-        (slice_set (t.variables x) (value_at t (split parts index)) (value_at t (split parts value)))
-        step.variables is.known same
-        (ap (λ numbers. slice_set numbers (value_at t (split parts index)) (value_at t (split parts value)))
-        (step.variables.plain x (array_as is.word is.mutable size) is.known same)
-        ∙ ap₂ (slice_set (s.variables x)) (equal_value s t step is.index_type index_known)
-        (equal_value s t step is.suits.has_type value_known));
-    equal = step.equal;
-  }
-  put_step place x size index value s t step is index_known value_known (Some part) same known =
-      subst (λ (o : Option ℕ). AreInStep (with_element s x (value_at s index) (value_at s value))
-      (after t (put_in (option_map (λ i. part.base + i) o) place x size (split parts index) (split parts value))))
-      (sym known.found)
+      → AreInStep (after s (put within place x size index value))
+      (after t (put_in (word_in o index) within place x size (split parts index) (split parts value)))
+  put_step within place x size index value s t step is index_known value_known None same known =
+      within_step within _ _ s t step record {
+        variables = both_set declared new parts is_splitting (λ y. slice_get declared y) (λ y d there. there)
+            s.variables t.variables x (array_as is.word is.mutable size)
+            (slice_set (s.variables x) (value_at s index) (value_at s value))
+            (slice_set (t.variables x) (value_at t (split parts index)) (value_at t (split parts value)))
+            step.variables is.known same
+            (ap (λ numbers. slice_set numbers (value_at t (split parts index)) (value_at t (split parts value)))
+            (step.variables.plain x (array_as is.word is.mutable size) is.known same)
+            ∙ ap₂ (slice_set (s.variables x)) (equal_value s t step is.index_type index_known)
+            (equal_value s t step is.suits.has_type value_known));
+        equal = step.equal;
+      }
+  put_step within place x size index value s t step is index_known value_known (Some part) same known =
+      subst (λ (o : Option ℕ). AreInStep (after s (put within place x size index value))
+      (after t (put_in (option_map (λ i. part.base + i) o) within place x size (split parts index)
+      (split parts value)))) (sym known.found)
+      (within_step within _ _ s t step
       (subst (λ i. AreInStep (with_element s x i (value_at s value))
       (with_variable t (part.base + known.value) (value_at t (split parts value) ∷ [])))
       (sym (ap (value_at s) known.is)) record {
@@ -143,107 +153,65 @@ module _ (declared new : List FlatVariable) (parts : Parts) (is_splitting : IsSp
             (array_as is.word is.mutable size) part step.variables is.known same known.below
             (equal_value s t step is.suits.has_type value_known);
         equal = step.equal;
-      })
+      }))
 
-  put_under_step : (control : ℕ) (place : Place) (x size : ℕ) (index value : TermTree) (s t : StraightState)
-      → AreInStep s t
-      → IsPut profile declared x size index value → HasKnown parts index → HasKnown parts value
-      → (o : Option ℕ)
-      → AreInStep (with_element s x (value_at s index) (value_at s value))
-      (after t (put_in o place x size (split parts index) (split parts value)))
-      → AreInStep (after s (put_under control place x size index value))
-      (after t (put_in_under o control place x size (split parts index) (split parts value)))
-  put_under_step control place x size index value s t step is index_known value_known None there =
-      either_step (s.controls control) (t.controls control) _ _ s t (ap (λ (f : ℕ → Bool). f control) step.equal)
-      there step
-  put_under_step control place x size index value s t step is index_known value_known (Some word) there =
-      either_step (s.controls control) (t.controls control) _ _ s t (ap (λ (f : ℕ → Bool). f control) step.equal)
-      there step
-
-  clear_step : (x size : ℕ) (s t : StraightState) → AreInStep s t → IsFilled profile declared x size []
+  -- a new array, where it stays and where it becomes words
+  array_step : (x size : ℕ) (values : List TermTree) (s t : StraightState) → AreInStep s t
+      → IsFilled profile declared x size values → AllHaveKnown parts values
       → (o : Option Part) → part_of parts x ≡ o
-      → AreInStep (with_variable s x (replicate size 0)) (after_all t (cleared o x size))
-  clear_step x size s t step is None same = record {
+      → AreInStep (with_variable s x (elements s.variables size values))
+      (after_all t (new_array o x size (map (split parts) values)))
+  array_step x size values s t step is known None same = record {
     variables = both_set declared new parts is_splitting (λ y. slice_get declared y) (λ y d there. there) s.variables
-        t.variables x (array_as is.word is.mutable size) (replicate size 0) (replicate size 0) step.variables is.known
-        same refl;
+        t.variables x (array_as is.word is.mutable size) (elements s.variables size values)
+        (elements t.variables size (map (split parts) values)) step.variables is.known same
+        (same_elements declared new parts is_splitting profile (types_but profile declared x).at
+        (but_within declared x) s.variables t.variables
+        (but_alike declared parts x s.variables t.variables step.variables) is.word size values is.suit known);
     equal = step.equal;
   }
-  clear_step x size s t step is (Some part) same =
+  array_step x size values s t step is known (Some part) same =
       let sized = part_word declared new parts is_splitting profile (λ y. slice_get declared y) (λ y d there. there) x
       is.word is.mutable size part is.known same in
-      record {
-        variables = words_set declared new parts is_splitting (λ y. slice_get declared y) (λ y d there. there)
-            s.variables t.variables (after_all t (zeros part.base part.size part.word.kind)).variables x part
-            (replicate size 0) step.variables same (length-replicate size 0 ∙ sym sized.1)
-            (λ i below. zeros_inside part.size part.base part.word.kind t i (part.base + i) below refl
-            ∙ ap (λ n. n ∷ []) (sym (zeros_at size i)))
-            (λ z apart. zeros_outside part.size part.base part.word.kind t z apart);
-        equal = zeros_controls part.size part.base part.word.kind t ∙ step.equal;
-      }
-
-  fill_step : (x : ℕ) (values : List TermTree) (s t : StraightState) → AreInStep s t
-      → IsFilled profile declared x (length values) values → AllHaveKnown parts values
-      → (o : Option Part) → part_of parts x ≡ o
-      → AreInStep (with_variable s x (map (value_at s) values)) (after_all t (filled o x (map (split parts) values)))
-  fill_step x values s t step is known None same = record {
-    variables = both_set declared new parts is_splitting (λ y. slice_get declared y) (λ y d there. there) s.variables
-        t.variables x (array_as is.word is.mutable (length values)) (map (value_at s) values)
-        (map (value_at t) (map (split parts) values)) step.variables is.known same
-        (same_values declared new parts is_splitting profile (types_but profile declared x).at
-        (but_within declared x) s.variables t.variables
-        (but_alike declared parts x s.variables t.variables step.variables) is.word values is.suit known);
-    equal = step.equal;
-  }
-  fill_step x values s t step is known (Some part) same =
-      let sized = part_word declared new parts is_splitting profile (λ y. slice_get declared y) (λ y d there. there) x
-      is.word is.mutable (length values) part is.known same in
       let but = but_alike declared parts x s.variables t.variables step.variables in
+      let kind = part.word.kind in
       record {
         variables = words_set declared new parts is_splitting (λ y. slice_get declared y) (λ y d there. there)
             s.variables t.variables
-            (after_all t (given_values part.base part.size (map (split parts) values))).variables x part
-            (map (value_at s) values) step.variables same (length-map values (value_at s) ∙ sym sized.1)
-            (λ i below. values_inside declared new parts is_splitting profile x part same s.variables is.word values
-            is.suit known part.size part.base t but sized.1 0 (omega arith) (omega arith) i (part.base + i) below
-            refl)
-            (λ z apart. values_outside (map (split parts) values) part.size part.base t z apart);
-        equal = values_controls (map (split parts) values) part.size part.base t ∙ step.equal;
+            (after_all t (given_words part.base part.size kind (map (split parts) values))).variables x part
+            (elements s.variables size values) step.variables same
+            (elements_count s.variables size values is.count ∙ sym sized.1)
+            (λ i below. words_inside declared new parts is_splitting profile x part same s.variables is.word values
+            is.suit known part.size part.base kind t but 0 (omega arith) (omega arith) i (part.base + i) below refl
+            ∙ ap (λ n. n ∷ []) (elements_at s.variables size i values))
+            (λ z apart. words_outside part.size part.base kind (map (split parts) values) t z apart);
+        equal = words_controls part.size part.base kind (map (split parts) values) t ∙ step.equal;
       }
 
   -- a condition is taken in both
-  take_controls : (control : ℕ) (within : Option ℕ) (s t : StraightState) (v w : ℕ) → t.controls ≡ s.controls → w ≡ v
+  take_controls : (control : ℕ) (within : Option ℕ) (s t : StraightState) (v w : ℕ) → AreInStep s t → w ≡ v
       → (with_controls t control (holds t within && not (w == 0)) (holds t within && (w == 0))).controls
       ≡ (with_controls s control (holds s within && not (v == 0)) (holds s within && (v == 0))).controls
-  take_controls control None s t v w same equal =
-      let f : (ℕ → Bool) → ℕ → ℕ → Bool = λ held n c. if c == control then (true && not (n == 0))
-      else (if c == control + 1 then (true && (n == 0)) else held c) in
-      ap₂ f same equal
-  take_controls control (Some outer) s t v w same equal =
-      let f : (ℕ → Bool) → ℕ → ℕ → Bool = λ held n c. if c == control then (held outer && not (n == 0))
-      else (if c == control + 1 then (held outer && (n == 0)) else held c) in
-      ap₂ f same equal
+  take_controls control within s t v w step equal =
+      let both : Bool → ℕ → (ℕ → Bool) → ℕ → Bool = λ h n others c. if c == control then (h && not (n == 0))
+      else (if c == control + 1 then (h && (n == 0)) else others c) in
+      ap₂ (λ (h : Bool) (n : ℕ). both h n t.controls) (same_hold within s t step) equal
+      ∙ ap (both (holds s within) v) step.equal
 
   mutual
     pub in_step : (statement : StraightTree) → IsTyped profile declared controls statement
         → StatementHasKnown parts statement → (s t : StraightState) → AreInStep s t
         → AreInStep (after s statement) (after_all t (split_in parts statement))
-    in_step (set x value) is known s t step = set_step x value s t step is known
-    in_step (clear x size) is known s t step = clear_step x size s t step is (part_of parts x) refl
-    in_step (fill x values) is known s t step = fill_step x values s t step is known (part_of parts x) refl
-    in_step (put place x size index value) is known s t step =
-        put_step place x size index value s t step is known.1 known.2 (part_of parts x) refl known.0
+    in_step (set within x value) is known s t step =
+        within_step within _ _ s t step (set_step x value s t step is.1 known)
+    in_step (array x size values) is known s t step = array_step x size values s t step is known (part_of parts x) refl
+    in_step (put within place x size index value) is known s t step =
+        put_step within place x size index value s t step is.1 known.1 known.2 (part_of parts x) refl known.0
     in_step (take control within condition) is known s t step = record {
       variables = step.variables;
       equal = take_controls control within s t (value_at s condition) (value_at t (split parts condition))
-          step.equal (equal_value s t step is.2.1 known);
+          step (equal_value s t step is.2.1 known);
     }
-    in_step (set_under control x value) is known s t step =
-        either_step (s.controls control) (t.controls control) _ _ s t (ap (λ (f : ℕ → Bool). f control) step.equal)
-        (set_step x value s t step is.1 known) step
-    in_step (put_under control place x size index value) is known s t step =
-        put_under_step control place x size index value s t step is.1 known.1 known.2 (word_of parts x index)
-        (put_step place x size index value s t step is.1 known.1 known.2 (part_of parts x) refl known.0)
     in_step (branch condition accepted otherwise) is known s t step =
         either_step (value_at s condition == 0) (value_at t (split parts condition) == 0) _ _ _ _
         (ap (λ v. v == 0) (equal_value s t step is.0 known.0))
@@ -294,63 +262,42 @@ module _ (declared new : List FlatVariable) (parts : Parts) (is_splitting : IsSp
     alone : (p : Path) → AreFine most p → AreFine most (p ++ [])
     alone p fine = fine_both most p [] fine tt
 
-    put_in_fine : (o : Option ℕ) (place : Place) (x size : ℕ) (index value : TermTree) (t : StraightState)
+    put_in_fine : (o within : Option ℕ) (place : Place) (x size : ℕ) (index value : TermTree) (t : StraightState)
         → AreFine most (path_in t.variables index ++ indexed place size (value_at t index)
         ∷ path_in t.variables value)
         × AreFine most (path_in t.variables value)
-        → AreFine most (path_along t (single (put_in o place x size index value)))
-    put_in_fine None place x size index value t both = alone _ both.0
-    put_in_fine (Some word) place x size index value t both = alone _ both.1
+        → AreFine most (path_along t (single (put_in o within place x size index value)))
+    put_in_fine None within place x size index value t both = alone _ both.0
+    put_in_fine (Some word) within place x size index value t both = alone _ both.1
 
-    put_in_under_fine : (o : Option ℕ) (control : ℕ) (place : Place) (x size : ℕ) (index value : TermTree)
-        (t : StraightState)
-        → AreFine most (path_in t.variables index ++ indexed place size (value_at t index)
-        ∷ path_in t.variables value)
-        × AreFine most (path_in t.variables value)
-        → AreFine most (path_along t (single (put_in_under o control place x size index value)))
-    put_in_under_fine None control place x size index value t both = alone _ both.0
-    put_in_under_fine (Some word) control place x size index value t both = alone _ both.1
-
-    clear_fine : (o : Option Part) (x size : ℕ) (t : StraightState) → AreFine most (path_along t (cleared o x size))
-    clear_fine None x size t = tt
-    clear_fine (Some part) x size t = zeros_fine most part.size part.base part.word.kind t
-
-    fill_fine : (x : ℕ) (values : List TermTree) (s t : StraightState) → AreInStep s t
-        → IsFilled profile declared x (length values) values → AllHaveKnown parts values
+    array_fine : (x size : ℕ) (values : List TermTree) (s t : StraightState) → AreInStep s t
+        → IsFilled profile declared x size values → AllHaveKnown parts values
         → AreFine most (path_in_all s.variables values)
         → (o : Option Part) → part_of parts x ≡ o
-        → AreFine most (path_along t (filled o x (map (split parts) values)))
-    fill_fine x values s t step is known fine None same =
+        → AreFine most (path_along t (new_array o x size (map (split parts) values)))
+    array_fine x size values s t step is known fine None same =
         alone (path_in_all t.variables (map (split parts) values))
         (all_still_fine declared new parts is_splitting profile (types_but profile declared x).at
         (but_within declared x) s.variables t.variables
         (but_alike declared parts x s.variables t.variables step.variables) most is.word values is.suit known fine)
-    fill_fine x values s t step is known fine (Some part) same =
-        let sized = part_word declared new parts is_splitting profile (λ y. slice_get declared y) (λ y d there. there)
-        x is.word is.mutable (length values) part is.known same in
-        values_fine declared new parts is_splitting profile x part same s.variables is.word values is.suit known
-        part.size part.base t (but_alike declared parts x s.variables t.variables step.variables) sized.1 0
+    array_fine x size values s t step is known fine (Some part) same =
+        words_fine declared new parts is_splitting profile x part same s.variables is.word values is.suit known
+        part.size part.base part.word.kind t (but_alike declared parts x s.variables t.variables step.variables) 0
         (omega arith) (omega arith) most fine
 
     mutual
       pub fine_in_step : (statement : StraightTree) → IsTyped profile declared controls statement
           → StatementHasKnown parts statement → (s t : StraightState) → AreInStep s t
           → AreFine most (path_at s statement) → AreFine most (path_along t (split_in parts statement))
-      fine_in_step (set x value) is known s t step fine =
-          alone _ (fine_value most s t step is.suits.has_type known fine)
-      fine_in_step (clear x size) is known s t step fine = clear_fine (part_of parts x) x size t
-      fine_in_step (fill x values) is known s t step fine =
-          fill_fine x values s t step is known fine (part_of parts x) refl
-      fine_in_step (put place x size index value) is known s t step fine =
-          put_in_fine (word_of parts x index) place x size (split parts index) (split parts value) t
-          (put_fine place x size index value s t step is known.1 known.2 fine)
+      fine_in_step (set within x value) is known s t step fine =
+          alone _ (fine_value most s t step is.1.suits.has_type known fine)
+      fine_in_step (array x size values) is known s t step fine =
+          array_fine x size values s t step is known fine (part_of parts x) refl
+      fine_in_step (put within place x size index value) is known s t step fine =
+          put_in_fine (word_of parts x index) within place x size (split parts index) (split parts value) t
+          (put_fine place x size index value s t step is.1 known.1 known.2 fine)
       fine_in_step (take control within condition) is known s t step fine =
           alone _ (fine_value most s t step is.2.1 known fine)
-      fine_in_step (set_under control x value) is known s t step fine =
-          alone _ (fine_value most s t step is.1.suits.has_type known fine)
-      fine_in_step (put_under control place x size index value) is known s t step fine =
-          put_in_under_fine (word_of parts x index) control place x size (split parts index) (split parts value) t
-          (put_fine place x size index value s t step is.1 known.1 known.2 fine)
       fine_in_step (branch condition accepted otherwise) is known s t step fine =
           let c = split parts condition in
           let run : Path = decided (value_at s condition)

@@ -1,17 +1,17 @@
 -- The code with words is well typed where the code is, and what is set under a control value is secret.
 use Rattle.std.proofs.Common.{◌≡◌, ℕ, zero, suc, ◌+◌, ◌<◌, ◌==◌, ◌^◌, Bool, true, false, if◌then◌else◌, List, []}
-use Rattle.std.proofs.Common.{◌∷◌, map, length, Option, None, Some, option_map, slice_get, refl, sym, ap, ◌∙◌}
+use Rattle.std.proofs.Common.{◌∷◌, map, drop, Option, None, Some, option_map, slice_get, refl, sym, ap, ◌∙◌}
 use Rattle.std.proofs.Common.{subst, arith}
 use Rattle.std.proofs.lemmas.Bool.{cond-false, ne_eqb}
 use Rattle.std.proofs.lemmas.List.{length-map}
 use Rattle.std.proofs.lemmas.Option.{none-some, same_Some, slice_get_within}
 use Rattle.inline.specs.declared.flat.FlatVariable.{FlatVariable}
 use Rattle.inline.specs.Flat.{TermTree, word_as, array_as}
-use Rattle.inline.specs.FlatTyping.{types_of, HasType, of_number, Suits, AllSuit}
-use Rattle.branch_removal.specs.Straight.{StraightTree, set, clear, fill, put, take, set_under, put_under, branch}
-use Rattle.branch_removal.specs.Straight.{repeats, StraightBlock, nothing, first, chain}
-use Rattle.branch_removal.specs.StraightTyping.{IsSet, IsFilled, IsPut, IsTyped, AreTyped, IsSecret, IsHidden}
-use Rattle.branch_removal.specs.StraightTyping.{AreHidden}
+use Rattle.inline.specs.FlatTyping.{types_of, HasType, of_number, Suits, AllSuit, HasCount}
+use Rattle.branch_removal.specs.Straight.{StraightTree, set, array, put, take, branch, repeats, StraightBlock, nothing}
+use Rattle.branch_removal.specs.Straight.{first, chain}
+use Rattle.branch_removal.specs.StraightTyping.{IsSet, IsFilled, IsPut, IsAmong, IsTyped, AreTyped, IsSecretWithin}
+use Rattle.branch_removal.specs.StraightTyping.{IsHidden, AreHidden}
 use Rattle.language.specs.declared.signature.Kind.{Kind}
 use Rattle.language.specs.declared.signature.Kind.TheVariants.{Boolean, Uint8, Uint16, Uint32}
 use Rattle.language.specs.declared.signature.Label.TheVariants.{Public}
@@ -21,9 +21,9 @@ use Rattle.language.specs.WellTyped.{labelled}
 use Rattle.word.specs.declared.place.Place.{Place}
 use Rattle.word.specs.declared.profile.Profile.{Profile}
 use Rattle.optimisation.specs.declared.element_words.parts.Part.{Part}
-use Rattle.optimisation.specs.element_words.private.Parts.{Parts, part_of, word_in, word_of}
-use Rattle.optimisation.specs.element_words.private.Splitting.{split, zeros, given_values, cleared, filled, put_in}
-use Rattle.optimisation.specs.element_words.private.Splitting.{put_in_under, split_in, split_all}
+use Rattle.optimisation.specs.element_words.private.Parts.{Parts, part_of, word_in}
+use Rattle.optimisation.specs.element_words.private.Splitting.{split, first_value, given_words, new_array, put_in}
+use Rattle.optimisation.specs.element_words.private.Splitting.{split_in, split_all}
 use Rattle.optimisation.proofs.element_words_lemmas.PartLemmas.{IsSplitting}
 use Rattle.optimisation.proofs.element_words_lemmas.Known.{IsKnown, HasKnown, AllHaveKnown, StatementHasKnown, BlockHasKnown}
 use Rattle.optimisation.proofs.element_words_lemmas.Values.{part_word, still_typed, still_suits, all_still_suit}
@@ -76,82 +76,68 @@ module _ (declared new : List FlatVariable) (parts : Parts) (is_splitting : IsSp
     suits = suits_still is.suits known;
   }
 
-  put_typed : (place : Place) (x size : ℕ) (index value : TermTree) → IsPut profile declared x size index value
-      → HasKnown parts index → HasKnown parts value
+  put_typed : (within : Option ℕ) (place : Place) (x size : ℕ) (index value : TermTree) → IsAmong controls within
+      → IsPut profile declared x size index value → HasKnown parts index → HasKnown parts value
       → (o : Option Part) → part_of parts x ≡ o → IsKnown o index
-      → IsTyped profile new controls (put_in (word_in o index) place x size (split parts index) (split parts value))
-  put_typed place x size index value is index_known value_known None same known = record {
-    word = is.word;
-    mutable = is.mutable;
-    known = is_splitting.kept x (array_as is.word is.mutable size) is.known;
-    index_type = typed_still is.index_type index_known;
-    suits = suits_still is.suits value_known;
-  }
-  put_typed place x size index value is index_known value_known (Some part) same known =
-      subst (λ (o : Option ℕ). IsTyped profile new controls (put_in (option_map (λ i. part.base + i) o) place x size
-      (split parts index) (split parts value))) (sym known.found) record {
-        word = part.word;
-        mutable = true;
-        known = is_splitting.words x part known.value same known.below;
-        suits = subst (λ w. Suits (types_of profile new) w (split parts value))
-            (sym (words_as x is.word is.mutable size part is.known same).0) (suits_still is.suits value_known);
-      }
-
-  under_typed : (o : Option ℕ) (control : ℕ) (place : Place) (x size : ℕ) (index value : TermTree)
-      → control < controls → IsTyped profile new controls (put_in o place x size index value)
-      → IsTyped profile new controls (put_in_under o control place x size index value)
-  under_typed None control place x size index value below is = (below, is)
-  under_typed (Some word) control place x size index value below is = (below, is)
-
-  zeros_typed : (n base : ℕ) (word : WordType)
-      → ((i : ℕ) → i < n → slice_get new (base + i) ≡ Some (word_as word true))
-      → AreTyped profile new controls (zeros base n word.kind)
-  zeros_typed zero base word are = tt
-  zeros_typed (suc n) base word are = (
-    record {
-      word = word;
-      mutable = true;
-      known = ap (slice_get new) (omega arith) ∙ are 0 (omega arith);
-      suits = record {
-        word = labelled word.kind Public;
-        has_type = of_number (zero_within word.kind);
-        kind = refl;
-        label = λ public. refl;
-      };
-    },
-    zeros_typed n (base + 1) word
-        (λ i below. ap (slice_get new) (omega arith) ∙ are (i + 1) (omega (arith, below))),
-  )
-
-  given_typed : (values : List TermTree) (n base : ℕ) (word : WordType)
-      → ((i : ℕ) → i < n → slice_get new (base + i) ≡ Some (word_as word true))
-      → AllSuit (types_of profile new) word values → AreTyped profile new controls (given_values base n values)
-  given_typed values zero base word are suit = tt
-  given_typed [] (suc n) base word are suit = tt
-  given_typed (e ∷ es) (suc n) base word are suit = (
-    record {
-      word = word;
-      mutable = true;
-      known = ap (slice_get new) (omega arith) ∙ are 0 (omega arith);
-      suits = suit.0;
-    },
-    given_typed es n (base + 1) word
-        (λ i below. ap (slice_get new) (omega arith) ∙ are (i + 1) (omega (arith, below))) suit.1,
-  )
-
-  clear_typed : (x size : ℕ) → IsFilled profile declared x size [] → (o : Option Part) → part_of parts x ≡ o
-      → AreTyped profile new controls (cleared o x size)
-  clear_typed x size is None same = (
+      → IsTyped profile new controls
+      (put_in (word_in o index) within place x size (split parts index) (split parts value))
+  put_typed within place x size index value among is index_known value_known None same known = (
+    among,
     record {
       word = is.word;
       mutable = is.mutable;
       known = is_splitting.kept x (array_as is.word is.mutable size) is.known;
-      suit = tt;
+      index_type = typed_still is.index_type index_known;
+      suits = suits_still is.suits value_known;
     },
-    tt,
   )
-  clear_typed x size is (Some part) same =
-      zeros_typed part.size part.base part.word (λ i below. is_splitting.words x part i same below)
+  put_typed within place x size index value among is index_known value_known (Some part) same known =
+      subst (λ (o : Option ℕ). IsTyped profile new controls (put_in (option_map (λ i. part.base + i) o) within place x
+      size (split parts index) (split parts value))) (sym known.found) (
+        among,
+        record {
+          word = part.word;
+          mutable = true;
+          known = is_splitting.words x part known.value same known.below;
+          suits = subst (λ w. Suits (types_of profile new) w (split parts value))
+              (sym (words_as x is.word is.mutable size part is.known same).0) (suits_still is.suits value_known);
+        },
+      )
+
+  first_suits : (word : WordType) (values : List TermTree) → AllSuit (types_of profile new) word values
+      → Suits (types_of profile new) word (first_value word.kind values)
+  first_suits word [] suit = record {
+    word = labelled word.kind Public;
+    has_type = of_number (zero_within word.kind);
+    kind = refl;
+    label = λ public. refl;
+  }
+  first_suits word (e ∷ es) suit = suit.0
+
+  others_suit : (word : WordType) (values : List TermTree) → AllSuit (types_of profile new) word values
+      → AllSuit (types_of profile new) word (drop 1 values)
+  others_suit word [] suit = tt
+  others_suit word (e ∷ es) suit = suit.1
+
+  words_typed : (n base : ℕ) (word : WordType) (values : List TermTree)
+      → ((i : ℕ) → i < n → slice_get new (base + i) ≡ Some (word_as word true))
+      → AllSuit (types_of profile new) word values
+      → AreTyped profile new controls (given_words base n word.kind values)
+  words_typed zero base word values are suit = tt
+  words_typed (suc n) base word values are suit = (
+    (
+      tt,
+      record {
+        word = word;
+        mutable = true;
+        known = ap (slice_get new) (omega arith) ∙ are 0 (omega arith);
+        suits = first_suits word values suit;
+      },
+    ),
+    words_typed n (base + 1) word (drop 1 values)
+        (λ i below. ap (slice_get new) (omega arith) ∙ are (i + 1) (omega (arith, below)))
+        (others_suit word values suit),
+  )
 
   -- among the variables but for one
   but_kept : (x y : ℕ) (d : FlatVariable) → but declared x y ≡ Some d → but new x y ≡ Some d
@@ -172,27 +158,31 @@ module _ (declared new : List FlatVariable) (parts : Parts) (is_splitting : IsSp
       cond-false (part.base + i == x) None (slice_get new (part.base + i)) (ne_eqb (part.base + i) x apart)
       ∙ is_splitting.words y part i is below
 
-  fill_typed : (x : ℕ) (values : List TermTree) → IsFilled profile declared x (length values) values
+  still_counted : (size : ℕ) (values : List TermTree) → HasCount size values
+      → HasCount size (map (split parts) values)
+  still_counted size [] count = tt
+  still_counted size (e ∷ es) count = length-map (e ∷ es) (split parts) ∙ count
+
+  array_typed : (x size : ℕ) (values : List TermTree) → IsFilled profile declared x size values
       → AllHaveKnown parts values → (o : Option Part) → part_of parts x ≡ o
-      → AreTyped profile new controls (filled o x (map (split parts) values))
-  fill_typed x values is known None same = (
+      → AreTyped profile new controls (new_array o x size (map (split parts) values))
+  array_typed x size values is known None same = (
     record {
       word = is.word;
       mutable = is.mutable;
-      known = subst (λ n. slice_get new x ≡ Some (array_as is.word is.mutable n))
-          (sym (length-map values (split parts)))
-          (is_splitting.kept x (array_as is.word is.mutable (length values)) is.known);
+      known = is_splitting.kept x (array_as is.word is.mutable size) is.known;
       suit = all_still_suit declared new parts is_splitting profile (but declared x) (but_within declared x)
-          (but new x) (but_kept x) (but_words x (array_as is.word is.mutable (length values)) is.known) is.word values
-          is.suit known;
+          (but new x) (but_kept x) (but_words x (array_as is.word is.mutable size) is.known) is.word values is.suit
+          known;
+      count = still_counted size values is.count;
     },
     tt,
   )
-  fill_typed x values is known (Some part) same =
-      given_typed (map (split parts) values) part.size part.base part.word
+  array_typed x size values is known (Some part) same =
+      words_typed part.size part.base part.word (map (split parts) values)
       (λ i below. is_splitting.words x part i same below)
       (subst (λ w. AllSuit (types_of profile new) w (map (split parts) values))
-      (sym (words_as x is.word is.mutable (length values) part is.known same).0)
+      (sym (words_as x is.word is.mutable size part is.known same).0)
       (all_still_suit declared new parts is_splitting profile (but declared x) (but_within declared x)
       (λ y. slice_get new y) (λ y d there. is_splitting.kept y d (but_within declared x y d there))
       (λ y other i h below. is_splitting.words y other i h below) is.word values is.suit known))
@@ -200,19 +190,12 @@ module _ (declared new : List FlatVariable) (parts : Parts) (is_splitting : IsSp
   mutual
     pub still_well_typed : (statement : StraightTree) → IsTyped profile declared controls statement
         → StatementHasKnown parts statement → AreTyped profile new controls (split_in parts statement)
-    still_well_typed (set x value) is known = (set_typed x value is known, tt)
-    still_well_typed (clear x size) is known = clear_typed x size is (part_of parts x) refl
-    still_well_typed (fill x values) is known = fill_typed x values is known (part_of parts x) refl
-    still_well_typed (put place x size index value) is known =
-        (put_typed place x size index value is known.1 known.2 (part_of parts x) refl known.0, tt)
+    still_well_typed (set within x value) is known = ((is.0, set_typed x value is.1 known), tt)
+    still_well_typed (array x size values) is known = array_typed x size values is known (part_of parts x) refl
+    still_well_typed (put within place x size index value) is known =
+        (put_typed within place x size index value is.0 is.1 known.1 known.2 (part_of parts x) refl known.0, tt)
     still_well_typed (take control within condition) is known =
         ((is.0, is.1, (is.2.0, typed_still is.2.1 known)), tt)
-    still_well_typed (set_under control x value) is known = ((is.0, set_typed x value is.1 known), tt)
-    still_well_typed (put_under control place x size index value) is known = (
-      under_typed (word_of parts x index) control place x size (split parts index) (split parts value) is.0
-          (put_typed place x size index value is.1 known.1 known.2 (part_of parts x) refl known.0),
-      tt,
-    )
     still_well_typed (branch condition accepted otherwise) is known = (
       (
         typed_still is.0 known.0,
@@ -240,63 +223,50 @@ module _ (declared new : List FlatVariable) (parts : Parts) (is_splitting : IsSp
 
   -- What is hidden.
 
-  -- a variable that stays is as secret as it was
-  secret_still : (x : ℕ) (d : FlatVariable) → slice_get declared x ≡ Some d → IsSecret declared x → IsSecret new x
-  secret_still x d there secret e found =
-      let one = same_Some d e (sym (is_splitting.kept x d there) ∙ found) in
-      ap (λ (v : FlatVariable). v.word.label) (sym one) ∙ secret d there
+  -- a variable of the type that a secret one has
+  secret_still : (within : Option ℕ) (x y : ℕ) (d e : FlatVariable) → slice_get declared x ≡ Some d
+      → slice_get new y ≡ Some e → e.word ≡ d.word → IsSecretWithin declared within x → IsSecretWithin new within y
+  secret_still None x y d e there at same secret = tt
+  secret_still (Some control) x y d e there at same secret =
+      λ f found. ap (λ (v : FlatVariable). v.word.label) (same_Some f e (sym found ∙ at))
+      ∙ (ap (λ (w : WordType). w.label) same ∙ secret d there)
 
-  put_hidden : (control : ℕ) (place : Place) (x size : ℕ) (index value : TermTree)
-      → IsPut profile declared x size index value → IsSecret declared x
+  kept_secret : (within : Option ℕ) (x : ℕ) (d : FlatVariable) → slice_get declared x ≡ Some d
+      → IsSecretWithin declared within x → IsSecretWithin new within x
+  kept_secret within x d there secret =
+      secret_still within x x d d there (is_splitting.kept x d there) refl secret
+
+  put_hidden : (within : Option ℕ) (place : Place) (x size : ℕ) (index value : TermTree)
+      → IsPut profile declared x size index value → IsSecretWithin declared within x
       → (o : Option Part) → part_of parts x ≡ o → IsKnown o index
-      → IsHidden new (put_in_under (word_in o index) control place x size (split parts index) (split parts value))
-  put_hidden control place x size index value is secret None same known =
-      secret_still x (array_as is.word is.mutable size) is.known secret
-  put_hidden control place x size index value is secret (Some part) same known =
-      subst (λ (o : Option ℕ). IsHidden new (put_in_under (option_map (λ i. part.base + i) o) control place x size
+      → IsHidden new (put_in (word_in o index) within place x size (split parts index) (split parts value))
+  put_hidden within place x size index value is secret None same known =
+      kept_secret within x (array_as is.word is.mutable size) is.known secret
+  put_hidden within place x size index value is secret (Some part) same known =
+      subst (λ (o : Option ℕ). IsHidden new (put_in (option_map (λ i. part.base + i) o) within place x size
       (split parts index) (split parts value))) (sym known.found)
-      (λ e found.
-      let one = same_Some (word_as part.word true) e
-      (sym (is_splitting.words x part known.value same known.below) ∙ found) in
-      ap (λ (v : FlatVariable). v.word.label) (sym one)
-      ∙ (ap (λ (w : WordType). w.label) (words_as x is.word is.mutable size part is.known same).0
-      ∙ secret (array_as is.word is.mutable size) is.known))
+      (secret_still within x (part.base + known.value) (array_as is.word is.mutable size) (word_as part.word true)
+      is.known (is_splitting.words x part known.value same known.below)
+      (words_as x is.word is.mutable size part is.known same).0 secret)
 
-  zeros_hidden : (n base : ℕ) (kind : Kind) → AreHidden new (zeros base n kind)
-  zeros_hidden zero base kind = tt
-  zeros_hidden (suc n) base kind = (tt, zeros_hidden n (base + 1) kind)
+  words_hidden : (n base : ℕ) (kind : Kind) (values : List TermTree) → AreHidden new (given_words base n kind values)
+  words_hidden zero base kind values = tt
+  words_hidden (suc n) base kind values = (tt, words_hidden n (base + 1) kind (drop 1 values))
 
-  given_hidden : (values : List TermTree) (n base : ℕ) → AreHidden new (given_values base n values)
-  given_hidden values zero base = tt
-  given_hidden [] (suc n) base = tt
-  given_hidden (e ∷ es) (suc n) base = (tt, given_hidden es n (base + 1))
-
-  clear_hidden : (o : Option Part) (x size : ℕ) → AreHidden new (cleared o x size)
-  clear_hidden None x size = (tt, tt)
-  clear_hidden (Some part) x size = zeros_hidden part.size part.base part.word.kind
-
-  fill_hidden : (o : Option Part) (x : ℕ) (values : List TermTree) → AreHidden new (filled o x values)
-  fill_hidden None x values = (tt, tt)
-  fill_hidden (Some part) x values = given_hidden values part.size part.base
-
-  plain_hidden : (o : Option ℕ) (place : Place) (x size : ℕ) (index value : TermTree)
-      → IsHidden new (put_in o place x size index value)
-  plain_hidden None place x size index value = tt
-  plain_hidden (Some word) place x size index value = tt
+  array_hidden : (o : Option Part) (x size : ℕ) (values : List TermTree) → AreHidden new (new_array o x size values)
+  array_hidden None x size values = (tt, tt)
+  array_hidden (Some part) x size values = words_hidden part.size part.base part.word.kind values
 
   mutual
     pub still_hidden : (statement : StraightTree) → IsTyped profile declared controls statement
         → StatementHasKnown parts statement → IsHidden declared statement → AreHidden new (split_in parts statement)
-    still_hidden (set x value) is known hidden = (tt, tt)
-    still_hidden (clear x size) is known hidden = clear_hidden (part_of parts x) x size
-    still_hidden (fill x values) is known hidden = fill_hidden (part_of parts x) x (map (split parts) values)
-    still_hidden (put place x size index value) is known hidden =
-        (plain_hidden (word_of parts x index) place x size (split parts index) (split parts value), tt)
+    still_hidden (set within x value) is known hidden =
+        (kept_secret within x (word_as is.1.word is.1.mutable) is.1.known hidden, tt)
+    still_hidden (array x size values) is known hidden =
+        array_hidden (part_of parts x) x size (map (split parts) values)
+    still_hidden (put within place x size index value) is known hidden =
+        (put_hidden within place x size index value is.1 hidden (part_of parts x) refl known.0, tt)
     still_hidden (take control within condition) is known hidden = (tt, tt)
-    still_hidden (set_under control x value) is known hidden =
-        (secret_still x (word_as is.1.word is.1.mutable) is.1.known hidden, tt)
-    still_hidden (put_under control place x size index value) is known hidden =
-        (put_hidden control place x size index value is.1 hidden (part_of parts x) refl known.0, tt)
     still_hidden (branch condition accepted otherwise) is known hidden =
         ((still_all_hidden accepted is.1 known.1 hidden.0, still_all_hidden otherwise is.2 known.2 hidden.1), tt)
     still_hidden (repeats x low high body) is known hidden = (still_all_hidden body is.3 known.2 hidden, tt)

@@ -7,7 +7,7 @@ use Rattle.std.proofs.lemmas.Option.{none-some, same_Some}
 use Rattle.inline.specs.declared.flat.FlatVariable.{FlatVariable}
 use Rattle.inline.specs.Flat.{TermTree, variable, element}
 use Rattle.inline.specs.Flat.{word_as, array_as}
-use Rattle.inline.specs.FlatMeaning.{Values, value_in, path_in, path_in_all, marks_of}
+use Rattle.inline.specs.FlatMeaning.{Values, value_in, elements, path_in, path_in_all, marks_of}
 use Rattle.inline.specs.FlatTyping.{Types, HasType, of_number, of_truth, of_variable, of_prefix, of_binary}
 use Rattle.inline.specs.FlatTyping.{of_rotation, of_conversion, of_selection, of_element, Suits, AllSuit, IsResult}
 use Rattle.inline.specs.Path.{AreFine, indexed}
@@ -104,12 +104,17 @@ module _ (declared new : List FlatVariable) (parts : Parts) (is_splitting : IsSp
         element_value place x size index (array_as word mutable size) there (same_value has known.1)
         (part_of parts x) refl known.0
 
-    pub same_values : (word : WordType) (es : List TermTree) → AllSuit scope word es → AllHaveKnown parts es
+    same_values : (word : WordType) (es : List TermTree) → AllSuit scope word es → AllHaveKnown parts es
         → map (value_in k) (map (split parts) es) ≡ map (value_in m) es
     same_values word [] suit known = refl
     same_values word (e ∷ es) suit known =
         ap₂ (λ (v : ℕ) (vs : List ℕ). v ∷ vs) (same_value suit.0.has_type known.0)
         (same_values word es suit.1 known.1)
+
+    pub same_elements : (word : WordType) (size : ℕ) (es : List TermTree) → AllSuit scope word es
+        → AllHaveKnown parts es → elements k size (map (split parts) es) ≡ elements m size es
+    same_elements word size [] suit known = refl
+    same_elements word size (e ∷ es) suit known = same_values word (e ∷ es) suit known
 
     module _ (most : List ℕ) where
       element_fine : (place : Place) (x size : ℕ) (index : TermTree)

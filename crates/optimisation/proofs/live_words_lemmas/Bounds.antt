@@ -1,7 +1,6 @@
 -- Code over the variables that words live in is no more work than the code, and asks for no more room.
 use Rattle.std.proofs.Common.{◌≡◌, ℕ, ◌+◌, ◌*◌, ◌≤◌, Bool, true, false, if◌then◌else◌, List, [], ◌∷◌, map, max}
 use Rattle.std.proofs.Common.{Option, None, Some, option_map, slice_index, refl, ap, ap₂, arith}
-use Rattle.std.proofs.lemmas.List.{length-map}
 use Rattle.std.proofs.Math.Nat.{max-le, le-max_left, le-max_right, mul-le-mul_left}
 use Rattle.inline.specs.Flat.{TermTree}
 use Rattle.inline.specs.Flat as flat
@@ -9,8 +8,8 @@ use Rattle.inline.specs.FlatSize.{term_nodes, terms_nodes, value_nodes}
 use Rattle.branch_removal.specs.Bounds.{set_work, statement_work, block_work}
 use Rattle.branch_removal.specs.Heights.{height_of, height_of_all, height_in, height_in_all, depth_in, depth_in_all}
 use Rattle.branch_removal.specs.Heights.{result_height}
-use Rattle.branch_removal.specs.Straight.{StraightTree, set, clear, fill, put, take, set_under, put_under, branch}
-use Rattle.branch_removal.specs.Straight.{repeats, StraightBlock, nothing, first}
+use Rattle.branch_removal.specs.Straight.{StraightTree, set, array, put, take, branch, repeats, StraightBlock, nothing}
+use Rattle.branch_removal.specs.Straight.{first}
 use Rattle.optimisation.specs.live_words.private.Held.{Table, Held, share, anew}
 use Rattle.optimisation.specs.live_words.private.Terms.{renamed, is_dead}
 use Rattle.optimisation.specs.live_words.private.Gathering.{at_head}
@@ -57,19 +56,9 @@ module _ (table : Table) where
   same_height_all [] = refl
   same_height_all (e ∷ es) = ap₂ max (same_height e) (same_height_all es)
 
-  same_set_work : (e : TermTree) → set_work (renamed table e) ≡ set_work e
-  same_set_work (flat.number value kind) = refl
-  same_set_work (flat.truth value) = refl
-  same_set_work (flat.variable x) = refl
-  same_set_work (flat.prefix operator width operand) =
-      ap (λ n. 1 + n) (same_nodes (flat.prefix operator width operand))
-  same_set_work (flat.binary place operator width left right) =
-      ap (λ n. 1 + n) (same_nodes (flat.binary place operator width left right))
-  same_set_work (flat.rotate width operand amount) = ap (λ n. 1 + n) (same_nodes (flat.rotate width operand amount))
-  same_set_work (flat.convert kind operand) = ap (λ n. 1 + n) (same_nodes (flat.convert kind operand))
-  same_set_work (flat.select condition accepted otherwise) =
-      ap (λ n. 1 + n) (same_nodes (flat.select condition accepted otherwise))
-  same_set_work (flat.element place x size index) = ap (λ n. 1 + n) (same_nodes (flat.element place x size index))
+  same_set_work : (within : Option ℕ) (e : TermTree) → set_work within (renamed table e) ≡ set_work within e
+  same_set_work None (flat.number value kind) = refl
+  same_set_work within e = ap (λ n. 1 + n) (same_nodes e)
 
   pub same_value_nodes : (value : Option TermTree)
       → value_nodes (option_map (renamed table) value) ≡ value_nodes value
@@ -101,17 +90,12 @@ module _ (table : Table) where
     mutual
       less : (held : Held) (statement : StraightTree) → (before table held statement).fits ≡ true
           → work_any turns (shared table held statement) ≤ statement_work turns statement
-      less held (set x value) f =
-          work_if turns (is_dead table held x value) (set (share table x) (renamed table value)) (set_work value)
-          (omega (arith, same_set_work value))
-      less held (clear x size) f = omega arith
-      less held (fill x values) f = omega (arith, length-map values (renamed table), same_nodes_all values)
-      less held (put place x size index value) f = omega (arith, same_nodes index, same_nodes value)
+      less held (set within x value) f =
+          work_if turns (is_dead table held x value) (set within (share table x) (renamed table value))
+          (set_work within value) (omega (arith, same_set_work within value))
+      less held (array x size values) f = omega (arith, same_nodes_all values)
+      less held (put within place x size index value) f = omega (arith, same_nodes index, same_nodes value)
       less held (take control within condition) f = omega (arith, same_nodes condition)
-      less held (set_under control x value) f =
-          work_if turns (is_dead table held x value) (set_under control (share table x) (renamed table value))
-          (1 + term_nodes value) (omega (arith, same_nodes value))
-      less held (put_under control place x size index value) f = omega (arith, same_nodes index, same_nodes value)
       less held (branch condition accepted otherwise) f =
           let fits = arms_fit table held condition accepted otherwise f in
           omega (
@@ -172,19 +156,13 @@ module _ (table : Table) where
   mutual
     lower : (held : Held) (statement : StraightTree)
         → room_any height_in (shared table held statement) ≤ height_in statement
-    lower held (set x value) =
-        room_if height_in (is_dead table held x value) (set (share table x) (renamed table value)) (height_of value)
-        (omega (arith, same_height value))
-    lower held (clear x size) = omega arith
-    lower held (fill x values) = omega (arith, same_height_all values)
-    lower held (put place x size index value) =
+    lower held (set within x value) =
+        room_if height_in (is_dead table held x value) (set within (share table x) (renamed table value))
+        (height_of value) (omega (arith, same_height value))
+    lower held (array x size values) = omega (arith, same_height_all values)
+    lower held (put within place x size index value) =
         max_both _ _ _ _ (omega (arith, same_height index)) (omega (arith, same_height value))
     lower held (take control within condition) = omega (arith, same_height condition)
-    lower held (set_under control x value) =
-        room_if height_in (is_dead table held x value) (set_under control (share table x) (renamed table value))
-        (height_of value) (omega (arith, same_height value))
-    lower held (put_under control place x size index value) =
-        max_both _ _ _ _ (omega (arith, same_height index)) (omega (arith, same_height value))
     lower held (branch condition accepted otherwise) =
         max_both _ _ _ _ (omega (arith, same_height condition))
         (max_both _ _ _ _ (lower_all (anew (before_all table held otherwise) held.holders) accepted)
@@ -207,16 +185,12 @@ module _ (table : Table) where
   mutual
     flatter : (held : Held) (statement : StraightTree)
         → room_any depth_in (shared table held statement) ≤ depth_in statement
-    flatter held (set x value) =
-        room_if depth_in (is_dead table held x value) (set (share table x) (renamed table value)) 0 (omega arith)
-    flatter held (clear x size) = omega arith
-    flatter held (fill x values) = omega arith
-    flatter held (put place x size index value) = omega arith
-    flatter held (take control within condition) = omega arith
-    flatter held (set_under control x value) =
-        room_if depth_in (is_dead table held x value) (set_under control (share table x) (renamed table value)) 0
+    flatter held (set within x value) =
+        room_if depth_in (is_dead table held x value) (set within (share table x) (renamed table value)) 0
         (omega arith)
-    flatter held (put_under control place x size index value) = omega arith
+    flatter held (array x size values) = omega arith
+    flatter held (put within place x size index value) = omega arith
+    flatter held (take control within condition) = omega arith
     flatter held (branch condition accepted otherwise) =
         max_both _ _ _ _ (flatter_all (anew (before_all table held otherwise) held.holders) accepted)
         (flatter_all held otherwise)

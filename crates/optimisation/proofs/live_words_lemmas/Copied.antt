@@ -4,8 +4,8 @@ use Rattle.std.proofs.Common.{Option, None, Some}
 use Rattle.std.proofs.Common.{refl, sym, ap, ap₂, ◌∙◌}
 use Rattle.inline.specs.Flat.{TermTree}
 use Rattle.inline.specs.Flat as flat
-use Rattle.branch_removal.specs.Straight.{StraightTree, set, clear, fill, put, take, set_under, put_under, branch}
-use Rattle.branch_removal.specs.Straight.{repeats, StraightBlock, nothing, first}
+use Rattle.branch_removal.specs.Straight.{StraightTree, set, array, put, take, branch, repeats, StraightBlock, nothing}
+use Rattle.branch_removal.specs.Straight.{first}
 use Rattle.optimisation.specs.live_words.private.Held.{Held, is_live, anew}
 use Rattle.branch_removal.specs.Quiet.{is_quiet}
 use Rattle.optimisation.specs.live_words.private.Terms.{renamed, is_dead}
@@ -46,19 +46,14 @@ not_dead held x value code unfit =
 mutual
   same_statement : (held : Held) (statement : StraightTree) → held.fits ≡ false
       → shared [] held statement ≡ Some statement
-  same_statement held (set x value) is =
-      not_dead held x value (Some (set x (renamed [] value))) is ∙ ap (λ e. Some (set x e)) (same_term value)
-  same_statement held (clear x size) is = refl
-  same_statement held (fill x values) is = ap (λ es. Some (fill x es)) (same_terms values)
-  same_statement held (put place x size index value) is =
-      ap₂ (λ i e. Some (put place x size i e)) (same_term index) (same_term value)
+  same_statement held (set within x value) is =
+      not_dead held x value (Some (set within x (renamed [] value))) is
+      ∙ ap (λ e. Some (set within x e)) (same_term value)
+  same_statement held (array x size values) is = ap (λ es. Some (array x size es)) (same_terms values)
+  same_statement held (put within place x size index value) is =
+      ap₂ (λ i e. Some (put within place x size i e)) (same_term index) (same_term value)
   same_statement held (take control within condition) is =
       ap (λ e. Some (take control within e)) (same_term condition)
-  same_statement held (set_under control x value) is =
-      not_dead held x value (Some (set_under control x (renamed [] value))) is
-      ∙ ap (λ e. Some (set_under control x e)) (same_term value)
-  same_statement held (put_under control place x size index value) is =
-      ap₂ (λ i e. Some (put_under control place x size i e)) (same_term index) (same_term value)
   same_statement held (branch condition accepted otherwise) is =
       let second = before_all [] held otherwise in
       ap₂ (λ a b. Some (branch (renamed [] condition) a b))

@@ -1,7 +1,7 @@
 -- What a loop's body reads is live beside what was.
-use Rattle.std.proofs.Common.{ℕ, length}
-use Rattle.branch_removal.specs.Straight.{StraightTree, set, clear, fill, put, take, set_under, put_under, branch}
-use Rattle.branch_removal.specs.Straight.{repeats, StraightBlock, nothing, first}
+use Rattle.std.proofs.Common.{ℕ, length, None, Some}
+use Rattle.branch_removal.specs.Straight.{StraightTree, set, array, put, take, branch, repeats, StraightBlock, nothing}
+use Rattle.branch_removal.specs.Straight.{first}
 use Rattle.inline.specs.Flat.{TermTree}
 use Rattle.optimisation.specs.live_words.private.Held.{Table, Done, Held, living_where}
 use Rattle.optimisation.specs.live_words.private.Terms.{reading}
@@ -22,16 +22,14 @@ module _ (table : Table) where
   mutual
     pub grows_gathered : (done : Done) (held : Held) (statement : StraightTree)
         → Grows held (gathered table done held statement)
-    grows_gathered done held (set x value) = grows_reading table done held value
-    grows_gathered done held (clear x size) = grows_same held
-    grows_gathered done held (fill x values) = grows_reading_all table done held values
-    grows_gathered done held (put place x size index value) = grows_put done held x index value
-    grows_gathered done held (take control within condition) = grows_reading table done held condition
-    grows_gathered done held (set_under control x value) =
+    grows_gathered done held (set None x value) = grows_reading table done held value
+    grows_gathered done held (set (Some control) x value) =
         let one = living_where table done held x in
         grows_on held one (reading table done one value) (grows_where table done held x)
         (grows_reading table done one value)
-    grows_gathered done held (put_under control place x size index value) = grows_put done held x index value
+    grows_gathered done held (array x size values) = grows_reading_all table done held values
+    grows_gathered done held (put within place x size index value) = grows_put done held x index value
+    grows_gathered done held (take control within condition) = grows_reading table done held condition
     grows_gathered done held (branch condition accepted otherwise) =
         let one = reading table done held condition in
         let other = gathered_all table done one accepted in

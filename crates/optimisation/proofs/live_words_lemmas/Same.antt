@@ -7,8 +7,8 @@ use Rattle.inline.specs.Flat.{TermTree}
 use Rattle.inline.specs.FlatMeaning.{path_in, turns, path_of_turns}
 use Rattle.inline.specs.Path.{Path, decided, bounded, indexed}
 use Rattle.word.specs.declared.place.Place.{Place}
-use Rattle.branch_removal.specs.Straight.{StraightTree, set, clear, fill, put, take, set_under, put_under, branch}
-use Rattle.branch_removal.specs.Straight.{repeats, StraightBlock, nothing, first}
+use Rattle.branch_removal.specs.Straight.{StraightTree, set, array, put, take, branch, repeats, StraightBlock, nothing}
+use Rattle.branch_removal.specs.Straight.{first}
 use Rattle.branch_removal.specs.StraightMeaning.{StraightState, holds, with_variable, with_element}
 use Rattle.branch_removal.specs.StraightMeaning.{value_at, counted, after, after_all, path_at, path_along}
 use Rattle.branch_removal.specs.Quiet.{is_quiet}
@@ -18,12 +18,12 @@ use Rattle.optimisation.specs.live_words.private.Held.{living, setting}
 use Rattle.optimisation.specs.live_words.private.Held.{counting, joined, covers}
 use Rattle.optimisation.specs.live_words.private.Terms.{reading, reading_all, renamed, is_dead}
 use Rattle.optimisation.specs.live_words.private.Gathering.{at_head}
-use Rattle.optimisation.specs.live_words.private.Sharing.{before_put, closed, before_bounds, before, before_all}
+use Rattle.optimisation.specs.live_words.private.Sharing.{setting_within, before_put, closed, before_bounds, before, before_all}
 use Rattle.optimisation.specs.live_words.private.Sharing.{in_front, shared, shared_all}
 use Rattle.optimisation.proofs.live_words_lemmas.HeldLemmas.{Grows, grows_on, grows_holding, grows_joined, joined_holds, covers_holds}
 use Rattle.optimisation.proofs.live_words_lemmas.HeldLemmas.{AreAlike, alike_before, set_alike, under_alike, dead_alike, alike_living}
 use Rattle.optimisation.proofs.live_words_lemmas.TermLemmas.{grows_reading, grows_reading_all, IsRead, read_before, same_value, same_path}
-use Rattle.optimisation.proofs.live_words_lemmas.TermLemmas.{same_values, same_path_all}
+use Rattle.optimisation.proofs.live_words_lemmas.TermLemmas.{same_elements, same_path_all}
 use Rattle.optimisation.proofs.live_words_lemmas.Grown.{grows_head}
 
 -- one statement, or none
@@ -67,6 +67,11 @@ module _ (table : Table) where
   set_fits : (held : Held) (x : ℕ) → (setting table held x).fits ≡ true → held.fits ≡ true
   set_fits held x f = (and_parts held.fits (is_free held.holders (share table x) x) f).0
 
+  within_fits : (within : Option ℕ) (held : Held) (x : ℕ) → (setting_within table held within x).fits ≡ true
+      → held.fits ≡ true
+  within_fits None held x f = set_fits held x f
+  within_fits (Some control) held x f = (grows_holding held (share table x) x).fits f
+
   grows_put : (held : Held) (x : ℕ) (index value : TermTree)
       → Grows (living table held x) (before_put table held x index value)
   grows_put held x index value =
@@ -107,19 +112,14 @@ module _ (table : Table) where
   mutual
     pub fits_before : (held : Held) (statement : StraightTree) → (before table held statement).fits ≡ true
         → held.fits ≡ true
-    fits_before held (set x value) f =
-        if_fits (is_dead table held x value) held (reading table [] (setting table held x) value)
-        (λ g. set_fits held x ((grows_reading table [] (setting table held x) value).fits g)) f
-    fits_before held (clear x size) f = set_fits held x f
-    fits_before held (fill x values) f =
+    fits_before held (set within x value) f =
+        let one = setting_within table held within x in
+        if_fits (is_dead table held x value) held (reading table [] one value)
+        (λ g. within_fits within held x ((grows_reading table [] one value).fits g)) f
+    fits_before held (array x size values) f =
         set_fits held x ((grows_reading_all table [] (setting table held x) values).fits f)
-    fits_before held (put place x size index value) f = put_fits held x index value f
+    fits_before held (put within place x size index value) f = put_fits held x index value f
     fits_before held (take control within condition) f = (grows_reading table [] held condition).fits f
-    fits_before held (set_under control x value) f =
-        if_fits (is_dead table held x value) held (reading table [] (living table held x) value)
-        (λ g. (grows_holding held (share table x) x).fits
-        ((grows_reading table [] (living table held x) value).fits g)) f
-    fits_before held (put_under control place x size index value) f = put_fits held x index value f
     fits_before held (branch condition accepted otherwise) f =
         let second = before_all table held otherwise in
         let one = before_all table (anew second held.holders) accepted in
@@ -193,19 +193,41 @@ module _ (table : Table) where
     controls = ready.at.controls;
   }
 
-  under_both : (held : Held) (x : ℕ) (v w : List ℕ) (s u : StraightState) → AreReady (living table held x) s u → w ≡ v
-      → (b c : Bool) → b ≡ c
-      → AreAt held (if b then with_variable s x v else s) (if c then with_variable u (share table x) w else u)
-  under_both held x v w s u ready same true true is = record {
-    alike = subst (λ z. AreAlike table held.holders (with_variable s x v).variables
-        (with_variable u (share table x) z).variables) (sym same)
-        (under_alike table held x v s.variables u.variables ready.fits ready.at.alike);
-    controls = ready.at.controls;
-  }
-  under_both held x v w s u ready same false false is =
+  holds_same : (within : Option ℕ) (s u : StraightState) → s.controls ≡ u.controls → holds s within ≡ holds u within
+  holds_same None s u same = refl
+  holds_same (Some control) s u same = ap (λ (c : ℕ → Bool). c control) same
+
+  -- of two states the one that a test chooses
+  either_at : (held : Held) (b c : Bool) → b ≡ c → (s t s' t' : StraightState) → AreAt held s s' → AreAt held t t'
+      → AreAt held (if b then s else t) (if c then s' else t')
+  either_at held b c same s t s' t' one other =
+      subst (λ d. AreAt held (if b then s else t) (if d then s' else t')) same (by_choice b)
+    where
+      by_choice : (b : Bool) → AreAt held (if b then s else t) (if b then s' else t')
+      by_choice true = one
+      by_choice false = other
+
+  under_both : (within : Option ℕ) (held : Held) (x : ℕ) (v w : List ℕ) (s u : StraightState)
+      → AreReady (living table held x) s u → w ≡ v
+      → AreAt held (if holds s within then with_variable s x v else s)
+      (if holds u within then with_variable u (share table x) w else u)
+  under_both within held x v w s u ready same =
+      let both : AreAt held (with_variable s x v) (with_variable u (share table x) w) = record {
+        alike = subst (λ z. AreAlike table held.holders (with_variable s x v).variables
+            (with_variable u (share table x) z).variables) (sym same)
+            (under_alike table held x v s.variables u.variables ready.fits ready.at.alike);
+        controls = ready.at.controls;
+      } in
+      either_at held (holds s within) (holds u within) (holds_same within s u ready.at.controls) (with_variable s x v) s
+      (with_variable u (share table x) w) u both
       (ready_before held (living table held x) s u (grows_holding held (share table x) x) ready).at
-  under_both held x v w s u ready same true false is = cc
-  under_both held x v w s u ready same false true is = cc
+
+  within_both : (within : Option ℕ) (held : Held) (x : ℕ) (v w : List ℕ) (s u : StraightState)
+      → AreReady (setting_within table held within x) s u → w ≡ v
+      → AreAt held (if holds s within then with_variable s x v else s)
+      (if holds u within then with_variable u (share table x) w else u)
+  within_both None held x v w s u ready same = set_both held x v w s u ready same
+  within_both (Some control) held x v w s u ready same = under_both (Some control) held x v w s u ready same
 
   -- a statement and what becomes of it
   abbrev pub Keeps : Held → StraightTree → Option StraightTree → StraightState → StraightState → Type 0
@@ -219,35 +241,14 @@ module _ (table : Table) where
       let inner = and_parts held.fits (not (is_live table held x)) outer.0 in
       (not-true (is_live table held x) inner.1, outer.1)
 
-  keeps_set : (held : Held) (x : ℕ) (value : TermTree) (s u : StraightState) (b : Bool)
+  keeps_set : (within : Option ℕ) (held : Held) (x : ℕ) (value : TermTree) (s u : StraightState) (b : Bool)
       → is_dead table held x value ≡ b
-      → AreReady (if b then held else reading table [] (setting table held x) value) s u
-      → Keeps held (set x value) (if b then None else Some (set (share table x) (renamed table value))) s u
-  keeps_set held x value s u true dead ready =
+      → AreReady (if b then held else reading table [] (setting_within table held within x) value) s u
+      → Keeps held (set within x value) (if b then None else Some (set within (share table x) (renamed table value))) s
+      u
+  keeps_set within held x value s u true dead ready =
       let parts = dead_parts held x value dead in (
-        record {
-          alike = dead_alike table held x (value_at s value ∷ []) s.variables u.variables parts.0 ready.at.alike;
-          controls = ready.at.controls;
-        },
-        sym (quiet_path s.variables value parts.1),
-      )
-  keeps_set held x value s u false dead ready =
-      let one = setting table held x in
-      let read = read_of (reading table [] one value) s u ready in (
-        set_both held x (value_at s value ∷ []) (value_at u (renamed table value) ∷ []) s u
-            (ready_before one (reading table [] one value) s u (grows_reading table [] one value) ready)
-            (ap (λ v. v ∷ []) (same_value table s.variables u.variables one value read)),
-        same_path table s.variables u.variables one value read,
-      )
-
-  keeps_under : (control : ℕ) (held : Held) (x : ℕ) (value : TermTree) (s u : StraightState) (b : Bool)
-      → is_dead table held x value ≡ b
-      → AreReady (if b then held else reading table [] (living table held x) value) s u
-      → Keeps held (set_under control x value)
-      (if b then None else Some (set_under control (share table x) (renamed table value))) s u
-  keeps_under control held x value s u true dead ready =
-      let parts = dead_parts held x value dead in (
-        by_control (s.controls control)
+        by_control (holds s within)
             (dead_alike table held x (value_at s value ∷ []) s.variables u.variables parts.0 ready.at.alike),
         sym (quiet_path s.variables value parts.1),
       )
@@ -257,13 +258,12 @@ module _ (table : Table) where
           → AreAt held (if c then with_variable s x (value_at s value ∷ []) else s) u
       by_control true alike = record { alike = alike; controls = ready.at.controls }
       by_control false alike = ready.at
-  keeps_under control held x value s u false dead ready =
-      let one = living table held x in
+  keeps_set within held x value s u false dead ready =
+      let one = setting_within table held within x in
       let read = read_of (reading table [] one value) s u ready in (
-        under_both held x (value_at s value ∷ []) (value_at u (renamed table value) ∷ []) s u
+        within_both within held x (value_at s value ∷ []) (value_at u (renamed table value) ∷ []) s u
             (ready_before one (reading table [] one value) s u (grows_reading table [] one value) ready)
-            (ap (λ v. v ∷ []) (same_value table s.variables u.variables one value read))
-            (s.controls control) (u.controls control) (ap (λ (c : ℕ → Bool). c control) ready.at.controls),
+            (ap (λ v. v ∷ []) (same_value table s.variables u.variables one value read)),
         same_path table s.variables u.variables one value read,
       )
 
@@ -273,7 +273,7 @@ module _ (table : Table) where
     same_put : value_at u (renamed table value) ≡ value_at s value
     index_path : path_in u.variables (renamed table index) ≡ path_in s.variables index
     value_path : path_in u.variables (renamed table value) ≡ path_in s.variables value
-    array : s.variables x ≡ u.variables (share table x)
+    same_array : s.variables x ≡ u.variables (share table x)
 
   put_alike : (held : Held) (x : ℕ) (index value : TermTree) (s u : StraightState)
       → AreReady (before_put table held x index value) s u → IsPutAlike x index value s u
@@ -291,7 +291,7 @@ module _ (table : Table) where
         same_put = same_value table m n one value middle;
         index_path = same_path table m n other index last;
         value_path = same_path table m n one value middle;
-        array = alike_living table held x m n early.fits early.alike;
+        same_array = alike_living table held x m n early.fits early.alike;
       }
 
   put_path : (place : Place) (x size : ℕ) (index value : TermTree) (s u : StraightState)
@@ -303,25 +303,20 @@ module _ (table : Table) where
       ap₂ (λ (p q : Path). p ++ q) alike.index_path
       (ap₂ (λ (i : ℕ) (p : Path). indexed place size i ∷ p) alike.same_index alike.value_path)
 
-  keeps_put : (held : Held) (x : ℕ) (index value : TermTree) (s u : StraightState)
-      → AreReady (before_put table held x index value) s u → (b c : Bool) → b ≡ c
-      → AreAt held (if b then with_element s x (value_at s index) (value_at s value) else s)
-      (if c then with_element u (share table x) (value_at u (renamed table index)) (value_at u (renamed table value))
-      else u)
-  keeps_put held x index value s u ready b c is =
+  keeps_put : (within : Option ℕ) (held : Held) (x : ℕ) (index value : TermTree) (s u : StraightState)
+      → AreReady (before_put table held x index value) s u
+      → AreAt held (if holds s within then with_element s x (value_at s index) (value_at s value) else s)
+      (if holds u within
+      then with_element u (share table x) (value_at u (renamed table index)) (value_at u (renamed table value)) else u)
+  keeps_put within held x index value s u ready =
       let alike = put_alike held x index value s u ready in
-      under_both held x (slice_set (s.variables x) (value_at s index) (value_at s value))
+      under_both within held x (slice_set (s.variables x) (value_at s index) (value_at s value))
       (slice_set (u.variables (share table x)) (value_at u (renamed table index)) (value_at u (renamed table value)))
       s u (ready_before (living table held x) (before_put table held x index value) s u (grows_put held x index value)
       ready)
-      (ap₂ (λ (a : List ℕ) (i : ℕ). slice_set a i (value_at u (renamed table value))) (sym alike.array)
+      (ap₂ (λ (a : List ℕ) (i : ℕ). slice_set a i (value_at u (renamed table value))) (sym alike.same_array)
       alike.same_index
       ∙ ap (slice_set (s.variables x) (value_at s index)) alike.same_put)
-      b c is
-
-  holds_same : (within : Option ℕ) (s u : StraightState) → s.controls ≡ u.controls → holds s within ≡ holds u within
-  holds_same None s u same = refl
-  holds_same (Some control) s u same = ap (λ (c : ℕ → Bool). c control) same
 
   keeps_take : (held : Held) (control : ℕ) (within : Option ℕ) (condition : TermTree) (s u : StraightState)
       → AreReady (reading table [] held condition) s u
@@ -340,16 +335,6 @@ module _ (table : Table) where
         },
         same_path table s.variables u.variables held condition read,
       )
-
-  -- of two arms the one that runs
-  either_at : (held : Held) (v w : ℕ) → v ≡ w → (s t s' t' : StraightState) → AreAt held s s' → AreAt held t t'
-      → AreAt held (if v == 0 then s else t) (if w == 0 then s' else t')
-  either_at held v w same s t s' t' one other =
-      subst (λ z. AreAt held (if v == 0 then s else t) (if z == 0 then s' else t')) same (by_choice (v == 0))
-    where
-      by_choice : (b : Bool) → AreAt held (if b then s else t) (if b then s' else t')
-      by_choice true = one
-      by_choice false = other
 
   -- where a turn begins
   turn_begins : (x : ℕ) (head turn : Held) → IsClosed x head turn → (i : ℕ) (s u : StraightState) → AreAt head s u
@@ -383,28 +368,21 @@ module _ (table : Table) where
   mutual
     pub keeps : (held : Held) (statement : StraightTree) (s u : StraightState)
         → AreReady (before table held statement) s u → Keeps held statement (shared table held statement) s u
-    keeps held (set x value) s u ready = keeps_set held x value s u (is_dead table held x value) refl ready
-    keeps held (clear x size) s u ready = (set_both held x _ _ s u ready refl, refl)
-    keeps held (fill x values) s u ready =
+    keeps held (set within x value) s u ready =
+        keeps_set within held x value s u (is_dead table held x value) refl ready
+    keeps held (array x size values) s u ready =
         let one = setting table held x in
         let read = read_of (reading_all table [] one values) s u ready in (
           set_both held x _ _ s u
               (ready_before one (reading_all table [] one values) s u (grows_reading_all table [] one values) ready)
-              (same_values table s.variables u.variables one values read),
+              (same_elements table s.variables u.variables one size values read),
           same_path_all table s.variables u.variables one values read,
         )
-    keeps held (put place x size index value) s u ready = (
-      keeps_put held x index value s u ready true true refl,
+    keeps held (put within place x size index value) s u ready = (
+      keeps_put within held x index value s u ready,
       put_path place x size index value s u (put_alike held x index value s u ready),
     )
     keeps held (take control within condition) s u ready = keeps_take held control within condition s u ready
-    keeps held (set_under control x value) s u ready =
-        keeps_under control held x value s u (is_dead table held x value) refl ready
-    keeps held (put_under control place x size index value) s u ready = (
-      keeps_put held x index value s u ready (s.controls control) (u.controls control)
-          (ap (λ (c : ℕ → Bool). c control) ready.at.controls),
-      put_path place x size index value s u (put_alike held x index value s u ready),
-    )
     keeps held (branch condition accepted otherwise) s u ready =
         let second = before_all table held otherwise in
         let one = before_all table (anew second held.holders) accepted in
@@ -420,7 +398,8 @@ module _ (table : Table) where
         let second_arm = keeps_all held otherwise s u at_second in
         let code = shared_all table (anew second held.holders) accepted in
         let other = shared_all table held otherwise in (
-          either_at held (value_at s condition) (value_at u (renamed table condition)) (sym value)
+          either_at held (value_at s condition == 0) (value_at u (renamed table condition) == 0)
+              (ap (λ v. v == 0) (sym value))
               (after_all s otherwise) (after_all s accepted) (after_all u other) (after_all u code)
               second_arm.0 (record { alike = first_arm.0.alike; controls = first_arm.0.controls }),
           ap₂ (λ (p q : Path). p ++ q) (same_path table s.variables u.variables both condition read)

@@ -3,7 +3,7 @@
 use Rattle.std.proofs.Common.{◌≡◌, ℕ, ◌==◌, true, if◌then◌else◌, List, [], ◌∷◌, ◌++◌}
 use Rattle.std.proofs.Common.{map, slice_index, refl, sym, ap, ap₂, ◌∙◌}
 use Rattle.inline.specs.Flat.{TermTree, number, truth, variable, prefix, binary, rotate, convert, select, element}
-use Rattle.inline.specs.FlatMeaning.{Values, value_in, path_in, path_in_all, marks_of}
+use Rattle.inline.specs.FlatMeaning.{Values, value_in, elements, path_in, path_in_all, marks_of}
 use Rattle.inline.specs.Path.{Path, indexed}
 use Rattle.language.specs.Operators.{operated, prefix_value, width_of}
 use Rattle.word.specs.Operators.{rotated_left, converted}
@@ -109,7 +109,7 @@ module _ (table : Table) (m n : Values) where
       let one = living table held x in
       ap₂ (λ (p : Path) (i : ℕ). p ++ indexed place size i ∷ []) (same_path one index is) (same_value one index is)
 
-  pub same_values : (held : Held) (es : List TermTree) → IsRead (reading_all table [] held es)
+  same_values : (held : Held) (es : List TermTree) → IsRead (reading_all table [] held es)
       → map (value_in n) (map (renamed table) es) ≡ map (value_in m) es
   same_values held [] is = refl
   same_values held (e ∷ es) is =
@@ -117,6 +117,11 @@ module _ (table : Table) (m n : Values) where
       ap₂ (λ v vs. v ∷ vs)
       (same_value held e (read_before one (reading_all table [] one es) (grows_reading_all table [] one es) is))
       (same_values one es is)
+
+  pub same_elements : (held : Held) (size : ℕ) (es : List TermTree) → IsRead (reading_all table [] held es)
+      → elements n size (map (renamed table) es) ≡ elements m size es
+  same_elements held size [] is = refl
+  same_elements held size (e ∷ es) is = same_values held (e ∷ es) is
 
   pub same_path_all : (held : Held) (es : List TermTree) → IsRead (reading_all table [] held es)
       → path_in_all n (map (renamed table) es) ≡ path_in_all m es

@@ -1,6 +1,6 @@
--- Code over the variables that words live in is well typed where the code is: each word lives in a variable of its type,
--- and an array in its own. A counter has to be one that is not assigned to, and keeps its own variable.
-use Rattle.std.proofs.Common.{◌≡◌, ℕ, ◌==◌, Bool, true, false, if◌then◌else◌, List, [], ◌∷◌, map, length, Option}
+-- Code over the variables that words live in is well typed where the code is: each word lives in a variable of its
+-- type, and an array in its own. A counter has to be one that is not assigned to, and keeps its own variable.
+use Rattle.std.proofs.Common.{◌≡◌, ℕ, ◌==◌, Bool, true, false, if◌then◌else◌, List, [], ◌∷◌, map, Option}
 use Rattle.std.proofs.Common.{None, Some, option_map, slice_get, ◌⊎◌, inl, inr, refl, sym, ap, ◌∙◌, subst}
 use Rattle.std.proofs.lemmas.Bool.{ne_eqb}
 use Rattle.std.proofs.lemmas.List.{length-map}
@@ -8,13 +8,13 @@ use Rattle.std.proofs.lemmas.Option.{none-some, same_Some}
 use Rattle.inline.specs.declared.flat.FlatVariable.{FlatVariable}
 use Rattle.inline.specs.Flat.{TermTree, word_as, array_as}
 use Rattle.inline.specs.FlatTyping.{Types, types_of, HasType, of_number, of_truth, of_variable, of_prefix, of_binary}
-use Rattle.inline.specs.FlatTyping.{of_rotation, of_conversion, of_selection, of_element, Suits, AllSuit, IsResult}
+use Rattle.inline.specs.FlatTyping.{of_rotation, of_conversion, of_selection, of_element, Suits, AllSuit, HasCount, IsResult}
 use Rattle.language.specs.declared.typing.WordType.{WordType}
 use Rattle.word.specs.declared.profile.Profile.{Profile}
-use Rattle.branch_removal.specs.Straight.{StraightTree, set, clear, fill, put, take, set_under, put_under, branch}
-use Rattle.branch_removal.specs.Straight.{repeats, StraightBlock, nothing, first}
+use Rattle.branch_removal.specs.Straight.{StraightTree, set, array, put, take, branch, repeats, StraightBlock, nothing}
+use Rattle.branch_removal.specs.Straight.{first}
 use Rattle.branch_removal.specs.StraightTyping.{IsSet, IsFilled, IsPut, types_but, IsTyped, AreTyped, IsHidden}
-use Rattle.branch_removal.specs.StraightTyping.{AreHidden, IsSecret}
+use Rattle.branch_removal.specs.StraightTyping.{AreHidden, IsSecretWithin}
 use Rattle.optimisation.specs.live_words.private.Held.{Table, Held, share, anew}
 use Rattle.optimisation.specs.live_words.private.Terms.{renamed, is_dead}
 use Rattle.optimisation.specs.live_words.private.Gathering.{at_head}
@@ -111,10 +111,11 @@ module _ (table : Table) where
     }
 
     -- what a secret variable lives in is secret
-    by_secret : (x : ℕ) → IsSecret declared x → (share table x ≡ x) ⊎ IsAlike declared x (share table x)
-        → IsSecret declared (share table x)
-    by_secret x secret (inl own) = subst (IsSecret declared) (sym own) secret
-    by_secret x secret (inr alike) =
+    by_secret : (within : Option ℕ) (x : ℕ) → IsSecretWithin declared within x
+        → (share table x ≡ x) ⊎ IsAlike declared x (share table x) → IsSecretWithin declared within (share table x)
+    by_secret within x secret (inl own) = subst (IsSecretWithin declared within) (sym own) secret
+    by_secret None x secret (inr alike) = tt
+    by_secret (Some control) x secret (inr alike) =
         λ d is. ap (λ (e : FlatVariable). e.word.label)
         (sym (same_Some (word_as alike.word alike.other) d (sym alike.to ∙ is)))
         ∙ secret (word_as alike.word alike.mutable) alike.from
@@ -125,7 +126,8 @@ module _ (table : Table) where
       abbrev but : Bool → ℕ → Option FlatVariable
       but b y = if b then None else slice_get declared y
 
-      but_apart : (b : Bool) (y : ℕ) (d : FlatVariable) → but b y ≡ Some d → (b ≡ false) × (slice_get declared y ≡ Some d)
+      but_apart : (b : Bool) (y : ℕ) (d : FlatVariable) → but b y ≡ Some d
+          → (b ≡ false) × (slice_get declared y ≡ Some d)
       but_apart true y d at = absurd (none-some d at)
       but_apart false y d at = (refl, at)
 
@@ -166,6 +168,11 @@ module _ (table : Table) where
       suits = still_suits types are_kept is.suits;
     }
 
+    still_counted : (size : ℕ) (values : List TermTree) → HasCount size values
+        → HasCount size (map (renamed table) values)
+    still_counted size [] count = tt
+    still_counted size (e ∷ es) count = length-map (e ∷ es) (renamed table) ∙ count
+
     still_filled : (x size : ℕ) (values : List TermTree) → IsFilled profile declared x size values
         → IsFilled profile declared (share table x) size (map (renamed table) values)
     still_filled x size values is =
@@ -177,6 +184,7 @@ module _ (table : Table) where
           known = is.known;
           suit = all_still_suit (types_but profile declared x) (but_kept x is.word is.mutable size is.known)
               is.word values is.suit;
+          count = still_counted size values is.count;
         })
 
     -- a statement in front of some, where there is one
@@ -197,19 +205,13 @@ module _ (table : Table) where
     mutual
       still_typed : (held : Held) (statement : StraightTree) → (before table held statement).fits ≡ true
           → IsTyped profile declared controls statement → IsTypedAny (shared table held statement)
-      still_typed held (set x value) f is =
-          typed_if (is_dead table held x value) (set (share table x) (renamed table value)) (still_set x value is)
-      still_typed held (clear x size) f is = still_filled x size [] is
-      still_typed held (fill x values) f is =
-          subst (λ n. IsFilled profile declared (share table x) n (map (renamed table) values))
-          (sym (length-map values (renamed table))) (still_filled x (length values) values is)
-      still_typed held (put place x size index value) f is = still_put x size index value is
+      still_typed held (set within x value) f is =
+          typed_if (is_dead table held x value) (set within (share table x) (renamed table value))
+          (is.0, still_set x value is.1)
+      still_typed held (array x size values) f is = still_filled x size values is
+      still_typed held (put within place x size index value) f is = (is.0, still_put x size index value is.1)
       still_typed held (take control within condition) f is =
           (is.0, is.1, (is.2.0, still_type types are_kept is.2.1))
-      still_typed held (set_under control x value) f is =
-          typed_if (is_dead table held x value) (set_under control (share table x) (renamed table value))
-          (is.0, still_set x value is.1)
-      still_typed held (put_under control place x size index value) f is = (is.0, still_put x size index value is.1)
       still_typed held (branch condition accepted otherwise) f is =
           let fits = arms_fit table held condition accepted otherwise f in (
             still_type types are_kept is.0,
@@ -251,16 +253,12 @@ module _ (table : Table) where
     mutual
       still_hidden : (held : Held) (statement : StraightTree) → IsHidden declared statement
           → IsHiddenAny (shared table held statement)
-      still_hidden held (set x value) hidden =
-          hidden_if (is_dead table held x value) (set (share table x) (renamed table value)) tt
-      still_hidden held (clear x size) hidden = tt
-      still_hidden held (fill x values) hidden = tt
-      still_hidden held (put place x size index value) hidden = tt
+      still_hidden held (set within x value) hidden =
+          hidden_if (is_dead table held x value) (set within (share table x) (renamed table value))
+          (by_secret within x hidden (kept x))
+      still_hidden held (array x size values) hidden = tt
+      still_hidden held (put within place x size index value) hidden = by_secret within x hidden (kept x)
       still_hidden held (take control within condition) hidden = tt
-      still_hidden held (set_under control x value) hidden =
-          hidden_if (is_dead table held x value) (set_under control (share table x) (renamed table value))
-          (by_secret x hidden (kept x))
-      still_hidden held (put_under control place x size index value) hidden = by_secret x hidden (kept x)
       still_hidden held (branch condition accepted otherwise) hidden = (
         still_hidden_all (anew (before_all table held otherwise) held.holders) accepted hidden.0,
         still_hidden_all held otherwise hidden.1,

@@ -68,13 +68,11 @@ fn narrow_by(parts: &mut Parts, statement: &StraightStatement)
     ensures { parts.new.arrays.items ≡ narrowed_by parts.old.arrays.items (straight_tree statement.now) }
 {
     match statement {
-        StraightStatement::Set(_, value)
-        | StraightStatement::Take(_, _, value)
-        | StraightStatement::SetUnder(_, _, value) => narrow(parts, value),
-        StraightStatement::Clear(_, _) => {}
-        StraightStatement::Fill(_, values) => narrow_all(parts, values),
-        StraightStatement::Put(_, array, _, index, value)
-        | StraightStatement::PutUnder(_, _, array, _, index, value) => {
+        StraightStatement::Set(_, _, value) | StraightStatement::Take(_, _, value) => {
+            narrow(parts, value);
+        }
+        StraightStatement::Array(_, _, values) => narrow_all(parts, values),
+        StraightStatement::Put(_, _, array, _, index, value) => {
             narrow_put(parts, *array, index, value);
         }
         StraightStatement::Branch(condition, accepted, otherwise) => {

@@ -166,7 +166,8 @@ impl Model for Words {
 }
 
 impl Words {
-    /// The words that a program's arrays become. The program alone decides them. Running out of memory alone refuses it.
+    /// The words that a program's arrays become. The program alone decides them. Running out of memory alone refuses
+    /// it.
     pub fn of(alloc: Global, straight: &Straight<'_>) -> Result<Words, Refusal>
         ensures exact { IfOk result (λ words. words ≡ words_of straight.now) }
         ensures memory { IfErr result (λ refusal. IsWantOfMemory refusal.rule refusal.place) }
@@ -176,8 +177,8 @@ impl Words {
         Ok(Words { declared, parts })
     }
 
-    /// The program in which its arrays are these words. It may stand in the place of the program that it is made of, which
-    /// alone decides it. Running out of memory alone refuses it.
+    /// The program in which its arrays are these words. It may stand in the place of the program that it is made of,
+    /// which alone decides it. Running out of memory alone refuses it.
     pub fn apply<'g, 'f>(
         &'g self,
         alloc: Global,

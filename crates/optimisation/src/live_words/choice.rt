@@ -34,7 +34,8 @@ fn is_word(elements: Option<u32>) -> bool
     }
 }
 
-/// Whether two variables are words of one type. One may be assigned to where the other may not: straight code sets both.
+/// Whether two variables are words of one type. One may be assigned to where the other may not: straight code sets
+/// both.
 fn same_words(one: FlatVariable, other: FlatVariable) -> bool
     ensures { result ≡ same_words one other }
 {
@@ -130,8 +131,8 @@ impl<'w> Words<'w> {
             || is_conflict(conflicts, self.width, word, word)
     }
 
-    /// Whether a word may share this variable, in which another is placed. That of a counter is not shared, since a loop
-    /// counts in a register only where its body sets the counter nowhere.
+    /// Whether a word may share this variable, in which another is placed. That of a counter is not shared, since a
+    /// loop counts in a register only where its body sets the counter nowhere.
     fn may_share(&self, conflicts: &[bool], word: u32, variable: u32) -> bool
         ensures { result ≡ may_share self.now.declared.now conflicts.now self.now.width word variable }
     {

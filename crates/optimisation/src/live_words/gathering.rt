@@ -1,13 +1,15 @@
 // What a loop's body may read of what it did not set.
 
 ghost use Rattle.std.specs.Prelude.{◌≡◌, OnOk};
-ghost use Rattle.branch_removal.specs.Straight.{straight_block, straight_tree};
-ghost use Rattle.optimisation.specs.live_words.private.Gathering.{at_head, done_after, gathered, gathered_all, with_done};
+ghost use Rattle.branch_removal.specs.Straight.{set, straight_block, straight_tree};
+ghost use Rattle.inline.specs.Flat.{term_tree};
+ghost use Rattle.optimisation.specs.live_words.private.Gathering.{at_head, done_after, gathered, gathered_all, with_done, with_done_within};
 ghost use Rattle.optimisation.specs.live_words.private.Held.{held_by};
 
 use crate::live_words::live::Live;
 use crate::live_words::terms::{read, read_all};
 use branch_removal::StraightStatement;
+use inline::Term;
 use std::alloc::{AllocError, Global};
 
 /// A word was set too.
@@ -19,20 +21,47 @@ fn note_done(done: &mut Vec<bool>, word: u32)
     }
 }
 
+/// A word was set too, but for where a control value around it may be false.
+fn note_set(done: &mut Vec<bool>, within: Option<u32>, word: u32)
+    ensures { done.new.items ≡ with_done_within done.old.items within word }
+{
+    match within {
+        None => note_done(done, word),
+        Some(_) => {}
+    }
+}
+
 /// What was set once a statement has run. Of what is set in a part that may run or not nothing is known behind it.
 fn note_done_by(done: &mut Vec<bool>, statement: &StraightStatement)
     ensures { done.new.items ≡ done_after done.old.items (straight_tree statement.now) }
 {
     match statement {
-        StraightStatement::Set(word, _)
-        | StraightStatement::Clear(word, _)
-        | StraightStatement::Fill(word, _) => note_done(done, *word),
-        StraightStatement::Put(_, _, _, _, _)
+        StraightStatement::Set(within, word, _) => note_set(done, *within, *word),
+        StraightStatement::Array(word, _, _) => note_done(done, *word),
+        StraightStatement::Put(_, _, _, _, _, _)
         | StraightStatement::Take(_, _, _)
-        | StraightStatement::SetUnder(_, _, _)
-        | StraightStatement::PutUnder(_, _, _, _, _, _)
         | StraightStatement::Branch(_, _, _)
         | StraightStatement::Repeat(_, _, _, _) => {}
+    }
+}
+
+/// What a value reads that a word is set to is live, and within a control value the word, which may keep what it holds.
+fn gather_set(
+    live: &mut Live,
+    table: &[u32],
+    done: &[bool],
+    within: Option<u32>,
+    word: u32,
+    value: &Term,
+)
+    ensures { held_by live.new ≡ gathered table.now done.now (held_by live.old) (set within word (term_tree value.now)) }
+{
+    match within {
+        None => read(live, table, done, value),
+        Some(_) => {
+            live.live_where(table, done, word);
+            read(live, table, done, value);
+        }
     }
 }
 
@@ -48,20 +77,16 @@ fn gather(
     ensures { OnOk result (held_by live.new ≡ gathered table.now done.now (held_by live.old) (straight_tree statement.now)) }
 {
     match statement {
-        StraightStatement::Set(_, value) => read(live, table, done, value),
-        StraightStatement::Clear(_, _) => {}
-        StraightStatement::Fill(_, values) => read_all(live, table, done, values),
-        StraightStatement::Put(_, array, _, index, value)
-        | StraightStatement::PutUnder(_, _, array, _, index, value) => {
+        StraightStatement::Set(within, word, value) => {
+            gather_set(live, table, done, *within, *word, value);
+        }
+        StraightStatement::Array(_, _, values) => read_all(live, table, done, values),
+        StraightStatement::Put(_, _, array, _, index, value) => {
             live.live_where(table, done, *array);
             read(live, table, done, value);
             read(live, table, done, index);
         }
         StraightStatement::Take(_, _, condition) => read(live, table, done, condition),
-        StraightStatement::SetUnder(_, word, value) => {
-            live.live_where(table, done, *word);
-            read(live, table, done, value);
-        }
         StraightStatement::Branch(condition, accepted, otherwise) => {
             read(live, table, done, condition);
             gather_all(alloc, live, table, Vec::from_slice(alloc, done)?, accepted)?;

@@ -6,7 +6,7 @@ ghost use Rattle.branch_removal.specs.Straight as straight;
 ghost use Rattle.branch_removal.specs.Straight.{nothing, straight_block, straight_tree};
 ghost use Rattle.inline.specs.Flat.{term_tree};
 ghost use Rattle.optimisation.specs.live_words.private.Held.{held_by};
-ghost use Rattle.optimisation.specs.live_words.private.Sharing.{before, before_all, before_branch, before_put, before_loop, in_front, onto, shared, shared_all, shared_branch, shared_loop};
+ghost use Rattle.optimisation.specs.live_words.private.Sharing.{before, before_all, before_branch, before_put, before_loop, in_front, onto, setting_within, shared, shared_all, shared_branch, shared_loop};
 
 use crate::live_words::gathering::gather_loop;
 use crate::live_words::live::{Live, share};
@@ -59,46 +59,35 @@ fn in_order(
     Ok(code)
 }
 
+/// Before a word is set, which keeps what it holds where a control value around it is false.
+fn set_within(live: &mut Live, table: &[u32], within: Option<u32>, word: u32)
+    ensures { held_by live.new ≡ setting_within table.now (held_by live.old) within word }
+{
+    match within {
+        None => live.set(table, word),
+        Some(_) => live.live(table, word),
+    }
+}
+
 /// A word is set, where that is not left out.
 fn set(
     alloc: Global,
     live: &mut Live,
     table: &[u32],
+    within: Option<u32>,
     word: u32,
     value: &Term,
 ) -> Result<Option<StraightStatement>, AllocError>
-    ensures code { IfOk result (λ code. option_map straight_tree code ≡ shared table.now (held_by live.old) (straight.set word (term_tree value.now))) }
-    ensures live { OnOk result (held_by live.new ≡ before table.now (held_by live.old) (straight.set word (term_tree value.now))) }
+    ensures code { IfOk result (λ code. option_map straight_tree code ≡ shared table.now (held_by live.old) (straight.set within word (term_tree value.now))) }
+    ensures live { OnOk result (held_by live.new ≡ before table.now (held_by live.old) (straight.set within word (term_tree value.now))) }
 {
     if is_dead(live, table, word, value) {
         return Ok(None);
     }
-    live.set(table, word);
+    set_within(live, table, within, word);
     read(live, table, &[], value);
     let value = renamed(alloc, table, value)?;
-    Ok(Some(StraightStatement::Set(share(table, word), value)))
-}
-
-/// A word is set under a control value, where that is not left out: where the control value is false it keeps what it
-/// holds.
-fn set_under(
-    alloc: Global,
-    live: &mut Live,
-    table: &[u32],
-    control: u32,
-    word: u32,
-    value: &Term,
-) -> Result<Option<StraightStatement>, AllocError>
-    ensures code { IfOk result (λ code. option_map straight_tree code ≡ shared table.now (held_by live.old) (straight.set_under control word (term_tree value.now))) }
-    ensures live { OnOk result (held_by live.new ≡ before table.now (held_by live.old) (straight.set_under control word (term_tree value.now))) }
-{
-    if is_dead(live, table, word, value) {
-        return Ok(None);
-    }
-    live.live(table, word);
-    read(live, table, &[], value);
-    let value = renamed(alloc, table, value)?;
-    Ok(Some(StraightStatement::SetUnder(control, share(table, word), value)))
+    Ok(Some(StraightStatement::Set(within, share(table, word), value)))
 }
 
 /// A statement over the variables that words live in, where it is not left out. What is live before it is noted.
@@ -113,38 +102,26 @@ fn statement(
     ensures live { OnOk result (held_by live.new ≡ before table.now (held_by live.old) (straight_tree statement.now)) }
 {
     match statement {
-        StraightStatement::Set(word, value) => set(alloc, live, table, *word, value),
-        StraightStatement::Clear(array, size) => {
-            live.set(table, *array);
-            Ok(Some(StraightStatement::Clear(share(table, *array), *size)))
+        StraightStatement::Set(within, word, value) => {
+            set(alloc, live, table, *within, *word, value)
         }
-        StraightStatement::Fill(array, values) => {
+        StraightStatement::Array(array, size, values) => {
             live.set(table, *array);
             read_all(live, table, &[], values);
             let values = all_renamed(alloc, table, values)?;
-            Ok(Some(StraightStatement::Fill(share(table, *array), values)))
+            Ok(Some(StraightStatement::Array(share(table, *array), *size, values)))
         }
-        StraightStatement::Put(place, array, size, index, value) => {
+        StraightStatement::Put(within, place, array, size, index, value) => {
             put(live, table, *array, index, value);
             let index = renamed(alloc, table, index)?;
             let value = renamed(alloc, table, value)?;
             let array = share(table, *array);
-            Ok(Some(StraightStatement::Put(*place, array, *size, index, value)))
+            Ok(Some(StraightStatement::Put(*within, *place, array, *size, index, value)))
         }
         StraightStatement::Take(control, within, condition) => {
             read(live, table, &[], condition);
             let condition = renamed(alloc, table, condition)?;
             Ok(Some(StraightStatement::Take(*control, *within, condition)))
-        }
-        StraightStatement::SetUnder(control, word, value) => {
-            set_under(alloc, live, table, *control, *word, value)
-        }
-        StraightStatement::PutUnder(control, place, array, size, index, value) => {
-            put(live, table, *array, index, value);
-            let index = renamed(alloc, table, index)?;
-            let value = renamed(alloc, table, value)?;
-            let array = share(table, *array);
-            Ok(Some(StraightStatement::PutUnder(*control, *place, array, *size, index, value)))
         }
         StraightStatement::Branch(condition, accepted, otherwise) => {
             branch(alloc, live, table, condition, accepted, otherwise)

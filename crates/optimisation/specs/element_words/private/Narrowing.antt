@@ -1,8 +1,8 @@
 -- Which arrays still become words once it is seen how each is used: by known indices alone.
 use Rattle.std.specs.Prelude.{ℕ, List, [], ◌∷◌, Option, None, Some}
 use Rattle.inline.specs.Flat.{TermTree, number, truth, variable, prefix, binary, rotate, convert, select, element}
-use Rattle.branch_removal.specs.Straight.{StraightTree, set, clear, fill, put, take, set_under, put_under, branch}
-use Rattle.branch_removal.specs.Straight.{repeats, StraightBlock, nothing, first}
+use Rattle.branch_removal.specs.Straight.{StraightTree, set, array, put, take, branch, repeats, StraightBlock, nothing}
+use Rattle.branch_removal.specs.Straight.{first}
 use Rattle.optimisation.specs.element_words.private.Parts.{Parts, whole, word_of}
 
 -- an array stays whole unless this use of it is a word
@@ -37,13 +37,10 @@ narrowed_put parts x index value = narrowed (narrowed (narrowed_at parts x index
 abbrev mutual
   -- by a statement
   pub narrowed_by : Parts → StraightTree → Parts
-  narrowed_by parts (set x value) = narrowed parts value
-  narrowed_by parts (clear x size) = parts
-  narrowed_by parts (fill x values) = all_narrowed parts values
-  narrowed_by parts (put place x size index value) = narrowed_put parts x index value
+  narrowed_by parts (set within x value) = narrowed parts value
+  narrowed_by parts (array x size values) = all_narrowed parts values
+  narrowed_by parts (put within place x size index value) = narrowed_put parts x index value
   narrowed_by parts (take control within condition) = narrowed parts condition
-  narrowed_by parts (set_under control x value) = narrowed parts value
-  narrowed_by parts (put_under control place x size index value) = narrowed_put parts x index value
   narrowed_by parts (branch condition accepted otherwise) =
       narrowed_by_all (narrowed_by_all (narrowed parts condition) accepted) otherwise
   narrowed_by parts (repeats x low high body) = narrowed_by_all (narrowed (narrowed parts low) high) body

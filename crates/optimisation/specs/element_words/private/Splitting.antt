@@ -1,8 +1,8 @@
 -- Code in which arrays are so many words.
-use Rattle.std.specs.Prelude.{ℕ, zero, suc, ◌+◌, List, [], ◌∷◌, map, Option, None, Some}
+use Rattle.std.specs.Prelude.{ℕ, zero, suc, ◌+◌, List, [], ◌∷◌, drop, map, Option, None, Some}
 use Rattle.inline.specs.Flat.{TermTree, number, truth, variable, prefix, binary, rotate, convert, select, element}
-use Rattle.branch_removal.specs.Straight.{StraightTree, set, clear, fill, put, take, set_under, put_under, branch}
-use Rattle.branch_removal.specs.Straight.{repeats, StraightBlock, nothing, first, chain}
+use Rattle.branch_removal.specs.Straight.{StraightTree, set, array, put, take, branch, repeats, StraightBlock, nothing}
+use Rattle.branch_removal.specs.Straight.{first, chain}
 use Rattle.language.specs.declared.signature.Kind.{Kind}
 use Rattle.word.specs.declared.place.Place.{Place}
 use Rattle.optimisation.specs.declared.element_words.parts.Part.{Part}
@@ -29,45 +29,34 @@ split parts (element place x size index) = word_or (word_of parts x index) (elem
 abbrev pub single : StraightTree → StraightBlock
 single statement = first statement nothing
 
--- so many words, the first of this number, become 0
-abbrev pub zeros : ℕ → ℕ → Kind → StraightBlock
-zeros base zero kind = nothing
-zeros base (suc n) kind = first (set base (number 0 kind)) (zeros (base + 1) n kind)
+-- the first of some values, or 0 where there is none
+abbrev pub first_value : Kind → List TermTree → TermTree
+first_value kind [] = number 0 kind
+first_value kind (value ∷ values) = value
 
--- so many words, the first of this number, get these values
-abbrev pub given_values : ℕ → ℕ → List TermTree → StraightBlock
-given_values base zero values = nothing
-given_values base (suc n) [] = nothing
-given_values base (suc n) (value ∷ values) = first (set base value) (given_values (base + 1) n values)
+-- so many words of a kind, the first of this number, get these values, and become 0 where there are no more
+abbrev pub given_words : ℕ → ℕ → Kind → List TermTree → StraightBlock
+given_words base zero kind values = nothing
+given_words base (suc n) kind values =
+    first (set None base (first_value kind values)) (given_words (base + 1) n kind (drop 1 values))
 
-abbrev pub cleared : Option Part → ℕ → ℕ → StraightBlock
-cleared None x size = single (clear x size)
-cleared (Some part) x size = zeros part.base part.size part.word.kind
-
-abbrev pub filled : Option Part → ℕ → List TermTree → StraightBlock
-filled None x values = single (fill x values)
-filled (Some part) x values = given_values part.base part.size values
+-- a new array, its first values split already
+abbrev pub new_array : Option Part → ℕ → ℕ → List TermTree → StraightBlock
+new_array None x size values = single (array x size values)
+new_array (Some part) x size values = given_words part.base part.size part.word.kind values
 
 -- an element is set, its index and its value split already
-abbrev pub put_in : Option ℕ → Place → ℕ → ℕ → TermTree → TermTree → StraightTree
-put_in None place x size index value = put place x size index value
-put_in (Some word) place x size index value = set word value
-
-abbrev pub put_in_under : Option ℕ → ℕ → Place → ℕ → ℕ → TermTree → TermTree → StraightTree
-put_in_under None control place x size index value = put_under control place x size index value
-put_in_under (Some word) control place x size index value = set_under control word value
+abbrev pub put_in : Option ℕ → Option ℕ → Place → ℕ → ℕ → TermTree → TermTree → StraightTree
+put_in None within place x size index value = put within place x size index value
+put_in (Some word) within place x size index value = set within word value
 
 abbrev mutual
   pub split_in : Parts → StraightTree → StraightBlock
-  split_in parts (set x value) = single (set x (split parts value))
-  split_in parts (clear x size) = cleared (part_of parts x) x size
-  split_in parts (fill x values) = filled (part_of parts x) x (map (split parts) values)
-  split_in parts (put place x size index value) =
-      single (put_in (word_of parts x index) place x size (split parts index) (split parts value))
+  split_in parts (set within x value) = single (set within x (split parts value))
+  split_in parts (array x size values) = new_array (part_of parts x) x size (map (split parts) values)
+  split_in parts (put within place x size index value) =
+      single (put_in (word_of parts x index) within place x size (split parts index) (split parts value))
   split_in parts (take control within condition) = single (take control within (split parts condition))
-  split_in parts (set_under control x value) = single (set_under control x (split parts value))
-  split_in parts (put_under control place x size index value) =
-      single (put_in_under (word_of parts x index) control place x size (split parts index) (split parts value))
   split_in parts (branch condition accepted otherwise) =
       single (branch (split parts condition) (split_all parts accepted) (split_all parts otherwise))
   split_in parts (repeats x low high body) =

@@ -1,12 +1,17 @@
 -- How words share variables: from the last statement back to the first, what is live is carried along.
 use Rattle.std.specs.Prelude.{ℕ, [], map, Option, None, Some, if◌then◌else◌}
-use Rattle.branch_removal.specs.Straight.{StraightTree, set, clear, fill, put, take, set_under, put_under, branch}
-use Rattle.branch_removal.specs.Straight.{repeats, StraightBlock, nothing, first}
+use Rattle.branch_removal.specs.Straight.{StraightTree, set, array, put, take, branch, repeats, StraightBlock, nothing}
+use Rattle.branch_removal.specs.Straight.{first}
 use Rattle.inline.specs.Flat.{TermTree}
 use Rattle.optimisation.specs.live_words.private.Held.{Table, Held, share, anew, fitting, living, setting, counting}
 use Rattle.optimisation.specs.live_words.private.Held.{joined, covers}
 use Rattle.optimisation.specs.live_words.private.Terms.{reading, reading_all, renamed, is_dead}
 use Rattle.optimisation.specs.live_words.private.Gathering.{at_head}
+
+-- before a word is set, which keeps what it holds where a control value around it is false
+abbrev pub setting_within : Table → Held → Option ℕ → ℕ → Held
+setting_within table held None x = setting table held x
+setting_within table held (Some control) x = living table held x
 
 -- before an array's element is set at an index to a value
 abbrev pub before_put : Table → Held → ℕ → TermTree → TermTree → Held
@@ -31,15 +36,11 @@ before_bounds table low high held = reading table [] (reading table [] held high
 abbrev mutual
   -- what is live before a statement
   pub before : Table → Held → StraightTree → Held
-  before table held (set x value) =
-      if is_dead table held x value then held else reading table [] (setting table held x) value
-  before table held (clear x size) = setting table held x
-  before table held (fill x values) = reading_all table [] (setting table held x) values
-  before table held (put place x size index value) = before_put table held x index value
+  before table held (set within x value) =
+      if is_dead table held x value then held else reading table [] (setting_within table held within x) value
+  before table held (array x size values) = reading_all table [] (setting table held x) values
+  before table held (put within place x size index value) = before_put table held x index value
   before table held (take control within condition) = reading table [] held condition
-  before table held (set_under control x value) =
-      if is_dead table held x value then held else reading table [] (living table held x) value
-  before table held (put_under control place x size index value) = before_put table held x index value
   before table held (branch condition accepted otherwise) =
       before_arms table condition (before_all table held otherwise)
       (before_all table (anew (before_all table held otherwise) held.holders) accepted)
@@ -60,17 +61,12 @@ in_front (Some statement) rest = first statement rest
 abbrev mutual
   -- a statement over the variables that words live in, where it is not left out
   pub shared : Table → Held → StraightTree → Option StraightTree
-  shared table held (set x value) =
-      if is_dead table held x value then None else Some (set (share table x) (renamed table value))
-  shared table held (clear x size) = Some (clear (share table x) size)
-  shared table held (fill x values) = Some (fill (share table x) (map (renamed table) values))
-  shared table held (put place x size index value) =
-      Some (put place (share table x) size (renamed table index) (renamed table value))
+  shared table held (set within x value) =
+      if is_dead table held x value then None else Some (set within (share table x) (renamed table value))
+  shared table held (array x size values) = Some (array (share table x) size (map (renamed table) values))
+  shared table held (put within place x size index value) =
+      Some (put within place (share table x) size (renamed table index) (renamed table value))
   shared table held (take control within condition) = Some (take control within (renamed table condition))
-  shared table held (set_under control x value) =
-      if is_dead table held x value then None else Some (set_under control (share table x) (renamed table value))
-  shared table held (put_under control place x size index value) =
-      Some (put_under control place (share table x) size (renamed table index) (renamed table value))
   shared table held (branch condition accepted otherwise) =
       Some (branch (renamed table condition)
       (shared_all table (anew (before_all table held otherwise) held.holders) accepted)
