@@ -249,16 +249,16 @@ module _ (before : List Procedure) (export : Procedure) (args : List Arg) (left 
       (inside_stops _ left 63 64 fault (omega arith)
       (subst (λ u. Stopped (body_run (known_of before) (procedure_tree export) u) left 63 fault) holds_so h))
 
-  pub export_ends : (word : Option Word) (t : State) (after : ℕ) (qs : List Parameter) (outcome : Results)
+  pub export_ends : (word : Option Word) (t : State) (after : ℕ) (outcome : Results)
       → Ended (body_run (known_of before) (procedure_tree export) state) left 63
       (record { word = word; state = t }) after
-      → qs ≡ export.parameters.items → outcome.returned ≡ option_map (λ (v : Word). v.value) word
-      → outcome.arrays ≡ final_arrays t (map parameter_tree qs)
+      → outcome.returned ≡ option_map (λ (v : Word). v.value) word
+      → outcome.arrays ≡ final_arrays t (map parameter_tree ps)
       → Ended (export_run (map procedure_tree before) (procedure_tree export) args) left most_bodies outcome after
-  export_ends word t after qs outcome h again one other =
+  export_ends word t after outcome h one other =
       let r : Returned = record { word = word; state = t } in
       let out : Results = results (procedure_tree export) r in
-      let arrays : outcome.arrays ≡ out.arrays = other ∙ ap (λ xs. final_arrays t (map parameter_tree xs)) again in
+      let arrays : outcome.arrays ≡ out.arrays = other ∙ ap (λ xs. final_arrays t (map parameter_tree xs)) parameters in
       let same : out ≡ outcome = ap₂ (λ a b. record { returned = a; arrays = b }) (sym one) (sym arrays) in
       subst (λ x. Ended (export_run (map procedure_tree before) (procedure_tree export) args) left most_bodies x
       after) same

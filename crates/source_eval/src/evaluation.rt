@@ -15,6 +15,7 @@ ghost use Rattle.source_eval.specs.Views.{held, value_of, word_of};
 ghost use Rattle.source_eval.specs.declared.fault.EvalFault.TheVariants.{Memory};
 
 use crate::EvalFault;
+use crate::running::Running;
 use crate::statements::body;
 use crate::values::{Value, Word};
 use crate::variables::Variables;
@@ -109,13 +110,23 @@ fn run_export<'a>(
     export: &Procedure<'a>,
     args: &[Arg],
 ) -> Result<Outcome, EvalFault>
-    ensures ok { IfOk result (λ outcome. Ended (export_run (map procedure_tree earlier.now) (procedure_tree export.now) args.now) left.old most_bodies outcome left.new) }
-    ensures err { IfErr result (λ fault. Stopped (export_run (map procedure_tree earlier.now) (procedure_tree export.now) args.now) left.old most_bodies fault) }
+    ensures ok { IfOk result (λ outcome. Ended
+        (export_run (map procedure_tree earlier.now) (procedure_tree export.now) args.now)
+        left.old most_bodies outcome left.new) }
+    ensures err { IfErr result (λ fault. Stopped
+        (export_run (map procedure_tree earlier.now) (procedure_tree export.now) args.now)
+        left.old most_bodies fault) }
 {
-    let mut variables = holding(alloc, &export.parameters, args)?;
-    let room = MOST_BODIES - 1;
-    let returned = body(alloc, earlier, left, room, export, &mut variables)?;
-    let arrays = final_arrays(alloc, &variables, &export.parameters)?;
+    let parameters = export.parameters.as_slice();
+    let variables = holding(alloc, parameters, args)?;
+    let mut running = Running {
+        alloc,
+        left: *left,
+        variables,
+    };
+    let returned = body(earlier, MOST_BODIES - 1, &mut running, export)?;
+    *left = running.left;
+    let arrays = final_arrays(alloc, &running.variables, parameters)?;
     Ok(Outcome::new(number(returned), arrays))
 }
 

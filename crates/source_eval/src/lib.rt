@@ -10,6 +10,7 @@ mod expressions;
 mod fault;
 mod laws;
 mod operators;
+mod running;
 mod spending;
 mod statements;
 mod values;

@@ -1,5 +1,5 @@
-// Statements, calls and bodies. Each evaluates its nodes in the order of the text; `left` is how many more may be
-// evaluated, `room` how many more bodies may be opened, `earlier` the procedures that may be called.
+// Statements, calls and bodies. Each evaluates its nodes in the order of the text; `earlier` are the procedures that
+// may be called, and `room` is how many more bodies may be opened.
 
 ghost use Rattle.std.specs.Prelude.{◌≡◌, ◌≤◌, ◌<◌, map, Some, None, OnOk, IfOk, IfErr};
 ghost use Rattle.std.specs.Option.{option_map};
@@ -13,6 +13,7 @@ ghost use Rattle.source_eval.specs.declared.fault.EvalFault.TheVariants.{Memory}
 use crate::EvalFault;
 use crate::calls::{begun, copy_out};
 use crate::expressions::{passed, value, values};
+use crate::running::Running;
 use crate::spending::spend;
 use crate::values::{Value, Word};
 use crate::variables::Variables;
@@ -38,49 +39,64 @@ fn array_of(alloc: Global, kind: Kind, length: u16, words: &[Word]) -> Result<Va
 /// A declaration of an array.
 #[tactic(auto, using(crate::proofs::RunLemmas::value_opens, crate::proofs::RunLemmas::values_open, crate::proofs::RunLemmas::passed_open), unfolding(language::specs::Evaluation::tick, language::specs::Evaluation::andthen, language::specs::Evaluation::inside))]
 fn declare_array<'a>(
-    alloc: Global,
-    variables: &mut Variables<'a>,
-    left: &mut u64,
+    running: &mut Running<'a>,
     declaration: &ArrayDeclaration<'a>,
 ) -> Result<(), EvalFault>
-    ensures ok { OnOk result (Ended (array_run (held variables.old) declaration.now.name.now declaration.now.kind declaration.now.length (option_map (λ values. map expr_tree values.items) declaration.now.values)) left.old 0 (held variables.new) left.new) }
-    ensures err { IfErr result (λ fault. Stopped (array_run (held variables.old) declaration.now.name.now declaration.now.kind declaration.now.length (option_map (λ values. map expr_tree values.items) declaration.now.values)) left.old 0 fault) }
+    ensures ok { OnOk result (Ended
+        (array_run (held running.old.variables) declaration.now.name.now declaration.now.kind declaration.now.length
+        (option_map (λ values. map expr_tree values.items) declaration.now.values))
+        running.old.left 0 (held running.new.variables) running.new.left) }
+    ensures err { IfErr result (λ fault. Stopped
+        (array_run (held running.old.variables) declaration.now.name.now declaration.now.kind declaration.now.length
+        (option_map (λ values. map expr_tree values.items) declaration.now.values))
+        running.old.left 0 fault) }
 {
-    spend(left)?;
+    spend(&mut running.left)?;
     let words = match &declaration.values {
-        Some(exprs) => values(alloc, variables, left, exprs)?,
-        None => Vec::new(alloc),
+        Some(exprs) => values(running.alloc, &running.variables, &mut running.left, exprs)?,
+        None => Vec::new(running.alloc),
     };
-    let array = array_of(alloc, declaration.kind, declaration.length, &words)?;
-    variables.set(declaration.name, array)
+    let array = array_of(running.alloc, declaration.kind, declaration.length, &words)?;
+    running.variables.set(declaration.name, array)
 }
 
 /// A call.
 #[cycle(statement)]
 fn call<'a>(
-    alloc: Global,
     earlier: &[Procedure<'a>],
-    left: &mut u64,
     room: u32,
-    variables: &mut Variables<'a>,
+    running: &mut Running<'a>,
     call: &Call<'a>,
 ) -> Result<Option<Word>, EvalFault>
-    ensures ok { IfOk result (λ w. Ended (call_run (known_of earlier.now call.now.name.now) (held variables.old) (call_tree call.now)) left.old room (returned w (held variables.new)) left.new) }
-    ensures err { IfErr result (λ fault. Stopped (call_run (known_of earlier.now call.now.name.now) (held variables.old) (call_tree call.now)) left.old room fault) }
+    ensures ok { IfOk result (λ w. Ended
+        (call_run (known_of earlier.now call.now.name.now) (held running.old.variables) (call_tree call.now))
+        running.old.left room (returned w (held running.new.variables)) running.new.left) }
+    ensures err { IfErr result (λ fault. Stopped
+        (call_run (known_of earlier.now call.now.name.now) (held running.old.variables) (call_tree call.now))
+        running.old.left room fault) }
 {
-    spend(left)?;
+    spend(&mut running.left)?;
     let Some((before, callee)) = procedure_named(earlier, call.name) else {
         return Ok(None);
     };
+    let alloc = running.alloc;
+    let caller = &running.variables;
     let parameters = callee.parameters.as_slice();
     let arguments = call.arguments.as_slice();
-    let words = passed(alloc, variables, left, parameters, arguments)?;
+    let words = passed(alloc, caller, &mut running.left, parameters, arguments)?;
     let Some(room) = room.checked_sub(1) else {
         return Err(EvalFault::Budget);
     };
-    let mut inner = begun(alloc, variables, parameters, arguments, words.as_slice())?;
-    let word = body(alloc, before, left, room, callee, &mut inner)?;
-    copy_out(variables, &inner, parameters, arguments)?;
+    let variables = begun(alloc, caller, parameters, arguments, words.as_slice())?;
+    let mut inner = Running {
+        alloc,
+        left: running.left,
+        variables,
+    };
+    let word = body(before, room, &mut inner, callee)?;
+    running.left = inner.left;
+    let caller = &mut running.variables;
+    copy_out(caller, &inner.variables, parameters, arguments)?;
     Ok(word)
 }
 
@@ -91,8 +107,12 @@ fn end<'a>(
     left: &mut u64,
     end: &Option<Return<'a>>,
 ) -> Result<Option<Word>, EvalFault>
-    ensures ok { IfOk result (λ w. Ended (return_run (held variables.now) (option_map return_tree end.now)) left.old 0 (returned w (held variables.now)) left.new) }
-    ensures err { IfErr result (λ fault. Stopped (return_run (held variables.now) (option_map return_tree end.now)) left.old 0 fault) }
+    ensures ok { IfOk result (λ w. Ended
+        (return_run (held variables.now) (option_map return_tree end.now))
+        left.old 0 (returned w (held variables.now)) left.new) }
+    ensures err { IfErr result (λ fault. Stopped
+        (return_run (held variables.now) (option_map return_tree end.now))
+        left.old 0 fault) }
 {
     match end {
         Some(end) => {
@@ -108,38 +128,42 @@ fn end<'a>(
 #[tactic(auto, using(crate::proofs::RunLemmas::value_opens, crate::proofs::RunLemmas::return_opens), unfolding(language::specs::Evaluation::tick, language::specs::Evaluation::andthen))]
 #[cycle(statement)]
 pub fn body<'a>(
-    alloc: Global,
     earlier: &[Procedure<'a>],
-    left: &mut u64,
     room: u32,
+    running: &mut Running<'a>,
     procedure: &Procedure<'a>,
-    variables: &mut Variables<'a>,
 ) -> Result<Option<Word>, EvalFault>
-    ensures ok { IfOk result (λ w. Ended (body_run (known_of earlier.now) (procedure_tree procedure.now) (held variables.old)) left.old room (returned w (held variables.new)) left.new) }
-    ensures err { IfErr result (λ fault. Stopped (body_run (known_of earlier.now) (procedure_tree procedure.now) (held variables.old)) left.old room fault) }
+    ensures ok { IfOk result (λ w. Ended
+        (body_run (known_of earlier.now) (procedure_tree procedure.now) (held running.old.variables))
+        running.old.left room (returned w (held running.new.variables)) running.new.left) }
+    ensures err { IfErr result (λ fault. Stopped
+        (body_run (known_of earlier.now) (procedure_tree procedure.now) (held running.old.variables))
+        running.old.left room fault) }
 {
-    block(alloc, earlier, left, room, variables, &procedure.body)?;
-    end(variables, left, &procedure.returned)
+    block(earlier, room, running, &procedure.body)?;
+    end(&running.variables, &mut running.left, &procedure.returned)
 }
 
 /// A right side.
 #[tactic(auto, using(crate::proofs::RunLemmas::value_opens, crate::proofs::RunLemmas::return_opens), unfolding(language::specs::Evaluation::tick, language::specs::Evaluation::andthen))]
 #[cycle(statement)]
 fn right<'a>(
-    alloc: Global,
     earlier: &[Procedure<'a>],
-    left: &mut u64,
     room: u32,
-    variables: &mut Variables<'a>,
+    running: &mut Running<'a>,
     right: &RightSide<'a>,
 ) -> Result<Option<Word>, EvalFault>
-    ensures ok { IfOk result (λ w. Ended (right_run (known_of earlier.now) (held variables.old) (right_tree right.now)) left.old room (returned w (held variables.new)) left.new) }
-    ensures err { IfErr result (λ fault. Stopped (right_run (known_of earlier.now) (held variables.old) (right_tree right.now)) left.old room fault) }
+    ensures ok { IfOk result (λ w. Ended
+        (right_run (known_of earlier.now) (held running.old.variables) (right_tree right.now))
+        running.old.left room (returned w (held running.new.variables)) running.new.left) }
+    ensures err { IfErr result (λ fault. Stopped
+        (right_run (known_of earlier.now) (held running.old.variables) (right_tree right.now))
+        running.old.left room fault) }
 {
     match right {
-        RightSide::Call(it) => call(alloc, earlier, left, room, variables, it),
+        RightSide::Call(it) => call(earlier, room, running, it),
         RightSide::Value(expr) => {
-            let word = value(variables, left, expr)?;
+            let word = value(&running.variables, &mut running.left, expr)?;
             Ok(Some(word))
         }
     }
@@ -162,42 +186,52 @@ fn given(word: Option<Word>) -> Word
 #[tactic(auto, using(crate::proofs::RunLemmas::value_opens, crate::proofs::RunLemmas::return_opens), unfolding(language::specs::Evaluation::tick, language::specs::Evaluation::andthen))]
 #[cycle(statement)]
 fn set<'a>(
-    alloc: Global,
     earlier: &[Procedure<'a>],
-    left: &mut u64,
     room: u32,
-    variables: &mut Variables<'a>,
+    running: &mut Running<'a>,
     name: &'a str,
     source: &RightSide<'a>,
 ) -> Result<(), EvalFault>
-    ensures ok { OnOk result (Ended (set_run (known_of earlier.now) (held variables.old) name.now (right_tree source.now)) left.old room (held variables.new) left.new) }
-    ensures err { IfErr result (λ fault. Stopped (set_run (known_of earlier.now) (held variables.old) name.now (right_tree source.now)) left.old room fault) }
+    ensures ok { OnOk result (Ended
+        (set_run (known_of earlier.now) (held running.old.variables) name.now (right_tree source.now))
+        running.old.left room (held running.new.variables) running.new.left) }
+    ensures err { IfErr result (λ fault. Stopped
+        (set_run (known_of earlier.now) (held running.old.variables) name.now (right_tree source.now))
+        running.old.left room fault) }
 {
-    spend(left)?;
-    let word = right(alloc, earlier, left, room, variables, source)?;
-    variables.set(name, Value::Single(given(word)))
+    spend(&mut running.left)?;
+    let word = right(earlier, room, running, source)?;
+    running.variables.set(name, Value::Single(given(word)))
 }
 
 /// An assignment to an element, whose index is tested before the right side.
 #[tactic(auto, using(crate::proofs::RunLemmas::value_opens, crate::proofs::RunLemmas::return_opens), unfolding(language::specs::Evaluation::tick, language::specs::Evaluation::andthen))]
 #[cycle(statement)]
 fn set_element<'a>(
-    alloc: Global,
     earlier: &[Procedure<'a>],
-    left: &mut u64,
     room: u32,
-    variables: &mut Variables<'a>,
+    running: &mut Running<'a>,
     assignment: &ElementAssignment<'a>,
 ) -> Result<(), EvalFault>
-    ensures ok { OnOk result (Ended (element_run (known_of earlier.now) (held variables.old) assignment.now.bracket assignment.now.name.now (expr_tree assignment.now.index) (right_tree assignment.now.value)) left.old room (held variables.new) left.new) }
-    ensures err { IfErr result (λ fault. Stopped (element_run (known_of earlier.now) (held variables.old) assignment.now.bracket assignment.now.name.now (expr_tree assignment.now.index) (right_tree assignment.now.value)) left.old room fault) }
+    ensures ok { OnOk result (Ended
+        (element_run (known_of earlier.now) (held running.old.variables) assignment.now.bracket
+        assignment.now.name.now (expr_tree assignment.now.index) (right_tree assignment.now.value))
+        running.old.left room (held running.new.variables) running.new.left) }
+    ensures err { IfErr result (λ fault. Stopped
+        (element_run (known_of earlier.now) (held running.old.variables) assignment.now.bracket
+        assignment.now.name.now (expr_tree assignment.now.index) (right_tree assignment.now.value))
+        running.old.left room fault) }
 {
-    spend(left)?;
-    spend(left)?;
-    let index = value(variables, left, &assignment.index)?;
-    variables.element(assignment.bracket, assignment.name, index.value)?;
-    let word = right(alloc, earlier, left, room, variables, &assignment.value)?;
-    variables.set_element(assignment.name, index.value, given(word));
+    spend(&mut running.left)?;
+    spend(&mut running.left)?;
+    let index = value(&running.variables, &mut running.left, &assignment.index)?;
+    running
+        .variables
+        .element(assignment.bracket, assignment.name, index.value)?;
+    let word = right(earlier, room, running, &assignment.value)?;
+    running
+        .variables
+        .set_element(assignment.name, index.value, given(word));
     Ok(())
 }
 
@@ -205,54 +239,64 @@ fn set_element<'a>(
 #[tactic(auto, using(crate::proofs::RunLemmas::value_opens, crate::proofs::RunLemmas::return_opens), unfolding(language::specs::Evaluation::tick, language::specs::Evaluation::andthen))]
 #[cycle(statement)]
 fn branch<'a>(
-    alloc: Global,
     earlier: &[Procedure<'a>],
-    left: &mut u64,
     room: u32,
-    variables: &mut Variables<'a>,
+    running: &mut Running<'a>,
     condition: &Expr<'a>,
     accepted: &[Statement<'a>],
     otherwise: &[Statement<'a>],
 ) -> Result<(), EvalFault>
-    ensures ok { OnOk result (Ended (branch_run (held variables.old) (expr_tree condition.now) (run_all (known_of earlier.now) (held variables.old) (block_tree accepted.now)) (run_all (known_of earlier.now) (held variables.old) (block_tree otherwise.now))) left.old room (held variables.new) left.new) }
-    ensures err { IfErr result (λ fault. Stopped (branch_run (held variables.old) (expr_tree condition.now) (run_all (known_of earlier.now) (held variables.old) (block_tree accepted.now)) (run_all (known_of earlier.now) (held variables.old) (block_tree otherwise.now))) left.old room fault) }
+    ensures ok { OnOk result (Ended
+        (branch_run (held running.old.variables) (expr_tree condition.now)
+        (run_all (known_of earlier.now) (held running.old.variables) (block_tree accepted.now))
+        (run_all (known_of earlier.now) (held running.old.variables) (block_tree otherwise.now)))
+        running.old.left room (held running.new.variables) running.new.left) }
+    ensures err { IfErr result (λ fault. Stopped
+        (branch_run (held running.old.variables) (expr_tree condition.now)
+        (run_all (known_of earlier.now) (held running.old.variables) (block_tree accepted.now))
+        (run_all (known_of earlier.now) (held running.old.variables) (block_tree otherwise.now)))
+        running.old.left room fault) }
 {
-    spend(left)?;
-    let condition = value(variables, left, condition)?;
+    spend(&mut running.left)?;
+    let condition = value(&running.variables, &mut running.left, condition)?;
     if is_true(condition.value) {
-        block(alloc, earlier, left, room, variables, accepted)
+        block(earlier, room, running, accepted)
     } else {
-        block(alloc, earlier, left, room, variables, otherwise)
+        block(earlier, room, running, otherwise)
     }
 }
 
 /// The turns of a loop from one number to another, each bound evaluated once.
 #[cycle(statement)]
 fn repeat<'a>(
-    alloc: Global,
     earlier: &[Procedure<'a>],
-    left: &mut u64,
     room: u32,
-    variables: &mut Variables<'a>,
+    running: &mut Running<'a>,
     counter: &Counter<'a>,
     low: &Expr<'a>,
     high: &Expr<'a>,
     body: &[Statement<'a>],
 ) -> Result<(), EvalFault>
-    ensures ok { OnOk result (Ended (loop_run (held variables.old) (expr_tree low.now) (expr_tree high.now) (λ i t. run_all (known_of earlier.now) (counting t counter.now.name.now i) (block_tree body.now))) left.old room (held variables.new) left.new) }
-    ensures err { IfErr result (λ fault. Stopped (loop_run (held variables.old) (expr_tree low.now) (expr_tree high.now) (λ i t. run_all (known_of earlier.now) (counting t counter.now.name.now i) (block_tree body.now))) left.old room fault) }
+    ensures ok { OnOk result (Ended
+        (loop_run (held running.old.variables) (expr_tree low.now) (expr_tree high.now)
+        (λ i t. run_all (known_of earlier.now) (counting t counter.now.name.now i) (block_tree body.now)))
+        running.old.left room (held running.new.variables) running.new.left) }
+    ensures err { IfErr result (λ fault. Stopped
+        (loop_run (held running.old.variables) (expr_tree low.now) (expr_tree high.now)
+        (λ i t. run_all (known_of earlier.now) (counting t counter.now.name.now i) (block_tree body.now)))
+        running.old.left room fault) }
 {
-    spend(left)?;
-    let first = value(variables, left, low)?;
-    let last = value(variables, left, high)?;
+    spend(&mut running.left)?;
+    let first = value(&running.variables, &mut running.left, low)?;
+    let last = value(&running.variables, &mut running.left, high)?;
     for number in first.value..last.value {
-        spend(left)?;
+        spend(&mut running.left)?;
         let counted = Word {
             kind: Kind::Uint32,
             value: number,
         };
-        variables.set(counter.name, Value::Single(counted))?;
-        block(alloc, earlier, left, room, variables, body)?;
+        running.variables.set(counter.name, Value::Single(counted))?;
+        block(earlier, room, running, body)?;
     }
     Ok(())
 }
@@ -261,30 +305,32 @@ fn repeat<'a>(
 #[tactic(auto, using(crate::proofs::RunLemmas::array_opens), unfolding(language::specs::Evaluation::tick, language::specs::Evaluation::andthen))]
 #[cycle(statement)]
 fn statement<'a>(
-    alloc: Global,
     earlier: &[Procedure<'a>],
-    left: &mut u64,
     room: u32,
-    variables: &mut Variables<'a>,
+    running: &mut Running<'a>,
     statement: &Statement<'a>,
 ) -> Result<(), EvalFault>
-    ensures ok { OnOk result (Ended (run (known_of earlier.now) (held variables.old) (statement_tree statement.now)) left.old room (held variables.new) left.new) }
-    ensures err { IfErr result (λ fault. Stopped (run (known_of earlier.now) (held variables.old) (statement_tree statement.now)) left.old room fault) }
+    ensures ok { OnOk result (Ended
+        (run (known_of earlier.now) (held running.old.variables) (statement_tree statement.now))
+        running.old.left room (held running.new.variables) running.new.left) }
+    ensures err { IfErr result (λ fault. Stopped
+        (run (known_of earlier.now) (held running.old.variables) (statement_tree statement.now))
+        running.old.left room fault) }
 {
     match statement {
-        Statement::Declare(it) => set(alloc, earlier, left, room, variables, it.name, &it.value),
-        Statement::DeclareArray(it) => declare_array(alloc, variables, left, it),
-        Statement::Assign(it) => set(alloc, earlier, left, room, variables, it.name, &it.value),
-        Statement::AssignElement(it) => set_element(alloc, earlier, left, room, variables, it),
+        Statement::Declare(it) => set(earlier, room, running, it.name, &it.value),
+        Statement::DeclareArray(it) => declare_array(running, it),
+        Statement::Assign(it) => set(earlier, room, running, it.name, &it.value),
+        Statement::AssignElement(it) => set_element(earlier, room, running, it),
         Statement::Call(it) => {
-            call(alloc, earlier, left, room, variables, it)?;
+            call(earlier, room, running, it)?;
             Ok(())
         }
         Statement::If(_, condition, accepted, otherwise) => branch(
-            alloc, earlier, left, room, variables, condition, accepted, otherwise,
+            earlier, room, running, condition, accepted, otherwise,
         ),
         Statement::For(_, counter, low, high, body) => repeat(
-            alloc, earlier, left, room, variables, counter, low, high, body,
+            earlier, room, running, counter, low, high, body,
         ),
     }
 }
@@ -292,18 +338,20 @@ fn statement<'a>(
 /// Statements in their order.
 #[cycle(statement)]
 fn block<'a>(
-    alloc: Global,
     earlier: &[Procedure<'a>],
-    left: &mut u64,
     room: u32,
-    variables: &mut Variables<'a>,
+    running: &mut Running<'a>,
     block: &[Statement<'a>],
 ) -> Result<(), EvalFault>
-    ensures ok { OnOk result (Ended (run_all (known_of earlier.now) (held variables.old) (block_tree block.now)) left.old room (held variables.new) left.new) }
-    ensures err { IfErr result (λ fault. Stopped (run_all (known_of earlier.now) (held variables.old) (block_tree block.now)) left.old room fault) }
+    ensures ok { OnOk result (Ended
+        (run_all (known_of earlier.now) (held running.old.variables) (block_tree block.now))
+        running.old.left room (held running.new.variables) running.new.left) }
+    ensures err { IfErr result (λ fault. Stopped
+        (run_all (known_of earlier.now) (held running.old.variables) (block_tree block.now))
+        running.old.left room fault) }
 {
     for one in block {
-        statement(alloc, earlier, left, room, variables, one)?;
+        statement(earlier, room, running, one)?;
     }
     Ok(())
 }

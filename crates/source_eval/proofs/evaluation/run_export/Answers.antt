@@ -7,14 +7,13 @@ use Rattle.source_eval.proofs.evaluation.run_export.Goals as goal
 pub returns-in_err-returned-clause-err : goal.returns-in_err-returned-clause-err
 returns-in_err-returned-clause-err c =
     passes _ _ _ c.from_residual-in_err-returned.ensures.1
-    (export_stops c.args.earlier.now c.args.export.now c.args.args.now c.args.left.now c.deref.result.now
-    (held c.in_ok-variables.variables) c.deref.ensures.value c.in_ok-variables.ensures.ok _
+    (export_stops c.args.earlier.now c.args.export.now c.args.args.now c.args.left.now c.as_slice-parameters.result.now
+    (held c.in_ok-variables.variables) c.as_slice-parameters.ensures.value c.in_ok-variables.ensures.ok _
     c.in_err-returned.ensures.err)
 
 pub returns-clause-ok : goal.returns-clause-ok
 returns-clause-ok c =
-    export_ends c.args.earlier.now c.args.export.now c.args.args.now c.args.left.now c.deref.result.now
-    (held c.in_ok-variables.variables) c.deref.ensures.value c.in_ok-variables.ensures.ok
-    _ (held c.body.new.variables) _ c.deref-2.result.now c.new.result c.in_ok-returned.ensures.ok
-    c.deref-2.ensures.value (c.new.ensures.returned ∙ c.number.ensures) (c.new.ensures.arrays
-    ∙ c.in_ok-arrays.ensures.ok)
+    export_ends c.args.earlier.now c.args.export.now c.args.args.now c.args.left.now c.as_slice-parameters.result.now
+    (held c.in_ok-variables.variables) c.as_slice-parameters.ensures.value c.in_ok-variables.ensures.ok
+    _ (held c.body.new.running.variables) _ c.new.result c.in_ok-returned.ensures.ok
+    (c.new.ensures.returned ∙ c.number.ensures) (c.new.ensures.arrays ∙ c.in_ok-arrays.ensures.ok)

@@ -10,38 +10,40 @@ use Rattle.source_eval.proofs.statements.+statement.Given as goal
 
 -- each way from a statement to itself counts a node
 abbrev pub decreases-block : goal.decreases-block
-decreases-block l = 5 * l.left.now + 3
+decreases-block l = 5 * l.running.now.left + 3
 
 abbrev pub decreases-body : goal.decreases-body
-decreases-body l = 5 * l.left.now + 4
+decreases-body l = 5 * l.running.now.left + 4
 
 abbrev pub decreases-branch : goal.decreases-branch
-decreases-branch l = 5 * l.left.now + 0
+decreases-branch l = 5 * l.running.now.left + 0
 
 abbrev pub decreases-call : goal.decreases-call
-decreases-call l = 5 * l.left.now + 0
+decreases-call l = 5 * l.running.now.left + 0
 
 abbrev pub decreases-repeat : goal.decreases-repeat
-decreases-repeat l = 5 * l.left.now + 0
+decreases-repeat l = 5 * l.running.now.left + 0
 
 abbrev pub decreases-right : goal.decreases-right
-decreases-right l = 5 * l.left.now + 1
+decreases-right l = 5 * l.running.now.left + 1
 
 abbrev pub decreases-set : goal.decreases-set
-decreases-set l = 5 * l.left.now + 0
+decreases-set l = 5 * l.running.now.left + 0
 
 abbrev pub decreases-set_element : goal.decreases-set_element
-decreases-set_element l = 5 * l.left.now + 0
+decreases-set_element l = 5 * l.running.now.left + 0
 
 abbrev pub decreases-statement : goal.decreases-statement
-decreases-statement l = 5 * l.left.now + 2
+decreases-statement l = 5 * l.running.now.left + 2
 
 -- the statements left lead to the end of all
 abbrev pub invariant-block-loop-one : goal.invariant-block-loop-one
 invariant-block-loop-one l = record {
-  leads : Leads (run_all (known_of l.earlier) (held l.fn.variables) (block_tree l.fn.block)) l.fn.left l.room
-      (run_all (known_of l.earlier) (held l.variables) (block_tree (drop l.one-index l.block))) l.left (λ s. s);
-  spends : l.left ≤ l.fn.left;
+  leads : Leads (run_all (known_of l.earlier) (held l.fn.running.variables) (block_tree l.fn.block))
+      l.fn.running.left l.room
+      (run_all (known_of l.earlier) (held l.running.variables) (block_tree (drop l.one-index l.block)))
+      l.running.left (λ s. s);
+  spends : l.running.left ≤ l.fn.running.left;
 }
 
 -- the turns left lead to the end of all
@@ -49,7 +51,8 @@ abbrev pub invariant-repeat-loop-number : goal.invariant-repeat-loop-number
 invariant-repeat-loop-number l = let turn : ℕ → State
     → Run State = λ i t. run_all (known_of l.earlier) (counting t l.counter.name.now i) (block_tree l.body) in
     record {
-      leads : Leads (loop_run (held l.fn.variables) (expr_tree l.fn.low) (expr_tree l.fn.high) turn) l.fn.left l.room
-          (turns (l.number-end - l.number) l.number turn (held l.variables)) l.left (λ s. s);
-      spends : l.left ≤ l.fn.left;
+      leads : Leads (loop_run (held l.fn.running.variables) (expr_tree l.fn.low) (expr_tree l.fn.high) turn)
+          l.fn.running.left l.room
+          (turns (l.number-end - l.number) l.number turn (held l.running.variables)) l.running.left (λ s. s);
+      spends : l.running.left ≤ l.fn.running.left;
     }
