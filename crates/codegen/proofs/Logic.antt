@@ -1,28 +1,49 @@
 -- The laws that the proofs here build on, of the crates below and of the code of expressions, in one place.
 pub use Rattle.branch_removal.proofs.Scopes.{but_among, suits_among}
 pub use Rattle.branch_removal.proofs.Values.{all_values, one_path_all}
-pub use Rattle.codegen.proofs.expression_code_lemmas.Logic.{address_length, address_runs, Addressed, After, after_append, All-one}
-pub use Rattle.codegen.proofs.expression_code_lemmas.Logic.{along, along_fit, apart, apart_from, as_code, base_of, Before, beside}
-pub use Rattle.codegen.proofs.expression_code_lemmas.Logic.{branching_at, by_bounds, by_index, by_mark, bytes_by, bytes_of, cheaper}
-pub use Rattle.codegen.proofs.expression_code_lemmas.Logic.{computing_within, condition_kind, constant_after, constant_length}
-pub use Rattle.codegen.proofs.expression_code_lemmas.Logic.{constant_plain, does, elements_apart, ends_before_result, frame_runs}
-pub use Rattle.codegen.proofs.expression_code_lemmas.Logic.{frame_there, free_from, gives, height, Held, held_regs, HeldAt}
-pub use Rattle.codegen.proofs.expression_code_lemmas.Logic.{home_beside, home_target, homes_beside, homes_by, homes_computed}
-pub use Rattle.codegen.proofs.expression_code_lemmas.Logic.{homes_moved, homes_then, HomesKept, idle, into_length, into_runs}
-pub use Rattle.codegen.proofs.expression_code_lemmas.Logic.{is_free, is_scratch, IsHome, Kept, kept_by, kept_less, kept_number}
-pub use Rattle.codegen.proofs.expression_code_lemmas.Logic.{kept_then, kind_known, Known, load_bytes, load_length, load_plain}
-pub use Rattle.codegen.proofs.expression_code_lemmas.Logic.{loading, looping, lower_fits, mask_fits, mask_of, mask_otherwise}
-pub use Rattle.codegen.proofs.expression_code_lemmas.Logic.{mask_when, masks_join, merge, merged, move_length, move_runs, moves_run}
+pub use Rattle.codegen.proofs.expression_code_lemmas.Logic.{address_length, address_runs, Addressed, After}
+pub use Rattle.codegen.proofs.expression_code_lemmas.Logic.{after_append, All-one}
+pub use Rattle.codegen.proofs.expression_code_lemmas.Logic.{along, along_fit, apart, apart_from, as_code, base_of}
+pub use Rattle.codegen.proofs.expression_code_lemmas.Logic.{Before, beside}
+pub use Rattle.codegen.proofs.expression_code_lemmas.Logic.{branching_at, by_bounds, by_index, by_mark, bytes_by}
+pub use Rattle.codegen.proofs.expression_code_lemmas.Logic.{bytes_of, cheaper}
+pub use Rattle.codegen.proofs.expression_code_lemmas.Logic.{computing_within, condition_kind, constant_after}
+pub use Rattle.codegen.proofs.expression_code_lemmas.Logic.{constant_length}
+pub use Rattle.codegen.proofs.expression_code_lemmas.Logic.{constant_plain, does, elements_apart, ends_before_result}
+pub use Rattle.codegen.proofs.expression_code_lemmas.Logic.{frame_runs}
+pub use Rattle.codegen.proofs.expression_code_lemmas.Logic.{frame_there, free_from, gives, height, Held, held_regs}
+pub use Rattle.codegen.proofs.expression_code_lemmas.Logic.{HeldAt}
+pub use Rattle.codegen.proofs.expression_code_lemmas.Logic.{home_beside, home_target, homes_beside, homes_by}
+pub use Rattle.codegen.proofs.expression_code_lemmas.Logic.{homes_computed}
+pub use Rattle.codegen.proofs.expression_code_lemmas.Logic.{homes_moved, homes_then, HomesKept, idle, into_length}
+pub use Rattle.codegen.proofs.expression_code_lemmas.Logic.{into_runs}
+pub use Rattle.codegen.proofs.expression_code_lemmas.Logic.{is_free, is_scratch, IsHome, Kept, kept_by, kept_less}
+pub use Rattle.codegen.proofs.expression_code_lemmas.Logic.{kept_number}
+pub use Rattle.codegen.proofs.expression_code_lemmas.Logic.{kept_then, kind_known, Known, load_bytes, load_length}
+pub use Rattle.codegen.proofs.expression_code_lemmas.Logic.{load_plain}
+pub use Rattle.codegen.proofs.expression_code_lemmas.Logic.{loading, looping, lower_fits, mask_fits, mask_of}
+pub use Rattle.codegen.proofs.expression_code_lemmas.Logic.{mask_otherwise}
+pub use Rattle.codegen.proofs.expression_code_lemmas.Logic.{mask_when, masks_join, merge, merged, move_length}
+pub use Rattle.codegen.proofs.expression_code_lemmas.Logic.{move_runs, moves_run}
 pub use Rattle.codegen.proofs.expression_code_lemmas.Logic.{never, none, none_low, number_or_zero, number_same, one_of}
-pub use Rattle.codegen.proofs.expression_code_lemmas.Logic.{only_computes, parameter_words, place_before, place_ends, place_even}
-pub use Rattle.codegen.proofs.expression_code_lemmas.Logic.{place_of, place_target, place_within, Placed, Placed-left, Placed-right}
-pub use Rattle.codegen.proofs.expression_code_lemmas.Logic.{plain_append, put, quiet, quietly, Ready, ready_after, ready_below}
-pub use Rattle.codegen.proofs.expression_code_lemmas.Logic.{registers_after, Runs, scratch_low, seen_by, seq, Setting, setting}
-pub use Rattle.codegen.proofs.expression_code_lemmas.Logic.{Steps, steps_of, Still, store_length, storing, Straight, take, Then}
-pub use Rattle.codegen.proofs.expression_code_lemmas.Logic.{then_moves, typed_among, typed_within, value_word, ValuedIn, unwritten}
-pub use Rattle.codegen.proofs.expression_code_lemmas.Logic.{variables_home, variables_kept, weaken, works_at, Wrote, wrote_kept}
-pub use Rattle.codegen.proofs.expression_code_lemmas.Logic.{wrote_there, written, code_length, known, near_known, NearElement}
-pub use Rattle.codegen.proofs.expression_code_lemmas.Logic.{at_control, control_stays, controls_kept, Fetched, fetch_length}
+pub use Rattle.codegen.proofs.expression_code_lemmas.Logic.{only_computes, parameter_words, place_before, place_ends}
+pub use Rattle.codegen.proofs.expression_code_lemmas.Logic.{place_even}
+pub use Rattle.codegen.proofs.expression_code_lemmas.Logic.{place_of, place_target, place_within, Placed, Placed-left}
+pub use Rattle.codegen.proofs.expression_code_lemmas.Logic.{Placed-right}
+pub use Rattle.codegen.proofs.expression_code_lemmas.Logic.{plain_append, put, quiet, quietly, Ready, ready_after}
+pub use Rattle.codegen.proofs.expression_code_lemmas.Logic.{ready_below}
+pub use Rattle.codegen.proofs.expression_code_lemmas.Logic.{registers_after, Runs, scratch_low, seen_by, seq, Setting}
+pub use Rattle.codegen.proofs.expression_code_lemmas.Logic.{setting}
+pub use Rattle.codegen.proofs.expression_code_lemmas.Logic.{Steps, steps_of, Still, store_length, storing, Straight}
+pub use Rattle.codegen.proofs.expression_code_lemmas.Logic.{take, Then}
+pub use Rattle.codegen.proofs.expression_code_lemmas.Logic.{then_moves, typed_among, typed_within, value_word, ValuedIn}
+pub use Rattle.codegen.proofs.expression_code_lemmas.Logic.{unwritten}
+pub use Rattle.codegen.proofs.expression_code_lemmas.Logic.{variables_home, variables_kept, weaken, works_at, Wrote}
+pub use Rattle.codegen.proofs.expression_code_lemmas.Logic.{wrote_kept}
+pub use Rattle.codegen.proofs.expression_code_lemmas.Logic.{wrote_there, written, code_length, known, near_known}
+pub use Rattle.codegen.proofs.expression_code_lemmas.Logic.{NearElement}
+pub use Rattle.codegen.proofs.expression_code_lemmas.Logic.{at_control, control_stays, controls_kept, Fetched}
+pub use Rattle.codegen.proofs.expression_code_lemmas.Logic.{fetch_length}
 pub use Rattle.codegen.proofs.expression_code_lemmas.Logic.{fetch_runs, HasRoom, Holds, near_address, took}
 pub use Rattle.codegen.proofs.expression_code_lemmas.Homes.{home_there}
 pub use Rattle.codegen.proofs.expression_code_lemmas.Moves.{moves_cost, register-at}

@@ -29,12 +29,15 @@ pub use Rattle.codegen.specs.expression_code.Layout.{variable_offset, word_offse
 pub use Rattle.codegen.specs.expression_code.Allocation.{Allocation, at_home, home_of, plain, register_of, slots_to}
 pub use Rattle.codegen.specs.expression_code.Allocation.{is_unread}
 pub use Rattle.codegen.specs.private.Reads.{AllReadKept, IsKeptWithin, ReadsKept}
-pub use Rattle.codegen.specs.expression_code.TermCode.{IsAmong, address_code, code_by, constant_code, fetch_code, into_code}
+pub use Rattle.codegen.specs.expression_code.TermCode.{IsAmong, address_code, code_by, constant_code, fetch_code}
+pub use Rattle.codegen.specs.expression_code.TermCode.{into_code}
 pub use Rattle.branch_removal.specs.Heights.{height_of}
-pub use Rattle.codegen.specs.expression_code.TermCode.{kind_at, load_by, load_code, lower_part, near_element, store_code}
+pub use Rattle.codegen.specs.expression_code.TermCode.{kind_at, load_by, load_code, lower_part, near_element}
+pub use Rattle.codegen.specs.expression_code.TermCode.{store_code}
 pub use Rattle.codegen.specs.declared.expression_code.locations.Location.{Location}
 pub use Rattle.codegen.specs.declared.expression_code.locations.Location.TheVariants.{InRegister, InSlot}
-pub use Rattle.codegen.specs.image_fields.Fields.{AreSlots, Fields, IsImage, IsResultSlot, is_length, result_end, slot_end}
+pub use Rattle.codegen.specs.image_fields.Fields.{AreSlots, Fields, IsImage, IsResultSlot, is_length, result_end}
+pub use Rattle.codegen.specs.image_fields.Fields.{slot_end}
 pub use Rattle.codegen.specs.image_fields.Fields.{slots_end, type_in}
 pub use Rattle.codegen.specs.declared.image_fields.slot.ResultSlot.{ResultSlot}
 pub use Rattle.codegen.specs.declared.image_fields.slot.Slot.{Slot}

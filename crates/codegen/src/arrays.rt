@@ -7,7 +7,8 @@ ghost use Rattle.codegen.specs.private.Emitted.{into_element_code, put_code, put
 ghost use Rattle.codegen.specs.private.Emitted.{put_under_near_code, read_register};
 ghost use Rattle.codegen.specs.private.Jumps.{loop_code};
 ghost use Rattle.codegen.specs.expression_code.Layout.{temporaries_offset};
-ghost use Rattle.codegen.specs.expression_code.Registers.{zero_register, value_register, second_register, third_register};
+ghost use Rattle.codegen.specs.expression_code.Registers.{zero_register, value_register, second_register};
+ghost use Rattle.codegen.specs.expression_code.Registers.{third_register};
 ghost use Rattle.rv_code.specs.declared.instructions.Instr.TheVariants.{Immediate, Register, Store};
 ghost use Rattle.rv_code.specs.declared.operations.ImmediateOperation.TheVariants.{Addi};
 ghost use Rattle.rv_code.specs.declared.operations.RegisterOperation.TheVariants.{Sub};
@@ -63,7 +64,9 @@ fn store_element(
 
 /// What one turn of a loop tests that makes an array's words 0, and what it does.
 fn clear_word(alloc: Global, code: &mut Vec<Instr>) -> Result<(), AllocError>
-    ensures { OnOk result (code.new.items ≡ code.old.items ++ loop_code (Register Sub value_register third_register second_register ∷ []) (Store Sw zero_register second_register 0 ∷ Immediate Addi second_register second_register 4 ∷ [])) }
+    ensures { OnOk result (code.new.items ≡ code.old.items
+        ++ loop_code (Register Sub value_register third_register second_register ∷ [])
+        (Store Sw zero_register second_register 0 ∷ Immediate Addi second_register second_register 4 ∷ [])) }
 {
     let none = Immediate12::from_bits(0);
     let word = Immediate12::from_bits(4);
@@ -119,9 +122,13 @@ pub fn fill(
     offset: u32,
     values: &[Term],
 ) -> Result<(), AllocError>
-    requires placed { ArePlacedTerms (length layout.now.declared) layout.now.allocation.count (temporaries_offset layout.now.declared layout.now.controls layout.now.depths) (map term_tree values.now) }
+    requires placed { ArePlacedTerms (length layout.now.declared) layout.now.allocation.count
+        (temporaries_offset layout.now.declared layout.now.controls layout.now.depths) (map term_tree values.now) }
     requires room { offset + 4 * length values.now ≤ 262144 }
-    ensures { OnOk result (code.new.items ≡ code.old.items ++ fill_code layout.now.declared layout.now.allocation (temporaries_offset layout.now.declared layout.now.controls layout.now.depths) kind offset (map term_tree values.now)) }
+    ensures { OnOk result (code.new.items ≡ code.old.items
+        ++ fill_code layout.now.declared layout.now.allocation
+        (temporaries_offset layout.now.declared layout.now.controls layout.now.depths) kind offset
+        (map term_tree values.now)) }
 {
     let mut place = offset;
     for value in values {
@@ -139,9 +146,14 @@ fn index(
     index: &Term,
     value: &Term,
 ) -> Result<(Reg, Reg), AllocError>
-    requires index { IsPlaced (length layout.now.declared) layout.now.allocation.count (temporaries_offset layout.now.declared layout.now.controls layout.now.depths) 0 (term_tree index.now) }
-    requires value { IsPlaced (length layout.now.declared) layout.now.allocation.count (temporaries_offset layout.now.declared layout.now.controls layout.now.depths) 1 (term_tree value.now) }
-    ensures code { OnOk result (code.new.items ≡ code.old.items ++ index_code layout.now.declared layout.now.allocation (temporaries_offset layout.now.declared layout.now.controls layout.now.depths) (term_tree index.now) (term_tree value.now)) }
+    requires index { IsPlaced (length layout.now.declared) layout.now.allocation.count
+        (temporaries_offset layout.now.declared layout.now.controls layout.now.depths) 0 (term_tree index.now) }
+    requires value { IsPlaced (length layout.now.declared) layout.now.allocation.count
+        (temporaries_offset layout.now.declared layout.now.controls layout.now.depths) 1 (term_tree value.now) }
+    ensures code { OnOk result (code.new.items ≡ code.old.items
+        ++ index_code layout.now.declared layout.now.allocation
+        (temporaries_offset layout.now.declared layout.now.controls layout.now.depths) (term_tree index.now)
+        (term_tree value.now)) }
     ensures index { IfOk result (λ registers. registers.0 ≡ read_register layout.now.allocation value_register (term_tree index.now)) }
     ensures value { IfOk result (λ registers. registers.1 ≡ read_register layout.now.allocation second_register (term_tree value.now)) }
 {
@@ -196,9 +208,13 @@ fn put_under_near(
     offset: u32,
     value: &Term,
 ) -> Result<(), AllocError>
-    requires value { IsPlaced (length layout.now.declared) layout.now.allocation.count (temporaries_offset layout.now.declared layout.now.controls layout.now.depths) 0 (term_tree value.now) }
+    requires value { IsPlaced (length layout.now.declared) layout.now.allocation.count
+        (temporaries_offset layout.now.declared layout.now.controls layout.now.depths) 0 (term_tree value.now) }
     requires near { offset < 2048 }
-    ensures { OnOk result (code.new.items ≡ code.old.items ++ put_under_near_code layout.now.declared layout.now.allocation (temporaries_offset layout.now.declared layout.now.controls layout.now.depths) control.now kind offset (term_tree value.now)) }
+    ensures { OnOk result (code.new.items ≡ code.old.items
+        ++ put_under_near_code layout.now.declared layout.now.allocation
+        (temporaries_offset layout.now.declared layout.now.controls layout.now.depths) control.now kind offset
+        (term_tree value.now)) }
 {
     let value = read(code, layout, Reg::X5, 0, value)?;
     near(code, Reg::X6, kind, offset)?;
@@ -220,9 +236,14 @@ pub fn put(
 ) -> Result<(), AllocError>
     requires control { IsAmong layout.now.controls within }
     requires array { array < length layout.now.declared }
-    requires index { IsPlaced (length layout.now.declared) layout.now.allocation.count (temporaries_offset layout.now.declared layout.now.controls layout.now.depths) 0 (term_tree place.now) }
-    requires value { IsPlaced (length layout.now.declared) layout.now.allocation.count (temporaries_offset layout.now.declared layout.now.controls layout.now.depths) 1 (term_tree value.now) }
-    ensures { OnOk result (code.new.items ≡ code.old.items ++ put_element_code layout.now.declared layout.now.allocation (temporaries_offset layout.now.declared layout.now.controls layout.now.depths) within array (term_tree place.now) (term_tree value.now)) }
+    requires index { IsPlaced (length layout.now.declared) layout.now.allocation.count
+        (temporaries_offset layout.now.declared layout.now.controls layout.now.depths) 0 (term_tree place.now) }
+    requires value { IsPlaced (length layout.now.declared) layout.now.allocation.count
+        (temporaries_offset layout.now.declared layout.now.controls layout.now.depths) 1 (term_tree value.now) }
+    ensures { OnOk result (code.new.items ≡ code.old.items
+        ++ put_element_code layout.now.declared layout.now.allocation
+        (temporaries_offset layout.now.declared layout.now.controls layout.now.depths) within array
+        (term_tree place.now) (term_tree value.now)) }
 {
     let kind = layout.kind(array);
     let known = layout.near_element(array, place);

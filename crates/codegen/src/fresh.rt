@@ -2,7 +2,8 @@
 
 ghost use Rattle.std.specs.Prelude.{◌≡◌, map};
 ghost use Rattle.branch_removal.specs.Straight.{straight_tree, straight_block};
-ghost use Rattle.codegen.specs.private.Fresh.{names_in, names_in_any, names_in_result, names, any_names, sets_fresh, is_fresh, starts_fresh};
+ghost use Rattle.codegen.specs.private.Fresh.{names_in, names_in_any, names_in_result, names, any_names, sets_fresh};
+ghost use Rattle.codegen.specs.private.Fresh.{is_fresh, starts_fresh};
 ghost use Rattle.inline.specs.Flat.{term_tree};
 ghost use Rattle.std.specs.Option.{option_map};
 

@@ -1,10 +1,12 @@
-ghost use Rattle.std.specs.Prelude.{◌≡◌, [], ◌∷◌, ◌++◌, ◌+◌, ◌*◌, ◌<◌, ◌≤◌, ◌^◌, length, map, All, OnOk, IfOk, IfErr, IfSome, IfNone};
+ghost use Rattle.std.specs.Prelude.{◌≡◌, [], ◌∷◌, ◌++◌, ◌+◌, ◌*◌, ◌<◌, ◌≤◌, ◌^◌, length, map, All, OnOk, IfOk, IfErr};
+ghost use Rattle.std.specs.Prelude.{IfSome, IfNone};
 ghost use Rattle.std.specs.Option.{option_map};
 ghost use Rattle.codegen.specs.Exact.{fields_of, optimised_fields_of};
 ghost use Rattle.codegen.specs.Followed.{IsGenerated};
 ghost use Rattle.branch_removal.specs.Bounds.{IsCounted};
 ghost use Rattle.codegen.specs.private.Fresh.{homes_but, starts_fresh};
-ghost use Rattle.codegen.specs.private.Generated.{entry_code, program_code, program_slots, result_slot, most_words, step_limit, image_of, image_within};
+ghost use Rattle.codegen.specs.private.Generated.{entry_code, program_code, program_slots, result_slot, most_words};
+ghost use Rattle.codegen.specs.private.Generated.{step_limit, image_of, image_within};
 ghost use Rattle.codegen.specs.private.Jumps.{IsFar};
 ghost use Rattle.codegen.specs.private.Room.{HasRoom, IsFitting, frame_of};
 ghost use Rattle.codegen.specs.image_fields.Fields.{IsImage};

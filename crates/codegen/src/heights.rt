@@ -2,7 +2,8 @@
 
 ghost use Rattle.std.specs.Prelude.{◌≡◌, ◌≤◌, map};
 ghost use Rattle.branch_removal.specs.Straight.{straight_tree, straight_block};
-ghost use Rattle.branch_removal.specs.Heights.{program_height, height_of_all, height_in, height_in_all, depth_in, depth_in_all};
+ghost use Rattle.branch_removal.specs.Heights.{program_height, height_of_all, height_in, height_in_all, depth_in};
+ghost use Rattle.branch_removal.specs.Heights.{depth_in_all};
 ghost use Rattle.codegen.specs.private.Homes.{temporary_registers};
 ghost use Rattle.inline.specs.Flat.{term_tree};
 

@@ -2,7 +2,9 @@
 // and its test stands behind the body. In any other the next number lies in the frame, and the test comes first.
 
 ghost use Rattle.std.specs.Prelude.{◌≡◌, ◌++◌, ◌+◌, ◌*◌, ◌<◌, ◌≤◌, [], ◌∷◌, length, None, Some, IfErr, OnOk};
-ghost use Rattle.codegen.specs.private.Loops.{bounds_code, test_code, count_code, below_number_code, below_word_code, counting_home, guarded_code, is_below, repeat_code, short_number, to_number_code, to_word_code, turns_code};
+ghost use Rattle.codegen.specs.private.Loops.{bounds_code, test_code, count_code, below_number_code, below_word_code};
+ghost use Rattle.codegen.specs.private.Loops.{counting_home, guarded_code, is_below, repeat_code, short_number};
+ghost use Rattle.codegen.specs.private.Loops.{to_number_code, to_word_code, turns_code};
 ghost use Rattle.codegen.specs.private.Jumps.{IsFar};
 ghost use Rattle.codegen.specs.private.Placed.{IsPlaced};
 ghost use Rattle.codegen.specs.expression_code.Layout.{next_offset, temporaries_offset, variable_location};

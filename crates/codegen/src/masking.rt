@@ -3,7 +3,8 @@
 ghost use Rattle.std.specs.Prelude.{◌≡◌, ◌<◌, ◌++◌, ◌∷◌, [], OnOk};
 ghost use Rattle.branch_removal.specs.StraightTyping.{IsAmong};
 ghost use Rattle.codegen.specs.private.Erased.{erase_code, erase_under_code};
-ghost use Rattle.codegen.specs.private.Emitted.{masks_code, join_code, kept_code, merge_code, taken_code, unless_unread};
+ghost use Rattle.codegen.specs.private.Emitted.{masks_code, join_code, kept_code, merge_code, taken_code};
+ghost use Rattle.codegen.specs.private.Emitted.{unless_unread};
 ghost use Rattle.codegen.specs.expression_code.Allocation.{is_unread, register_of};
 ghost use Rattle.codegen.specs.expression_code.Layout.{control_location};
 

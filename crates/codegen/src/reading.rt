@@ -1,7 +1,8 @@
 // Values of expressions, read where they are: one that has a home costs no instruction.
 
 ghost use Rattle.std.specs.Prelude.{◌≡◌, ◌++◌, ◌+◌, ◌*◌, ◌≤◌, length, IfOk, OnOk};
-ghost use Rattle.codegen.specs.private.Emitted.{assign_code, gives_zero, is_zero, read_code, read_register, stored_code, stored_register};
+ghost use Rattle.codegen.specs.private.Emitted.{assign_code, gives_zero, is_zero, read_code, read_register};
+ghost use Rattle.codegen.specs.private.Emitted.{stored_code, stored_register};
 ghost use Rattle.codegen.specs.expression_code.Allocation.{slots_to};
 ghost use Rattle.codegen.specs.expression_code.Layout.{temporaries_offset};
 ghost use Rattle.codegen.specs.expression_code.TermCode.{IsAmong};

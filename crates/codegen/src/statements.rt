@@ -44,8 +44,11 @@ fn set(
     variable: u32,
     value: &Term,
 ) -> Result<(), AllocError>
-    requires { HasPlace layout.now.declared layout.now.allocation layout.now.controls layout.now.depths 0 (straight.set within variable (term_tree value.now)) }
-    ensures { OnOk result (code.new.items ≡ code.old.items ++ statement_code layout.now.declared layout.now.allocation layout.now.controls layout.now.depths 0 (straight.set within variable (term_tree value.now))) }
+    requires { HasPlace layout.now.declared layout.now.allocation layout.now.controls layout.now.depths 0
+        (straight.set within variable (term_tree value.now)) }
+    ensures { OnOk result (code.new.items ≡ code.old.items
+        ++ statement_code layout.now.declared layout.now.allocation layout.now.controls layout.now.depths 0
+        (straight.set within variable (term_tree value.now))) }
 {
     let variable = layout.variable_location(variable);
     let Some(control) = within else {
@@ -83,8 +86,11 @@ fn array(
     size: u32,
     values: &[Term],
 ) -> Result<(), AllocError>
-    requires { HasPlace layout.now.declared layout.now.allocation layout.now.controls layout.now.depths 0 (straight.array variable size (map term_tree values.now)) }
-    ensures { OnOk result (code.new.items ≡ code.old.items ++ statement_code layout.now.declared layout.now.allocation layout.now.controls layout.now.depths 0 (straight.array variable size (map term_tree values.now))) }
+    requires { HasPlace layout.now.declared layout.now.allocation layout.now.controls layout.now.depths 0
+        (straight.array variable size (map term_tree values.now)) }
+    ensures { OnOk result (code.new.items ≡ code.old.items
+        ++ statement_code layout.now.declared layout.now.allocation layout.now.controls layout.now.depths 0
+        (straight.array variable size (map term_tree values.now))) }
 {
     let kind = layout.kind(variable);
     let offset = layout.variable(variable);
@@ -102,8 +108,11 @@ fn take(
     within: Option<u32>,
     condition: &Term,
 ) -> Result<(), AllocError>
-    requires { HasPlace layout.now.declared layout.now.allocation layout.now.controls layout.now.depths 0 (straight.take control within (term_tree condition.now)) }
-    ensures { OnOk result (code.new.items ≡ code.old.items ++ statement_code layout.now.declared layout.now.allocation layout.now.controls layout.now.depths 0 (straight.take control within (term_tree condition.now))) }
+    requires { HasPlace layout.now.declared layout.now.allocation layout.now.controls layout.now.depths 0
+        (straight.take control within (term_tree condition.now)) }
+    ensures { OnOk result (code.new.items ≡ code.old.items
+        ++ statement_code layout.now.declared layout.now.allocation layout.now.controls layout.now.depths 0
+        (straight.take control within (term_tree condition.now))) }
 {
     let condition = read(code, layout, Reg::X5, 0, condition)?;
     let accepted = masking::target_of(layout, control, Reg::X7);
@@ -146,9 +155,14 @@ fn statement(
     depth: u32,
     statement: &StraightStatement,
 ) -> Result<(), Unemitted>
-    requires placed { HasPlace layout.now.declared layout.now.allocation layout.now.controls layout.now.depths depth (straight_tree statement.now) }
-    ensures code { OnOk result (code.new.items ≡ code.old.items ++ statement_code layout.now.declared layout.now.allocation layout.now.controls layout.now.depths depth (straight_tree statement.now)) }
-    ensures far { IfErr result (IsFar (length (statement_code layout.now.declared layout.now.allocation layout.now.controls layout.now.depths depth (straight_tree statement.now)))) }
+    requires placed { HasPlace layout.now.declared layout.now.allocation layout.now.controls layout.now.depths depth
+        (straight_tree statement.now) }
+    ensures code { OnOk result (code.new.items ≡ code.old.items
+        ++ statement_code layout.now.declared layout.now.allocation layout.now.controls layout.now.depths depth
+        (straight_tree statement.now)) }
+    ensures far { IfErr result (IsFar (length
+        (statement_code layout.now.declared layout.now.allocation layout.now.controls layout.now.depths depth
+        (straight_tree statement.now)))) }
 {
     match statement {
         StraightStatement::Set(within, variable, value) => {
@@ -195,9 +209,14 @@ pub fn statements(
     depth: u32,
     statements: &[StraightStatement],
 ) -> Result<(), Unemitted>
-    requires placed { HavePlaces layout.now.declared layout.now.allocation layout.now.controls layout.now.depths depth (straight_block statements.now) }
-    ensures code { OnOk result (code.new.items ≡ code.old.items ++ block_code layout.now.declared layout.now.allocation layout.now.controls layout.now.depths depth (straight_block statements.now)) }
-    ensures far { IfErr result (IsFar (length (block_code layout.now.declared layout.now.allocation layout.now.controls layout.now.depths depth (straight_block statements.now)))) }
+    requires placed { HavePlaces layout.now.declared layout.now.allocation layout.now.controls layout.now.depths depth
+        (straight_block statements.now) }
+    ensures code { OnOk result (code.new.items ≡ code.old.items
+        ++ block_code layout.now.declared layout.now.allocation layout.now.controls layout.now.depths depth
+        (straight_block statements.now)) }
+    ensures far { IfErr result (IsFar (length
+        (block_code layout.now.declared layout.now.allocation layout.now.controls layout.now.depths depth
+        (straight_block statements.now)))) }
 {
     for each in statements {
         statement(alloc, code, layout, depth, each)?;

@@ -3,7 +3,8 @@ use Rattle.std.proofs.Common.{◌≡◌, ℕ, ◌+◌, Bool, true, false, if◌t
 use Rattle.std.proofs.Common.{Some, arith}
 use Rattle.std.specs.List.{AllByRecursion}
 use Rattle.std.specs.Str.{bytes_eq}
-use Rattle.source_laws.specs.grammar_laws.Heads.{in_block, in_expr, in_exprs, in_procedure, in_procedures, in_return, in_right}
+use Rattle.source_laws.specs.grammar_laws.Heads.{in_block, in_expr, in_exprs, in_procedure, in_procedures, in_return}
+use Rattle.source_laws.specs.grammar_laws.Heads.{in_right}
 use Rattle.source_laws.specs.grammar_laws.Heads.{in_statement, in_values}
 use Rattle.inline.specs.Flat as flat
 use Rattle.inline.specs.Flat.{TermTree, FlatTree, FlatBlock, chain, word_as}

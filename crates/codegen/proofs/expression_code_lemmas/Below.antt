@@ -2,7 +2,8 @@
 -- code that is emitted, the machine, and pieces of code.
 pub use Rattle.branch_removal.proofs.SeenLemmas.{seen-append}
 pub use Rattle.branch_removal.specs.StraightMeaning.{StraightState}
-pub use Rattle.codegen.specs.expression_code.Allocation.{Allocation, at_home, home_of, IsAllocation, register_of, slot_of}
+pub use Rattle.codegen.specs.expression_code.Allocation.{Allocation, at_home, home_of, IsAllocation, register_of}
+pub use Rattle.codegen.specs.expression_code.Allocation.{slot_of}
 pub use Rattle.codegen.specs.expression_code.Allocation.{is_unread}
 pub use Rattle.codegen.specs.expression_code.Allocation.{slots_to, temporary, working_register}
 pub use Rattle.codegen.specs.expression_code.Computed.{IsComputed, IsSiteOf, Site, word_in}
@@ -20,12 +21,14 @@ pub use Rattle.codegen.specs.expression_code.TermCode.{address_code, around_code
 pub use Rattle.codegen.specs.expression_code.TermCode.{constant_code, convert_code, copy_code, cut_code, element_code}
 pub use Rattle.codegen.specs.expression_code.TermCode.{expr_code, fetch_code, finish_code, into_code, IsAmong}
 pub use Rattle.branch_removal.specs.Heights.{height_of}
-pub use Rattle.codegen.specs.expression_code.TermCode.{home_of_term, is_at_home, keep_code, keeps_words, load_by, load_code}
+pub use Rattle.codegen.specs.expression_code.TermCode.{home_of_term, is_at_home, keep_code, keeps_words, load_by}
+pub use Rattle.codegen.specs.expression_code.TermCode.{load_code}
 pub use Rattle.codegen.specs.expression_code.TermCode.{narrow_code, narrowed_in, near_code, near_element, near_offset}
 pub use Rattle.codegen.specs.expression_code.TermCode.{number_code, of_truths, operand, operator_code, placed_code}
 pub use Rattle.codegen.specs.expression_code.TermCode.{prefix_code, raise_code, rotate_code, row_of, scale_code, Step}
 pub use Rattle.codegen.specs.expression_code.TermCode.{lower_part, move_code, step_code, store_code, turned, upper_part}
-pub use Rattle.codegen.specs.expression_code.TermCode.{choice_or_zero_code, emitted_operator, kind_at, number_step_code, of_bits}
+pub use Rattle.codegen.specs.expression_code.TermCode.{choice_or_zero_code, emitted_operator, kind_at, number_step_code}
+pub use Rattle.codegen.specs.expression_code.TermCode.{of_bits}
 pub use Rattle.codegen.specs.declared.expression_code.locations.Location.{Location}
 pub use Rattle.codegen.specs.declared.expression_code.locations.Location.TheVariants.{InRegister, InSlot}
 pub use Rattle.inline.proofs.Fitting.{value_fits}
@@ -49,12 +52,17 @@ pub use Rattle.language.specs.declared.operators.BinaryOperator.{BinaryOperator}
 pub use Rattle.language.specs.declared.operators.PrefixOperator.{PrefixOperator}
 pub use Rattle.language.specs.declared.typing.WordType.{WordType}
 pub use Rattle.codegen.proofs.program_logic_lemmas.Computing.{after_append, all_straight, no_access_fit, no_access_met}
-pub use Rattle.codegen.proofs.program_logic_lemmas.Computing.{only_computes, plain_append, register_left, registers_after}
+pub use Rattle.codegen.proofs.program_logic_lemmas.Computing.{only_computes, plain_append, register_left}
+pub use Rattle.codegen.proofs.program_logic_lemmas.Computing.{registers_after}
 pub use Rattle.codegen.proofs.program_logic_lemmas.Computing.{registers_of}
-pub use Rattle.codegen.proofs.program_logic_lemmas.Face.{All-one, along, along_fit, always, as_code, beside, both_left, both_right}
-pub use Rattle.codegen.proofs.program_logic_lemmas.Face.{branching_at, by_mark, cheaper, Contents, contents_of, ends_on, gives, idle}
-pub use Rattle.codegen.proofs.program_logic_lemmas.Face.{Known, looping, never, none, number_or_zero, Placed, Placed-left}
-pub use Rattle.codegen.proofs.program_logic_lemmas.Face.{Placed-right, quiet, quietly, seq, stands, Still, Straight, Then, turn_ends}
+pub use Rattle.codegen.proofs.program_logic_lemmas.Face.{All-one, along, along_fit, always, as_code, beside, both_left}
+pub use Rattle.codegen.proofs.program_logic_lemmas.Face.{both_right}
+pub use Rattle.codegen.proofs.program_logic_lemmas.Face.{branching_at, by_mark, cheaper, Contents, contents_of, ends_on}
+pub use Rattle.codegen.proofs.program_logic_lemmas.Face.{gives, idle}
+pub use Rattle.codegen.proofs.program_logic_lemmas.Face.{Known, looping, never, none, number_or_zero, Placed}
+pub use Rattle.codegen.proofs.program_logic_lemmas.Face.{Placed-left}
+pub use Rattle.codegen.proofs.program_logic_lemmas.Face.{Placed-right, quiet, quietly, seq, stands, Still, Straight}
+pub use Rattle.codegen.proofs.program_logic_lemmas.Face.{Then, turn_ends}
 pub use Rattle.codegen.proofs.program_logic_lemmas.Face.{weaken, with_result}
 pub use Rattle.rv_code.specs.Words.{IsInstr}
 pub use Rattle.rv_code.specs.declared.instructions.Instr.{Instr}

@@ -1,7 +1,8 @@
 -- Of bools, which are 0 or 1: the operator whose code is emitted makes of them what the operator means, and puts the
 -- same on the path.
 use Rattle.std.proofs.Common.{◌≡◌, ℕ, zero, suc, ◌<◌, ◌&&◌, ◌||◌, Bool, true, false, cond, bit_and, bit_or, refl, arith}
-use Rattle.codegen.proofs.expression_code_lemmas.Below.{Allocation, BinaryOperator, emitted_operator, IsWithinKind, marks_of}
+use Rattle.codegen.proofs.expression_code_lemmas.Below.{Allocation, BinaryOperator, emitted_operator, IsWithinKind}
+use Rattle.codegen.proofs.expression_code_lemmas.Below.{marks_of}
 use Rattle.codegen.proofs.expression_code_lemmas.Below.{of_bits, operated, Place, Profile, Width, word_of, WordType}
 use Rattle.language.specs.declared.operators.BinaryOperator.TheVariants.{Either, Both}
 use Rattle.language.specs.Operators.{operation_of}

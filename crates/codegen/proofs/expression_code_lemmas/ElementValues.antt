@@ -1,15 +1,21 @@
 -- The element of an array, at an index that is a number or in a register, comes into a register.
 use Rattle.std.proofs.Common.{◌≡◌, ℕ, ◌+◌, ◌-◌, ◌*◌, ◌%◌, ◌<◌, true, [], ◌++◌, Option, None, Some, slice_get}
 use Rattle.std.proofs.Common.{slice_index, refl, sym, ap, ap₂, ◌∙◌, arith, Bool, eq-eqb, ◌==◌, ◌∷◌, false}
-use Rattle.codegen.proofs.expression_code_lemmas.Below.{along, array_as, as_code, byte_count, ByteMap, cheaper, code_by, element}
-use Rattle.codegen.proofs.expression_code_lemmas.Below.{element_bytes, element_code, eqb-true, gives, indexed, into_code, kind_at}
-use Rattle.codegen.proofs.expression_code_lemmas.Below.{Known, load_by, load_size, lower_part, near_code, near_element, never, none}
-use Rattle.codegen.proofs.expression_code_lemmas.Below.{number_at, number_or_zero, Path, Place, quiet, sign_extended, sum_of}
-use Rattle.codegen.proofs.expression_code_lemmas.Below.{term_nodes, TermTree, true≢false, value_in, variable_offset, weaken, WordType}
+use Rattle.codegen.proofs.expression_code_lemmas.Below.{along, array_as, as_code, byte_count, ByteMap, cheaper, code_by}
+use Rattle.codegen.proofs.expression_code_lemmas.Below.{element}
+use Rattle.codegen.proofs.expression_code_lemmas.Below.{element_bytes, element_code, eqb-true, gives, indexed}
+use Rattle.codegen.proofs.expression_code_lemmas.Below.{into_code, kind_at}
+use Rattle.codegen.proofs.expression_code_lemmas.Below.{Known, load_by, load_size, lower_part, near_code, near_element}
+use Rattle.codegen.proofs.expression_code_lemmas.Below.{never, none}
+use Rattle.codegen.proofs.expression_code_lemmas.Below.{number_at, number_or_zero, Path, Place, quiet, sign_extended}
+use Rattle.codegen.proofs.expression_code_lemmas.Below.{sum_of}
+use Rattle.codegen.proofs.expression_code_lemmas.Below.{term_nodes, TermTree, true≢false, value_in, variable_offset}
+use Rattle.codegen.proofs.expression_code_lemmas.Below.{weaken, WordType}
 use Rattle.codegen.proofs.expression_code_lemmas.Elements.{address_runs, load_bytes, load_plain}
 use Rattle.codegen.proofs.expression_code_lemmas.Events.{by_index}
 use Rattle.codegen.proofs.expression_code_lemmas.Frame.{Runs, setting}
-use Rattle.codegen.proofs.expression_code_lemmas.WorkRegisters.{IsFree, IsTarget, works_at, target_works, spare_works, not_written}
+use Rattle.codegen.proofs.expression_code_lemmas.WorkRegisters.{IsFree, IsTarget, works_at, target_works, spare_works}
+use Rattle.codegen.proofs.expression_code_lemmas.WorkRegisters.{not_written}
 use Rattle.codegen.proofs.expression_code_lemmas.Arithmetic.{lower_fits, near_address}
 use Rattle.codegen.proofs.expression_code_lemmas.Moves.{written, unwritten, loading}
 use Rattle.codegen.proofs.expression_code_lemmas.NumberCode.{known, NearElement, near_known}

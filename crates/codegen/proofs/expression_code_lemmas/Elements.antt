@@ -4,13 +4,16 @@ use Rattle.std.proofs.Common.{refl, ap, ap₂, ◌∙◌, arith, ◌==◌, ne_eq
 use Rattle.rv_code.specs.declared.instructions.Instr.TheVariants as instr
 use Rattle.rv_code.specs.declared.operations.UpperOperation.TheVariants.{Lui}
 use Rattle.rv_code.specs.declared.operations.RegisterOperation.TheVariants.{Add}
-use Rattle.codegen.proofs.expression_code_lemmas.Below.{address_code, address_of, after_append, byte_count, cheaper, element_bytes}
-use Rattle.codegen.proofs.expression_code_lemmas.Below.{Instr, Kind, load_by, load_size, loaded_value, lower_part, lt-ltb, nat_tests}
+use Rattle.codegen.proofs.expression_code_lemmas.Below.{address_code, address_of, after_append, byte_count, cheaper}
+use Rattle.codegen.proofs.expression_code_lemmas.Below.{element_bytes}
+use Rattle.codegen.proofs.expression_code_lemmas.Below.{Instr, Kind, load_by, load_size, loaded_value, lower_part}
+use Rattle.codegen.proofs.expression_code_lemmas.Below.{lt-ltb, nat_tests}
 use Rattle.codegen.proofs.expression_code_lemmas.Below.{none, only_computes, plain_append, registers_after, scale_code}
 use Rattle.codegen.proofs.expression_code_lemmas.Below.{sign_extended, State, StraightState, sum_of, upper_part, weaken}
 use Rattle.language.specs.declared.signature.Kind.TheVariants.{Boolean, Uint16, Uint32}
 use Rattle.codegen.proofs.expression_code_lemmas.Arithmetic.{upper_fits}
-use Rattle.codegen.proofs.expression_code_lemmas.OperatorCode.{either_of, dd, td, d0, d32, q0, q32, low_beside, kept_beside}
+use Rattle.codegen.proofs.expression_code_lemmas.OperatorCode.{either_of, dd, td, d0, d32, q0, q32, low_beside}
+use Rattle.codegen.proofs.expression_code_lemmas.OperatorCode.{kept_beside}
 use Rattle.codegen.proofs.expression_code_lemmas.TermLengths.{address_length}
 use Rattle.codegen.proofs.expression_code_lemmas.Frame.{Setting, Runs, HeldAt, Held}
 use Rattle.codegen.proofs.expression_code_lemmas.WorkRegisters.{IsFree, ArePair, free_from}

@@ -2,41 +2,61 @@
 use Rattle.std.proofs.Common.{◌≡◌, ℕ, ◌+◌, ◌-◌, ◌*◌, ◌%◌, ◌^◌, ◌<◌, ◌≤◌, true, List, [], ◌++◌, length, Option, None}
 use Rattle.std.proofs.Common.{Some, slice_get, slice_index, refl, sym, ap, ap₂, ◌∙◌, arith, Bool, append-nil, false}
 use Rattle.std.proofs.Common.{cond, if◌then◌else◌, ◌==◌}
-use Rattle.codegen.proofs.expression_code_lemmas.Below.{along, at_home, array_as, as_code, binary, BinaryOperator, cheaper}
-use Rattle.codegen.proofs.expression_code_lemmas.Below.{Boolean, choice_code, choice_or_zero_code, chooses_zero, Label, number_of}
+use Rattle.codegen.proofs.expression_code_lemmas.Below.{along, at_home, array_as, as_code, binary, BinaryOperator}
+use Rattle.codegen.proofs.expression_code_lemmas.Below.{cheaper}
+use Rattle.codegen.proofs.expression_code_lemmas.Below.{Boolean, choice_code, choice_or_zero_code, chooses_zero, Label}
+use Rattle.codegen.proofs.expression_code_lemmas.Below.{number_of}
 use Rattle.codegen.proofs.expression_code_lemmas.Below.{code_by, constant_code, convert_code, convert, converted}
-use Rattle.codegen.proofs.expression_code_lemmas.Below.{copy_code, keeps_words, Kind, element_code, expr_code, fetch_code, gives}
-use Rattle.codegen.proofs.expression_code_lemmas.Below.{HasType, height_of, home_of, InSlot, Instr, into_code, left_row, lt-ltb}
-use Rattle.codegen.proofs.expression_code_lemmas.Below.{move_code, none, number_at, number_code, number_row, NumberRow, of_binary}
-use Rattle.codegen.proofs.expression_code_lemmas.Below.{of_conversion, of_element, of_number, of_prefix, of_rotation, of_selection}
-use Rattle.codegen.proofs.expression_code_lemmas.Below.{of_truth, of_variable, only_computes, operand, operated, Path, path_in, Place}
-use Rattle.codegen.proofs.expression_code_lemmas.Below.{prefix_code, prefix_value, registers_after, right_row, rotate_code}
-use Rattle.codegen.proofs.expression_code_lemmas.Below.{rotated_left, select, slots_to, term_nodes, TermTree, types_of, value_fits}
-use Rattle.codegen.proofs.expression_code_lemmas.Below.{value_in, Values, variable, variable_offset, weaken, Width, width_of, word_as}
+use Rattle.codegen.proofs.expression_code_lemmas.Below.{copy_code, keeps_words, Kind, element_code, expr_code}
+use Rattle.codegen.proofs.expression_code_lemmas.Below.{fetch_code, gives}
+use Rattle.codegen.proofs.expression_code_lemmas.Below.{HasType, height_of, home_of, InSlot, Instr, into_code, left_row}
+use Rattle.codegen.proofs.expression_code_lemmas.Below.{lt-ltb}
+use Rattle.codegen.proofs.expression_code_lemmas.Below.{move_code, none, number_at, number_code, number_row, NumberRow}
+use Rattle.codegen.proofs.expression_code_lemmas.Below.{of_binary}
+use Rattle.codegen.proofs.expression_code_lemmas.Below.{of_conversion, of_element, of_number, of_prefix, of_rotation}
+use Rattle.codegen.proofs.expression_code_lemmas.Below.{of_selection}
+use Rattle.codegen.proofs.expression_code_lemmas.Below.{of_truth, of_variable, only_computes, operand, operated, Path}
+use Rattle.codegen.proofs.expression_code_lemmas.Below.{path_in, Place}
+use Rattle.codegen.proofs.expression_code_lemmas.Below.{prefix_code, prefix_value, registers_after, right_row}
+use Rattle.codegen.proofs.expression_code_lemmas.Below.{rotate_code}
+use Rattle.codegen.proofs.expression_code_lemmas.Below.{rotated_left, select, slots_to, term_nodes, TermTree, types_of}
+use Rattle.codegen.proofs.expression_code_lemmas.Below.{value_fits}
+use Rattle.codegen.proofs.expression_code_lemmas.Below.{value_in, Values, variable, variable_offset, weaken, Width}
+use Rattle.codegen.proofs.expression_code_lemmas.Below.{width_of, word_as}
 use Rattle.codegen.proofs.expression_code_lemmas.Below.{word_of, WordType, working_register}
 use Rattle.codegen.proofs.expression_code_lemmas.Events.{by_index}
 use Rattle.codegen.proofs.expression_code_lemmas.Frame.{Setting, base_of, Steps, Runs, HeldAt, Held}
-use Rattle.codegen.proofs.expression_code_lemmas.WorkRegisters.{IsFree, ArePair, IsTarget, free_from, working_free, working_apart}
-use Rattle.codegen.proofs.expression_code_lemmas.WorkRegisters.{operand_apart, operand_not, own_target, works_at, low_at, target_works}
+use Rattle.codegen.proofs.expression_code_lemmas.WorkRegisters.{IsFree, ArePair, IsTarget, free_from, working_free}
+use Rattle.codegen.proofs.expression_code_lemmas.WorkRegisters.{working_apart}
+use Rattle.codegen.proofs.expression_code_lemmas.WorkRegisters.{operand_apart, operand_not, own_target, works_at}
+use Rattle.codegen.proofs.expression_code_lemmas.WorkRegisters.{low_at, target_works}
 use Rattle.codegen.proofs.expression_code_lemmas.WorkRegisters.{own_works, next_works, spare_works, not_written}
 use Rattle.codegen.proofs.expression_code_lemmas.Arithmetic.{chosen, chosen_or_zero, choice, choice_or_zero}
 use Rattle.codegen.proofs.expression_code_lemmas.Moves.{take, move_runs, written}
-use Rattle.codegen.proofs.expression_code_lemmas.NumberCode.{known, known_word, left_known, number_means, Numbered, right_known}
+use Rattle.codegen.proofs.expression_code_lemmas.NumberCode.{known, known_word, left_known, number_means, Numbered}
+use Rattle.codegen.proofs.expression_code_lemmas.NumberCode.{right_known}
 use Rattle.codegen.proofs.expression_code_lemmas.NumberCode.{row_quiet, Turned, turned_quiet, turned_same, zero_known}
 use Rattle.codegen.proofs.expression_code_lemmas.Operands.{Outcome, took, worked, emitted_runs}
-use Rattle.codegen.proofs.expression_code_lemmas.OperatorCode.{constant_plain, constant_after, move_plain, move_made, convert_plain}
-use Rattle.codegen.proofs.expression_code_lemmas.OperatorCode.{convert_made, prefix_plain, prefix_made, rotate_plain, rotate_made}
-use Rattle.codegen.proofs.expression_code_lemmas.OperatorCode.{choice_plain, choice_made, choice_or_zero_plain, choice_or_zero_made}
+use Rattle.codegen.proofs.expression_code_lemmas.OperatorCode.{constant_plain, constant_after, move_plain, move_made}
+use Rattle.codegen.proofs.expression_code_lemmas.OperatorCode.{convert_plain}
+use Rattle.codegen.proofs.expression_code_lemmas.OperatorCode.{convert_made, prefix_plain, prefix_made, rotate_plain}
+use Rattle.codegen.proofs.expression_code_lemmas.OperatorCode.{rotate_made}
+use Rattle.codegen.proofs.expression_code_lemmas.OperatorCode.{choice_plain, choice_made, choice_or_zero_plain}
+use Rattle.codegen.proofs.expression_code_lemmas.OperatorCode.{choice_or_zero_made}
 use Rattle.codegen.proofs.expression_code_lemmas.OperatorCode.{truth_fits}
 use Rattle.codegen.proofs.expression_code_lemmas.Homes.{conversion_kept}
 use Rattle.codegen.proofs.expression_code_lemmas.Places.{kind_known}
-use Rattle.codegen.proofs.expression_code_lemmas.TermLengths.{height, both_code, chosen_code, converted_code, masked_code}
+use Rattle.codegen.proofs.expression_code_lemmas.TermLengths.{height, both_code, chosen_code, converted_code}
+use Rattle.codegen.proofs.expression_code_lemmas.TermLengths.{masked_code}
 use Rattle.codegen.proofs.expression_code_lemmas.TermLengths.{constant_length, move_length}
-use Rattle.codegen.proofs.expression_code_lemmas.TermLengths.{convert_length, number_length, one_code, prefix_length, rotate_length}
+use Rattle.codegen.proofs.expression_code_lemmas.TermLengths.{convert_length, number_length, one_code, prefix_length}
+use Rattle.codegen.proofs.expression_code_lemmas.TermLengths.{rotate_length}
 use Rattle.codegen.proofs.expression_code_lemmas.Values.{Ready, Valued, ValuedIn, kind_fits, value_word, place_ends}
 use Rattle.codegen.proofs.expression_code_lemmas.ElementValues.{by_index_known, picked}
-use Rattle.codegen.proofs.expression_code_lemmas.OperandRuns.{found, found_free, found_is, HasSlot, made, none_yet, one_fetched}
-use Rattle.codegen.proofs.expression_code_lemmas.OperandRuns.{one_more, operands, placed, Slots, steps_of, still_ready, Typed}
+use Rattle.codegen.proofs.expression_code_lemmas.OperandRuns.{found, found_free, found_is, HasSlot, made, none_yet}
+use Rattle.codegen.proofs.expression_code_lemmas.OperandRuns.{one_fetched}
+use Rattle.codegen.proofs.expression_code_lemmas.OperandRuns.{one_more, operands, placed, Slots, steps_of, still_ready}
+use Rattle.codegen.proofs.expression_code_lemmas.OperandRuns.{Typed}
 
 module _ (z : Setting) (free : ℕ) (aligned : free % 4 ≡ 0) (above : base_of z ≤ free) where
   abbrev slots : Slots

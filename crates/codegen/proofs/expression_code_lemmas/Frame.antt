@@ -2,10 +2,12 @@
 -- marks of a path are those of the inlined program, and all accesses stay inside the frame.
 use Rattle.std.proofs.Common.{◌≡◌, ◌⊎◌, inl, inr, ℕ, zero, suc, ◌+◌, ◌%◌, ◌^◌, ◌<◌, ◌≤◌, Bool, true, false, ◌&&◌}
 use Rattle.std.proofs.Common.{List, [], ◌∷◌, ◌++◌, length, Option, Some, is_some, refl, sym, ap, ap₂, ◌∙◌, arith}
-use Rattle.codegen.proofs.expression_code_lemmas.Below.{Allocation, AreFine, byte_count, ByteMap, Code, FlatVariable, Instr}
+use Rattle.codegen.proofs.expression_code_lemmas.Below.{Allocation, AreFine, byte_count, ByteMap, Code, FlatVariable}
+use Rattle.codegen.proofs.expression_code_lemmas.Below.{Instr}
 use Rattle.codegen.proofs.expression_code_lemmas.Below.{IsAllocation, IsInside, joined, Mark, number_at, number_at-suc}
 use Rattle.codegen.proofs.expression_code_lemmas.Below.{number_at-zero, Path, seen-append, Size, State, StraightState}
-use Rattle.codegen.proofs.expression_code_lemmas.Below.{temporaries_offset, with_number, with_number_above, with_number_below}
+use Rattle.codegen.proofs.expression_code_lemmas.Below.{temporaries_offset, with_number, with_number_above}
+use Rattle.codegen.proofs.expression_code_lemmas.Below.{with_number_below}
 use Rattle.inline.specs.Path.{seen as seen_of}
 use Rattle.codegen.proofs.program_logic_lemmas.Face as logic
 use Rattle.rv_machine.specs.declared.observation.Event.TheVariants as event

@@ -1,8 +1,10 @@
 -- Expressions that have a home: its register has their value, and nothing is shown for it.
 use Rattle.std.proofs.Common.{◌≡◌, ℕ, ◌^◌, ◌<◌, true, [], length, Some, refl, sym, ◌∙◌, arith}
 use Rattle.std.proofs.lemmas.Option.{none-some, slice_get_within}
-use Rattle.codegen.proofs.expression_code_lemmas.Below.{Allocation, convert, converted, HasType, home_of, home_of_term, keeps_words}
-use Rattle.codegen.proofs.expression_code_lemmas.Below.{Kind, of_conversion, of_variable, path_in, State, StraightState, TermTree}
+use Rattle.codegen.proofs.expression_code_lemmas.Below.{Allocation, convert, converted, HasType, home_of, home_of_term}
+use Rattle.codegen.proofs.expression_code_lemmas.Below.{keeps_words}
+use Rattle.codegen.proofs.expression_code_lemmas.Below.{Kind, of_conversion, of_variable, path_in, State, StraightState}
+use Rattle.codegen.proofs.expression_code_lemmas.Below.{TermTree}
 use Rattle.codegen.proofs.expression_code_lemmas.Below.{types_of, value_in, Values, width_of, word_as, WordType}
 use Rattle.codegen.proofs.expression_code_lemmas.Frame.{Setting}
 use Rattle.codegen.proofs.expression_code_lemmas.Values.{Ready, value_word}

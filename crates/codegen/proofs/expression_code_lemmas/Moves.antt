@@ -3,16 +3,23 @@
 -- A list of such moves is run on registers and bytes by a function, and the machine on its code does that.
 use Rattle.std.proofs.Common.{◌≡◌, ◌≢◌, ℕ, ◌+◌, ◌*◌, ◌%◌, ◌^◌, ◌<◌, ◌≤◌, ◌==◌, Bool, true, false, not, ◌&&◌, cond}
 use Rattle.std.proofs.Common.{nat_lt, List, [], ◌∷◌, ◌++◌, length, refl, ap, ap₂, ◌∙◌, arith, eq-eqb, ne_eqb}
-use Rattle.codegen.proofs.expression_code_lemmas.Below.{address_of, all_straight, as_code, both_left, both_right, byte_count}
-use Rattle.codegen.proofs.expression_code_lemmas.Below.{ByteMap, cheaper, Contents, contents_of, fun_ext, gives, idle, Instr}
-use Rattle.codegen.proofs.expression_code_lemmas.Below.{load_code, load_size, loaded_value, LoadOperation, lower_part, lt-ltb}
-use Rattle.codegen.proofs.expression_code_lemmas.Below.{ltb-true, nat_tests, no_access_fit, no_access_met, none, number_at}
+use Rattle.codegen.proofs.expression_code_lemmas.Below.{address_of, all_straight, as_code, both_left, both_right}
+use Rattle.codegen.proofs.expression_code_lemmas.Below.{byte_count}
+use Rattle.codegen.proofs.expression_code_lemmas.Below.{ByteMap, cheaper, Contents, contents_of, fun_ext, gives, idle}
+use Rattle.codegen.proofs.expression_code_lemmas.Below.{Instr}
+use Rattle.codegen.proofs.expression_code_lemmas.Below.{load_code, load_size, loaded_value, LoadOperation, lower_part}
+use Rattle.codegen.proofs.expression_code_lemmas.Below.{lt-ltb}
+use Rattle.codegen.proofs.expression_code_lemmas.Below.{ltb-true, nat_tests, no_access_fit, no_access_met, none}
+use Rattle.codegen.proofs.expression_code_lemmas.Below.{number_at}
 use Rattle.codegen.proofs.expression_code_lemmas.Below.{number_or_zero, only_computes, quiet, register, registers_after}
-use Rattle.codegen.proofs.expression_code_lemmas.Below.{registers_of, sign_extended, Size, State, store_size, StoreOperation}
-use Rattle.codegen.proofs.expression_code_lemmas.Below.{StraightState, sum_of, Then, upper_part, with_number, with_register}
+use Rattle.codegen.proofs.expression_code_lemmas.Below.{registers_of, sign_extended, Size, State, store_size}
+use Rattle.codegen.proofs.expression_code_lemmas.Below.{StoreOperation}
+use Rattle.codegen.proofs.expression_code_lemmas.Below.{StraightState, sum_of, Then, upper_part, with_number}
+use Rattle.codegen.proofs.expression_code_lemmas.Below.{with_register}
 use Rattle.codegen.proofs.expression_code_lemmas.Below.{with_result}
 use Rattle.codegen.proofs.expression_code_lemmas.Arithmetic.{far_address, near_address, upper_fits}
-use Rattle.codegen.proofs.expression_code_lemmas.Frame.{Setting, Before, After, Steps, Runs, setting, HeldAt, Held, frame_there}
+use Rattle.codegen.proofs.expression_code_lemmas.Frame.{Setting, Before, After, Steps, Runs, setting, HeldAt, Held}
+use Rattle.codegen.proofs.expression_code_lemmas.Frame.{frame_there}
 use Rattle.codegen.proofs.expression_code_lemmas.Frame.{frame_runs}
 use Rattle.rv_code.specs.declared.instructions.Instr.TheVariants as instr
 use Rattle.rv_code.specs.declared.operations.LoadOperation.TheVariants.{Lw}

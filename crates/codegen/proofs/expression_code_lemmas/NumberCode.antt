@@ -8,15 +8,22 @@ use Rattle.std.proofs.lemmas.Nat.{and_comm, or_comm, xor_comm, mod_below, mod-po
 use Rattle.std.specs.Int.Count.{count_leading_zeros}
 use Rattle.std.proofs.lemmas.Option.{cond_some, none-some, same_Some}
 use Rattle.codegen.proofs.expression_code_lemmas.Arithmetic.{lower_fits}
-use Rattle.codegen.proofs.expression_code_lemmas.Below.{Allocation, BinaryOperator, bits, element_bytes, eqb-true, Finish}
-use Rattle.codegen.proofs.expression_code_lemmas.Below.{finish_code, FlatVariable, held, HasType, is_short, kind_at, known_row}
-use Rattle.codegen.proofs.expression_code_lemmas.Below.{left_row, lt-ltb, ltb-true, marks_of, nat_tests, near_element, near_offset}
-use Rattle.codegen.proofs.expression_code_lemmas.Below.{number_code, number_of, number_row, NumberRow, of_number, of_truth}
-use Rattle.codegen.proofs.expression_code_lemmas.Below.{and_mask, only_computes, operated, path_in, Place, registers_after}
+use Rattle.codegen.proofs.expression_code_lemmas.Below.{Allocation, BinaryOperator, bits, element_bytes, eqb-true}
+use Rattle.codegen.proofs.expression_code_lemmas.Below.{Finish}
+use Rattle.codegen.proofs.expression_code_lemmas.Below.{finish_code, FlatVariable, held, HasType, is_short, kind_at}
+use Rattle.codegen.proofs.expression_code_lemmas.Below.{known_row}
+use Rattle.codegen.proofs.expression_code_lemmas.Below.{left_row, lt-ltb, ltb-true, marks_of, nat_tests, near_element}
+use Rattle.codegen.proofs.expression_code_lemmas.Below.{near_offset}
+use Rattle.codegen.proofs.expression_code_lemmas.Below.{number_code, number_of, number_row, NumberRow, of_number}
+use Rattle.codegen.proofs.expression_code_lemmas.Below.{of_truth}
+use Rattle.codegen.proofs.expression_code_lemmas.Below.{and_mask, only_computes, operated, path_in, Place}
+use Rattle.codegen.proofs.expression_code_lemmas.Below.{registers_after}
 use Rattle.codegen.proofs.expression_code_lemmas.Below.{chooses_zero, false≢true, is_known_zero, right_row, shift_value}
-use Rattle.codegen.proofs.expression_code_lemmas.Below.{sign_extended, sum_of, TermTree, turned_of, Types, value_in, Values}
+use Rattle.codegen.proofs.expression_code_lemmas.Below.{sign_extended, sum_of, TermTree, turned_of, Types, value_in}
+use Rattle.codegen.proofs.expression_code_lemmas.Below.{Values}
 use Rattle.codegen.proofs.expression_code_lemmas.Below.{variable_offset, Width, word_of}
-use Rattle.codegen.proofs.expression_code_lemmas.OperatorCode.{cut_composed, cut_plain, cut_value, cut_whole, d0, d32, dd, q0, q32}
+use Rattle.codegen.proofs.expression_code_lemmas.OperatorCode.{cut_composed, cut_plain, cut_value, cut_whole, d0, d32}
+use Rattle.codegen.proofs.expression_code_lemmas.OperatorCode.{dd, q0, q32}
 use Rattle.codegen.proofs.expression_code_lemmas.OperatorCode.{truth_fits}
 use Rattle.codegen.proofs.expression_code_lemmas.Values.{kind_fits}
 use Rattle.codegen.proofs.expression_code_lemmas.WorkRegisters.{ArePair, IsFree}
@@ -25,7 +32,8 @@ use Rattle.codegen.specs.declared.expression_code.numbers.NumberStep.TheVariants
 use Rattle.codegen.specs.expression_code.NumberRows.{above_zero, low_bits, masked, shifted}
 use Rattle.inline.specs.Flat.{number, truth}
 use Rattle.language.specs.declared.operators.BinaryOperator.TheVariants.{Equal, Unequal, Less, LessOrEqual, Greater}
-use Rattle.language.specs.declared.operators.BinaryOperator.TheVariants.{GreaterOrEqual, BitOr, BitXor, BitAnd, ShiftLeft}
+use Rattle.language.specs.declared.operators.BinaryOperator.TheVariants.{GreaterOrEqual, BitOr, BitXor, BitAnd}
+use Rattle.language.specs.declared.operators.BinaryOperator.TheVariants.{ShiftLeft}
 use Rattle.language.specs.declared.operators.BinaryOperator.TheVariants.{ShiftRight, Add, Subtract, Multiply, Divide}
 use Rattle.language.specs.declared.operators.BinaryOperator.TheVariants.{Remainder}
 use Rattle.rv_code.specs.declared.operations.ImmediateOperation.{ImmediateOperation}

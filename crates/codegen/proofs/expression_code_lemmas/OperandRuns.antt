@@ -2,18 +2,25 @@
 -- register.
 use Rattle.std.proofs.Common.{◌≡◌, ℕ, zero, suc, ◌+◌, ◌-◌, ◌*◌, ◌%◌, ◌<◌, ◌≤◌, List, [], ◌++◌, Option, None, Some}
 use Rattle.std.proofs.Common.{below_more, is_some, refl, ◌∙◌, arith, cond}
-use Rattle.codegen.proofs.expression_code_lemmas.Below.{along, at_home, cheaper, home_of_term, expr_code, fetch_code, gives, HasType}
-use Rattle.codegen.proofs.expression_code_lemmas.Below.{height_of, idle, Instr, into_code, keep_code, Location, none, operand, path_in}
-use Rattle.codegen.proofs.expression_code_lemmas.Below.{quiet, register_of, seq, slot_of, slots_to, State, StraightState, temporary}
-use Rattle.codegen.proofs.expression_code_lemmas.Below.{term_nodes, TermTree, types_of, value_in, WordType, working_register}
+use Rattle.codegen.proofs.expression_code_lemmas.Below.{along, at_home, cheaper, home_of_term, expr_code, fetch_code}
+use Rattle.codegen.proofs.expression_code_lemmas.Below.{gives, HasType}
+use Rattle.codegen.proofs.expression_code_lemmas.Below.{height_of, idle, Instr, into_code, keep_code, Location, none}
+use Rattle.codegen.proofs.expression_code_lemmas.Below.{operand, path_in}
+use Rattle.codegen.proofs.expression_code_lemmas.Below.{quiet, register_of, seq, slot_of, slots_to, State}
+use Rattle.codegen.proofs.expression_code_lemmas.Below.{StraightState, temporary}
+use Rattle.codegen.proofs.expression_code_lemmas.Below.{term_nodes, TermTree, types_of, value_in, WordType}
+use Rattle.codegen.proofs.expression_code_lemmas.Below.{working_register}
 use Rattle.codegen.proofs.expression_code_lemmas.Frame.{Setting, base_of, Steps, Before, Runs, HeldAt}
-use Rattle.codegen.proofs.expression_code_lemmas.WorkRegisters.{IsFree, IsOperand, operand_free, operand_not, is_operand, works_in}
+use Rattle.codegen.proofs.expression_code_lemmas.WorkRegisters.{IsFree, IsOperand, operand_free, operand_not}
+use Rattle.codegen.proofs.expression_code_lemmas.WorkRegisters.{is_operand, works_in}
 use Rattle.codegen.proofs.expression_code_lemmas.WorkRegisters.{works_at, higher_stays, beside_stays, own_stays}
 use Rattle.codegen.proofs.expression_code_lemmas.Operands.{Outcome, fetch_runs, operand_room, keep_runs}
 use Rattle.codegen.proofs.expression_code_lemmas.Homes.{home_there}
 use Rattle.codegen.proofs.expression_code_lemmas.TermLengths.{height}
-use Rattle.codegen.proofs.expression_code_lemmas.Values.{Ready, Valued, ValuedIn, Kept, Leaves, Holds, value_word, kept_less, kept_by}
-use Rattle.codegen.proofs.expression_code_lemmas.Values.{kept_then, leaves_then, leaves_spare, holds_lower, holds_still, homes_left}
+use Rattle.codegen.proofs.expression_code_lemmas.Values.{Ready, Valued, ValuedIn, Kept, Leaves, Holds, value_word}
+use Rattle.codegen.proofs.expression_code_lemmas.Values.{kept_less, kept_by}
+use Rattle.codegen.proofs.expression_code_lemmas.Values.{kept_then, leaves_then, leaves_spare, holds_lower, holds_still}
+use Rattle.codegen.proofs.expression_code_lemmas.Values.{homes_left}
 use Rattle.codegen.proofs.expression_code_lemmas.Values.{ready_after}
 
 -- what an expression puts on the path

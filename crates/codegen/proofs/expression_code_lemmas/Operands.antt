@@ -1,11 +1,16 @@
 -- Temporaries: how an operator's are fetched, worked on and kept.
 use Rattle.std.proofs.Common.{◌≡◌, ◌≢◌, ℕ, ◌+◌, ◌-◌, ◌*◌, ◌/◌, ◌%◌, ◌^◌, ◌<◌, ◌≤◌, ◌==◌, Bool, true, false, cond}
 use Rattle.std.proofs.Common.{nat_lt, List, [], ◌∷◌, length, Some, refl, sym, ap, ap₂, ◌∙◌, subst, arith, ne_eqb}
-use Rattle.codegen.proofs.expression_code_lemmas.Below.{Allocation, along, BinaryOperator, cheaper, cut_code, divide_value, divided}
-use Rattle.codegen.proofs.expression_code_lemmas.Below.{DivideOperation, emitted_operator, IsWithinKind, Profile, WordType}
-use Rattle.codegen.proofs.expression_code_lemmas.Below.{fetch_code, gives, idle, InRegister, InSlot, Instr, keep_code, Location}
-use Rattle.codegen.proofs.expression_code_lemmas.Below.{lt-ltb, ltb-false, marks_of, multiply_value, none, number_at, number_or_zero}
-use Rattle.codegen.proofs.expression_code_lemmas.Below.{only_computes, operand, operated, operator_code, Place, quiet, register_left}
+use Rattle.codegen.proofs.expression_code_lemmas.Below.{Allocation, along, BinaryOperator, cheaper, cut_code}
+use Rattle.codegen.proofs.expression_code_lemmas.Below.{divide_value, divided}
+use Rattle.codegen.proofs.expression_code_lemmas.Below.{DivideOperation, emitted_operator, IsWithinKind, Profile}
+use Rattle.codegen.proofs.expression_code_lemmas.Below.{WordType}
+use Rattle.codegen.proofs.expression_code_lemmas.Below.{fetch_code, gives, idle, InRegister, InSlot, Instr, keep_code}
+use Rattle.codegen.proofs.expression_code_lemmas.Below.{Location}
+use Rattle.codegen.proofs.expression_code_lemmas.Below.{lt-ltb, ltb-false, marks_of, multiply_value, none, number_at}
+use Rattle.codegen.proofs.expression_code_lemmas.Below.{number_or_zero}
+use Rattle.codegen.proofs.expression_code_lemmas.Below.{only_computes, operand, operated, operator_code, Place, quiet}
+use Rattle.codegen.proofs.expression_code_lemmas.Below.{register_left}
 use Rattle.codegen.proofs.expression_code_lemmas.Below.{register_of, registers_after, row_of, slot_of, slots_to, State}
 use Rattle.codegen.proofs.expression_code_lemmas.Below.{StraightState, temporary, TermTree, weaken, Width, with_number}
 use Rattle.codegen.proofs.expression_code_lemmas.Below.{working_register}
@@ -17,8 +22,10 @@ use Rattle.rv_code.specs.declared.operations.StoreOperation.TheVariants.{Sw}
 use Rattle.codegen.proofs.expression_code_lemmas.Events.{Moves, multiplying, dividing}
 use Rattle.codegen.proofs.expression_code_lemmas.Frame.{Setting, Steps, Before, Runs, HeldAt, held_regs}
 use Rattle.codegen.proofs.expression_code_lemmas.WorkRegisters.{IsFree, ArePair, at_operand, not_written}
-use Rattle.codegen.proofs.expression_code_lemmas.Moves.{take, put, Moved, move_runs, written, unwritten, computing_within}
-use Rattle.codegen.proofs.expression_code_lemmas.OperatorCode.{is_plain, cut_plain, operator_plain, operator_made, product_made}
+use Rattle.codegen.proofs.expression_code_lemmas.Moves.{take, put, Moved, move_runs, written, unwritten}
+use Rattle.codegen.proofs.expression_code_lemmas.Moves.{computing_within}
+use Rattle.codegen.proofs.expression_code_lemmas.OperatorCode.{is_plain, cut_plain, operator_plain, operator_made}
+use Rattle.codegen.proofs.expression_code_lemmas.OperatorCode.{product_made}
 use Rattle.codegen.proofs.expression_code_lemmas.TermLengths.{cut_length, operator_length}
 use Rattle.codegen.proofs.expression_code_lemmas.BoolCode.{emitted_marks, emitted_same}
 use Rattle.codegen.proofs.expression_code_lemmas.Values.{Kept, Leaves, Holds, kept_by, Wrote, wrote_kept, wrote_there}

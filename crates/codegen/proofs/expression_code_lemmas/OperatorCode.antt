@@ -3,12 +3,18 @@
 use Rattle.std.proofs.Common.{◌≡◌, ◌≢◌, ℕ, ◌+◌, ◌-◌, ◌*◌, ◌/◌, ◌%◌, ◌^◌, ◌<◌, ◌≤◌, ◌==◌, ◌||◌, nat_lt, Bool, true}
 use Rattle.std.proofs.Common.{false, cond, List, [], ◌∷◌, ◌++◌, refl, sym, ap, ap₂, ◌∙◌, arith, subst, eq-eqb, ne_eqb}
 use Rattle.std.proofs.lemmas.Nat.{and_mask, mod_below, pow_pos}
-use Rattle.codegen.proofs.expression_code_lemmas.Below.{after_append, between, BinaryOperator, bits, choice_code, choice_or_zero_code}
-use Rattle.codegen.proofs.expression_code_lemmas.Below.{constant_code, convert_code, converted, cut_code, eqb-true, false≢true, fun_ext}
-use Rattle.codegen.proofs.expression_code_lemmas.Below.{immediate_value, Instr, lt-ltb, move_code, multiply_value, narrow_code}
-use Rattle.codegen.proofs.expression_code_lemmas.Below.{narrowed_in, nat_tests, of_truths, only_computes, operated, operator_code}
-use Rattle.codegen.proofs.expression_code_lemmas.Below.{plain_append, prefix_code, prefix_value, PrefixOperator, register_left}
-use Rattle.codegen.proofs.expression_code_lemmas.Below.{register_value, registers_after, rotated_left, row_of, shift_value}
+use Rattle.codegen.proofs.expression_code_lemmas.Below.{after_append, between, BinaryOperator, bits, choice_code}
+use Rattle.codegen.proofs.expression_code_lemmas.Below.{choice_or_zero_code}
+use Rattle.codegen.proofs.expression_code_lemmas.Below.{constant_code, convert_code, converted, cut_code, eqb-true}
+use Rattle.codegen.proofs.expression_code_lemmas.Below.{false≢true, fun_ext}
+use Rattle.codegen.proofs.expression_code_lemmas.Below.{immediate_value, Instr, lt-ltb, move_code, multiply_value}
+use Rattle.codegen.proofs.expression_code_lemmas.Below.{narrow_code}
+use Rattle.codegen.proofs.expression_code_lemmas.Below.{narrowed_in, nat_tests, of_truths, only_computes, operated}
+use Rattle.codegen.proofs.expression_code_lemmas.Below.{operator_code}
+use Rattle.codegen.proofs.expression_code_lemmas.Below.{plain_append, prefix_code, prefix_value, PrefixOperator}
+use Rattle.codegen.proofs.expression_code_lemmas.Below.{register_left}
+use Rattle.codegen.proofs.expression_code_lemmas.Below.{register_value, registers_after, rotated_left, row_of}
+use Rattle.codegen.proofs.expression_code_lemmas.Below.{shift_value}
 use Rattle.codegen.proofs.expression_code_lemmas.Below.{sign_extended, Step, turned, Width, with_register, word_of}
 use Rattle.rv_code.specs.declared.instructions.Instr.TheVariants as instr
 use Rattle.rv_code.specs.declared.operations.ImmediateOperation.TheVariants.{Addi, Andi}

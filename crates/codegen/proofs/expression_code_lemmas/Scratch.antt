@@ -2,7 +2,8 @@
 use Rattle.std.proofs.Common.{◌≡◌, ◌≢◌, ℕ, ◌<◌, ◌≤◌, ◌&&◌, ◌||◌, Bool, true, false, nat_lt, List, [], ◌∷◌, refl, ap}
 use Rattle.std.proofs.Common.{◌∙◌, arith}
 use Rattle.codegen.proofs.expression_code_lemmas.Below.{both_left, both_right, Contents, contents_of, Instr, nat_tests}
-use Rattle.codegen.proofs.expression_code_lemmas.Below.{only_computes, register_left, registers_after, State, StraightState}
+use Rattle.codegen.proofs.expression_code_lemmas.Below.{only_computes, register_left, registers_after, State}
+use Rattle.codegen.proofs.expression_code_lemmas.Below.{StraightState}
 use Rattle.codegen.proofs.expression_code_lemmas.Frame.{Setting}
 use Rattle.codegen.proofs.expression_code_lemmas.Moves.{Move, take, put, does, moved, all_moved, Moved, unwritten}
 use Rattle.codegen.proofs.expression_code_lemmas.Values.{HomesKept}

@@ -1,9 +1,12 @@
 -- The law of expressions: the code of one, at a site.
 use Rattle.std.proofs.Common.{◌≡◌, ℕ, ◌+◌, ◌<◌, true, List, [], Some, refl, sym, ap, arith, Bool, append-nil}
 use Rattle.std.proofs.Common.{false, cond, nat_lt, subst, All}
-use Rattle.codegen.proofs.expression_code_lemmas.Below.{HasType, InRegister, InSlot, IsComputed, IsInside, IsSiteOf, Leads, Location}
-use Rattle.codegen.proofs.expression_code_lemmas.Below.{ltb-false, ltb-true, Observation, operand, Path, path_in, Site, slot_of}
-use Rattle.codegen.proofs.expression_code_lemmas.Below.{State, StraightState, TermTree, types_of, value_in, Values, word_in}
+use Rattle.codegen.proofs.expression_code_lemmas.Below.{HasType, InRegister, InSlot, IsComputed, IsInside, IsSiteOf}
+use Rattle.codegen.proofs.expression_code_lemmas.Below.{Leads, Location}
+use Rattle.codegen.proofs.expression_code_lemmas.Below.{ltb-false, ltb-true, Observation, operand, Path, path_in, Site}
+use Rattle.codegen.proofs.expression_code_lemmas.Below.{slot_of}
+use Rattle.codegen.proofs.expression_code_lemmas.Below.{State, StraightState, TermTree, types_of, value_in, Values}
+use Rattle.codegen.proofs.expression_code_lemmas.Below.{word_in}
 use Rattle.codegen.proofs.expression_code_lemmas.Below.{WordType, ends_on}
 use Rattle.codegen.proofs.expression_code_lemmas.Frame.{Setting, seen_by}
 use Rattle.codegen.proofs.expression_code_lemmas.WorkRegisters.{works_in, lower_stays}

@@ -3,19 +3,31 @@
 use Rattle.std.proofs.Common.{◌≡◌, ℕ, ◌+◌, ◌*◌, ◌%◌, ◌<◌, ◌≤◌, ◌==◌, Bool, true, false, cond, nat_lt, List, ◌++◌}
 use Rattle.std.proofs.Common.{length, Option, None, Some, ◌-◌, arith, length-append}
 use Rattle.std.proofs.lemmas.Option.{slice_get_within}
-use Rattle.codegen.proofs.expression_code_lemmas.Below.{address_code, Allocation, around_code, binary, BinaryOperator, bits, code_by}
+use Rattle.codegen.proofs.expression_code_lemmas.Below.{address_code, Allocation, around_code, binary, BinaryOperator}
+use Rattle.codegen.proofs.expression_code_lemmas.Below.{bits, code_by}
 use Rattle.codegen.proofs.expression_code_lemmas.Below.{choice_code, choice_or_zero_code, chooses_zero}
-use Rattle.codegen.proofs.expression_code_lemmas.Below.{constant_code, convert, convert_code, copy_code, cut_code, element}
-use Rattle.codegen.proofs.expression_code_lemmas.Below.{element_code, emitted_operator, expr_code, fetch_code, Finish, finish_code}
-use Rattle.codegen.proofs.expression_code_lemmas.Below.{FlatVariable, HasType, height_of, InRegister, InSlot, Instr, into_code}
-use Rattle.codegen.proofs.expression_code_lemmas.Below.{IsAmong, is_at_home, keep_code, keeps_words, Kind, kind_at, left_row}
-use Rattle.codegen.proofs.expression_code_lemmas.Below.{load_code, Location, move_code, narrow_code, narrowed_in, near_code}
-use Rattle.codegen.proofs.expression_code_lemmas.Below.{near_element, number_code, NumberRow, NumberStep, number_step_code, of_binary}
-use Rattle.codegen.proofs.expression_code_lemmas.Below.{of_conversion, of_element, of_number, of_prefix, of_rotation, of_selection}
-use Rattle.codegen.proofs.expression_code_lemmas.Below.{of_truth, of_truths, of_variable, operand, operator_code, placed_code, prefix}
-use Rattle.codegen.proofs.expression_code_lemmas.Below.{prefix_code, PrefixOperator, Profile, raise_code, register_of, right_row}
-use Rattle.codegen.proofs.expression_code_lemmas.Below.{rotate, rotate_code, row_of, scale_code, select, Step, step_code, store_code}
-use Rattle.codegen.proofs.expression_code_lemmas.Below.{temporary, term_nodes, TermTree, Types, types_of, variable, variable_location}
+use Rattle.codegen.proofs.expression_code_lemmas.Below.{constant_code, convert, convert_code, copy_code, cut_code}
+use Rattle.codegen.proofs.expression_code_lemmas.Below.{element}
+use Rattle.codegen.proofs.expression_code_lemmas.Below.{element_code, emitted_operator, expr_code, fetch_code, Finish}
+use Rattle.codegen.proofs.expression_code_lemmas.Below.{finish_code}
+use Rattle.codegen.proofs.expression_code_lemmas.Below.{FlatVariable, HasType, height_of, InRegister, InSlot, Instr}
+use Rattle.codegen.proofs.expression_code_lemmas.Below.{into_code}
+use Rattle.codegen.proofs.expression_code_lemmas.Below.{IsAmong, is_at_home, keep_code, keeps_words, Kind, kind_at}
+use Rattle.codegen.proofs.expression_code_lemmas.Below.{left_row}
+use Rattle.codegen.proofs.expression_code_lemmas.Below.{load_code, Location, move_code, narrow_code, narrowed_in}
+use Rattle.codegen.proofs.expression_code_lemmas.Below.{near_code}
+use Rattle.codegen.proofs.expression_code_lemmas.Below.{near_element, number_code, NumberRow, NumberStep}
+use Rattle.codegen.proofs.expression_code_lemmas.Below.{number_step_code, of_binary}
+use Rattle.codegen.proofs.expression_code_lemmas.Below.{of_conversion, of_element, of_number, of_prefix, of_rotation}
+use Rattle.codegen.proofs.expression_code_lemmas.Below.{of_selection}
+use Rattle.codegen.proofs.expression_code_lemmas.Below.{of_truth, of_truths, of_variable, operand, operator_code}
+use Rattle.codegen.proofs.expression_code_lemmas.Below.{placed_code, prefix}
+use Rattle.codegen.proofs.expression_code_lemmas.Below.{prefix_code, PrefixOperator, Profile, raise_code, register_of}
+use Rattle.codegen.proofs.expression_code_lemmas.Below.{right_row}
+use Rattle.codegen.proofs.expression_code_lemmas.Below.{rotate, rotate_code, row_of, scale_code, select, Step}
+use Rattle.codegen.proofs.expression_code_lemmas.Below.{step_code, store_code}
+use Rattle.codegen.proofs.expression_code_lemmas.Below.{temporary, term_nodes, TermTree, Types, types_of, variable}
+use Rattle.codegen.proofs.expression_code_lemmas.Below.{variable_location}
 use Rattle.codegen.proofs.expression_code_lemmas.Below.{variable_offset, Width, width_of, WordType, working_register}
 use Rattle.language.specs.declared.signature.Kind.TheVariants.{Boolean}
 use Rattle.codegen.specs.declared.expression_code.numbers.Finish.TheVariants.{Narrowed}

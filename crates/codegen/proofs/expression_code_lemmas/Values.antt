@@ -1,15 +1,22 @@
 -- What is shown of the state of straight code, and what the code of an expression leaves.
-use Rattle.std.proofs.Common.{◌≡◌, ◌≢◌, ℕ, ◌+◌, ◌-◌, ◌%◌, ◌^◌, ◌<◌, ◌≤◌, Bool, true, false, cond, nat_lt, List, None, Option}
+use Rattle.std.proofs.Common.{◌≡◌, ◌≢◌, ℕ, ◌+◌, ◌-◌, ◌%◌, ◌^◌, ◌<◌, ◌≤◌, Bool, true, false, cond, nat_lt, List, None}
+use Rattle.std.proofs.Common.{Option}
 use Rattle.std.proofs.Common.{Some, length, slice_get, slice_index, refl, ap, ◌∙◌, arith, sym}
-use Rattle.codegen.proofs.expression_code_lemmas.Below.{at_home, ByteMap, control_location, control_offset, is_unread, Fits, FlatVariable, HasType, home_of, InRegister}
-use Rattle.codegen.proofs.expression_code_lemmas.Below.{InSlot, IsWithinKind, Kind, Location, ltb-false, ltb-true, next_offset}
-use Rattle.codegen.proofs.expression_code_lemmas.Below.{number_at, number_at-with_number, number_at_same, numbers_in, operand}
-use Rattle.codegen.proofs.expression_code_lemmas.Below.{Profile, result_offset, slot_of, State, StraightState, TermTree, types_of}
-use Rattle.codegen.proofs.expression_code_lemmas.Below.{value_fits, value_in, Values, with_number, with_number_below, WordType}
+use Rattle.codegen.proofs.expression_code_lemmas.Below.{at_home, ByteMap, control_location, control_offset, is_unread}
+use Rattle.codegen.proofs.expression_code_lemmas.Below.{Fits, FlatVariable, HasType, home_of, InRegister}
+use Rattle.codegen.proofs.expression_code_lemmas.Below.{InSlot, IsWithinKind, Kind, Location, ltb-false, ltb-true}
+use Rattle.codegen.proofs.expression_code_lemmas.Below.{next_offset}
+use Rattle.codegen.proofs.expression_code_lemmas.Below.{number_at, number_at-with_number, number_at_same, numbers_in}
+use Rattle.codegen.proofs.expression_code_lemmas.Below.{operand}
+use Rattle.codegen.proofs.expression_code_lemmas.Below.{Profile, result_offset, slot_of, State, StraightState, TermTree}
+use Rattle.codegen.proofs.expression_code_lemmas.Below.{types_of}
+use Rattle.codegen.proofs.expression_code_lemmas.Below.{value_fits, value_in, Values, with_number, with_number_below}
+use Rattle.codegen.proofs.expression_code_lemmas.Below.{WordType}
 use Rattle.language.specs.declared.signature.Kind.TheVariants.{Uint32}
 use Rattle.codegen.proofs.expression_code_lemmas.Frame.{Setting, base_of, HeldAt, Held}
 use Rattle.codegen.proofs.expression_code_lemmas.Arithmetic.{mask_of}
-use Rattle.codegen.proofs.expression_code_lemmas.WorkRegisters.{IsHome, works_in, works_at, home_stays, lower_stays, stays_spare}
+use Rattle.codegen.proofs.expression_code_lemmas.WorkRegisters.{IsHome, works_in, works_at, home_stays, lower_stays}
+use Rattle.codegen.proofs.expression_code_lemmas.WorkRegisters.{stays_spare}
 use Rattle.codegen.proofs.expression_code_lemmas.WorkRegisters.{at_operand}
 use Rattle.codegen.proofs.expression_code_lemmas.Places.{bytes_of, place_of, place_within, ends_before_result}
 

@@ -3,9 +3,11 @@
 use Rattle.std.proofs.Common.{◌≡◌, ◌≢◌, ◌⊎◌, inl, inr, ℕ, ◌+◌, ◌<◌, ◌≤◌, ◌==◌, ◌&&◌, ◌||◌, not, cond, nat_lt, nat_le}
 use Rattle.std.proofs.Common.{Bool, true, false, List, Option, None, Some, if◌then◌else◌, refl, sym, ap, ◌∙◌, arith}
 use Rattle.std.proofs.lemmas.Option.{none-some}
-use Rattle.codegen.proofs.expression_code_lemmas.Below.{Allocation, at_home as at_home_of, convert, FlatVariable, home_of_term}
+use Rattle.codegen.proofs.expression_code_lemmas.Below.{Allocation, at_home as at_home_of, convert, FlatVariable}
+use Rattle.codegen.proofs.expression_code_lemmas.Below.{home_of_term}
 use Rattle.codegen.proofs.expression_code_lemmas.Below.{InRegister, InSlot, keeps_words, Kind}
-use Rattle.codegen.proofs.expression_code_lemmas.Below.{IsAllocation, Location, nat_tests, operand, register_of, slot_of, temporary}
+use Rattle.codegen.proofs.expression_code_lemmas.Below.{IsAllocation, Location, nat_tests, operand, register_of}
+use Rattle.codegen.proofs.expression_code_lemmas.Below.{slot_of, temporary}
 use Rattle.codegen.proofs.expression_code_lemmas.Below.{TermTree, true≢false, variable, working_register}
 
 -- a register that code may work on

@@ -4,7 +4,8 @@ use Rattle.std.proofs.Common.{refl, sym, ap, ap₂, ◌∙◌, subst}
 use Rattle.std.proofs.lemmas.Bool.{false≢true}
 use Rattle.codegen.proofs.program_logic_lemmas.StraightRuns.{both_left, both_right}
 use Rattle.codegen.proofs.program_logic_lemmas.Symbols.{register_kept}
-use Rattle.codegen.specs.program_logic.StraightCode.{Contents, is_straight, are_straight, left_by, after, after_all, fit_and}
+use Rattle.codegen.specs.program_logic.StraightCode.{Contents, is_straight, are_straight, left_by, after, after_all}
+use Rattle.codegen.specs.program_logic.StraightCode.{fit_and}
 use Rattle.codegen.specs.program_logic.StraightCode.{AreFit, met_and, AreMet}
 use Rattle.rv_code.specs.declared.instructions.Instr.{Instr}
 use Rattle.rv_code.specs.declared.instructions.Instr.TheVariants.{Upper, Immediate, Shift, Register, Load, Store}

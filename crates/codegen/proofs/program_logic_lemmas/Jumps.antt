@@ -13,7 +13,8 @@ use Rattle.codegen.specs.program_logic.Placed.{Placed}
 use Rattle.rv_code.specs.declared.instructions.Instr.{Instr}
 use Rattle.rv_code.specs.declared.instructions.Instr.TheVariants as instr
 use Rattle.rv_code.specs.declared.operations.BranchTest.TheVariants.{Bne}
-use Rattle.codegen.proofs.program_logic_lemmas.Below.{with_link-pc, with_link-regs, with_link-bytes, moved_to-pc, moved_to-regs}
+use Rattle.codegen.proofs.program_logic_lemmas.Below.{with_link-pc, with_link-regs, with_link-bytes, moved_to-pc}
+use Rattle.codegen.proofs.program_logic_lemmas.Below.{moved_to-regs}
 use Rattle.codegen.proofs.program_logic_lemmas.Below.{moved_to-bytes, jump_leads, branch_leads, branch_passes}
 use Rattle.rv_machine.specs.Effects.{jump_target, branch_target, sign_extended, sum_of}
 use Rattle.rv_machine.specs.Machine.{State, with_link, moved_to, next}

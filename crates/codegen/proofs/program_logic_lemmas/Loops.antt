@@ -5,10 +5,12 @@ use Rattle.std.proofs.Common.{◌∷◌, ◌++◌, length, None, refl, sym, ap, 
 use Rattle.std.proofs.Common.{ne_eqb}
 use Rattle.std.proofs.lemmas.Bool.Decides.{nat_tests}
 use Rattle.codegen.proofs.program_logic_lemmas.Jumps.{shown_at, moved_still, over_ends, back_ends, skip_ends, pass_ends}
-use Rattle.codegen.proofs.program_logic_lemmas.Pieces.{seen_then, seen_nothing, turn_ends, then_ends, ends_as, ends_to, ends_on}
+use Rattle.codegen.proofs.program_logic_lemmas.Pieces.{seen_then, seen_nothing, turn_ends, then_ends, ends_as, ends_to}
+use Rattle.codegen.proofs.program_logic_lemmas.Pieces.{ends_on}
 use Rattle.codegen.proofs.program_logic_lemmas.PlacedLaws.{Placed-left, Placed-right, stands}
 use Rattle.codegen.specs.program_logic.Jumps.{skip, over, back, loop_code, again_code}
-use Rattle.codegen.specs.program_logic.Pieces.{Setting, Before, After, Steps, none, Leak, always, both, Ends, Straight, Runs}
+use Rattle.codegen.specs.program_logic.Pieces.{Setting, Before, After, Steps, none, Leak, always, both, Ends, Straight}
+use Rattle.codegen.specs.program_logic.Pieces.{Runs}
 use Rattle.codegen.specs.program_logic.Pieces.{Still, turns_after, turns_path}
 use Rattle.codegen.specs.program_logic.Placed.{Placed}
 use Rattle.rv_code.specs.declared.instructions.Instr.{Instr}

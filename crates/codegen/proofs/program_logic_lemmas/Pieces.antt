@@ -3,7 +3,8 @@ use Rattle.std.proofs.Common.{◌≡◌, ℕ, zero, suc, ◌+◌, ◌*◌, ◌�
 use Rattle.std.proofs.Common.{ap, ◌∙◌, subst, arith, length-append, append_assoc, append-nil}
 use Rattle.std.proofs.lemmas.List.Elements.{All-append}
 use Rattle.codegen.proofs.program_logic_lemmas.PlacedLaws.{Placed-left, Placed-right}
-use Rattle.codegen.specs.program_logic.Pieces.{Setting, Before, After, Steps, none, Leak, always, both, Ends, Runs, Then}
+use Rattle.codegen.specs.program_logic.Pieces.{Setting, Before, After, Steps, none, Leak, always, both, Ends, Runs}
+use Rattle.codegen.specs.program_logic.Pieces.{Then}
 use Rattle.rv_code.specs.declared.instructions.Instr.{Instr}
 use Rattle.codegen.proofs.program_logic_lemmas.Below.{Leads-append}
 use Rattle.rv_machine.specs.Leakage.{Leads, stays}

@@ -14,7 +14,8 @@ use Rattle.rv_code.specs.declared.instructions.Instr.TheVariants.{Upper, Immedia
 use Rattle.rv_code.specs.declared.operations.LoadOperation.{LoadOperation}
 use Rattle.rv_code.specs.declared.operations.StoreOperation.{StoreOperation}
 use Rattle.rv_code.specs.declared.operations.UpperOperation.TheVariants.{Lui}
-use Rattle.codegen.proofs.program_logic_lemmas.Below.{Leads-append, upper_leads, immediate_leads, shift_leads, register_leads}
+use Rattle.codegen.proofs.program_logic_lemmas.Below.{Leads-append, upper_leads, immediate_leads, shift_leads}
+use Rattle.codegen.proofs.program_logic_lemmas.Below.{register_leads}
 use Rattle.codegen.proofs.program_logic_lemmas.Below.{load_leads, store_leads}
 use Rattle.rv_machine.specs.Bytes.{number_at, with_number}
 use Rattle.rv_machine.specs.Effects.{load_size, loaded_value, store_size, address_of}

@@ -4,11 +4,14 @@ use Rattle.std.proofs.Common.{◌≡◌, ◌≢◌, ℕ, ◌+◌, ◌*◌, ◌==
 use Rattle.std.proofs.Common.{Option, Some, refl, sym, ap, ap₂, ◌∙◌, subst, arith, ne_eqb}
 use Rattle.std.proofs.lemmas.Bool.{false≢true}
 use Rattle.codegen.proofs.program_logic_lemmas.Pieces.{seen_nothing, ends_on}
-use Rattle.codegen.proofs.program_logic_lemmas.StraightRuns.{straight_code_leads, shown_allowed, rest_fit, rest_met, both_left}
+use Rattle.codegen.proofs.program_logic_lemmas.StraightRuns.{straight_code_leads, shown_allowed, rest_fit, rest_met}
+use Rattle.codegen.proofs.program_logic_lemmas.StraightRuns.{both_left}
 use Rattle.codegen.proofs.program_logic_lemmas.StraightRuns.{both_right}
 use Rattle.codegen.specs.program_logic.Pieces.{Setting, Before, none, always, Runs, Became}
-use Rattle.codegen.specs.program_logic.StraightCode.{Contents, contents_of, state_at, is_straight, are_straight, next_of}
-use Rattle.codegen.specs.program_logic.StraightCode.{left_by, after, after_all, shown_by, fit_and, AreFit, met_and, AreMet}
+use Rattle.codegen.specs.program_logic.StraightCode.{Contents, contents_of, state_at, is_straight, are_straight}
+use Rattle.codegen.specs.program_logic.StraightCode.{next_of}
+use Rattle.codegen.specs.program_logic.StraightCode.{left_by, after, after_all, shown_by, fit_and, AreFit, met_and}
+use Rattle.codegen.specs.program_logic.StraightCode.{AreMet}
 use Rattle.rv_code.specs.declared.instructions.Instr.{Instr}
 use Rattle.rv_code.specs.declared.instructions.Instr.TheVariants.{Upper, Immediate, Shift, Register, Load, Store}
 use Rattle.rv_code.specs.declared.operations.UpperOperation.TheVariants.{Lui}

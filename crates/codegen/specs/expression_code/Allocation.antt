@@ -3,7 +3,8 @@
 -- of the frame. A variable is in its slot, or it has a home: a register of its own, in which it lives for the whole
 -- run. So is a control value. Their homes are listed by their numbers, those of control values behind those of all
 -- variables.
-use Rattle.std.specs.Prelude.{◌≡◌, ℕ, ◌+◌, ◌-◌, ◌*◌, ◌<◌, ◌≤◌, Bool, false, List, [], Option, None, Some, nat_lt, if◌then◌else◌, slice_get, unwrap_or}
+use Rattle.std.specs.Prelude.{◌≡◌, ℕ, ◌+◌, ◌-◌, ◌*◌, ◌<◌, ◌≤◌, Bool, false, List, [], Option, None, Some, nat_lt}
+use Rattle.std.specs.Prelude.{if◌then◌else◌, slice_get, unwrap_or}
 use Rattle.codegen.specs.expression_code.Registers.{value_register, address_register}
 use Rattle.codegen.specs.declared.expression_code.locations.Location.{Location}
 use Rattle.codegen.specs.declared.expression_code.locations.Location.TheVariants.{InRegister, InSlot}

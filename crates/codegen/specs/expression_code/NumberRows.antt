@@ -7,7 +7,8 @@ use Rattle.codegen.specs.expression_code.Allocation.{Allocation}
 use Rattle.codegen.specs.declared.expression_code.numbers.Finish.TheVariants as finish
 use Rattle.codegen.specs.declared.expression_code.numbers.Finish.{Finish}
 use Rattle.codegen.specs.declared.expression_code.numbers.NumberRow.{NumberRow}
-use Rattle.codegen.specs.declared.expression_code.numbers.NumberStep.TheVariants.{WithImmediate, ByAmount, AboveZero, KeepsLow}
+use Rattle.codegen.specs.declared.expression_code.numbers.NumberStep.TheVariants.{WithImmediate, ByAmount, AboveZero}
+use Rattle.codegen.specs.declared.expression_code.numbers.NumberStep.TheVariants.{KeepsLow}
 use Rattle.inline.specs.Flat.{TermTree, number, truth}
 use Rattle.language.specs.declared.operators.BinaryOperator.{BinaryOperator}
 use Rattle.language.specs.declared.operators.BinaryOperator.TheVariants as operators

@@ -2,13 +2,15 @@
 use Rattle.std.specs.Prelude.{ℕ, zero, suc, ◌+◌, ◌-◌, ◌*◌, ◌/◌, ◌%◌, ◌^◌, ◌==◌, ◌<◌, ◌&&◌, Bool, true, false, List, []}
 use Rattle.std.specs.Prelude.{◌∷◌, ◌++◌, nat_lt, Option, None, Some, is_some, if◌then◌else◌}
 use Rattle.codegen.specs.expression_code.Layout.{variable_offset, variable_location}
-use Rattle.codegen.specs.expression_code.Allocation.{register_of, Allocation, home_of, temporary, working_register, at_home}
+use Rattle.codegen.specs.expression_code.Allocation.{register_of, Allocation, home_of, temporary, working_register}
+use Rattle.codegen.specs.expression_code.Allocation.{at_home}
 use Rattle.codegen.specs.expression_code.NumberRows.{number_of, right_row, left_row, chooses_zero}
 use Rattle.codegen.specs.declared.expression_code.numbers.Finish.{Finish}
 use Rattle.codegen.specs.declared.expression_code.numbers.Finish.TheVariants.{Alone, GivesZero, GivesMore, Narrowed}
 use Rattle.codegen.specs.declared.expression_code.numbers.NumberRow.{NumberRow}
 use Rattle.codegen.specs.declared.expression_code.numbers.NumberStep.{NumberStep}
-use Rattle.codegen.specs.declared.expression_code.numbers.NumberStep.TheVariants.{WithImmediate, ByAmount, AboveZero, KeepsLow}
+use Rattle.codegen.specs.declared.expression_code.numbers.NumberStep.TheVariants.{WithImmediate, ByAmount, AboveZero}
+use Rattle.codegen.specs.declared.expression_code.numbers.NumberStep.TheVariants.{KeepsLow}
 use Rattle.codegen.specs.declared.expression_code.locations.Location.{Location}
 use Rattle.codegen.specs.declared.expression_code.locations.Location.TheVariants.{InRegister, InSlot}
 use Rattle.codegen.specs.expression_code.Registers.{zero_register, frame_register, address_register, first_spare}

@@ -16,7 +16,8 @@ use Rattle.codegen.specs.expression_code.Layout.{variable_offset, variable_locat
 use Rattle.codegen.specs.expression_code.Layout.{temporaries_offset}
 use Rattle.codegen.specs.expression_code.Registers.{zero_register, frame_register, value_register, second_register}
 use Rattle.codegen.specs.expression_code.Registers.{third_register, address_register, first_spare}
-use Rattle.codegen.specs.expression_code.TermCode.{is_near, upper_part, lower_part, load_code, store_code, constant_code}
+use Rattle.codegen.specs.expression_code.TermCode.{is_near, upper_part, lower_part, load_code, store_code}
+use Rattle.codegen.specs.expression_code.TermCode.{constant_code}
 use Rattle.codegen.specs.expression_code.TermCode.{address_code, load_by, kind_at, near_element, near_code, code_by}
 use Rattle.codegen.specs.expression_code.TermCode.{fetch_code, into_code}
 use Rattle.codegen.specs.declared.expression_code.locations.Location.{Location}

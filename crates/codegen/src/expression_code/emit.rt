@@ -1,7 +1,9 @@
 // Instructions for slots, numbers and elements, each appended to the code so far.
 
 ghost use Rattle.std.specs.Prelude.{◌≡◌, ◌++◌, ◌∷◌, ◌<◌, [], OnOk};
-ghost use Rattle.codegen.specs.expression_code.TermCode.{upper_part, lower_part, load_code, store_code, constant_code, scale_code, raise_code, address_code, load_by, element_code, near_code};
+ghost use Rattle.codegen.specs.expression_code.TermCode.{upper_part, lower_part, load_code, store_code, constant_code};
+ghost use Rattle.codegen.specs.expression_code.TermCode.{scale_code, raise_code, address_code, load_by, element_code};
+ghost use Rattle.codegen.specs.expression_code.TermCode.{near_code};
 
 use language::Kind;
 use rv_code::{

@@ -4,7 +4,8 @@ ghost use Rattle.std.specs.Prelude.{◌≡◌, ◌++◌, ◌+◌, ◌*◌, ◌�
 ghost use Rattle.codegen.specs.expression_code.Layout.{temporaries_offset};
 ghost use Rattle.codegen.specs.expression_code.Allocation.{register_of, slots_to, working_register};
 ghost use Rattle.codegen.specs.expression_code.Registers.{first_spare, second_spare, third_spare};
-ghost use Rattle.codegen.specs.expression_code.TermCode.{into_code, expr_code, operand, fetch_code, choice_or_zero_code, IsAmong};
+ghost use Rattle.codegen.specs.expression_code.TermCode.{into_code, expr_code, operand, fetch_code};
+ghost use Rattle.codegen.specs.expression_code.TermCode.{choice_or_zero_code, IsAmong};
 ghost use Rattle.branch_removal.specs.Heights.{height_of};
 ghost use Rattle.inline.specs.Flat.{term_tree};
 

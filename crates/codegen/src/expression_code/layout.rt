@@ -1,7 +1,9 @@
 // Where a program's words lie in the frame.
 
 ghost use Rattle.std.specs.Prelude.{◌≡◌, ◌≤◌, ◌<◌, ◌+◌, ◌*◌, length, map, slice_get, unwrap_or, IfOk};
-ghost use Rattle.codegen.specs.expression_code.Layout.{variable_offset, variable_location, result_offset, control_offset, control_location, word_offset, next_offset, temporaries_offset, offsets_from, slots_from};
+ghost use Rattle.codegen.specs.expression_code.Layout.{variable_offset, variable_location, result_offset};
+ghost use Rattle.codegen.specs.expression_code.Layout.{control_offset, control_location, word_offset, next_offset};
+ghost use Rattle.codegen.specs.expression_code.Layout.{temporaries_offset, offsets_from, slots_from};
 ghost use Rattle.codegen.specs.expression_code.Allocation.{is_unread, slots_to, temporary, working_register};
 ghost use Rattle.codegen.specs.expression_code.Registers.{value_register};
 ghost use Rattle.codegen.specs.expression_code.TermCode.{kind_at, near_offset, near_element, is_word, keeps_words};

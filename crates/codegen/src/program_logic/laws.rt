@@ -2,7 +2,8 @@
 
 ghost use Rattle.std.specs.Prelude.{◌≡◌, ◌+◌, ◌*◌, ℕ, Bool, List, Option, length, true};
 ghost use Rattle.codegen.specs.program_logic.Placed.{Placed};
-ghost use Rattle.codegen.specs.program_logic.StraightCode.{Contents, AreFit, AreMet, after_all, are_straight, shown_by, state_at};
+ghost use Rattle.codegen.specs.program_logic.StraightCode.{Contents, AreFit, AreMet, after_all, are_straight, shown_by};
+ghost use Rattle.codegen.specs.program_logic.StraightCode.{state_at};
 ghost use Rattle.rv_code.specs.declared.instructions.Instr.{Instr};
 ghost use Rattle.rv_machine.specs.Leakage.{Leads};
 ghost use Rattle.rv_machine.specs.Machine.{Code};

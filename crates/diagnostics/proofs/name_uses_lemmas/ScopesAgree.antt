@@ -17,7 +17,8 @@ use Rattle.language.specs.Tree.{loop, BlockTree, nothing, first, ParameterTree}
 use Rattle.language.specs.Types.{Scope, declared, found}
 use Rattle.language.specs.Typing.{counter_as as counter_by_rules, declared_array, declared_as, is_mutable}
 use Rattle.language.specs.Typing.{parameter_as, parameter_value, scope_after, scope_after_all, with_parameters}
-use Rattle.diagnostics.specs.name_uses.SameScopes.{AreInScope, Known, SameScopes, entry_known, known, seen_known, type_known}
+use Rattle.diagnostics.specs.name_uses.SameScopes.{AreInScope, Known, SameScopes, entry_known, known, seen_known}
+use Rattle.diagnostics.specs.name_uses.SameScopes.{type_known}
 use Rattle.diagnostics.specs.name_uses.SameScopes.{with_variable, with_variables}
 use Rattle.diagnostics.specs.name_uses.Scopes.{Seen, counter_as, declared_by, scope_behind, variable_of, with_seen}
 use Rattle.word.specs.declared.place.Place.{Place}

@@ -6,8 +6,10 @@ ghost use Rattle.std.specs.String.{string_bytes};
 ghost use Rattle.language.specs.Tree.{call_tree, expr_tree, parameter_tree, procedure_tree};
 ghost use Rattle.language.specs.Types.{callee, found};
 ghost use Rattle.language.specs.Typing.{called_one, is_mutable};
-ghost use Rattle.diagnostics.specs.misfits.Arguments.{first_fixed, first_shared, fixed_for, partner, shared_first, shared_with, shares};
-ghost use Rattle.diagnostics.specs.misfits.MisfitLines.{call_line, count_line, fixed_argument_line, misfit_of_call, shared_line};
+ghost use Rattle.diagnostics.specs.misfits.Arguments.{first_fixed, first_shared, fixed_for, partner, shared_first};
+ghost use Rattle.diagnostics.specs.misfits.Arguments.{shared_with, shares};
+ghost use Rattle.diagnostics.specs.misfits.MisfitLines.{call_line, count_line, fixed_argument_line, misfit_of_call};
+ghost use Rattle.diagnostics.specs.misfits.MisfitLines.{shared_line};
 ghost use Rattle.diagnostics.specs.misfits.SharedFound.{shared};
 
 use crate::misfits::fixed::{array_argument, fixed_argument, fixed_line};

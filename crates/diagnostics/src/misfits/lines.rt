@@ -4,7 +4,8 @@ ghost use Rattle.std.specs.Prelude.{◌≡◌, map, IfOk};
 ghost use Rattle.std.specs.Option.{option_map};
 ghost use Rattle.std.specs.String.{string_bytes};
 ghost use Rattle.language.specs.Tree.{expr_tree, procedure_tree, statement_tree};
-ghost use Rattle.diagnostics.specs.misfits.MisfitLines.{array_line, change_line, misfit_line, node_line, number_lines, statement_line, value_lines, values_line};
+ghost use Rattle.diagnostics.specs.misfits.MisfitLines.{array_line, change_line, misfit_line, node_line, number_lines};
+ghost use Rattle.diagnostics.specs.misfits.MisfitLines.{statement_line, value_lines, values_line};
 ghost use Rattle.diagnostics.specs.operand_types.Found.{node, site as site_of};
 ghost use Rattle.diagnostics.specs.operand_types.Nodes.{values_tree};
 

@@ -6,7 +6,8 @@ ghost use Rattle.std.specs.String.{string_bytes};
 ghost use Rattle.language.specs.ExprTyping.{type_of};
 ghost use Rattle.language.specs.Tree.{expr_tree, procedure_tree, program_tree};
 ghost use Rattle.language.specs.Types.{of_one};
-ghost use Rattle.diagnostics.specs.misfits.MisfitLines.{missing_return_line, named_at, result_line, return_line, returned_line, void_line};
+ghost use Rattle.diagnostics.specs.misfits.MisfitLines.{missing_return_line, named_at, result_line, return_line};
+ghost use Rattle.diagnostics.specs.misfits.MisfitLines.{returned_line, void_line};
 
 use crate::misfits::misfit::Misfit;
 use crate::operand_types::{type_of, type_text};

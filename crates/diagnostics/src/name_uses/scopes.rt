@@ -2,10 +2,13 @@
 
 ghost use Rattle.std.specs.Prelude.{◌≡◌, ◌∷◌, ◌++◌, [], List, None, length, map, take, IfOk, OnOk};
 ghost use Rattle.std.specs.Option.{option_map};
-ghost use Rattle.language.specs.Tree.{block_tree, parameter_tree, procedure_tree, program_tree, return_tree, statement_tree, written};
+ghost use Rattle.language.specs.Tree.{block_tree, parameter_tree, procedure_tree, program_tree, return_tree};
+ghost use Rattle.language.specs.Tree.{statement_tree, written};
 ghost use Rattle.diagnostics.specs.declared.name_uses.scopes.Variable.{Variable};
 ghost use Rattle.diagnostics.specs.name_uses.NamesAt.{name_in_any};
-ghost use Rattle.diagnostics.specs.name_uses.Scopes.{counter_as, declared_by, name_returned, scope_behind, seen, seen_use, use_at, use_in, use_in_procedure, use_in_procedures, use_of, values_tree, variable_of, with_seen};
+ghost use Rattle.diagnostics.specs.name_uses.Scopes.{counter_as, declared_by, name_returned, scope_behind, seen};
+ghost use Rattle.diagnostics.specs.name_uses.Scopes.{seen_use, use_at, use_in, use_in_procedure, use_in_procedures};
+ghost use Rattle.diagnostics.specs.name_uses.Scopes.{use_of, values_tree, variable_of, with_seen};
 
 use crate::name_uses::names::{name_at, name_here, name_in_any, name_in_right};
 use language::{

@@ -4,9 +4,11 @@ ghost use Rattle.std.specs.Prelude.{◌≡◌, false, [], None, length, map, OnO
 ghost use Rattle.language.specs.Tree.{block_tree, expr_tree, parameter_tree, procedure_tree, statement_tree};
 ghost use Rattle.language.specs.Types.{declared, is_hidden, of_one};
 ghost use Rattle.language.specs.ExprTyping.{type_of};
-ghost use Rattle.language.specs.Typing.{declared_array, declared_as, parameter_as, parameter_value, with_parameters, with_procedure};
+ghost use Rattle.language.specs.Typing.{declared_array, declared_as, parameter_as, parameter_value, with_parameters};
+ghost use Rattle.language.specs.Typing.{with_procedure};
 ghost use Rattle.language.specs.names.Scope.{declared as placed};
-ghost use Rattle.diagnostics.specs.operand_types.Sites.{after, around_at, around_in, in_arms, in_turns, places_of, with_places};
+ghost use Rattle.diagnostics.specs.operand_types.Sites.{after, around_at, around_in, in_arms, in_turns, places_of};
+ghost use Rattle.diagnostics.specs.operand_types.Sites.{with_places};
 
 use crate::operand_types::expressions::type_of;
 use crate::operand_types::nodes::{is_at, is_in};

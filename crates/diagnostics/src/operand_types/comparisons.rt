@@ -11,7 +11,9 @@ ghost use Rattle.language.specs.Tree.{written};
 ghost use Rattle.diagnostics.specs.operand_types.Found.{node, site as site_of};
 ghost use Rattle.diagnostics.specs.operand_types.Mismatches.{called_argument, first_value};
 ghost use Rattle.diagnostics.specs.operand_types.Nodes.{values_tree};
-ghost use Rattle.diagnostics.specs.operand_types.TypeLines.{argument_line, call_line, choice_lines, element_line, expr_lines, node_lines, one_line, return_line, right_gives, statement_line, two_line, type_lines, value_line};
+ghost use Rattle.diagnostics.specs.operand_types.TypeLines.{argument_line, call_line, choice_lines, element_line};
+ghost use Rattle.diagnostics.specs.operand_types.TypeLines.{expr_lines, node_lines, one_line, return_line, right_gives};
+ghost use Rattle.diagnostics.specs.operand_types.TypeLines.{statement_line, two_line, type_lines, value_line};
 
 use crate::operand_types::around::parameter_value;
 use crate::operand_types::expressions::{name_type, type_of};

@@ -3,11 +3,16 @@
 ghost use Rattle.std.specs.Prelude.{◌≡◌, map, IfOk};
 ghost use Rattle.std.specs.Option.{option_map};
 ghost use Rattle.std.specs.String.{string_bytes};
-ghost use Rattle.language.specs.Tree.{call_tree, expr_tree, parameter_tree, procedure_tree, right_tree, statement_tree, written};
+ghost use Rattle.language.specs.Tree.{call_tree, expr_tree, parameter_tree, procedure_tree, right_tree, statement_tree};
+ghost use Rattle.language.specs.Tree.{written};
 ghost use Rattle.language.specs.Types.{callee, found, word};
 ghost use Rattle.language.specs.Typing.{called_one};
 ghost use Rattle.diagnostics.specs.operand_types.Found.{node, site as site_of};
-ghost use Rattle.diagnostics.specs.operand_types.Literals.{argument_literal, call_literal, either_literal, expr_literal, literal_as, literal_at, literal_line, node_literal, number_as, operand_literal, return_literal, right_literal, statement_literal, suffix, value_literal, whole_literal};
+ghost use Rattle.diagnostics.specs.operand_types.Literals.{argument_literal, call_literal, either_literal};
+ghost use Rattle.diagnostics.specs.operand_types.Literals.{expr_literal, literal_as, literal_at, literal_line};
+ghost use Rattle.diagnostics.specs.operand_types.Literals.{node_literal, number_as, operand_literal, return_literal};
+ghost use Rattle.diagnostics.specs.operand_types.Literals.{right_literal, statement_literal, suffix, value_literal};
+ghost use Rattle.diagnostics.specs.operand_types.Literals.{whole_literal};
 ghost use Rattle.diagnostics.specs.operand_types.Mismatches.{first_value};
 ghost use Rattle.diagnostics.specs.operand_types.Nodes.{values_tree};
 ghost use Rattle.diagnostics.specs.declared.operand_types.mismatch.Mismatch.TheVariants.{Widths};

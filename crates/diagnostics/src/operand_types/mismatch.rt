@@ -6,7 +6,8 @@ ghost use Rattle.std.specs.Option.{option_map};
 ghost use Rattle.language.specs.Rules.{rank_of};
 ghost use Rattle.language.specs.Tree.{expr_tree, parameter_tree};
 ghost use Rattle.language.specs.Typing.{same_array, shape_rules, value_rules};
-ghost use Rattle.diagnostics.specs.operand_types.Mismatches.{first_argument, first_value, is_violated_by, rule_of, violates};
+ghost use Rattle.diagnostics.specs.operand_types.Mismatches.{first_argument, first_value, is_violated_by, rule_of};
+ghost use Rattle.diagnostics.specs.operand_types.Mismatches.{violates};
 ghost use Rattle.diagnostics.specs.operand_types.TypeLines.{is_labelled};
 
 use crate::operand_types::around::parameter_value;

@@ -2,10 +2,12 @@
 
 ghost use Rattle.std.specs.Prelude.{◌≡◌, is_some, map, Some};
 ghost use Rattle.std.specs.Option.{option_map, option_or};
-ghost use Rattle.language.specs.Tree.{block_tree, call_tree, expr_tree, procedure_tree, return_tree, right_tree, statement_tree, written};
+ghost use Rattle.language.specs.Tree.{block_tree, call_tree, expr_tree, procedure_tree, return_tree, right_tree};
+ghost use Rattle.language.specs.Tree.{statement_tree, written};
 ghost use Rattle.diagnostics.specs.operand_types.Found.{node};
 ghost use Rattle.diagnostics.specs.operand_types.Nodes.{expr_at, exprs_at, here, node_at, node_in, node_in_call};
-ghost use Rattle.diagnostics.specs.operand_types.Nodes.{node_in_procedure, node_in_return, node_in_right, of_element, of_expr};
+ghost use Rattle.diagnostics.specs.operand_types.Nodes.{node_in_procedure, node_in_return, node_in_right, of_element};
+ghost use Rattle.diagnostics.specs.operand_types.Nodes.{of_expr};
 ghost use Rattle.diagnostics.specs.operand_types.Nodes.{of_statement, values_tree};
 
 use language::{

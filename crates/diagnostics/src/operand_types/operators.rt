@@ -1,5 +1,6 @@
 ghost use Rattle.std.specs.Prelude.{◌≡◌, None};
-ghost use Rattle.language.specs.ExprTyping.{binary_type, convert_type, element_type, number_rules, prefix_type, rotate_type, select_type};
+ghost use Rattle.language.specs.ExprTyping.{binary_type, convert_type, element_type, number_rules, prefix_type};
+ghost use Rattle.language.specs.ExprTyping.{rotate_type, select_type};
 ghost use Rattle.language.specs.Types.{of_one, of_two, of_three, unless, word};
 ghost use Rattle.language.specs.declared.signature.Label.TheVariants.{Public};
 

@@ -8,7 +8,9 @@ ghost use Rattle.language.specs.Types.{callee, found};
 ghost use Rattle.language.specs.Typing.{called_one};
 ghost use Rattle.diagnostics.specs.operand_types.Found.{node, site as site_of};
 ghost use Rattle.diagnostics.specs.operand_types.FoundSecret.{secret};
-ghost use Rattle.diagnostics.specs.operand_types.Secrets.{secret_argument, secret_at, secret_in, secret_in_found, secret_in_right, secret_line, secret_name, secret_of_node, secret_of_statement, secret_operand};
+ghost use Rattle.diagnostics.specs.operand_types.Secrets.{secret_argument, secret_at, secret_in, secret_in_found};
+ghost use Rattle.diagnostics.specs.operand_types.Secrets.{secret_in_right, secret_line, secret_name, secret_of_node};
+ghost use Rattle.diagnostics.specs.operand_types.Secrets.{secret_of_statement, secret_operand};
 
 use crate::operand_types::around::Around;
 use crate::operand_types::comparisons::{called_argument, first_of_values};

@@ -2,7 +2,8 @@
 
 ghost use Rattle.std.specs.Prelude.{◌≡◌, take, drop, reverse};
 ghost use Rattle.std.specs.List.{position};
-ghost use Rattle.diagnostics.specs.source_excerpts.Excerpt.{most_shown, is_line_feed, is_line_end, last_line, first_line, dots, end_of};
+ghost use Rattle.diagnostics.specs.source_excerpts.Excerpt.{most_shown, is_line_feed, is_line_end, last_line};
+ghost use Rattle.diagnostics.specs.source_excerpts.Excerpt.{first_line, dots, end_of};
 
 /// How many bytes of a line are shown on each side of a place.
 const MOST_SHOWN: usize = 100;

@@ -7,7 +7,8 @@ use Rattle.inline.specs.Counts.{AreCountsTo}
 use Rattle.language.specs.Size.{Extents, nodes_of, bodies_of, declared_bytes, block_nodes, block_words, block_bodies}
 use Rattle.language.specs.Size.{parameter_words, return_nodes, statement_nodes, statement_bodies}
 use Rattle.language.specs.Tree.{BlockTree, nothing, first, StatementTree, ParameterTree, ProcedureTree, ReturnTree}
-use Rattle.explanations.specs.statement_costs.Costs.{counted_part, greatest_of, parameter_part, parts, place_of, return_parts}
+use Rattle.explanations.specs.statement_costs.Costs.{counted_part, greatest_of, parameter_part, parts, place_of}
+use Rattle.explanations.specs.statement_costs.Costs.{return_parts}
 use Rattle.explanations.specs.statement_costs.Costs.{statement_cost, statement_parts, sum_of, whole}
 use Rattle.explanations.specs.statement_costs.Counts.{counted, most_counted}
 use Rattle.explanations.specs.declared.statement_costs.costs.Limit.{Limit}

@@ -15,7 +15,8 @@ use Rattle.language.specs.Meaning.{is_word, word_arguments}
 use Rattle.language.specs.Tree.{ExprTree, RightTree, called, computed, StatementTree, declaration, array, assignment}
 use Rattle.language.specs.Tree.{element_assignment, call, conditional, loop, BlockTree, nothing, first, ParameterTree}
 use Rattle.language.specs.Tree.{ProcedureTree}
-use Rattle.explanations.specs.statement_work.Lengths.{Inlined, Lengths, block_length, call_length, dropped_length, element_length}
+use Rattle.explanations.specs.statement_work.Lengths.{Inlined, Lengths, block_length, call_length, dropped_length}
+use Rattle.explanations.specs.statement_work.Lengths.{element_length}
 use Rattle.explanations.specs.statement_work.Lengths.{inlined, lengths_of, right_length, statement_length}
 use Rattle.word.specs.declared.place.Place.{Place}
 

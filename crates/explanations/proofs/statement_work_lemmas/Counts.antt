@@ -5,7 +5,8 @@ use Rattle.language.specs.Tree.{CallTree, RightTree, called, computed, Statement
 use Rattle.language.specs.Tree.{element_assignment, call, conditional, loop, BlockTree, nothing, first, ProcedureTree}
 use Rattle.explanations.specs.statement_costs.Counts.{counted}
 use Rattle.explanations.specs.statement_work.Inlined.{AreCountsOf, counted_inlined}
-use Rattle.explanations.specs.statement_work.Lengths.{Inlined, Lengths, block_length, call_length, dropped_length, element_length}
+use Rattle.explanations.specs.statement_work.Lengths.{Inlined, Lengths, block_length, call_length, dropped_length}
+use Rattle.explanations.specs.statement_work.Lengths.{element_length}
 use Rattle.explanations.specs.statement_work.Lengths.{inlined, right_length, statement_length}
 
 call_counted : (i : Option Inlined) (c : CallTree)

@@ -10,7 +10,8 @@ use Rattle.language.specs.declared.rule.Rule.TheVariants.{SecretMultiplicationOp
 use Rattle.language.specs.Tree.{ProgramTree}
 use Rattle.language.specs.Types.{empty}
 use Rattle.diagnostics.specs.misfits.MisfitLines.{misfit_line, missing_return_line, named_at}
-use Rattle.diagnostics.specs.declared.misfits.misfit.Misfit.TheVariants.{Numbers, Arguments, Fixed, Returns, Shared, Values}
+use Rattle.diagnostics.specs.declared.misfits.misfit.Misfit.TheVariants.{Numbers, Arguments, Fixed, Returns, Shared}
+use Rattle.diagnostics.specs.declared.misfits.misfit.Misfit.TheVariants.{Values}
 use Rattle.diagnostics.specs.operand_types.Controls.{control_line, under_at}
 use Rattle.diagnostics.specs.operand_types.Literals.{literal_at, literal_line}
 use Rattle.diagnostics.specs.operand_types.Secrets.{secret_at, secret_line}
@@ -19,7 +20,8 @@ use Rattle.diagnostics.specs.operand_types.TypeLines.{type_lines}
 use Rattle.diagnostics.specs.declared.operand_types.mismatch.Mismatch.TheVariants as mismatch
 use Rattle.diagnostics.specs.declared.operand_types.mismatch.Mismatch.TheVariants.{Kinds, Shapes}
 use Rattle.explanations.specs.declared.refusal_details.topics.Topic.{Topic}
-use Rattle.explanations.specs.declared.refusal_details.topics.Topic.TheVariants.{Widths, Types, Misfits, Returned, Labels}
+use Rattle.explanations.specs.declared.refusal_details.topics.Topic.TheVariants.{Widths, Types, Misfits, Returned}
+use Rattle.explanations.specs.declared.refusal_details.topics.Topic.TheVariants.{Labels}
 use Rattle.explanations.specs.declared.refusal_details.topics.Topic.TheVariants.{Condition, Secret, Nothing}
 use Rattle.word.specs.declared.place.Place.{Place}
 use Rattle.word.specs.declared.profile.Profile.TheVariants.{P1}

@@ -4,7 +4,9 @@ ghost use Rattle.std.specs.Prelude.{◌≡◌, [], map, IfOk};
 ghost use Rattle.std.specs.String.{string_bytes};
 ghost use Rattle.language.specs.Signature.{exported};
 ghost use Rattle.language.specs.Tree.{procedure_tree, program_tree};
-ghost use Rattle.explanations.specs.refusal_details.SizeLines.{cost_line, count_text, counted_things, declared_bytes_lines, inlined_size_line, inlined_size_lines, most_of, part_head, part_text};
+ghost use Rattle.explanations.specs.refusal_details.SizeLines.{cost_line, count_text, counted_things};
+ghost use Rattle.explanations.specs.refusal_details.SizeLines.{declared_bytes_lines, inlined_size_line};
+ghost use Rattle.explanations.specs.refusal_details.SizeLines.{inlined_size_lines, most_of, part_head, part_text};
 
 use crate::statement_costs::{Cost, Limit, Part, measured};
 use language::{MOST_BODIES, MOST_DECLARED_BYTES, MOST_NODES, Procedure, Program};

@@ -7,7 +7,8 @@ ghost use Rattle.language.specs.Tree.{program_tree};
 ghost use Rattle.diagnostics.specs.misfits.MisfitLines.{misfit_line, missing_return_line, named_at};
 ghost use Rattle.diagnostics.specs.declared.misfits.misfit.Misfit.TheVariants.{Returns};
 ghost use Rattle.diagnostics.specs.operand_types.Found.{site as site_of};
-ghost use Rattle.explanations.specs.refusal_details.TypingLines.{condition_lines, label_lines, topic_lines, typing_lines, width_lines};
+ghost use Rattle.explanations.specs.refusal_details.TypingLines.{condition_lines, label_lines, topic_lines};
+ghost use Rattle.explanations.specs.refusal_details.TypingLines.{typing_lines, width_lines};
 ghost use Rattle.explanations.specs.refusal_details.TypingLines.{site_of as found_at};
 
 use crate::refusal_details::topics::{Topic, topic_of};

@@ -3,8 +3,10 @@
 ghost use Rattle.std.specs.Prelude.{◌≡◌, ◌+◌, map, if◌then◌else◌};
 ghost use Rattle.std.specs.Option.{option_map};
 ghost use Rattle.language.specs.Meaning.{is_word, word_arguments};
-ghost use Rattle.language.specs.Size.{nodes_in, nodes_in_all, nodes_passed, called_nodes, right_nodes, statement_nodes, block_nodes, nodes_of};
-ghost use Rattle.language.specs.Tree.{block_tree, call_tree, expr_tree, parameter_tree, procedure_tree, return_tree, right_tree, statement_tree};
+ghost use Rattle.language.specs.Size.{nodes_in, nodes_in_all, nodes_passed, called_nodes, right_nodes, statement_nodes};
+ghost use Rattle.language.specs.Size.{block_nodes, nodes_of};
+ghost use Rattle.language.specs.Tree.{block_tree, call_tree, expr_tree, parameter_tree, procedure_tree, return_tree};
+ghost use Rattle.language.specs.Tree.{right_tree, statement_tree};
 ghost use Rattle.explanations.specs.statement_costs.Counts.{counted, extent_of_size, extents_in};
 
 use crate::statement_costs::sizes::Size;

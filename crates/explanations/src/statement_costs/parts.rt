@@ -3,7 +3,8 @@
 ghost use Rattle.std.specs.Prelude.{◌≡◌, fold, map};
 ghost use Rattle.std.specs.Option.{option_map};
 ghost use Rattle.language.specs.Tree.{block_tree, parameter_tree, return_tree, statement_tree};
-ghost use Rattle.explanations.specs.statement_costs.Costs.{costlier, counted_part, parameter_part, place_of, return_parts, statement_cost, statement_parts};
+ghost use Rattle.explanations.specs.statement_costs.Costs.{costlier, counted_part, parameter_part, place_of};
+ghost use Rattle.explanations.specs.statement_costs.Costs.{return_parts, statement_cost, statement_parts};
 ghost use Rattle.explanations.specs.statement_costs.Counts.{counted, extents_in};
 
 use crate::statement_costs::bodies::bodies_in_statement;

@@ -2,7 +2,8 @@
 
 ghost use Rattle.std.specs.Prelude.{◌≡◌, map};
 ghost use Rattle.std.specs.Option.{option_map};
-ghost use Rattle.language.specs.Size.{words_of_called, right_words, parameter_words, passed_words, statement_words, block_words};
+ghost use Rattle.language.specs.Size.{words_of_called, right_words, parameter_words, passed_words, statement_words};
+ghost use Rattle.language.specs.Size.{block_words};
 ghost use Rattle.language.specs.Tree.{block_tree, parameter_tree, right_tree, statement_tree};
 ghost use Rattle.explanations.specs.statement_costs.Counts.{counted, extent_of_size, extents_in};
 

@@ -2,7 +2,8 @@
 use Rattle.std.proofs.Common.{◌≡◌, ℕ, List, [], ◌++◌, codes, ap, ◌∙◌}
 use Rattle.codegen.specs.Anywhere.{body_words}
 use Rattle.linked_calls.specs.Sections.{enter_sections, leave_sections}
-use Rattle.functions.specs.function_text.AssemblerText.{ListsWords, IsAssemblerText, head_lines, tail_lines, sections_lines}
+use Rattle.functions.specs.function_text.AssemblerText.{ListsWords, IsAssemblerText, head_lines, tail_lines}
+use Rattle.functions.specs.function_text.AssemblerText.{sections_lines}
 use Rattle.functions.specs.function_text.AssemblerText.{title_line}
 use Rattle.functions.specs.function_text.Functions.{Parts}
 

@@ -1,7 +1,8 @@
 -- Of a text there is one function, and of a function one text for an assembler.
 use Rattle.std.proofs.Common.{◌≡◌, ℕ, List, ◌++◌, map, codes, refl, sym, ap, subst, ◌∙◌}
 use Rattle.linked_calls.specs.Sections.{enter_sections, leave_sections}
-use Rattle.functions.specs.function_text.AssemblerText.{ListsWords, nothing, line, IsAssemblerText, word_line, head_lines}
+use Rattle.functions.specs.function_text.AssemblerText.{ListsWords, nothing, line, IsAssemblerText, word_line}
+use Rattle.functions.specs.function_text.AssemblerText.{head_lines}
 use Rattle.functions.specs.function_text.AssemblerText.{tail_lines, sections_lines, title_line}
 use Rattle.functions.specs.function_text.Functions.{Named, Parts, IsFunctionOf, written_parameter}
 use Rattle.functions.specs.function_text.HeaderText.{header_text}

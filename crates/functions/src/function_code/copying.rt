@@ -2,7 +2,8 @@
 
 ghost use Rattle.std.specs.Prelude.{◌≡◌, ◌≤◌, ◌<◌, ◌++◌, ◌∷◌, [], length, OnOk, IfOk};
 ghost use Rattle.codegen.specs.expression_code.TermCode.{load_by};
-ghost use Rattle.linked_calls.specs.FunctionCode.{store_by, array_bytes, bounds_code, next_code, element_meant_code, copied_in_code, copied_out_code, copy_in_code, copy_out_code};
+ghost use Rattle.linked_calls.specs.FunctionCode.{store_by, array_bytes, bounds_code, next_code, element_meant_code};
+ghost use Rattle.linked_calls.specs.FunctionCode.{copied_in_code, copied_out_code, copy_in_code, copy_out_code};
 ghost use Rattle.language.specs.declared.signature.Form.TheVariants.{MutableArray};
 
 use crate::function_code::pieces::{added, store_by, until_equal};

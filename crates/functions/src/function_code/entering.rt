@@ -3,7 +3,8 @@
 ghost use Rattle.std.specs.Prelude.{◌≡◌, ◌-◌, ◌++◌, ◌∷◌, [], OnOk};
 ghost use Rattle.codegen.specs.expression_code.TermCode.{constant_code};
 ghost use Rattle.linked_calls.specs.Convention.{stack_register};
-ghost use Rattle.linked_calls.specs.FunctionCode.{above_frame, until_equal, added, zeros_code, meant_code, word_code, argument_code};
+ghost use Rattle.linked_calls.specs.FunctionCode.{above_frame, until_equal, added, zeros_code, meant_code, word_code};
+ghost use Rattle.linked_calls.specs.FunctionCode.{argument_code};
 ghost use Rattle.rv_code.specs.declared.instructions.Instr.TheVariants.{Register};
 ghost use Rattle.rv_code.specs.declared.operations.RegisterOperation.TheVariants.{Sub};
 

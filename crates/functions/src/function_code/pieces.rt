@@ -1,7 +1,8 @@
 // Instructions that several sections have: registers to memory and back, loops, and zeros.
 
 ghost use Rattle.std.specs.Prelude.{◌≡◌, ◌≤◌, ◌<◌, ◌+◌, ◌*◌, ◌++◌, length, map, OnOk};
-ghost use Rattle.linked_calls.specs.FunctionCode.{stores_code, loads_code, until_equal, added, zeros_code, clear_registers_code, store_by};
+ghost use Rattle.linked_calls.specs.FunctionCode.{stores_code, loads_code, until_equal, added, zeros_code};
+ghost use Rattle.linked_calls.specs.FunctionCode.{clear_registers_code, store_by};
 
 use language::Kind;
 use rv_code::{

@@ -1,7 +1,8 @@
 // The registers of the calling convention, by what becomes of them.
 
 ghost use Rattle.std.specs.Prelude.{◌≡◌};
-ghost use Rattle.linked_calls.specs.Convention.{link_register, saved_registers, argument_registers, result_register, scratch_registers};
+ghost use Rattle.linked_calls.specs.Convention.{link_register, saved_registers, argument_registers, result_register};
+ghost use Rattle.linked_calls.specs.Convention.{scratch_registers};
 
 use rv_code::Reg;
 

@@ -1,7 +1,8 @@
 // The function of a text.
 
 ghost use Rattle.std.specs.Prelude.{◌≡◌, false, List, [], Some, map, IfOk, IfErr};
-ghost use Rattle.functions.specs.function_text.Functions.{IsFunctionOf, IsFaultOf, IsUnlessMemory, named, parts_of, written_parameter};
+ghost use Rattle.functions.specs.function_text.Functions.{IsFunctionOf, IsFaultOf, IsUnlessMemory, named, parts_of};
+ghost use Rattle.functions.specs.function_text.Functions.{written_parameter};
 ghost use Rattle.functions.specs.function_text.Names.{is_taken_name};
 ghost use Rattle.functions.specs.function_text.private.OfExport.{IsOfExport, IsTaken};
 ghost use Rattle.hepurita.specs.image.Reading.{Spells};

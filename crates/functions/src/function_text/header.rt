@@ -4,7 +4,10 @@ ghost use Rattle.std.specs.Prelude.{◌≡◌, ◌++◌, map, OnOk, IfOk};
 ghost use Rattle.std.specs.String.{string_bytes};
 ghost use Rattle.functions.specs.function_text.Functions.{named, parts_of};
 ghost use Rattle.functions.specs.function_text.Names.{guard_name, stack_name};
-ghost use Rattle.functions.specs.function_text.HeaderText.{type_text, label_text, const_text, length_text, parameter_text, later_text, parameters_text, result_text, comment_lines, guard_lines, stack_lines, prototype_lines, header_text};
+ghost use Rattle.functions.specs.function_text.HeaderText.{type_text, label_text, const_text, length_text};
+ghost use Rattle.functions.specs.function_text.HeaderText.{parameter_text, later_text, parameters_text, result_text};
+ghost use Rattle.functions.specs.function_text.HeaderText.{comment_lines, guard_lines, stack_lines, prototype_lines};
+ghost use Rattle.functions.specs.function_text.HeaderText.{header_text};
 
 use crate::function_code::room_of;
 use crate::function_text::assembler::profile_text;

@@ -2,7 +2,9 @@
 
 ghost use Rattle.std.specs.Prelude.{◌≡◌, IfOk};
 ghost use Rattle.std.specs.String.{string_bytes};
-ghost use Rattle.functions.specs.function_text.Names.{is_c_word, is_cpp_word, is_register, is_other_word, is_compilers, is_integers, is_taken_name, guard_name, stack_name, is_taken_in, written_name};
+ghost use Rattle.functions.specs.function_text.Names.{is_c_word, is_cpp_word, is_register, is_other_word, is_compilers};
+ghost use Rattle.functions.specs.function_text.Names.{is_integers, is_taken_name, guard_name, stack_name, is_taken_in};
+ghost use Rattle.functions.specs.function_text.Names.{written_name};
 
 use std::alloc::{AllocError, Global};
 

@@ -8,13 +8,16 @@ use Rattle.std.specs.List.{AllByRecursion, flat_map}
 use Rattle.std.specs.Prelude.{IfSome, nat_le, nat_lt, ◌&&◌}
 use Rattle.hepurita.specs.image.Format.{Format, ends}
 use Rattle.hepurita.specs.image.Limits.{format_version, magic_number}
-use Rattle.hepurita.specs.image.Reading.{coded_form, coded_kind, coded_label, flagged_format, image_format, is_frame_size}
+use Rattle.hepurita.specs.image.Reading.{coded_form, coded_kind, coded_label, flagged_format, image_format}
+use Rattle.hepurita.specs.image.Reading.{is_frame_size}
 use Rattle.hepurita.specs.image.Reading.{is_offset, layout_end, numbered_profile, one, result_format, slot_format}
 use Rattle.hepurita.specs.image.Reading.{slots_format, words_format}
 use Rattle.hepurita.specs.declared.image.field.Field.TheVariants as fields
-use Rattle.hepurita.specs.image.private.Spelling.{form_code, kind_code, label_code, profile_number, spelled, spelled_result}
+use Rattle.hepurita.specs.image.private.Spelling.{form_code, kind_code, label_code, profile_number, spelled}
+use Rattle.hepurita.specs.image.private.Spelling.{spelled_result}
 use Rattle.hepurita.specs.image.private.Spelling.{spelled_slot, spelling}
-use Rattle.hepurita.proofs.image_lemmas.Codes.{form_back, form_is, kind_back, kind_is, label_back, label_is, profile_back, profile_is}
+use Rattle.hepurita.proofs.image_lemmas.Codes.{form_back, form_is, kind_back, kind_is, label_back, label_is}
+use Rattle.hepurita.proofs.image_lemmas.Codes.{profile_back, profile_is}
 use Rattle.hepurita.proofs.image_lemmas.Texts.{Front, IsRead, IsText, IsWritten, behind, number}
 use Rattle.codegen.specs.image_fields.Fields.{AreSlots, Fields, IsImage, IsResultSlot, IsSlot, is_length, result_end}
 use Rattle.codegen.specs.image_fields.Fields.{slot_end, slots_end}

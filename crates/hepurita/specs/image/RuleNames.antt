@@ -1,7 +1,8 @@
 -- What each fault of an image is called where it is printed.
 use Rattle.std.specs.Prelude.{ℕ, List, codes}
 use Rattle.hepurita.specs.declared.image.fault.ImageRule.{ImageRule}
-use Rattle.hepurita.specs.declared.image.fault.ImageRule.TheVariants.{Magic, Version, Profile, Truncated, FieldOutOfRange}
+use Rattle.hepurita.specs.declared.image.fault.ImageRule.TheVariants.{Magic, Version, Profile, Truncated}
+use Rattle.hepurita.specs.declared.image.fault.ImageRule.TheVariants.{FieldOutOfRange}
 use Rattle.hepurita.specs.declared.image.fault.ImageRule.TheVariants.{TrailingBytes}
 
 -- its short code

@@ -4,7 +4,8 @@ ghost use Rattle.codegen.specs.image_fields.Fields.{Fields, IsImage, slots_end};
 ghost use Rattle.codegen.specs.declared.image_fields.slot.Slot.{Slot as SlotOf};
 ghost use Rattle.codegen.specs.declared.image_fields.slot.ResultSlot.{ResultSlot as ResultSlotOf};
 ghost use Rattle.hepurita.specs.image.Format.{Format, ends};
-ghost use Rattle.hepurita.specs.image.Reading.{AreBytes, IsUnlessMemory, image_format, layout_end, one, reading, result_format, row, slot_format, slots_format, words_format};
+ghost use Rattle.hepurita.specs.image.Reading.{AreBytes, IsUnlessMemory, image_format, layout_end, one, reading};
+ghost use Rattle.hepurita.specs.image.Reading.{result_format, row, slot_format, slots_format, words_format};
 ghost use Rattle.hepurita.specs.image.private.Following.{FaultIs, Leads, ahead};
 
 use crate::image::field::{FORMS, Field, KINDS, LABELS, profile_of};

@@ -3,7 +3,8 @@ use Rattle.std.proofs.Common.{◌≡◌, ℕ, zero, suc, ◌+◌, ◌-◌, ◌*�
 use Rattle.std.proofs.Common.{◌&&◌, if◌then◌else◌, slice_index, slice_set, arith}
 use Rattle.branch_removal.specs.Straight.{StraightTree, set, array, put, take, branch, repeats}
 use Rattle.branch_removal.specs.Straight.{StraightBlock, nothing, first, StraightProgram}
-use Rattle.optimisation.specs.constants.private.Choice.{AreAllowed, Chosen, begun, chosen, chosen_all, copies_of, counted, grown}
+use Rattle.optimisation.specs.constants.private.Choice.{AreAllowed, Chosen, begun, chosen, chosen_all, copies_of}
+use Rattle.optimisation.specs.constants.private.Choice.{counted, grown}
 use Rattle.optimisation.specs.constants.private.Choice.{most_nodes_of, settled, term_size}
 
 -- a count of nodes serves as they do

@@ -8,7 +8,8 @@ use Rattle.std.specs.Int.Bits.{or_zero_l, or_zero_r, xor_zero_l, xor_zero_r}
 use Rattle.inline.proofs.Fitting.{fits_number}
 use Rattle.inline.specs.Fitting.{IsWithinKind}
 use Rattle.language.specs.declared.operators.BinaryOperator.{BinaryOperator}
-use Rattle.language.specs.declared.operators.BinaryOperator.TheVariants.{Either, Both, Equal, Unequal, Less, LessOrEqual}
+use Rattle.language.specs.declared.operators.BinaryOperator.TheVariants.{Either, Both, Equal, Unequal, Less}
+use Rattle.language.specs.declared.operators.BinaryOperator.TheVariants.{LessOrEqual}
 use Rattle.language.specs.declared.operators.BinaryOperator.TheVariants.{Greater, GreaterOrEqual, BitOr, BitXor, BitAnd}
 use Rattle.language.specs.declared.operators.BinaryOperator.TheVariants.{ShiftLeft, ShiftRight, Add, Subtract, Multiply}
 use Rattle.language.specs.declared.operators.BinaryOperator.TheVariants.{Divide, Remainder}

@@ -13,7 +13,8 @@ use Rattle.inline.specs.FlatMeaning.{Values}
 use Rattle.inline.specs.FlatTyping.{Types}
 use Rattle.optimisation.specs.declared.constants.known.Constant.{Constant}
 use Rattle.optimisation.specs.declared.constants.known.WordCopy.{WordCopy}
-use Rattle.optimisation.specs.constants.private.Known.{Words, known, word_at, source_in, is_apart, with_word, without, latest}
+use Rattle.optimisation.specs.constants.private.Known.{Words, known, word_at, source_in, is_apart, with_word, without}
+use Rattle.optimisation.specs.constants.private.Known.{latest}
 use Rattle.optimisation.specs.constants.private.Known.{with_copy, short, all_short}
 
 -- Facts: a variable's word, or a copy.

@@ -22,17 +22,22 @@ use Rattle.optimisation.specs.constants.private.Folding.{simple, constant, const
 use Rattle.optimisation.specs.declared.constants.known.WordCopy.{WordCopy}
 use Rattle.optimisation.specs.constants.private.Known.{Words, known, with_word, without, forgotten_all, in_loop}
 use Rattle.optimisation.specs.declared.constants.terms.Numbers.{Numbers}
-use Rattle.optimisation.specs.constants.private.Simplification.{at_turn, copied, copied_where, may_be_read_as, set_to, variable_of}
+use Rattle.optimisation.specs.constants.private.Simplification.{at_turn, copied, copied_where, may_be_read_as, set_to}
+use Rattle.optimisation.specs.constants.private.Simplification.{variable_of}
 use Rattle.optimisation.specs.constants.private.Simplification.{knowing, knowing_all}
-use Rattle.optimisation.proofs.constants_lemmas.KnownLemmas.{Fact, valued, copy, IsIn, Knows, IsAbout, IsFree, IsTrue, in_more, known_here}
-use Rattle.optimisation.proofs.constants_lemmas.KnownLemmas.{known_beside, still_copy, without_apart, without_same, same_truth, Agrees}
+use Rattle.optimisation.proofs.constants_lemmas.KnownLemmas.{Fact, valued, copy, IsIn, Knows, IsAbout, IsFree, IsTrue}
+use Rattle.optimisation.proofs.constants_lemmas.KnownLemmas.{in_more, known_here}
+use Rattle.optimisation.proofs.constants_lemmas.KnownLemmas.{known_beside, still_copy, without_apart, without_same}
+use Rattle.optimisation.proofs.constants_lemmas.KnownLemmas.{same_truth, Agrees}
 use Rattle.optimisation.proofs.constants_lemmas.KnownLemmas.{Holds}
 use Rattle.optimisation.proofs.constants_lemmas.TermLemmas.{constant_value, decided_value, same_value, same_suited}
 use Rattle.optimisation.proofs.constants_lemmas.Decisions.{bounds_of, decided_by, unrolled_by}
 use Rattle.optimisation.proofs.constants_lemmas.Held.{counter_limit, counted_fits, fits_after, fits_after_all}
-use Rattle.optimisation.proofs.constants_lemmas.Typed.{inside_kinds, kinds_after, kinds_after_all, part_kinds, turn_kinds}
+use Rattle.optimisation.proofs.constants_lemmas.Typed.{inside_kinds, kinds_after, kinds_after_all, part_kinds}
+use Rattle.optimisation.proofs.constants_lemmas.Typed.{turn_kinds}
 use Rattle.optimisation.proofs.constants_lemmas.CopyLemmas.{read_value, two_variables}
-use Rattle.optimisation.proofs.constants_lemmas.Unset.{beside, at_itself, behind_part, within_loop, left_alone, turn_begins, turn_ends}
+use Rattle.optimisation.proofs.constants_lemmas.Unset.{beside, at_itself, behind_part, within_loop, left_alone}
+use Rattle.optimisation.proofs.constants_lemmas.Unset.{turn_begins, turn_ends}
 
 -- the arm that a decided condition takes
 module _ (types : Types) (words : Words) (s : StraightState) (holds : Holds types words s.variables)

@@ -24,13 +24,16 @@ use Rattle.optimisation.specs.declared.constants.terms.Numbers.{Numbers}
 use Rattle.optimisation.specs.constants.private.Simplification.{at_turn, code_of_turns, knowing, knowing_all}
 use Rattle.optimisation.specs.constants.private.Simplification.{single, simplified, simplified_all, turns_code}
 use Rattle.optimisation.proofs.constants_lemmas.KnownLemmas.{Holds}
-use Rattle.optimisation.proofs.constants_lemmas.TermLemmas.{same_value, same_suited, same_values, fine_path, fine_suited, fine_path_all}
+use Rattle.optimisation.proofs.constants_lemmas.TermLemmas.{same_value, same_suited, same_values, fine_path}
+use Rattle.optimisation.proofs.constants_lemmas.TermLemmas.{fine_suited, fine_path_all}
 use Rattle.optimisation.proofs.constants_lemmas.Held.{counter_limit, fewer_fit}
 use Rattle.optimisation.proofs.constants_lemmas.Decisions.{decided_by, unrolled_by}
 use Rattle.optimisation.proofs.constants_lemmas.Typed.{but_kinds}
 use Rattle.optimisation.proofs.constants_lemmas.Learned.{decided_here, takes_accepted, takes_otherwise}
-use Rattle.optimisation.proofs.constants_lemmas.Learned.{first_and_end, each_below, counts_below, turns_between, AllHolds, turn_known}
-use Rattle.optimisation.proofs.constants_lemmas.Learned.{hold_after, hold_after_all, arm_begins, loop_begins, turn_start, turn_end}
+use Rattle.optimisation.proofs.constants_lemmas.Learned.{first_and_end, each_below, counts_below, turns_between}
+use Rattle.optimisation.proofs.constants_lemmas.Learned.{AllHolds, turn_known}
+use Rattle.optimisation.proofs.constants_lemmas.Learned.{hold_after, hold_after_all, arm_begins, loop_begins}
+use Rattle.optimisation.proofs.constants_lemmas.Learned.{turn_start, turn_end}
 
 -- two loops whose turns do the same, of numbers below a limit
 turns_alike : {S : Type 0} (P : S → Type 0) (f g : ℕ → S → S) (limit : ℕ)

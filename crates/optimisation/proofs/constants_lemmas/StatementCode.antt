@@ -12,8 +12,10 @@ use Rattle.branch_removal.specs.Straight.{straight_tree, straight_block}
 use Rattle.branch_removal.proofs.StatementTrees.{tree_of_branch, tree_of_loop, chain-assoc, chain-nothing}
 use Rattle.optimisation.specs.constants.private.Folding.{simple, constant_of, numbers_of}
 use Rattle.optimisation.specs.constants.private.Known.{Words, in_loop, forgotten_all}
-use Rattle.optimisation.specs.constants.private.Simplification.{single, knowing, simplified, simplified_all, branch_code}
-use Rattle.optimisation.specs.constants.private.Simplification.{branch_known, loop_code, loop_known, turns_code, turns_known}
+use Rattle.optimisation.specs.constants.private.Simplification.{single, knowing, simplified, simplified_all}
+use Rattle.optimisation.specs.constants.private.Simplification.{branch_code}
+use Rattle.optimisation.specs.constants.private.Simplification.{branch_known, loop_code, loop_known, turns_code}
+use Rattle.optimisation.specs.constants.private.Simplification.{turns_known}
 use Rattle.optimisation.specs.constants.private.Simplification.{unrolled, knowing_all, code_of_turns, at_turn}
 use Rattle.optimisation.specs.declared.constants.terms.Numbers.{Numbers}
 

@@ -32,7 +32,8 @@ use Rattle.optimisation.specs.declared.constants.known.WordCopy.{WordCopy}
 use Rattle.optimisation.specs.declared.constants.powers.Step.{Step}
 use Rattle.optimisation.specs.constants.private.Known.{Words, known, source_in}
 use Rattle.optimisation.specs.constants.private.Folding.{constant, constant_of, known_or, decision}
-use Rattle.optimisation.specs.constants.private.Folding.{applied, between, chosen, is_among, is_left_identity, is_right_identity}
+use Rattle.optimisation.specs.constants.private.Folding.{applied, between, chosen, is_among, is_left_identity}
+use Rattle.optimisation.specs.constants.private.Folding.{is_right_identity}
 use Rattle.optimisation.specs.constants.private.Fields.{amount_of, field_of, lifted, mask_of, moved}
 use Rattle.optimisation.specs.constants.private.Folding.{decided, narrowed, negation_of, number_of, operation, reduced}
 use Rattle.language.specs.Operators.{opposite_of}
@@ -42,7 +43,8 @@ use Rattle.optimisation.proofs.constants_lemmas.Identities.{left_leaves, reduced
 use Rattle.optimisation.proofs.constants_lemmas.KnownLemmas.{Holds, IsSource, copy, read_as, valued}
 use Rattle.optimisation.proofs.constants_lemmas.OneOperand.{is_decided, truth_by}
 use Rattle.optimisation.proofs.constants_lemmas.Opposites.{denied, denied_twice, opposite, binary_by}
-use Rattle.optimisation.proofs.constants_lemmas.PowerSteps.{IsStep, is_step, is_turned, step_value, stepped_by, turned_step_value}
+use Rattle.optimisation.proofs.constants_lemmas.PowerSteps.{IsStep, is_step, is_turned, step_value, stepped_by}
+use Rattle.optimisation.proofs.constants_lemmas.PowerSteps.{turned_step_value}
 use Rattle.optimisation.proofs.constants_lemmas.PowerSteps.{unmarked}
 use Rattle.optimisation.proofs.constants_lemmas.TermTypes.{simple_suits}
 use Rattle.optimisation.proofs.constants_lemmas.TurnedRound.{turned_round}

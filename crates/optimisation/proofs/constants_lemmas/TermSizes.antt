@@ -18,7 +18,8 @@ use Rattle.optimisation.specs.declared.constants.known.Constant.{Constant}
 use Rattle.optimisation.specs.declared.constants.powers.Step.{Step}
 use Rattle.optimisation.specs.constants.private.Known.{Words, known, source_in}
 use Rattle.optimisation.specs.constants.private.Folding.{constant, constant_of, known_or, decision}
-use Rattle.optimisation.specs.constants.private.Folding.{applied, between, chosen, is_among, is_left_identity, is_right_identity}
+use Rattle.optimisation.specs.constants.private.Folding.{applied, between, chosen, is_among, is_left_identity}
+use Rattle.optimisation.specs.constants.private.Folding.{is_right_identity}
 use Rattle.optimisation.specs.constants.private.Fields.{amount_of, field_of, mask_of, moved}
 use Rattle.optimisation.specs.constants.private.Folding.{decided, narrowed, negation_of, number_of, operation, reduced}
 use Rattle.language.specs.Operators.{opposite_of}

@@ -34,7 +34,8 @@ use Rattle.optimisation.specs.declared.constants.known.WordCopy.{WordCopy}
 use Rattle.optimisation.specs.declared.constants.powers.Step.{Step}
 use Rattle.optimisation.specs.constants.private.Known.{Words, known, source_in}
 use Rattle.optimisation.specs.constants.private.Folding.{constant, constant_of, known_or, decision}
-use Rattle.optimisation.specs.constants.private.Folding.{applied, between, chosen, is_among, is_left_identity, is_right_identity}
+use Rattle.optimisation.specs.constants.private.Folding.{applied, between, chosen, is_among, is_left_identity}
+use Rattle.optimisation.specs.constants.private.Folding.{is_right_identity}
 use Rattle.optimisation.specs.constants.private.Fields.{amount_of, field_of, lifted, mask_of, moved}
 use Rattle.optimisation.specs.constants.private.Folding.{decided, narrowed, negation_of, number_of, operation, reduced}
 use Rattle.language.specs.Operators.{opposite_of}
@@ -45,10 +46,13 @@ use Rattle.optimisation.proofs.constants_lemmas.KnownLemmas.{AreOfKind, IsSource
 use Rattle.optimisation.proofs.constants_lemmas.OneOperand.{decided_kind, truth_by}
 use Rattle.optimisation.proofs.constants_lemmas.TwoShifts.{is_narrowed, lifted_by, moved_by}
 use Rattle.optimisation.proofs.constants_lemmas.Opposites.{opposite, binary_by}
-use Rattle.optimisation.proofs.constants_lemmas.PowerSteps.{IsStep, is_step, is_turned, of_one_kind, step_fits, step_makes, stepped_by}
-use Rattle.optimisation.proofs.constants_lemmas.Suiting.{IsOfKind, both_joined, closed_fits, joined_public, lowered, made_kind, number_kind}
+use Rattle.optimisation.proofs.constants_lemmas.PowerSteps.{IsStep, is_step, is_turned, of_one_kind, step_fits}
+use Rattle.optimisation.proofs.constants_lemmas.PowerSteps.{step_makes, stepped_by}
+use Rattle.optimisation.proofs.constants_lemmas.Suiting.{IsOfKind, both_joined, closed_fits, joined_public, lowered}
+use Rattle.optimisation.proofs.constants_lemmas.Suiting.{made_kind, number_kind}
 use Rattle.optimisation.proofs.constants_lemmas.TurnedRound.{turned_round}
-use Rattle.optimisation.proofs.constants_lemmas.Suiting.{number_suits, public_parts, public_typed, retyped, suited_number}
+use Rattle.optimisation.proofs.constants_lemmas.Suiting.{number_suits, public_parts, public_typed, retyped}
+use Rattle.optimisation.proofs.constants_lemmas.Suiting.{suited_number}
 
 module _ (types : Types) where
   -- `!` of a condition

@@ -21,7 +21,8 @@ use Rattle.word.specs.declared.width.Width.TheVariants.{W32}
 use Rattle.word.specs.Operators.{shifted_left, shifted_right}
 use Rattle.optimisation.specs.declared.constants.known.Constant.{Constant}
 use Rattle.optimisation.specs.declared.constants.fields.Field.{Field}
-use Rattle.optimisation.specs.constants.private.Fields.{amount_of, cleared_by, field_of, field_within, lifted, mask_of, moved}
+use Rattle.optimisation.specs.constants.private.Fields.{amount_of, cleared_by, field_of, field_within, lifted, mask_of}
+use Rattle.optimisation.specs.constants.private.Fields.{moved}
 use Rattle.optimisation.specs.constants.private.Fields.{moved_or}
 
 -- of two shifts and an expression what there is

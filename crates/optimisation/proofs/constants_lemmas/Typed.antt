@@ -25,7 +25,8 @@ use Rattle.optimisation.specs.declared.constants.terms.Numbers.{Numbers}
 use Rattle.optimisation.specs.constants.private.Simplification.{at_turn, copied, copied_where, may_be_read_as}
 use Rattle.optimisation.specs.constants.private.Simplification.{set_to, variable_of, knowing, knowing_all}
 use Rattle.optimisation.specs.constants.private.Simplification.{single, simplified, simplified_all, turns_code}
-use Rattle.optimisation.proofs.constants_lemmas.KnownLemmas.{Fact, valued, copy, IsIn, Knows, in_more, known_beside, known_here, still_copy}
+use Rattle.optimisation.proofs.constants_lemmas.KnownLemmas.{Fact, valued, copy, IsIn, Knows, in_more, known_beside}
+use Rattle.optimisation.proofs.constants_lemmas.KnownLemmas.{known_here, still_copy}
 use Rattle.optimisation.proofs.constants_lemmas.KnownLemmas.{without_same, IsSuited, AreOfKind, IsBelow}
 use Rattle.optimisation.proofs.constants_lemmas.CopyLemmas.{source_alike}
 use Rattle.optimisation.proofs.constants_lemmas.Suiting.{number_kind, suited_number}

@@ -11,12 +11,16 @@ use Rattle.branch_removal.specs.StraightMeaning.{StraightState, holds, with_vari
 use Rattle.branch_removal.specs.StraightMeaning.{after, after_all}
 use Rattle.optimisation.specs.declared.constants.known.WordCopy.{WordCopy}
 use Rattle.optimisation.specs.constants.private.Folding.{simple, constant_of, decision, numbers_of}
-use Rattle.optimisation.specs.constants.private.Known.{Words, with_word, without, all_short, forgotten, forgotten_all, in_loop}
+use Rattle.optimisation.specs.constants.private.Known.{Words, with_word, without, all_short, forgotten, forgotten_all}
+use Rattle.optimisation.specs.constants.private.Known.{in_loop}
 use Rattle.optimisation.specs.declared.constants.terms.Numbers.{Numbers}
-use Rattle.optimisation.specs.constants.private.Simplification.{decided, unrolled, at_turn, copied, copied_where, may_be_read_as}
+use Rattle.optimisation.specs.constants.private.Simplification.{decided, unrolled, at_turn, copied, copied_where}
+use Rattle.optimisation.specs.constants.private.Simplification.{may_be_read_as}
 use Rattle.optimisation.specs.constants.private.Simplification.{set_to, variable_of, knowing, knowing_all}
-use Rattle.optimisation.proofs.constants_lemmas.KnownLemmas.{Fact, valued, copy, IsIn, Knows, IsAbout, IsFree, in_more, known_beside}
-use Rattle.optimisation.proofs.constants_lemmas.KnownLemmas.{without_apart, without_same, short_same, same_truth, Agrees}
+use Rattle.optimisation.proofs.constants_lemmas.KnownLemmas.{Fact, valued, copy, IsIn, Knows, IsAbout, IsFree, in_more}
+use Rattle.optimisation.proofs.constants_lemmas.KnownLemmas.{known_beside}
+use Rattle.optimisation.proofs.constants_lemmas.KnownLemmas.{without_apart, without_same, short_same, same_truth}
+use Rattle.optimisation.proofs.constants_lemmas.KnownLemmas.{Agrees}
 
 abbrev mutual
   -- a statement does not set what a fact is about

@@ -18,7 +18,8 @@ use Rattle.branch_removal.specs.StraightMeaning.{StraightState, start, end_of, o
 use Rattle.optimisation.specs.constants.private.Folding.{simple}
 use Rattle.optimisation.specs.constants.private.Choice.{AreAllowed}
 use Rattle.optimisation.specs.constants.private.Known.{Words}
-use Rattle.optimisation.specs.constants.private.Simplification.{knowing_all, simplified_all, nothing_known, simplified_program}
+use Rattle.optimisation.specs.constants.private.Simplification.{knowing_all, simplified_all, nothing_known}
+use Rattle.optimisation.specs.constants.private.Simplification.{simplified_program}
 use Rattle.optimisation.proofs.constants_lemmas.KnownLemmas.{nothing_first, Holds}
 use Rattle.optimisation.proofs.constants_lemmas.Held.{start_fits}
 use Rattle.branch_removal.proofs.Sequences.{fine_both, fine_front, fine_back}

@@ -9,7 +9,8 @@ use Rattle.branch_removal.specs.Straight.{StraightTree, set, StraightBlock, chai
 use Rattle.branch_removal.specs.Straight.{straight_tree, branch, repeats}
 use Rattle.language.specs.declared.signature.Kind.{Kind}
 use Rattle.optimisation.specs.element_words.private.Parts.{Parts}
-use Rattle.optimisation.specs.element_words.private.Splitting.{single, first_value, given_words, split, split_in, split_all}
+use Rattle.optimisation.specs.element_words.private.Splitting.{single, first_value, given_words, split, split_in}
+use Rattle.optimisation.specs.element_words.private.Splitting.{split_all}
 use Rattle.branch_removal.proofs.StatementTrees.{chain-assoc, chain-nothing}
 
 values_left : (parts : Parts) (values : List Term) (k : ℕ)

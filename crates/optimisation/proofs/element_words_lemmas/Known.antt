@@ -10,7 +10,8 @@ use Rattle.branch_removal.specs.Straight.{first}
 use Rattle.language.specs.declared.signature.Kind.{Kind}
 use Rattle.optimisation.specs.declared.element_words.parts.Part.{Part}
 use Rattle.optimisation.specs.element_words.private.Parts.{Parts, part_of, whole, known_index, word_in, word_of}
-use Rattle.optimisation.specs.element_words.private.Narrowing.{unless_word, narrowed_at, narrowed, all_narrowed, narrowed_put}
+use Rattle.optimisation.specs.element_words.private.Narrowing.{unless_word, narrowed_at, narrowed, all_narrowed}
+use Rattle.optimisation.specs.element_words.private.Narrowing.{narrowed_put}
 use Rattle.optimisation.specs.element_words.private.Narrowing.{narrowed_by, narrowed_by_all, narrowed_result}
 use Rattle.optimisation.proofs.element_words_lemmas.PartLemmas.{whole_same, whole_none, IsBelow}
 

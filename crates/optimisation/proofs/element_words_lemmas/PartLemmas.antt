@@ -12,7 +12,8 @@ use Rattle.inline.specs.FlatSize.{declared_words}
 use Rattle.language.specs.declared.typing.WordType.{WordType}
 use Rattle.optimisation.specs.declared.element_words.parts.Part.{Part}
 use Rattle.optimisation.specs.element_words.Limits.{most_elements_split}
-use Rattle.optimisation.specs.element_words.private.Parts.{Parts, part_of, whole, part_at, sized, candidate, candidates, numbered}
+use Rattle.optimisation.specs.element_words.private.Parts.{Parts, part_of, whole, part_at, sized, candidate, candidates}
+use Rattle.optimisation.specs.element_words.private.Parts.{numbered}
 use Rattle.optimisation.specs.element_words.private.Parts.{all_words}
 
 -- An array that stays whole.

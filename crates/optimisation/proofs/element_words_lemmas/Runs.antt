@@ -21,12 +21,14 @@ use Rattle.optimisation.specs.element_words.private.Parts.{Parts, part_of, word_
 use Rattle.optimisation.specs.element_words.private.Splitting.{split, single, given_words, new_array, put_in}
 use Rattle.optimisation.specs.element_words.private.Splitting.{split_in, split_all}
 use Rattle.optimisation.proofs.element_words_lemmas.PartLemmas.{IsSplitting}
-use Rattle.optimisation.proofs.element_words_lemmas.Known.{IsKnown, HasKnown, AllHaveKnown, StatementHasKnown, BlockHasKnown}
+use Rattle.optimisation.proofs.element_words_lemmas.Known.{IsKnown, HasKnown, AllHaveKnown, StatementHasKnown}
+use Rattle.optimisation.proofs.element_words_lemmas.Known.{BlockHasKnown}
 use Rattle.branch_removal.proofs.Sequences.{after-chain, path-chain, fine_both, fine_front, fine_back}
 use Rattle.optimisation.proofs.element_words_lemmas.Values.{AreAlike, word_stays, part_word, same_value}
 use Rattle.optimisation.proofs.element_words_lemmas.Values.{same_elements, still_fine, all_still_fine}
 use Rattle.optimisation.proofs.element_words_lemmas.Held.{both_set, words_set, word_set}
-use Rattle.optimisation.proofs.element_words_lemmas.Given.{words_outside, words_inside, words_controls, words_fine, but_within}
+use Rattle.optimisation.proofs.element_words_lemmas.Given.{words_outside, words_inside, words_controls, words_fine}
+use Rattle.optimisation.proofs.element_words_lemmas.Given.{but_within}
 use Rattle.optimisation.proofs.element_words_lemmas.Given.{but_alike, elements_count, elements_at}
 
 -- two loops whose turns keep in step

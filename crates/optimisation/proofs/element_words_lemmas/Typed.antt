@@ -25,7 +25,8 @@ use Rattle.optimisation.specs.element_words.private.Parts.{Parts, part_of, word_
 use Rattle.optimisation.specs.element_words.private.Splitting.{split, first_value, given_words, new_array, put_in}
 use Rattle.optimisation.specs.element_words.private.Splitting.{split_in, split_all}
 use Rattle.optimisation.proofs.element_words_lemmas.PartLemmas.{IsSplitting}
-use Rattle.optimisation.proofs.element_words_lemmas.Known.{IsKnown, HasKnown, AllHaveKnown, StatementHasKnown, BlockHasKnown}
+use Rattle.optimisation.proofs.element_words_lemmas.Known.{IsKnown, HasKnown, AllHaveKnown, StatementHasKnown}
+use Rattle.optimisation.proofs.element_words_lemmas.Known.{BlockHasKnown}
 use Rattle.optimisation.proofs.element_words_lemmas.Values.{part_word, still_typed, still_suits, all_still_suit}
 use Rattle.optimisation.proofs.element_words_lemmas.Given.{but, but_within}
 

@@ -29,7 +29,8 @@ use Rattle.optimisation.specs.element_words.private.Parts.{Parts, part_of, candi
 use Rattle.optimisation.specs.element_words.private.Plan.{WordPlan, room_beside, used_parts, plan_of, split_by}
 use Rattle.optimisation.specs.element_words.private.Plan.{split_program}
 use Rattle.optimisation.specs.element_words.private.Splitting.{split, split_all}
-use Rattle.optimisation.proofs.element_words_lemmas.PartLemmas.{IsBelow, IsArray, candidate_is, made, within_room, words-append}
+use Rattle.optimisation.proofs.element_words_lemmas.PartLemmas.{IsBelow, IsArray, candidate_is, made, within_room}
+use Rattle.optimisation.proofs.element_words_lemmas.PartLemmas.{words-append}
 use Rattle.optimisation.proofs.element_words_lemmas.PartLemmas.{one_word_each, IsSplitting, no_splitting, splitting}
 use Rattle.optimisation.proofs.element_words_lemmas.Known.{BlockHasKnown, ResultHasKnown, block_known, result_known}
 use Rattle.branch_removal.proofs.Sequences.{fine_both, fine_front, fine_back}
@@ -37,7 +38,8 @@ use Rattle.optimisation.proofs.element_words_lemmas.Values.{same_value, still_fi
 use Rattle.optimisation.proofs.element_words_lemmas.Held.{zeros_at}
 use Rattle.optimisation.proofs.element_words_lemmas.Runs.{AreInStep, all_in_step, all_fine_in_step}
 use Rattle.optimisation.proofs.element_words_lemmas.Typed.{still_all_typed, still_all_hidden}
-use Rattle.optimisation.proofs.element_words_lemmas.Bounds.{all_less, fewer_in_value, all_no_higher, all_no_deeper, lower_result}
+use Rattle.optimisation.proofs.element_words_lemmas.Bounds.{all_less, fewer_in_value, all_no_higher, all_no_deeper}
+use Rattle.optimisation.proofs.element_words_lemmas.Bounds.{lower_result}
 
 -- What the variables hold at first.
 

@@ -18,11 +18,15 @@ use Rattle.optimisation.specs.live_words.private.Held.{living, setting}
 use Rattle.optimisation.specs.live_words.private.Held.{counting, joined, covers}
 use Rattle.optimisation.specs.live_words.private.Terms.{reading, reading_all, renamed, is_dead}
 use Rattle.optimisation.specs.live_words.private.Gathering.{at_head}
-use Rattle.optimisation.specs.live_words.private.Sharing.{setting_within, before_put, closed, before_bounds, before, before_all}
+use Rattle.optimisation.specs.live_words.private.Sharing.{setting_within, before_put, closed, before_bounds, before}
+use Rattle.optimisation.specs.live_words.private.Sharing.{before_all}
 use Rattle.optimisation.specs.live_words.private.Sharing.{in_front, shared, shared_all}
-use Rattle.optimisation.proofs.live_words_lemmas.HeldLemmas.{Grows, grows_on, grows_holding, grows_joined, joined_holds, covers_holds}
-use Rattle.optimisation.proofs.live_words_lemmas.HeldLemmas.{AreAlike, alike_before, set_alike, under_alike, dead_alike, alike_living}
-use Rattle.optimisation.proofs.live_words_lemmas.TermLemmas.{grows_reading, grows_reading_all, IsRead, read_before, same_value, same_path}
+use Rattle.optimisation.proofs.live_words_lemmas.HeldLemmas.{Grows, grows_on, grows_holding, grows_joined, joined_holds}
+use Rattle.optimisation.proofs.live_words_lemmas.HeldLemmas.{covers_holds}
+use Rattle.optimisation.proofs.live_words_lemmas.HeldLemmas.{AreAlike, alike_before, set_alike, under_alike, dead_alike}
+use Rattle.optimisation.proofs.live_words_lemmas.HeldLemmas.{alike_living}
+use Rattle.optimisation.proofs.live_words_lemmas.TermLemmas.{grows_reading, grows_reading_all, IsRead, read_before}
+use Rattle.optimisation.proofs.live_words_lemmas.TermLemmas.{same_value, same_path}
 use Rattle.optimisation.proofs.live_words_lemmas.TermLemmas.{same_elements, same_path_all}
 use Rattle.optimisation.proofs.live_words_lemmas.Grown.{grows_head}
 

@@ -8,7 +8,8 @@ use Rattle.std.proofs.lemmas.Option.{none-some, same_Some}
 use Rattle.inline.specs.declared.flat.FlatVariable.{FlatVariable}
 use Rattle.inline.specs.Flat.{TermTree, word_as, array_as}
 use Rattle.inline.specs.FlatTyping.{Types, types_of, HasType, of_number, of_truth, of_variable, of_prefix, of_binary}
-use Rattle.inline.specs.FlatTyping.{of_rotation, of_conversion, of_selection, of_element, Suits, AllSuit, HasCount, IsResult}
+use Rattle.inline.specs.FlatTyping.{of_rotation, of_conversion, of_selection, of_element, Suits, AllSuit, HasCount}
+use Rattle.inline.specs.FlatTyping.{IsResult}
 use Rattle.language.specs.declared.typing.WordType.{WordType}
 use Rattle.word.specs.declared.profile.Profile.{Profile}
 use Rattle.branch_removal.specs.Straight.{StraightTree, set, array, put, take, branch, repeats, StraightBlock, nothing}

@@ -27,7 +27,8 @@ use Rattle.branch_removal.specs.StraightMeaning.{start, end_of, outcome_of, path
 use Rattle.optimisation.specs.live_words.private.Held.{Table, Held, share, fitting, living, hold_own}
 use Rattle.optimisation.specs.live_words.private.Terms.{renamed}
 use Rattle.optimisation.specs.live_words.private.Sharing.{shared_all}
-use Rattle.optimisation.specs.live_words.private.Whole.{kept, with_results, reading_any, at_end, at_start, over, nothing_live}
+use Rattle.optimisation.specs.live_words.private.Whole.{kept, with_results, reading_any, at_end, at_start, over}
+use Rattle.optimisation.specs.live_words.private.Whole.{nothing_live}
 use Rattle.optimisation.specs.live_words.private.Whole.{all_fits, shared_by}
 use Rattle.optimisation.specs.live_words.private.Choice.{all_allowed}
 use Rattle.optimisation.proofs.live_words_lemmas.Allowed.{allowed_kept}
@@ -35,8 +36,10 @@ use Rattle.optimisation.proofs.live_words_lemmas.HeldLemmas.{Grows, grows_same, 
 use Rattle.optimisation.proofs.live_words_lemmas.HeldLemmas.{alike_first}
 use Rattle.optimisation.proofs.live_words_lemmas.TermLemmas.{grows_reading, IsRead, read_before, same_value, same_path}
 use Rattle.optimisation.proofs.live_words_lemmas.Same.{AreReady, fits_before_all, keeps_all}
-use Rattle.optimisation.proofs.live_words_lemmas.Typed.{IsKept, are_kept, still_all_typed, still_hidden_all, still_result}
-use Rattle.optimisation.proofs.live_words_lemmas.Bounds.{less_all, lower_all, flatter_all, same_value_nodes, same_result_height, max_both}
+use Rattle.optimisation.proofs.live_words_lemmas.Typed.{IsKept, are_kept, still_all_typed, still_hidden_all}
+use Rattle.optimisation.proofs.live_words_lemmas.Typed.{still_result}
+use Rattle.optimisation.proofs.live_words_lemmas.Bounds.{less_all, lower_all, flatter_all, same_value_nodes}
+use Rattle.optimisation.proofs.live_words_lemmas.Bounds.{same_result_height, max_both}
 use Rattle.optimisation.proofs.live_words_lemmas.Copied.{same_term, same_block, unfit}
 
 module _ (table : Table) where

@@ -4,7 +4,8 @@ ghost use Rattle.std.specs.Prelude.{◌≡◌, slice_get, OnOk};
 ghost use Rattle.inline.specs.Flat.{term_tree};
 ghost use Rattle.language.specs.Types.{same_label};
 ghost use Rattle.optimisation.specs.constants.private.Known.{words_of};
-ghost use Rattle.optimisation.specs.constants.private.Simplification.{are_alike, is_word, may_be_read_as, set_to, variable_of};
+ghost use Rattle.optimisation.specs.constants.private.Simplification.{are_alike, is_word, may_be_read_as, set_to};
+ghost use Rattle.optimisation.specs.constants.private.Simplification.{variable_of};
 
 use crate::constants::known::{Known, WordCopy};
 use crate::constants::terms::constant_of;

@@ -1,7 +1,8 @@
 // What the operators make of words that are known.
 
 ghost use Rattle.std.specs.Prelude.{◌≡◌};
-ghost use Rattle.optimisation.specs.constants.private.Folding.{decided_by_left, decided_by_right, folded, is_left_identity};
+ghost use Rattle.optimisation.specs.constants.private.Folding.{decided_by_left, decided_by_right, folded};
+ghost use Rattle.optimisation.specs.constants.private.Folding.{is_left_identity};
 ghost use Rattle.optimisation.specs.constants.private.Folding.{is_right_identity};
 
 use language::{BinaryOperator, is_true};

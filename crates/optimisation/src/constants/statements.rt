@@ -6,7 +6,8 @@ ghost use Rattle.inline.specs.Flat.{term_tree};
 ghost use Rattle.optimisation.specs.constants.private.Folding.{simple};
 ghost use Rattle.optimisation.specs.constants.private.Known.{forgotten_all, words_of};
 ghost use Rattle.optimisation.specs.constants.private.Simplification.{branch_code, branch_known, knowing, knowing_all};
-ghost use Rattle.optimisation.specs.constants.private.Simplification.{loop_code, loop_known, set_to, simplified, simplified_all};
+ghost use Rattle.optimisation.specs.constants.private.Simplification.{loop_code, loop_known, set_to, simplified};
+ghost use Rattle.optimisation.specs.constants.private.Simplification.{simplified_all};
 ghost use Rattle.optimisation.specs.constants.private.Simplification.{single, turns_code, turns_known};
 
 use crate::constants::choice::copies_of;
@@ -84,8 +85,11 @@ fn statement(
     code: &mut Vec<StraightStatement>,
     statement: &StraightStatement,
 ) -> Result<(), AllocError>
-    ensures code { OnOk result (straight_block code.new.items ≡ chain (straight_block code.old.items) (simplified pass.now.copies.now pass.now.declared.now (words_of known.old) (straight_tree statement.now))) }
-    ensures known { OnOk result (words_of known.new ≡ knowing pass.now.copies.now pass.now.declared.now (words_of known.old) (straight_tree statement.now)) }
+    ensures code { OnOk result (straight_block code.new.items
+        ≡ chain (straight_block code.old.items) (simplified pass.now.copies.now pass.now.declared.now
+        (words_of known.old) (straight_tree statement.now))) }
+    ensures known { OnOk result (words_of known.new ≡ knowing pass.now.copies.now pass.now.declared.now
+        (words_of known.old) (straight_tree statement.now)) }
 {
     match statement {
         StraightStatement::Set(within, variable, value) => {
@@ -130,8 +134,11 @@ fn branch(
     accepted: &[StraightStatement],
     otherwise: &[StraightStatement],
 ) -> Result<(), AllocError>
-    ensures code { OnOk result (straight_block code.new.items ≡ chain (straight_block code.old.items) (branch_code pass.now.copies.now pass.now.declared.now (words_of known.old) (term_tree condition) (straight_block accepted.now) (straight_block otherwise.now))) }
-    ensures known { OnOk result (words_of known.new ≡ branch_known pass.now.copies.now pass.now.declared.now (words_of known.old) (term_tree condition) (straight_block accepted.now) (straight_block otherwise.now)) }
+    ensures code { OnOk result (straight_block code.new.items
+        ≡ chain (straight_block code.old.items) (branch_code pass.now.copies.now pass.now.declared.now
+        (words_of known.old) (term_tree condition) (straight_block accepted.now) (straight_block otherwise.now))) }
+    ensures known { OnOk result (words_of known.new ≡ branch_known pass.now.copies.now pass.now.declared.now
+        (words_of known.old) (term_tree condition) (straight_block accepted.now) (straight_block otherwise.now)) }
 {
     match decision(&condition) {
         Some(true) => statements(pass, known, code, accepted),
@@ -183,8 +190,11 @@ fn turns(
     numbers: Numbers,
     body: &[StraightStatement],
 ) -> Result<(), AllocError>
-    ensures code { OnOk result (straight_block code.new.items ≡ chain (straight_block code.old.items) (turns_code pass.now.copies.now pass.now.declared.now (words_of known.old) counter numbers (straight_block body.now))) }
-    ensures known { OnOk result (words_of known.new ≡ turns_known pass.now.copies.now pass.now.declared.now (words_of known.old) counter numbers (straight_block body.now)) }
+    ensures code { OnOk result (straight_block code.new.items
+        ≡ chain (straight_block code.old.items) (turns_code pass.now.copies.now pass.now.declared.now
+        (words_of known.old) counter numbers (straight_block body.now))) }
+    ensures known { OnOk result (words_of known.new ≡ turns_known pass.now.copies.now pass.now.declared.now
+        (words_of known.old) counter numbers (straight_block body.now)) }
 {
     for value in numbers.low..numbers.high {
         let number = Constant {
@@ -208,8 +218,11 @@ fn part(
     known: &mut Known,
     body: &[StraightStatement],
 ) -> Result<Vec<StraightStatement>, AllocError>
-    ensures code { IfOk result (λ code. straight_block code.items ≡ simplified_all pass.now.copies.now pass.now.declared.now (words_of known.old) (straight_block body.now)) }
-    ensures known { OnOk result (words_of known.new ≡ forgotten_all (knowing_all pass.now.copies.now pass.now.declared.now (words_of known.old) (straight_block body.now)) (straight_block body.now)) }
+    ensures code { IfOk result (λ code. straight_block code.items
+        ≡ simplified_all pass.now.copies.now pass.now.declared.now (words_of known.old) (straight_block body.now)) }
+    ensures known { OnOk result (words_of known.new ≡ forgotten_all
+        (knowing_all pass.now.copies.now pass.now.declared.now (words_of known.old) (straight_block body.now))
+        (straight_block body.now)) }
 {
     let mut code = Vec::new(pass.alloc);
     statements(pass, known, &mut code, body)?;
@@ -225,8 +238,11 @@ pub fn statements(
     code: &mut Vec<StraightStatement>,
     body: &[StraightStatement],
 ) -> Result<(), AllocError>
-    ensures code { OnOk result (straight_block code.new.items ≡ chain (straight_block code.old.items) (simplified_all pass.now.copies.now pass.now.declared.now (words_of known.old) (straight_block body.now))) }
-    ensures known { OnOk result (words_of known.new ≡ knowing_all pass.now.copies.now pass.now.declared.now (words_of known.old) (straight_block body.now)) }
+    ensures code { OnOk result (straight_block code.new.items
+        ≡ chain (straight_block code.old.items) (simplified_all pass.now.copies.now pass.now.declared.now
+        (words_of known.old) (straight_block body.now))) }
+    ensures known { OnOk result (words_of known.new ≡ knowing_all pass.now.copies.now pass.now.declared.now
+        (words_of known.old) (straight_block body.now)) }
 {
     for each in body {
         statement(pass, known, code, each)?;

@@ -6,7 +6,8 @@ ghost use Rattle.inline.specs.Flat.{prefix, term_tree};
 ghost use Rattle.language.specs.declared.operators.PrefixOperator.TheVariants.{Not};
 ghost use Rattle.optimisation.specs.constants.private.Folding as folding;
 ghost use Rattle.optimisation.specs.constants.private.Known.{words_of};
-ghost use Rattle.optimisation.specs.constants.private.Folding.{chosen, constant_of, decision, number_of, numbers_of, simple};
+ghost use Rattle.optimisation.specs.constants.private.Folding.{chosen, constant_of, decision, number_of, numbers_of};
+ghost use Rattle.optimisation.specs.constants.private.Folding.{simple};
 
 use crate::constants::fields::{narrowed, operation};
 use crate::constants::known::{Constant, Known};

@@ -4,7 +4,8 @@ ghost use Rattle.std.specs.Prelude.{◌≡◌, map};
 ghost use Rattle.std.specs.Option.{option_map};
 ghost use Rattle.branch_removal.specs.Straight.{straight_block, straight_tree};
 ghost use Rattle.inline.specs.Flat.{term_tree};
-ghost use Rattle.optimisation.specs.element_words.private.Narrowing.{all_narrowed, narrowed, narrowed_at, narrowed_by, narrowed_by_all, narrowed_put, narrowed_result};
+ghost use Rattle.optimisation.specs.element_words.private.Narrowing.{all_narrowed, narrowed, narrowed_at, narrowed_by};
+ghost use Rattle.optimisation.specs.element_words.private.Narrowing.{narrowed_by_all, narrowed_put, narrowed_result};
 
 use crate::element_words::parts::Parts;
 use branch_removal::StraightStatement;

@@ -2,7 +2,8 @@
 
 ghost use Rattle.std.specs.Prelude.{◌≡◌, ◌≤◌, [], length, IfOk};
 ghost use Rattle.inline.specs.Flat.{term_tree};
-ghost use Rattle.optimisation.specs.element_words.private.Parts.{candidate, candidates, known_index, part_of, whole, word_of};
+ghost use Rattle.optimisation.specs.element_words.private.Parts.{candidate, candidates, known_index, part_of, whole};
+ghost use Rattle.optimisation.specs.element_words.private.Parts.{word_of};
 
 use inline::{FlatVariable, Term};
 use language::WordType;

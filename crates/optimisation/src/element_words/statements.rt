@@ -4,7 +4,8 @@ ghost use Rattle.std.specs.Prelude.{◌≡◌, drop, map, IfOk, OnOk};
 ghost use Rattle.branch_removal.specs.Straight.{chain, straight_block, straight_tree};
 ghost use Rattle.inline.specs.Flat.{term_tree};
 ghost use Rattle.optimisation.specs.element_words.private.Parts.{part_of};
-ghost use Rattle.optimisation.specs.element_words.private.Splitting.{first_value, given_words, new_array, single, split, split_all, split_in};
+ghost use Rattle.optimisation.specs.element_words.private.Splitting.{first_value, given_words, new_array, single};
+ghost use Rattle.optimisation.specs.element_words.private.Splitting.{split, split_all, split_in};
 
 use crate::element_words::parts::{Part, Parts};
 use crate::element_words::terms::{all_split, split};
@@ -29,7 +30,8 @@ fn element_value(
     element: u16,
     kind: Kind,
 ) -> Result<Term, AllocError>
-    ensures { IfOk result (λ value. term_tree value ≡ first_value kind (map (split parts.now.arrays.items) (map term_tree (drop element values.now)))) }
+    ensures { IfOk result (λ value. term_tree value ≡ first_value kind (map (split parts.now.arrays.items)
+        (map term_tree (drop element values.now)))) }
 {
     match values.get(usize::from(element)) {
         Some(value) => split(alloc, parts, value),
@@ -45,7 +47,9 @@ fn push_words(
     part: Part,
     values: &[Term],
 ) -> Result<(), AllocError>
-    ensures { OnOk result (straight_block code.new.items ≡ chain (straight_block code.old.items) (given_words part.base part.size part.word.kind (map (split parts.now.arrays.items) (map term_tree values.now)))) }
+    ensures { OnOk result (straight_block code.new.items
+        ≡ chain (straight_block code.old.items) (given_words part.base part.size part.word.kind (map
+        (split parts.now.arrays.items) (map term_tree values.now)))) }
 {
     for k in 0..part.size {
         let word = u32::from(part.base) + u32::from(k);
@@ -64,7 +68,9 @@ fn new_array(
     size: u32,
     values: &[Term],
 ) -> Result<(), AllocError>
-    ensures { OnOk result (straight_block code.new.items ≡ chain (straight_block code.old.items) (new_array (part_of parts.now.arrays.items array) array size (map (split parts.now.arrays.items) (map term_tree values.now)))) }
+    ensures { OnOk result (straight_block code.new.items
+        ≡ chain (straight_block code.old.items) (new_array (part_of parts.now.arrays.items array) array size (map
+        (split parts.now.arrays.items) (map term_tree values.now)))) }
 {
     match parts.of(array) {
         Some(part) => push_words(alloc, parts, code, part, values),
@@ -83,7 +89,8 @@ fn statement(
     code: &mut Vec<StraightStatement>,
     statement: &StraightStatement,
 ) -> Result<(), AllocError>
-    ensures { OnOk result (straight_block code.new.items ≡ chain (straight_block code.old.items) (split_in parts.now.arrays.items (straight_tree statement.now))) }
+    ensures { OnOk result (straight_block code.new.items
+        ≡ chain (straight_block code.old.items) (split_in parts.now.arrays.items (straight_tree statement.now))) }
 {
     match statement {
         StraightStatement::Set(within, variable, value) => {

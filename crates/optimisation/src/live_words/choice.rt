@@ -2,10 +2,14 @@
 
 ghost use Rattle.std.specs.Prelude.{◌≡◌, ◌≤◌, length, slice_get, slice_set, IfOk};
 ghost use Rattle.language.specs.Types.{same_label};
-ghost use Rattle.optimisation.specs.live_words.private.Choice.{all_allowed, are_alike, chosen, conflicts_with, first_shared};
-ghost use Rattle.optimisation.specs.live_words.private.Choice.{is_allowed, is_conflict, is_fixed, is_noted, is_some, is_word};
-ghost use Rattle.optimisation.specs.live_words.private.Choice.{may_share, merged, none_placed, noted_where, own_variables};
-ghost use Rattle.optimisation.specs.live_words.private.Choice.{placed, placed_all, placing_by, same_words, variable_for};
+ghost use Rattle.optimisation.specs.live_words.private.Choice.{all_allowed, are_alike, chosen, conflicts_with};
+ghost use Rattle.optimisation.specs.live_words.private.Choice.{first_shared};
+ghost use Rattle.optimisation.specs.live_words.private.Choice.{is_allowed, is_conflict, is_fixed, is_noted, is_some};
+ghost use Rattle.optimisation.specs.live_words.private.Choice.{is_word};
+ghost use Rattle.optimisation.specs.live_words.private.Choice.{may_share, merged, none_placed, noted_where};
+ghost use Rattle.optimisation.specs.live_words.private.Choice.{own_variables};
+ghost use Rattle.optimisation.specs.live_words.private.Choice.{placed, placed_all, placing_by, same_words};
+ghost use Rattle.optimisation.specs.live_words.private.Choice.{variable_for};
 ghost use Rattle.optimisation.specs.live_words.private.Choice.{with_own};
 
 use crate::live_words::live::{conflict_place, holder, mark};

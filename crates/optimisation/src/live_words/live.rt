@@ -2,7 +2,10 @@
 
 ghost use Rattle.std.specs.Prelude.{◌≡◌, ◌*◌, ◌+◌, ◌<◌, ◌^◌, None, false, slice_get, slice_set, true, IfOk};
 ghost use Rattle.optimisation.specs.live_words.private.Held as held;
-ghost use Rattle.optimisation.specs.live_words.private.Held.{Held, anew, counting, covers, fitting, freed, held_by, hold_own, holding, is_by, is_done, is_free, is_free_for, is_live, joined, living, living_where, noted, noted_all, noted_own, setting};
+ghost use Rattle.optimisation.specs.live_words.private.Held.{Held, anew, counting, covers, fitting, freed, held_by};
+ghost use Rattle.optimisation.specs.live_words.private.Held.{hold_own, holding, is_by, is_done, is_free, is_free_for};
+ghost use Rattle.optimisation.specs.live_words.private.Held.{is_live, joined, living, living_where, noted, noted_all};
+ghost use Rattle.optimisation.specs.live_words.private.Held.{noted_own, setting};
 ghost use Rattle.optimisation.specs.live_words.private.Sharing.{closed};
 ghost use Rattle.optimisation.specs.live_words.private.Whole.{none_live};
 

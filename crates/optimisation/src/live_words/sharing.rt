@@ -7,7 +7,8 @@ ghost use Rattle.branch_removal.specs.Straight.{straight_block, with_body};
 ghost use Rattle.language.specs.WantOfMemory.{IsWantOfMemory};
 ghost use Rattle.optimisation.specs.live_words.Exact.{shared_of};
 ghost use Rattle.optimisation.specs.live_words.private.Held.{held_by};
-ghost use Rattle.optimisation.specs.live_words.private.Whole.{all_fits, at_end, at_start, kept, nothing_live, over, shared_program, table_for, with_results};
+ghost use Rattle.optimisation.specs.live_words.private.Whole.{all_fits, at_end, at_start, kept, nothing_live, over};
+ghost use Rattle.optimisation.specs.live_words.private.Whole.{shared_program, table_for, with_results};
 
 use crate::live_words::choice::{Words, all_allowed, choose};
 use crate::live_words::live::{Live, hold_own, share};

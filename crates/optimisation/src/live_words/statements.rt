@@ -6,7 +6,9 @@ ghost use Rattle.branch_removal.specs.Straight as straight;
 ghost use Rattle.branch_removal.specs.Straight.{nothing, straight_block, straight_tree};
 ghost use Rattle.inline.specs.Flat.{term_tree};
 ghost use Rattle.optimisation.specs.live_words.private.Held.{held_by};
-ghost use Rattle.optimisation.specs.live_words.private.Sharing.{before, before_all, before_branch, before_put, before_loop, in_front, onto, setting_within, shared, shared_all, shared_branch, shared_loop};
+ghost use Rattle.optimisation.specs.live_words.private.Sharing.{before, before_all, before_branch, before_put};
+ghost use Rattle.optimisation.specs.live_words.private.Sharing.{before_loop, in_front, onto, setting_within, shared};
+ghost use Rattle.optimisation.specs.live_words.private.Sharing.{shared_all, shared_branch, shared_loop};
 
 use crate::live_words::gathering::gather_loop;
 use crate::live_words::live::{Live, share};
@@ -37,7 +39,8 @@ fn push_any(
     backwards: &mut Vec<StraightStatement>,
     code: Option<StraightStatement>,
 ) -> Result<(), AllocError>
-    ensures { OnOk result (onto (straight_block backwards.new.items) nothing ≡ in_front (option_map straight_tree code) (onto (straight_block backwards.old.items) nothing)) }
+    ensures { OnOk result (onto (straight_block backwards.new.items) nothing
+        ≡ in_front (option_map straight_tree code) (onto (straight_block backwards.old.items) nothing)) }
 {
     if let Some(code) = code {
         backwards.push(code)?;
@@ -78,7 +81,8 @@ fn set(
     word: u32,
     value: &Term,
 ) -> Result<Option<StraightStatement>, AllocError>
-    ensures code { IfOk result (λ code. option_map straight_tree code ≡ shared table.now (held_by live.old) (straight.set within word (term_tree value.now))) }
+    ensures code { IfOk result (λ code. option_map straight_tree code
+        ≡ shared table.now (held_by live.old) (straight.set within word (term_tree value.now))) }
     ensures live { OnOk result (held_by live.new ≡ before table.now (held_by live.old) (straight.set within word (term_tree value.now))) }
 {
     if is_dead(live, table, word, value) {
@@ -147,8 +151,11 @@ fn branch(
     accepted: &[StraightStatement],
     otherwise: &[StraightStatement],
 ) -> Result<Option<StraightStatement>, AllocError>
-    ensures code { IfOk result (λ code. option_map straight_tree code ≡ Some (shared_branch table.now (held_by live.old) (term_tree condition.now) (straight_block accepted.now) (straight_block otherwise.now))) }
-    ensures live { OnOk result (held_by live.new ≡ before_branch table.now (held_by live.old) (term_tree condition.now) (straight_block accepted.now) (straight_block otherwise.now)) }
+    ensures code { IfOk result (λ code. option_map straight_tree code
+        ≡ Some (shared_branch table.now (held_by live.old) (term_tree condition.now) (straight_block accepted.now)
+        (straight_block otherwise.now))) }
+    ensures live { OnOk result (held_by live.new ≡ before_branch table.now (held_by live.old)
+        (term_tree condition.now) (straight_block accepted.now) (straight_block otherwise.now)) }
 {
     let behind = live.copy_holders(alloc)?;
     let other = statements(alloc, live, table, otherwise)?;
@@ -169,8 +176,11 @@ fn repeat(
     bounds: Bounds<'_>,
     body: &[StraightStatement],
 ) -> Result<Option<StraightStatement>, AllocError>
-    ensures code { IfOk result (λ code. option_map straight_tree code ≡ Some (shared_loop table.now (held_by live.old) bounds.entry.counter (term_tree bounds.entry.low.now) (term_tree bounds.entry.high.now) (straight_block body.now))) }
-    ensures live { OnOk result (held_by live.new ≡ before_loop table.now (held_by live.old) bounds.entry.counter (term_tree bounds.entry.low.now) (term_tree bounds.entry.high.now) (straight_block body.now)) }
+    ensures code { IfOk result (λ code. option_map straight_tree code
+        ≡ Some (shared_loop table.now (held_by live.old) bounds.entry.counter (term_tree bounds.entry.low.now)
+        (term_tree bounds.entry.high.now) (straight_block body.now))) }
+    ensures live { OnOk result (held_by live.new ≡ before_loop table.now (held_by live.old) bounds.entry.counter
+        (term_tree bounds.entry.low.now) (term_tree bounds.entry.high.now) (straight_block body.now)) }
 {
     gather_loop(alloc, live, table, bounds.counter, body)?;
     let head = live.copy_holders(alloc)?;

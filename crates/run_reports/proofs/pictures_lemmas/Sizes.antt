@@ -10,14 +10,17 @@ use Rattle.std.below.core.specs.Fmt.{digits_onto, digit_glyph}
 use Rattle.run_reports.specs.pictures.Constants.{front, legend, legend_of_two}
 use Rattle.run_reports.specs.pictures.Grid.{most_columns, most_rows, places_used}
 use Rattle.run_reports.specs.pictures.Page.{cell_text, holds, class_of, all_layers, cells_text, layer_text, layers_text}
-use Rattle.run_reports.specs.pictures.Page.{eight_digits, drawing_text, axis_text, area_text, elsewhere_text, code_cells}
-use Rattle.run_reports.specs.pictures.Page.{frame_cells, other_cells, drawings_text, steps_text, scale_text, legend_text}
+use Rattle.run_reports.specs.pictures.Page.{eight_digits, drawing_text, axis_text, area_text, elsewhere_text}
+use Rattle.run_reports.specs.pictures.Page.{code_cells}
+use Rattle.run_reports.specs.pictures.Page.{frame_cells, other_cells, drawings_text, steps_text, scale_text}
+use Rattle.run_reports.specs.pictures.Page.{legend_text}
 use Rattle.run_reports.specs.pictures.Page.{rest_text, page_text}
 use Rattle.run_reports.specs.declared.pictures.cells.Area.{Area}
 use Rattle.run_reports.specs.declared.pictures.cells.Axes.{Axes}
 use Rattle.run_reports.specs.declared.pictures.cells.Cell.{Cell}
 use Rattle.run_reports.specs.declared.pictures.layers.Layer.{Layer}
-use Rattle.run_reports.specs.declared.pictures.layers.Layer.TheVariants.{Fetched, Loaded, Stored, LoadedAndStored, OneDiffers}
+use Rattle.run_reports.specs.declared.pictures.layers.Layer.TheVariants.{Fetched, Loaded, Stored, LoadedAndStored}
+use Rattle.run_reports.specs.declared.pictures.layers.Layer.TheVariants.{OneDiffers}
 use Rattle.run_reports.specs.declared.pictures.layers.Layer.TheVariants.{OtherDiffers}
 
 either : (b : Bool) (x y : List ℕ) (n : ℕ) → length x ≤ n → length y ≤ n → length (cond b x y) ≤ n

@@ -11,7 +11,8 @@ use Rattle.rv_machine.specs.declared.stops.Stop.TheVariants.{Budget}
 use Rattle.rv_machine.specs.Entries.{Entry, entries_of}
 use Rattle.rv_machine.specs.Leakage.{Leads, stays, turns, halts, Runs, halted, spent}
 use Rattle.rv_machine.specs.Machine.{State, Code, goes_on, stops, Turn}
-use Rattle.run_reports.proofs.run_places_lemmas.Below.{Leads-more, entries_of-append, Runs-more, turn_stops, run_of_state, stopped_at}
+use Rattle.run_reports.proofs.run_places_lemmas.Below.{Leads-more, entries_of-append, Runs-more, turn_stops}
+use Rattle.run_reports.proofs.run_places_lemmas.Below.{run_of_state, stopped_at}
 use Rattle.run_reports.proofs.run_places_lemmas.Below.{went_to}
 use Rattle.run_reports.specs.run_places.Places.{Ends, ShowsNext, IsLastBefore, ShowsFewer}
 use Rattle.run_reports.specs.run_places.Shown.{entry_or_stop, shown_entry, ShowsAt}

@@ -9,7 +9,8 @@ use Rattle.run_reports.specs.declared.pictures.cells.Area.{Area}
 use Rattle.run_reports.specs.declared.pictures.cells.Axes.{Axes}
 use Rattle.run_reports.specs.declared.pictures.cells.Cell.{Cell}
 use Rattle.run_reports.specs.declared.pictures.layers.Layer.{Layer}
-use Rattle.run_reports.specs.declared.pictures.layers.Layer.TheVariants.{Fetched, Loaded, Stored, LoadedAndStored, OneDiffers}
+use Rattle.run_reports.specs.declared.pictures.layers.Layer.TheVariants.{Fetched, Loaded, Stored, LoadedAndStored}
+use Rattle.run_reports.specs.declared.pictures.layers.Layer.TheVariants.{OneDiffers}
 use Rattle.run_reports.specs.declared.pictures.layers.Layer.TheVariants.{OtherDiffers}
 
 -- Cells. Each is a piece of a line, as wide as a column.

@@ -1,7 +1,8 @@
 // The grid of a picture: where a mark belongs, and how it is put there.
 
 ghost use Rattle.std.specs.Prelude.{◌≡◌, ◌*◌, ◌<◌, ◌≤◌, vec_len, ◌∷◌, []};
-ghost use Rattle.run_reports.specs.pictures.Grid.{share, place_of, places_used, word_number, row_of, cell_number, cell_count, most_rows};
+ghost use Rattle.run_reports.specs.pictures.Grid.{share, place_of, places_used, word_number, row_of, cell_number};
+ghost use Rattle.run_reports.specs.pictures.Grid.{cell_count, most_rows};
 ghost use Rattle.run_reports.specs.pictures.Marks.{marks_of, marks_of_both};
 ghost use Rattle.run_reports.specs.pictures.private.Added.{Adds};
 

@@ -1,7 +1,8 @@
 // The marks of what two runs show in a step.
 
 ghost use Rattle.std.specs.Prelude.{◌≡◌};
-ghost use Rattle.run_reports.specs.pictures.Marks.{same_event, is_event, other_counter, other_event, place_of_event, cell_of_event, counter_mark, event_mark};
+ghost use Rattle.run_reports.specs.pictures.Marks.{same_event, is_event, other_counter, other_event, place_of_event};
+ghost use Rattle.run_reports.specs.pictures.Marks.{cell_of_event, counter_mark, event_mark};
 
 use crate::pictures::cells::{Cell, Mark, Side};
 use rv_machine::{Event, Observation};

@@ -2,7 +2,8 @@
 
 ghost use Rattle.std.specs.Prelude.{◌≡◌, ◌≤◌, ◌<◌, ◌^◌, ◌+◌, length, IfOk};
 ghost use Rattle.std.specs.String.{string_bytes};
-ghost use Rattle.run_reports.specs.pictures.Page.{steps_text, scale_text, legend_text, drawings_text, rest_text, page_text};
+ghost use Rattle.run_reports.specs.pictures.Page.{steps_text, scale_text, legend_text, drawings_text, rest_text};
+ghost use Rattle.run_reports.specs.pictures.Page.{page_text};
 
 use crate::pictures::areas::{area_text, elsewhere_text};
 use crate::pictures::cells::Axes;

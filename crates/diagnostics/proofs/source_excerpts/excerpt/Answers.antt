@@ -2,7 +2,8 @@
 use Rattle.std.proofs.Common.{◌≡◌, ◌++◌, List, ℕ, take, drop, ap, ap₂, ◌∙◌}
 use Rattle.std.specs.Fmt.{decimal}
 use Rattle.std.specs.String.{string_bytes}
-use Rattle.diagnostics.specs.source_excerpts.Excerpt.{most_shown, first_line, last_line, dots, end_of, blanks, below_text}
+use Rattle.diagnostics.specs.source_excerpts.Excerpt.{most_shown, first_line, last_line, dots, end_of, blanks}
+use Rattle.diagnostics.specs.source_excerpts.Excerpt.{below_text}
 use Rattle.diagnostics.proofs.source_excerpts.excerpt.Goals as goal
 
 pub returns : goal.returns

@@ -1,6 +1,7 @@
 -- What is in scope in a conditional and in a loop, by the part that the place is in.
 use Rattle.std.proofs.Common.{◌≡◌, OnOk, ap, subst, ◌∙◌}
-use Rattle.diagnostics.proofs.operand_types_lemmas.AroundLemmas.{in_accepted, in_loop, in_neither, in_otherwise, outside_loop}
+use Rattle.diagnostics.proofs.operand_types_lemmas.AroundLemmas.{in_accepted, in_loop, in_neither, in_otherwise}
+use Rattle.diagnostics.proofs.operand_types_lemmas.AroundLemmas.{outside_loop}
 use Rattle.diagnostics.proofs.operand_types.around.+entering.Goals as goal
 use Rattle.language.specs.Tree.{block_tree}
 use Rattle.diagnostics.specs.operand_types.Sites.{around_in}

@@ -4,7 +4,8 @@ use Rattle.std.proofs.lemmas.Option.{none-some}
 use Rattle.std.specs.Option.{option_map}
 use Rattle.language.specs.Tree.{ProcedureTree, procedure_tree, program_tree}
 use Rattle.explanations.proofs.refusal_details_lemmas.DetailLemmas.{where_ok}
-use Rattle.explanations.proofs.refusal_details_lemmas.ExportLemmas.{export_there, flat_of_export, no_work, same_export, some_work}
+use Rattle.explanations.proofs.refusal_details_lemmas.ExportLemmas.{export_there, flat_of_export, no_work, same_export}
+use Rattle.explanations.proofs.refusal_details_lemmas.ExportLemmas.{some_work}
 use Rattle.explanations.proofs.refusal_details.work_lines.flat_line.Goals as goal
 
 pub returns-in_default : goal.returns-in_default

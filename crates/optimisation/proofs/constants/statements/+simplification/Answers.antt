@@ -5,8 +5,10 @@ use Rattle.branch_removal.specs.Straight.{chain, set, straight_block, straight_t
 use Rattle.optimisation.specs.constants.private.Known.{words_of}
 use Rattle.optimisation.specs.constants.private.Simplification.{knowing_all, simplified_all, single}
 use Rattle.branch_removal.proofs.StatementTrees.{arms_smaller, body_smaller, chain-nothing, item_here, smaller_here}
-use Rattle.optimisation.proofs.constants_lemmas.StatementCode.{code_of_branch, known_of_branch, code_of_loop, known_of_loop}
-use Rattle.optimisation.proofs.constants_lemmas.StatementCode.{passed, turn_passed, turn_learnt, no_turns_left, none_left_known}
+use Rattle.optimisation.proofs.constants_lemmas.StatementCode.{code_of_branch, known_of_branch, code_of_loop}
+use Rattle.optimisation.proofs.constants_lemmas.StatementCode.{known_of_loop}
+use Rattle.optimisation.proofs.constants_lemmas.StatementCode.{passed, turn_passed, turn_learnt, no_turns_left}
+use Rattle.optimisation.proofs.constants_lemmas.StatementCode.{none_left_known}
 use Rattle.optimisation.proofs.constants.statements.+simplification.Goals as goal
 
 pub statement-branch-pass-requires : goal.statement-branch-pass-requires

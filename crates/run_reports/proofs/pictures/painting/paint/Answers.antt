@@ -1,5 +1,6 @@
 use Rattle.std.proofs.Common.{◌≡◌, None, refl, arith, ◌∙◌}
-use Rattle.run_reports.proofs.pictures_lemmas.Painted.{none_shown, some_shown, fewer_left, paint_begins, paint_on, paint_ends}
+use Rattle.run_reports.proofs.pictures_lemmas.Painted.{none_shown, some_shown, fewer_left, paint_begins, paint_on}
+use Rattle.run_reports.proofs.pictures_lemmas.Painted.{paint_ends}
 use Rattle.run_reports.proofs.pictures.painting.paint.Goals.{else-is_none-via-then-is_none+else-is_none-2}
 use Rattle.run_reports.proofs.pictures.painting.paint.Goals.{else-is_none-via-else-is_none}
 use Rattle.run_reports.proofs.pictures.painting.paint.Goals as goal

@@ -4,7 +4,8 @@ use Rattle.std.proofs.Common.{ap}
 use Rattle.std.proofs.Common.{◌∙◌, subst, arith}
 use Rattle.certified_runs.specs.Certified.{KnownLeads, stays}
 use Rattle.certified_runs.specs.Parts.{known_of}
-use Rattle.run_reports.proofs.progress_lemmas.KnownPieces.{leads_append, run_after, stretched, few_of_leads, few_at_end, end_of_both}
+use Rattle.run_reports.proofs.progress_lemmas.KnownPieces.{leads_append, run_after, stretched, few_of_leads, few_at_end}
+use Rattle.run_reports.proofs.progress_lemmas.KnownPieces.{end_of_both}
 use Rattle.run_reports.proofs.progress_lemmas.KnownPieces.{lines_of_known}
 use Rattle.run_reports.proofs.progress_lemmas.Told.{none_yet, all_told}
 use Rattle.run_reports.specs.progress.Certified.{entries_at, end_behind}

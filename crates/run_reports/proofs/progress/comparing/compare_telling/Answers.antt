@@ -1,8 +1,10 @@
 -- Another turn of each, or the comparison's end.
 use Rattle.std.proofs.Common.{ℕ, [], ◌∷◌, ◌++◌, length, length-append, Some}
 use Rattle.std.proofs.Common.{is_some, inl, inr, refl, sym, ap, ◌∙◌, subst, add-zero, arith}
-use Rattle.run_reports.proofs.progress_lemmas.Together.{step_on, both_go_on, shows_further, shows_some, shows_none, told_at_end}
-use Rattle.run_reports.proofs.progress_lemmas.Together.{one_ended, other_ended, they_differ, other_ends, one_ends, differ_behind}
+use Rattle.run_reports.proofs.progress_lemmas.Together.{step_on, both_go_on, shows_further, shows_some, shows_none}
+use Rattle.run_reports.proofs.progress_lemmas.Together.{told_at_end}
+use Rattle.run_reports.proofs.progress_lemmas.Together.{one_ended, other_ended, they_differ, other_ends, one_ends}
+use Rattle.run_reports.proofs.progress_lemmas.Together.{differ_behind}
 use Rattle.run_reports.proofs.progress_lemmas.Told.{none_yet}
 use Rattle.rv_machine.proofs.Face.{entries_of-append, count-few}
 use Rattle.rv_machine.specs.Entries.{entries_of}

@@ -3,7 +3,8 @@ use Rattle.std.proofs.Common.{[], ◌∷◌, ◌++◌, sym, ◌∙◌, arith}
 use Rattle.rv_machine.specs.declared.stops.Stop.TheVariants.{Budget}
 use Rattle.rv_machine.specs.Harts.{state_of}
 use Rattle.rv_machine.specs.Leakage.{stays}
-use Rattle.run_reports.proofs.run_places_lemmas.Runs.{is_last, made, fewer_here, ends_silently, ends_spent, is_going, went_on_by}
+use Rattle.run_reports.proofs.run_places_lemmas.Runs.{is_last, made, fewer_here, ends_silently, ends_spent, is_going}
+use Rattle.run_reports.proofs.run_places_lemmas.Runs.{went_on_by}
 use Rattle.run_reports.proofs.run_places_lemmas.Runs.{entries_more}
 use Rattle.run_reports.proofs.run_places.turns.last_before.Goals as goal
 
