@@ -1,8 +1,9 @@
 // The signed immediate of the I and S formats.
 
 ghost use Rattle.std.specs.Prelude.{◌≡◌, ◌%◌, ◌^◌, ◌<◌, ◌↔◌, IsSome, IfSome, pos, negsuc, ◌≤ℤ◌};
-ghost use Rattle.rv_code.specs.Signed.{signed_value};
+ghost use Rattle.rv_code.specs.Signed.{signed_value, sign_extended};
 
+use crate::signed;
 use std::marker::Model;
 
 /// A signed number of 12 bits, -2048 to 2047, as the I and S formats hold it.
@@ -56,6 +57,14 @@ impl Immediate12 {
         ensures below_4096 { self < 2 ^ 12 }
     {
         self.field
+    }
+
+    /// The number modulo 2^32.
+    #[inline(always)]
+    pub fn word(self) -> u32
+        ensures { result ≡ sign_extended 12 self }
+    {
+        signed::extend(u32::from(self.field), 0x800)
     }
 
     /// The number, -2048 to 2047.

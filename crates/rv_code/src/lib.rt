@@ -1,9 +1,10 @@
-// Instructions of RV32IM, all of them, and their words.
+// Instructions of RV32IM, all of them, their words, and what their operations compute.
 //
 // It promises that `encode` gives an instruction the word that the RISC-V Unprivileged ISA gives
 // it (`specs/Words.antt`), that `decode` gives back an instruction exactly for its word, and that
-// two instructions have two words; and that a register, an immediate or another field is made exactly
-// where it can hold the number, and gives that number back. It stands on nothing but the standard library.
+// two instructions have two words; that an operation computes what its row says (`specs/Operations.antt`);
+// and that a register, an immediate or another field is made exactly where it can hold the number, and
+// gives that number back. It stands on `word`.
 #![tactic(auto)]
 
 pub mod decoding;
@@ -18,6 +19,7 @@ pub mod offsets;
 pub mod operations;
 pub mod registers;
 mod rows;
+mod signed;
 pub mod small_fields;
 mod text;
 pub mod upper_immediates;

@@ -1,8 +1,9 @@
 // How far branches and jumps go.
 
 ghost use Rattle.std.specs.Prelude.{◌≡◌, ℕ, ◌*◌, ◌%◌, ◌^◌, ◌<◌, Some, IfSome};
-ghost use Rattle.rv_code.specs.Signed.{signed_value};
+ghost use Rattle.rv_code.specs.Signed.{signed_value, sign_extended};
 
+use crate::signed;
 use std::marker::Model;
 
 /// An even number of bytes from -4096 to 4094, as the B format holds it.
@@ -57,6 +58,14 @@ impl BranchOffset {
         ensures below_4096 { self < 2 ^ 12 }
     {
         self.halves
+    }
+
+    /// The number of bytes modulo 2^32.
+    #[inline(always)]
+    pub fn word(self) -> u32
+        ensures { result ≡ sign_extended 13 (self * 2) }
+    {
+        signed::extend(u32::from(self.halves) * 2, 0x1000)
     }
 
     /// The number of bytes, -4096 to 4094.
@@ -120,6 +129,14 @@ impl JumpOffset {
         ensures below_2_to_20 { self < 2 ^ 20 }
     {
         self.halves
+    }
+
+    /// The number of bytes modulo 2^32.
+    #[inline(always)]
+    pub fn word(self) -> u32
+        ensures { result ≡ sign_extended 21 (self * 2) }
+    {
+        signed::extend(self.halves * 2, 0x10_0000)
     }
 
     /// The number of bytes, -1048576 to 1048574.

@@ -1,10 +1,16 @@
-// The instruction table: for each operation its name in text and the fixed fields of its words.
+// The instruction table: for each operation its name in text, the fixed fields of its words, and what
+// it makes of words.
 //
-// A new instruction of a format that is here is a variant, its place in `ALL` and its row. What it
-// has to be is its row in `specs/Operations.antt`.
+// A new instruction of a format that is here is a variant, its place in `ALL`, its row and its value.
+// What they have to be is said in `specs/Operations.antt`.
 
 ghost use Rattle.std.specs.Prelude.{◌≡◌};
 ghost use Rattle.rv_code.specs.Operations.{upper_row, branch_row, load_row, store_row, immediate_row, shift_row, register_row, multiply_row, divide_row};
+ghost use Rattle.rv_code.specs.Operations.{upper_value, holds, load_width, loaded_value, store_width, immediate_value, shift_value, register_value, multiply_value, divide_value};
+
+use crate::signed;
+use crate::upper_immediates::UpperImmediate;
+use word::Width;
 
 pub(crate) const OP_IMM: u32 = 0b0010011;
 
@@ -154,6 +160,18 @@ impl UpperOperation {
         };
         OpcodeRow { mnemonic, opcode }
     }
+
+    /// The value for an immediate, where the instruction stands at `pc`.
+    #[inline(always)]
+    pub fn value(self, pc: u32, immediate: UpperImmediate) -> u32
+        ensures { result ≡ upper_value self pc immediate }
+    {
+        let upper = immediate.field() * 4096;
+        match self {
+            Self::Lui => upper,
+            Self::Auipc => word::add(Width::W32, pc, upper),
+        }
+    }
 }
 
 impl BranchTest {
@@ -180,6 +198,21 @@ impl BranchTest {
         };
         Funct3Row { mnemonic, funct3 }
     }
+
+    /// Whether a branch is taken.
+    #[inline(always)]
+    pub fn holds(self, a: u32, b: u32) -> bool
+        ensures { result ≡ holds self a b }
+    {
+        match self {
+            Self::Beq => word::equal(a, b),
+            Self::Bne => word::unequal(a, b),
+            Self::Blt => signed::less(a, b),
+            Self::Bge => signed::at_least(a, b),
+            Self::Bltu => word::less(a, b),
+            Self::Bgeu => word::at_least(a, b),
+        }
+    }
 }
 
 impl LoadOperation {
@@ -198,6 +231,30 @@ impl LoadOperation {
         };
         Funct3Row { mnemonic, funct3 }
     }
+
+    /// How wide a word it reads.
+    #[inline(always)]
+    pub fn width(self) -> Width
+        ensures { result ≡ load_width self }
+    {
+        match self {
+            Self::Lb | Self::Lbu => Width::W8,
+            Self::Lh | Self::Lhu => Width::W16,
+            Self::Lw => Width::W32,
+        }
+    }
+
+    /// What the register gets of the word that was read.
+    #[inline(always)]
+    pub fn value(self, loaded: u32) -> u32
+        ensures { result ≡ loaded_value self loaded }
+    {
+        match self {
+            Self::Lb => signed::extend(loaded % 256, 128),
+            Self::Lh => signed::extend(loaded % 65_536, 32_768),
+            Self::Lw | Self::Lbu | Self::Lhu => loaded,
+        }
+    }
 }
 
 impl StoreOperation {
@@ -213,6 +270,18 @@ impl StoreOperation {
             Self::Sw => ("sw", 0b010),
         };
         Funct3Row { mnemonic, funct3 }
+    }
+
+    /// How wide a word it writes.
+    #[inline(always)]
+    pub fn width(self) -> Width
+        ensures { result ≡ store_width self }
+    {
+        match self {
+            Self::Sb => Width::W8,
+            Self::Sh => Width::W16,
+            Self::Sw => Width::W32,
+        }
     }
 }
 
@@ -240,6 +309,21 @@ impl ImmediateOperation {
         };
         Funct3Row { mnemonic, funct3 }
     }
+
+    /// The value for a register and an immediate.
+    #[inline(always)]
+    pub fn value(self, a: u32, b: u32) -> u32
+        ensures { result ≡ immediate_value self a b }
+    {
+        match self {
+            Self::Addi => word::add(Width::W32, a, b),
+            Self::Slti => word::from_bool(signed::less(a, b)),
+            Self::Sltiu => word::from_bool(word::less(a, b)),
+            Self::Xori => word::bit_xor(a, b),
+            Self::Ori => word::bit_or(a, b),
+            Self::Andi => word::bit_and(a, b),
+        }
+    }
 }
 
 impl ShiftOperation {
@@ -259,6 +343,18 @@ impl ShiftOperation {
             mnemonic,
             funct3,
             funct7,
+        }
+    }
+
+    /// The value for a register and an amount.
+    #[inline(always)]
+    pub fn value(self, a: u32, amount: u32) -> u32
+        ensures { result ≡ shift_value self a amount }
+    {
+        match self {
+            Self::Slli => word::shift_left(Width::W32, a, amount),
+            Self::Srli => word::shift_right(Width::W32, a, amount),
+            Self::Srai => signed::shift_right(a, amount),
         }
     }
 }
@@ -300,6 +396,25 @@ impl RegisterOperation {
             funct7,
         }
     }
+
+    /// The value for two registers.
+    #[inline(always)]
+    pub fn value(self, a: u32, b: u32) -> u32
+        ensures { result ≡ register_value self a b }
+    {
+        match self {
+            Self::Add => word::add(Width::W32, a, b),
+            Self::Sub => word::subtract(Width::W32, a, b),
+            Self::Sll => word::shift_left(Width::W32, a, b),
+            Self::Slt => word::from_bool(signed::less(a, b)),
+            Self::Sltu => word::from_bool(word::less(a, b)),
+            Self::Xor => word::bit_xor(a, b),
+            Self::Srl => word::shift_right(Width::W32, a, b),
+            Self::Sra => signed::shift_right(a, b),
+            Self::Or => word::bit_or(a, b),
+            Self::And => word::bit_and(a, b),
+        }
+    }
 }
 
 impl MultiplyOperation {
@@ -317,6 +432,19 @@ impl MultiplyOperation {
         };
         Funct3Row { mnemonic, funct3 }
     }
+
+    /// The half of two registers' product.
+    #[inline(always)]
+    pub fn value(self, a: u32, b: u32) -> u32
+        ensures { result ≡ multiply_value self a b }
+    {
+        match self {
+            Self::Mul => word::multiply(Width::W32, a, b),
+            Self::Mulh => signed::high_product(a, i64::from(b.cast_signed())),
+            Self::Mulhsu => signed::high_product(a, i64::from(b)),
+            Self::Mulhu => ((u64::from(a) * u64::from(b)) >> 32) as u32,
+        }
+    }
 }
 
 impl DivideOperation {
@@ -333,5 +461,30 @@ impl DivideOperation {
             Self::Remu => ("remu", 0b111),
         };
         Funct3Row { mnemonic, funct3 }
+    }
+
+    /// The quotient or the remainder of two registers.
+    #[inline(always)]
+    pub fn value(self, a: u32, b: u32) -> u32
+        ensures { result ≡ divide_value self a b }
+    {
+        if b == 0 {
+            return self.by_zero(a);
+        }
+        match self {
+            Self::Div => signed::divide(a, b),
+            Self::Divu => word::divide(a, b),
+            Self::Rem => signed::remainder(a, b),
+            Self::Remu => word::remainder(a, b),
+        }
+    }
+
+    fn by_zero(self, a: u32) -> u32
+        ensures { result ≡ divide_value self a 0 }
+    {
+        match self {
+            Self::Div | Self::Divu => u32::MAX,
+            Self::Rem | Self::Remu => a,
+        }
     }
 }

@@ -17,7 +17,6 @@ pub mod Recording
 pub mod Regions
 pub mod Registers
 pub mod RunningHarts
-pub mod SignedWords
 pub mod Sizes
 pub mod Stops
 pub mod System

@@ -1,15 +1,11 @@
 // What instructions do with the registers and the program counter.
 
 ghost use Rattle.std.specs.Prelude.{◌≡◌};
-ghost use Rattle.rv_machine.specs.Effects.{effect_of, address_of, jump_target, branch_target, register_target};
+ghost use Rattle.rv_machine.specs.Effects.{effect_of, load_size, store_size, address_of, jump_target, branch_target, register_target};
 ghost use Rattle.rv_machine.specs.Harts.{pc_of, regs_of};
-ghost use Rattle.rv_machine.specs.SignedWords.{sign_extended};
 
 use crate::hart::Hart;
-use crate::signed;
-use crate::values::{
-    divide_value, holds, immediate_value, multiply_value, register_value, shift_value, upper_value,
-};
+use crate::memory::Size;
 use rv_code::{
     BranchOffset, BranchTest, DivideOperation, Immediate12, Instr, JumpOffset, LoadOperation,
     MultiplyOperation, Reg, StoreOperation,
@@ -48,7 +44,7 @@ pub fn effect_of(hart: &Hart, instr: &Instr) -> Effect
 {
     match *instr {
         Instr::Upper(operation, rd, immediate) => {
-            Effect::Computes(rd, upper_value(operation, hart.pc(), immediate))
+            Effect::Computes(rd, operation.value(hart.pc(), immediate))
         }
         Instr::Jump(rd, offset) => Effect::Jumps(rd, jump_target(hart, offset)),
         Instr::JumpRegister(rd, rs1, offset) => {
@@ -62,15 +58,15 @@ pub fn effect_of(hart: &Hart, instr: &Instr) -> Effect
             Effect::Stores(operation, address(hart, rs1, offset), hart.reg(rs2))
         }
         Instr::Immediate(operation, rd, rs1, immediate) => {
-            let value = immediate_value(operation, hart.reg(rs1), sign_extended(immediate));
+            let value = operation.value(hart.reg(rs1), immediate.word());
             Effect::Computes(rd, value)
         }
         Instr::Shift(operation, rd, rs1, amount) => {
-            let value = shift_value(operation, hart.reg(rs1), u32::from(amount.amount()));
+            let value = operation.value(hart.reg(rs1), u32::from(amount.amount()));
             Effect::Computes(rd, value)
         }
         Instr::Register(operation, rd, rs1, rs2) => {
-            let value = register_value(operation, hart.reg(rs1), hart.reg(rs2));
+            let value = operation.value(hart.reg(rs1), hart.reg(rs2));
             Effect::Computes(rd, value)
         }
         Instr::Multiply(operation, rd, rs1, rs2) => product(hart, operation, rd, rs1, rs2),
@@ -85,7 +81,7 @@ pub fn effect_of(hart: &Hart, instr: &Instr) -> Effect
 fn branch(hart: &Hart, test: BranchTest, rs1: Reg, rs2: Reg, offset: BranchOffset) -> Effect
     ensures { result ≡ effect_of (Instr.Branch test rs1 rs2 offset) (pc_of hart.now) (regs_of hart.now) }
 {
-    if holds(test, hart.reg(rs1), hart.reg(rs2)) {
+    if test.holds(hart.reg(rs1), hart.reg(rs2)) {
         Effect::Branches(branch_target(hart, offset))
     } else {
         Effect::Passes
@@ -98,7 +94,7 @@ fn product(hart: &Hart, operation: MultiplyOperation, rd: Reg, rs1: Reg, rs2: Re
 {
     let a = hart.reg(rs1);
     let b = hart.reg(rs2);
-    Effect::Multiplies(rd, a, b, multiply_value(operation, a, b))
+    Effect::Multiplies(rd, a, b, operation.value(a, b))
 }
 
 #[inline(always)]
@@ -107,14 +103,23 @@ fn division(hart: &Hart, operation: DivideOperation, rd: Reg, rs1: Reg, rs2: Reg
 {
     let a = hart.reg(rs1);
     let b = hart.reg(rs2);
-    Effect::Divides(rd, a, b, divide_value(operation, a, b))
+    Effect::Divides(rd, a, b, operation.value(a, b))
 }
 
+/// How many bytes a load takes.
 #[inline(always)]
-fn sign_extended(immediate: Immediate12) -> u32
-    ensures { result ≡ sign_extended 12 immediate }
+pub fn load_size(operation: LoadOperation) -> Size
+    ensures { result ≡ load_size operation }
 {
-    signed::extend(u32::from(immediate.field()), 0x800)
+    Size::of(operation.width())
+}
+
+/// How many bytes a store takes.
+#[inline(always)]
+pub fn store_size(operation: StoreOperation) -> Size
+    ensures { result ≡ store_size operation }
+{
+    Size::of(operation.width())
 }
 
 /// The address of a load or a store.
@@ -122,23 +127,21 @@ fn sign_extended(immediate: Immediate12) -> u32
 pub fn address(hart: &Hart, rs1: Reg, offset: Immediate12) -> u32
     ensures { result ≡ address_of (regs_of hart.now) rs1 offset }
 {
-    word::add(Width::W32, hart.reg(rs1), sign_extended(offset))
+    word::add(Width::W32, hart.reg(rs1), offset.word())
 }
 
 #[inline(always)]
 fn jump_target(hart: &Hart, offset: JumpOffset) -> u32
     ensures { result ≡ jump_target (pc_of hart.now) offset }
 {
-    let distance = signed::extend(offset.halves() * 2, 0x10_0000);
-    word::add(Width::W32, hart.pc(), distance)
+    word::add(Width::W32, hart.pc(), offset.word())
 }
 
 #[inline(always)]
 fn branch_target(hart: &Hart, offset: BranchOffset) -> u32
     ensures { result ≡ branch_target (pc_of hart.now) offset }
 {
-    let distance = signed::extend(u32::from(offset.halves()) * 2, 0x1000);
-    word::add(Width::W32, hart.pc(), distance)
+    word::add(Width::W32, hart.pc(), offset.word())
 }
 
 // The lowest bit is cleared.

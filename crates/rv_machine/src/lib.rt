@@ -4,7 +4,8 @@
 // turn shows (`specs/Leakage.antt`), that `run` makes turns up to the first one that stops or to its
 // budget, both for any lawful memory and recorder, and that the memories and recorders here are
 // lawful. What a turn shows goes by the profile of the code: in profile 2 the operands of
-// multiplications are shown too. It stands on `rv_code`, which says what instruction a word is, and computes by `word`.
+// multiplications are shown too. It stands on `rv_code`, which says what instruction
+// a word is and what its operation computes.
 #![tactic(auto)]
 
 pub mod code;
@@ -23,14 +24,12 @@ pub mod plans;
 pub mod recorders;
 pub mod recording;
 mod running;
-mod signed;
 pub mod stops;
 pub mod system;
 pub mod turn_recorder;
-mod values;
 
 pub use code::CodeRegion;
-pub use effects::{Effect, address};
+pub use effects::{Effect, address, load_size, store_size};
 pub use flat::FlatMemory;
 pub use hart::Hart;
 pub use hart_recorders::ListHartRecorder;
@@ -46,4 +45,3 @@ pub use running::Running;
 pub use stops::Stop;
 pub use system::{RunningHart, RunningHarts};
 pub use turn_recorder::TurnRecorder;
-pub use values::{load_size, store_size};

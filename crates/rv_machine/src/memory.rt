@@ -1,8 +1,10 @@
 // What a memory is to the machine.
 
 ghost use Rattle.std.specs.Prelude.{◌≡◌, ℕ, ◌+◌, ◌^◌, ◌<◌, ◌≤◌, Option, false, is_some, IsSome, IfSome, IsTrue};
-ghost use Rattle.rv_machine.specs.Sizes.{byte_count};
+ghost use Rattle.rv_machine.specs.Sizes.{byte_count, size_of};
 ghost use Rattle.rv_machine.specs.Bytes.{number_at, with_number};
+
+use word::Width;
 
 /// How many bytes a load or a store takes: 1, 2 or 4.
 #[derive(Clone, Copy, Debug, PartialEq, Eq)]
@@ -13,6 +15,18 @@ pub enum Size {
 }
 
 impl Size {
+    /// That of words of this width.
+    #[inline(always)]
+    pub(crate) fn of(width: Width) -> Self
+        ensures { result ≡ size_of width }
+    {
+        match width {
+            Width::W8 => Size::Byte,
+            Width::W16 => Size::Half,
+            Width::W32 => Size::Word,
+        }
+    }
+
     /// The number of bytes.
     pub fn bytes(self) -> u32
         ensures { result ≡ byte_count self }

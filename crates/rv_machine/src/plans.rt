@@ -11,12 +11,11 @@ ghost use Rattle.rv_machine.specs.Regions.{code_of};
 ghost use Rattle.word.specs.declared.profile.Profile.{Profile};
 
 use crate::code::{CodeRegion, CodeWord};
-use crate::effects::{Effect, effect_of};
+use crate::effects::{Effect, effect_of, load_size, store_size};
 use crate::hart::Hart;
 use crate::memory::{Memory, Size};
 use crate::observation::Event;
 use crate::stops::Stop;
-use crate::values::{load_size, loaded_value, store_size};
 use rv_code::{LoadOperation, Reg, StoreOperation};
 use word::Profile;
 
@@ -92,7 +91,7 @@ fn sized_load_plan<M: Memory>(
     };
     Plan {
         event: Some(Event::Load(a, size)),
-        change: Change::Writes(rd, loaded_value(operation, value)),
+        change: Change::Writes(rd, operation.value(value)),
     }
 }
 

@@ -31,6 +31,6 @@ returns-clause-ends g c = λ profile pc regs.
     let s : State = record { pc = pc; regs = regs; bytes = g.M.Memory.bytes c.args.memory.now } in
     let n = c.args.size in
     let even = ap (λ k. c.args.a % k) (sym c.bytes.ensures) ∙ c.if-a-bytes-ne0.false in
-    ap (λ v. goes_on (observed s (Some (Load c.args.a n))) (with_value s c.args.rd v)) c.loaded_value.ensures
+    ap (λ v. goes_on (observed s (Some (Load c.args.a n))) (with_value s c.args.rd v)) c.value.ensures
     ∙ sym (load_done profile c.args.operation c.args.rd c.args.a s n c.requires c.in-Some.value even
     (sym c.load.ensures.number ∙ c.in-Some.is))

@@ -4,8 +4,8 @@ use Rattle.std.proofs.lemmas.Int.{to_z-of_z, fits_signed_mul}
 use lib.Signed.{mag}
 use mir.Syntax.{w32, w64}
 use mir.Val.{SFits}
-use Rattle.rv_machine.specs.SignedWords.{high_word}
-use Rattle.rv_machine.proofs.signed.high_product.Goals as goal
+use Rattle.rv_code.specs.Signed.{high_word}
+use Rattle.rv_code.proofs.signed.high_product.Goals as goal
 
 abs_at_most : (z : ℤ) → mag z < 2 ^ 31 → unsigned_abs z ≤ 2 ^ 31
 abs_at_most (pos n) h = omega (arith, h)
