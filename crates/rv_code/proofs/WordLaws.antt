@@ -6,12 +6,8 @@ use Rattle.rv_code.specs.declared.instructions.Instr.TheVariants.{Upper, Jump, J
 use Rattle.rv_code.specs.declared.instructions.Instr.TheVariants.{Immediate, Shift, Register, Multiply, Divide, Fence}
 use Rattle.rv_code.specs.declared.instructions.Instr.TheVariants.{Ecall, Ebreak}
 use Rattle.rv_code.proofs.FieldLaws.{r_fields, i_fields, s_fields, b_fields, u_fields, j_fields, fence_fields}
-use Rattle.rv_code.proofs.RowLaws.{upper_opcode_fits, branch_funct3_fits, load_funct3_fits, store_funct3_fits}
-use Rattle.rv_code.proofs.RowLaws.{immediate_funct3_fits, shift_funct3_fits, shift_funct7_fits, register_funct3_fits}
-use Rattle.rv_code.proofs.RowLaws.{register_funct7_fits, multiply_funct3_fits, divide_funct3_fits, upper_found}
-use Rattle.rv_code.proofs.RowLaws.{branch_found, load_found, store_found, immediate_found, shift_found}
-use Rattle.rv_code.proofs.RowLaws.{register_found, multiply_found, divide_found, immediate_is_no_shift}
-use Rattle.rv_code.proofs.RowLaws.{shift_is_shift, register_is_no_muldiv, multiply_is_low, divide_is_high, upper_group}
+use Rattle.rv_code.proofs.RowLaws.{upper_law, branch_law, load_law, store_law, immediate_law, shift_law, register_law}
+use Rattle.rv_code.proofs.RowLaws.{multiply_law, divide_law}
 use Rattle.rv_code.specs.Operations.{upper_row, branch_row, load_row, store_row, immediate_row, shift_row, register_row}
 use Rattle.rv_code.specs.Operations.{multiply_row, divide_row}
 use Rattle.rv_code.specs.Words.{word_of, IsInstr, op_imm_opcode, op_opcode, load_opcode, store_opcode, branch_opcode}
@@ -26,95 +22,55 @@ pub reading-word_of : (i : Instr) → IsInstr i → reading (word_of i) ≡ Some
 unfolding word_of reading load_at store_at branch_at op_imm_at immediate_at shift_at op_at register_at muldiv_at
     multiply_at divide_at jump_register_at fence_at system_at upper_at
 reading-word_of (Upper operation rd immediate) h =
-    let f = u_fields (upper_row operation).opcode rd immediate (upper_opcode_fits operation) h.0 h.1 in
+    let row = upper_law operation in
+    let f = u_fields (upper_row operation).opcode rd immediate row.0 h.0 h.1 in
     let word : ℕ = word_of (Upper operation rd immediate) in
-    ap (λ opcode. group_at opcode word) f.opcode_is
-    ∙ (upper_group operation word ∙ rw (f.opcode_is, upper_found operation, f.rd_is, f.immediate_is) refl)
+    ap (λ opcode. group_at opcode word) f.0 ∙ (row.2 word ∙ rw (f.0, row.1, f.1, f.2) refl)
 reading-word_of (Jump rd offset) h =
     let f = j_fields jal_opcode rd offset (lit< tt) h.0 h.1 in
-    rw (f.opcode_is, f.rd_is, f.halves_is) refl
+    rw (f.0, f.1, f.2) refl
 reading-word_of (JumpRegister rd rs1 offset) h =
     let f = i_fields jalr_opcode 0 rd rs1 offset (lit< tt) (lit< tt) h.0 h.1 h.2 in
-    rw (f.opcode_is, f.funct3_is, f.rd_is, f.rs1_is, f.immediate_is) refl
+    rw (f.0, f.1, f.2, f.3, f.4) refl
 reading-word_of (Branch test rs1 rs2 offset) h =
-    let f = b_fields branch_opcode (branch_row test).funct3 rs1 rs2 offset (lit< tt) (branch_funct3_fits test)
-    h.0 h.1 h.2 in
-    rw (f.opcode_is, f.funct3_is, branch_found test, f.rs1_is, f.rs2_is, f.halves_is) refl
+    let row = branch_law test in
+    let f = b_fields branch_opcode (branch_row test).funct3 rs1 rs2 offset (lit< tt) row.0 h.0 h.1 h.2 in
+    rw (f.0, f.1, row.1, f.2, f.3, f.4) refl
 reading-word_of (Load operation rd rs1 offset) h =
-    let f = i_fields load_opcode (load_row operation).funct3 rd rs1 offset (lit< tt) (load_funct3_fits operation)
-    h.0 h.1 h.2 in
-    rw (f.opcode_is, f.funct3_is, load_found operation, f.rd_is, f.rs1_is, f.immediate_is) refl
+    let row = load_law operation in
+    let f = i_fields load_opcode (load_row operation).funct3 rd rs1 offset (lit< tt) row.0 h.0 h.1 h.2 in
+    rw (f.0, f.1, row.1, f.2, f.3, f.4) refl
 reading-word_of (Store operation rs2 rs1 offset) h =
-    let f = s_fields store_opcode (store_row operation).funct3 rs1 rs2 offset (lit< tt) (store_funct3_fits operation)
-    h.1 h.0 h.2 in
-    rw (f.opcode_is, f.funct3_is, store_found operation, f.rs1_is, f.rs2_is, f.immediate_is) refl
+    let row = store_law operation in
+    let f = s_fields store_opcode (store_row operation).funct3 rs1 rs2 offset (lit< tt) row.0 h.1 h.0 h.2 in
+    rw (f.0, f.1, row.1, f.2, f.3, f.4) refl
 reading-word_of (Immediate operation rd rs1 immediate) h =
-    let f = i_fields op_imm_opcode (immediate_row operation).funct3 rd rs1 immediate (lit< tt)
-    (immediate_funct3_fits operation) h.0 h.1 h.2 in
-    rw (
-      f.opcode_is,
-      f.funct3_is,
-      immediate_is_no_shift operation,
-      immediate_found operation,
-      f.rd_is,
-      f.rs1_is,
-      f.immediate_is,
-    ) refl
+    let row = immediate_law operation in
+    let f = i_fields op_imm_opcode (immediate_row operation).funct3 rd rs1 immediate (lit< tt) row.0 h.0 h.1 h.2 in
+    rw (f.0, f.1, row.2, row.1, f.2, f.3, f.4) refl
 reading-word_of (Shift operation rd rs1 amount) h =
+    let row = shift_law operation in
     let f = r_fields op_imm_opcode (shift_row operation).funct3 (shift_row operation).funct7 rd rs1 amount (lit< tt)
-    (shift_funct3_fits operation) (shift_funct7_fits operation) h.0 h.1 h.2 in
-    rw (
-      f.opcode_is,
-      f.funct3_is,
-      shift_is_shift operation,
-      f.funct7_is,
-      shift_found operation,
-      f.rd_is,
-      f.rs1_is,
-      f.rs2_is,
-    ) refl
+    row.0 row.1 h.0 h.1 h.2 in
+    rw (f.0, f.1, row.3, f.2, row.2, f.3, f.4, f.5) refl
 reading-word_of (Register operation rd rs1 rs2) h =
+    let row = register_law operation in
     let f = r_fields op_opcode (register_row operation).funct3 (register_row operation).funct7 rd rs1 rs2 (lit< tt)
-    (register_funct3_fits operation) (register_funct7_fits operation) h.0 h.1 h.2 in
-    rw (
-      f.opcode_is,
-      f.funct7_is,
-      register_is_no_muldiv operation,
-      f.funct3_is,
-      register_found operation,
-      f.rd_is,
-      f.rs1_is,
-      f.rs2_is,
-    ) refl
+    row.0 row.1 h.0 h.1 h.2 in
+    rw (f.0, f.2, row.3, f.1, row.2, f.3, f.4, f.5) refl
 reading-word_of (Multiply operation rd rs1 rs2) h =
-    let f = r_fields op_opcode (multiply_row operation).funct3 muldiv_funct7 rd rs1 rs2 (lit< tt)
-    (multiply_funct3_fits operation) (lit< tt) h.0 h.1 h.2 in
-    rw (
-      f.opcode_is,
-      f.funct7_is,
-      f.funct3_is,
-      multiply_is_low operation,
-      multiply_found operation,
-      f.rd_is,
-      f.rs1_is,
-      f.rs2_is,
-    ) refl
+    let row = multiply_law operation in
+    let f = r_fields op_opcode (multiply_row operation).funct3 muldiv_funct7 rd rs1 rs2 (lit< tt) row.0 (lit< tt)
+    h.0 h.1 h.2 in
+    rw (f.0, f.2, f.1, row.2, row.1, f.3, f.4, f.5) refl
 reading-word_of (Divide operation rd rs1 rs2) h =
-    let f = r_fields op_opcode (divide_row operation).funct3 muldiv_funct7 rd rs1 rs2 (lit< tt)
-    (divide_funct3_fits operation) (lit< tt) h.0 h.1 h.2 in
-    rw (
-      f.opcode_is,
-      f.funct7_is,
-      f.funct3_is,
-      divide_is_high operation,
-      divide_found operation,
-      f.rd_is,
-      f.rs1_is,
-      f.rs2_is,
-    ) refl
+    let row = divide_law operation in
+    let f = r_fields op_opcode (divide_row operation).funct3 muldiv_funct7 rd rs1 rs2 (lit< tt) row.0 (lit< tt)
+    h.0 h.1 h.2 in
+    rw (f.0, f.2, f.1, row.2, row.1, f.3, f.4, f.5) refl
 reading-word_of (Fence mode before after rs1 rd) h =
     let f = fence_fields mode before after rs1 rd h.0 h.1 h.2 h.3 h.4 in
-    rw (f.opcode_is, f.funct3_is, f.mode_is, f.before_is, f.after_is, f.rs1_is, f.rd_is) refl
+    rw (f.0, f.1, f.2, f.3, f.4, f.5, f.6) refl
 reading-word_of Ecall h = refl
 reading-word_of Ebreak h = refl
 

@@ -112,59 +112,40 @@ divide_with funct3 = find (λ o. (divide_row o).funct3 == funct3) divide_operati
 
 -- The instruction of each group.
 
-abbrev pub upper_made : ℕ → UpperOperation → Instr
-upper_made word operation = Upper operation (rd_at word) (u_immediate_at word)
-
-abbrev pub branch_made : ℕ → BranchTest → Instr
-branch_made word operation = Branch operation (rs1_at word) (rs2_at word) (b_offset_at word)
-
-abbrev pub load_made : ℕ → LoadOperation → Instr
-load_made word operation = Load operation (rd_at word) (rs1_at word) (i_immediate_at word)
-
-abbrev pub store_made : ℕ → StoreOperation → Instr
-store_made word operation = Store operation (rs2_at word) (rs1_at word) (s_immediate_at word)
-
-abbrev pub immediate_made : ℕ → ImmediateOperation → Instr
-immediate_made word operation = Immediate operation (rd_at word) (rs1_at word) (i_immediate_at word)
-
-abbrev pub shift_made : ℕ → ShiftOperation → Instr
-shift_made word operation = Shift operation (rd_at word) (rs1_at word) (rs2_at word)
-
-abbrev pub register_made : ℕ → RegisterOperation → Instr
-register_made word operation = Register operation (rd_at word) (rs1_at word) (rs2_at word)
-
-abbrev pub multiply_made : ℕ → MultiplyOperation → Instr
-multiply_made word operation = Multiply operation (rd_at word) (rs1_at word) (rs2_at word)
-
-abbrev pub divide_made : ℕ → DivideOperation → Instr
-divide_made word operation = Divide operation (rd_at word) (rs1_at word) (rs2_at word)
-
 unfoldable pub upper_at : ℕ → Option Instr
-upper_at word = option_map (upper_made word) (upper_with (opcode_at word))
+upper_at word = option_map (λ o. Upper o (rd_at word) (u_immediate_at word)) (upper_with (opcode_at word))
 
 unfoldable pub branch_at : ℕ → Option Instr
-branch_at word = option_map (branch_made word) (branch_with (funct3_at word))
+branch_at word =
+    option_map (λ o. Branch o (rs1_at word) (rs2_at word) (b_offset_at word)) (branch_with (funct3_at word))
 
 unfoldable pub load_at : ℕ → Option Instr
-load_at word = option_map (load_made word) (load_with (funct3_at word))
+load_at word = option_map (λ o. Load o (rd_at word) (rs1_at word) (i_immediate_at word)) (load_with (funct3_at word))
 
 unfoldable pub store_at : ℕ → Option Instr
-store_at word = option_map (store_made word) (store_with (funct3_at word))
+store_at word =
+    option_map (λ o. Store o (rs2_at word) (rs1_at word) (s_immediate_at word)) (store_with (funct3_at word))
 
 unfoldable pub immediate_at : ℕ → Option Instr
-immediate_at word = option_map (immediate_made word) (immediate_with (funct3_at word))
+immediate_at word =
+    option_map (λ o. Immediate o (rd_at word) (rs1_at word) (i_immediate_at word)) (immediate_with (funct3_at word))
 
 unfoldable pub shift_at : ℕ → Option Instr
-shift_at word = option_map (shift_made word) (shift_with (funct3_at word) (funct7_at word))
+shift_at word =
+    option_map (λ o. Shift o (rd_at word) (rs1_at word) (rs2_at word)) (shift_with (funct3_at word) (funct7_at word))
 
 unfoldable pub register_at : ℕ → Option Instr
-register_at word = option_map (register_made word) (register_with (funct3_at word) (funct7_at word))
+register_at word =
+    option_map (λ o. Register o (rd_at word) (rs1_at word) (rs2_at word))
+    (register_with (funct3_at word) (funct7_at word))
 
 unfoldable pub multiply_at : ℕ → Option Instr
-multiply_at word = option_map (multiply_made word) (multiply_with (funct3_at word))
+multiply_at word =
+    option_map (λ o. Multiply o (rd_at word) (rs1_at word) (rs2_at word)) (multiply_with (funct3_at word))
 
 unfoldable pub divide_at : ℕ → Option Instr
-divide_at word = option_map (divide_made word) (divide_with (funct3_at word))
+divide_at word =
+    option_map (λ o. Divide o (rd_at word) (rs1_at word) (rs2_at word)) (divide_with (funct3_at word))
 
 abbrev pub jump_at : ℕ → Option Instr
 jump_at word = Some (Jump (rd_at word) (j_offset_at word))
