@@ -1,7 +1,7 @@
 -- Bytes of pages, and of ranges.
 use Rattle.std.specs.Prelude.{is_some, slice_get}
-use Rattle.std.proofs.Common.{◌≡◌, ◌≢◌, ℕ, zero, suc, ◌+◌, ◌*◌, ◌/◌, ◌%◌, ◌^◌, ◌<◌, ◌≤◌, true, List, [], ◌∷◌, ◌++◌}
-use Rattle.std.proofs.Common.{take, get_or, length, Option, Some, None, refl, sym, ap, ◌∙◌, ⊎_elim, arith}
+use Rattle.std.proofs.Common.{◌≡◌, ◌≢◌, ℕ, zero, suc, ◌+◌, ◌-◌, ◌/◌, ◌%◌, ◌^◌, ◌<◌, ◌≤◌, true, List, [], ◌∷◌, ◌++◌}
+use Rattle.std.proofs.Common.{take, get_or, length, Option, Some, None, refl, sym, ap, ap₂, ◌∙◌, ⊎_elim, arith}
 use Rattle.std.proofs.Math.ListN.{set}
 use Rattle.std.proofs.Math.Path.{fun_ext}
 use Rattle.std.proofs.lemmas.Bool.{cases_eq, cases_lt, le-leb, lt-leb, lt-ltb, le-ltb, false≢true}
@@ -27,40 +27,13 @@ pub number_at-one : (bytes : ByteMap) (a : ℕ) → number_at bytes 1 a ≡ byte
 number_at-one bytes a = number_at-suc bytes 0 a ∙ ap (joined (bytes a)) (number_at-zero bytes (a + 1))
     ∙ joined-one (bytes a)
 
--- Numbers of two parts.
-
-pub number_at-two : (bytes : ByteMap) (a : ℕ)
-    → number_at bytes 2 a ≡ joined (number_at bytes 1 a) (number_at bytes 1 (a + 1))
-number_at-two bytes a = number_at-suc bytes 1 a
-    ∙ ap (λ o. joined o (number_at bytes 1 (a + 1))) (sym (number_at-one bytes a))
-
--- a low half, and the number above it
-abbrev pub over_half : Option ℕ → Option ℕ → Option ℕ
-over_half (Some low) (Some high) = Some (low + 65536 * high)
-over_half (Some low) None = None
-over_half None high = None
-
-over_half-joined : (o p q : Option ℕ) → joined o (joined p q) ≡ over_half (joined o (joined p (Some 0))) q
-over_half-joined (Some low) (Some mid) (Some high) = ap Some (omega arith)
-over_half-joined (Some low) (Some mid) None = refl
-over_half-joined (Some low) None (Some high) = refl
-over_half-joined (Some low) None None = refl
-over_half-joined None p q = refl
-
-pub number_at-four : (bytes : ByteMap) (a : ℕ)
-    → number_at bytes 4 a ≡ over_half (number_at bytes 2 a) (number_at bytes 2 (a + 2))
-number_at-four bytes a =
-    let rest : number_at bytes 2 (a + 1 + 1) ≡ number_at bytes 2 (a + 2) = ap (number_at bytes 2) (omega arith) in
-    let two : number_at bytes 2 a ≡ joined (bytes a) (joined (bytes (a + 1)) (Some 0)) = number_at-suc bytes 1 a
-    ∙ ap (joined (bytes a)) (number_at-suc bytes 0 (a + 1)
-    ∙ ap (joined (bytes (a + 1))) (number_at-zero bytes (a + 1 + 1))) in
-    number_at-suc bytes 3 a ∙ ap (joined (bytes a)) (number_at-suc bytes 2 (a + 1) ∙ ap (joined (bytes (a + 1))) rest)
-    ∙ over_half-joined (bytes a) (bytes (a + 1)) (number_at bytes 2 (a + 2))
-    ∙ ap (λ o. over_half o (number_at bytes 2 (a + 2))) (sym two)
-
-pub over_half-none : (o : Option ℕ) → over_half o None ≡ None
-over_half-none (Some low) = refl
-over_half-none None = refl
+-- a byte, and so many above it
+pub number_at-parts : (bytes : ByteMap) (count a : ℕ) (low high : Option ℕ) → 1 ≤ count → low ≡ number_at bytes 1 a
+    → high ≡ number_at bytes (count - 1) (a + 1) → joined low high ≡ number_at bytes count a
+number_at-parts bytes zero a low high some is above = absurd (omega arith)
+number_at-parts bytes (suc n) a low high some is above =
+    ap₂ joined (is ∙ number_at-one bytes a) (above ∙ ap (λ k. number_at bytes k (a + 1)) (omega arith))
+    ∙ sym (number_at-suc bytes n a)
 
 -- The first of two bytes.
 
@@ -199,8 +172,9 @@ bytes_in-past (p ∷ pages) a past =
     ap (λ o. first_of o (bytes_in pages a)) (above p.base p.bytes.items a (omega (arith, p.ends)))
     ∙ bytes_in-past pages a past
 
-pub number_at-past : (pages : List FlatMemory) (n a : ℕ) → 2 ^ 32 ≤ a → number_at (bytes_in pages) (suc n) a ≡ None
-number_at-past pages n a past =
+pub number_at-past : (pages : List FlatMemory) (n a : ℕ) → 0 < n → 2 ^ 32 ≤ a → number_at (bytes_in pages) n a ≡ None
+number_at-past pages zero a some past = absurd (omega arith)
+number_at-past pages (suc n) a some past =
     number_at-suc (bytes_in pages) n a
     ∙ ap (λ o. joined o (number_at (bytes_in pages) n (a + 1))) (bytes_in-past pages a past)
 

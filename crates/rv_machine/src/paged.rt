@@ -113,33 +113,20 @@ impl PagedMemory {
         }
     }
 
-    // The number of the two bytes from this address on, if they are data.
-    fn half(&self, a: u32) -> Option<u32>
-        ensures number { result ≡ number_at (paged_bytes self.now) 2 a }
-        ensures fits { IfSome result (λ half. half < 65536) }
-        ensures within { IsSome result → a + 2 ≤ 2 ^ 32 }
+    // The number of so many bytes from this address on, if they are data. Each is looked up by itself.
+    fn byte_by_byte(&self, a: u32, count: u32) -> Option<u32>
+        requires some { 1 ≤ count }
+        requires few { count ≤ 4 }
+        ensures number { result ≡ number_at (paged_bytes self.now) count a }
+        ensures fits { IfSome result (λ v. v < 256 ^ count) }
+        ensures within { IsSome result → a + count ≤ 2 ^ 32 }
     {
-        if let Some(index) = self.holder(a, Size::Half) {
-            let page = &self.pages[index];
-            return page.load(a, Size::Half);
-        }
         let low = self.byte(a)?;
-        let high = self.byte(a.checked_add(1)?)?;
-        Some(low + 256 * high)
-    }
-
-    // The number of the four bytes from this address on, if they are data.
-    fn word(&self, a: u32) -> Option<u32>
-        ensures number { result ≡ number_at (paged_bytes self.now) 4 a }
-        ensures within { IsSome result → a + 4 ≤ 2 ^ 32 }
-    {
-        if let Some(index) = self.holder(a, Size::Word) {
-            let page = &self.pages[index];
-            return page.load(a, Size::Word);
+        if count == 1 {
+            return Some(low);
         }
-        let low = self.half(a)?;
-        let high = self.half(a.checked_add(2)?)?;
-        Some(low + 65_536 * high)
+        let high = self.byte_by_byte(a.checked_add(1)?, count - 1)?;
+        Some(low + 256 * high)
     }
 
     // Puts these bytes, where one page has them all.
@@ -148,7 +135,6 @@ impl PagedMemory {
         ensures data { result ≡ true → is_some (number_at (paged_bytes self.old) (byte_count n) a) ≡ true }
         ensures unchanged { result ≡ false → paged_bytes self.new ≡ paged_bytes self.old }
         ensures byte { n ≡ Size.Byte → result ≡ is_some (paged_bytes self.old a) }
-        ensures extent { (x : ℕ) → is_some (paged_bytes self.new x) ≡ is_some (paged_bytes self.old x) }
     {
         let Some(index) = self.holder(a, n) else {
             return false;
@@ -165,11 +151,26 @@ impl PagedMemory {
         ensures fits { IfSome result (λ v. v < 256 ^ byte_count n) }
         ensures within { IsSome result → a + byte_count n ≤ 2 ^ 32 }
     {
-        match n {
-            Size::Byte => self.byte(a),
-            Size::Half => self.half(a),
-            Size::Word => self.word(a),
+        if let Some(index) = self.holder(a, n) {
+            let page = &self.pages[index];
+            return page.load(a, n);
         }
+        self.byte_by_byte(a, n.bytes())
+    }
+
+    // Puts so many bytes, all of which are data, each by itself.
+    fn put_byte_by_byte(&mut self, a: u32, count: u32, v: u32)
+        requires some { 1 ≤ count }
+        requires within { a + count ≤ 2 ^ 32 }
+        requires data { is_some (number_at (paged_bytes self.old) count a) ≡ true }
+        ensures { paged_bytes self.new ≡ with_number (paged_bytes self.old) count a v }
+    {
+        if count == 1 {
+            self.put(a, Size::Byte, v);
+            return;
+        }
+        self.put_byte_by_byte(a + 1, count - 1, v / 256);
+        self.put(a, Size::Byte, v);
     }
 
     // Puts these bytes, if they are data, into whichever pages.
@@ -185,19 +186,7 @@ impl PagedMemory {
         if self.load(a, n).is_none() {
             return false;
         }
-        match n {
-            Size::Byte => {}
-            Size::Half => {
-                self.put(a + 1, Size::Byte, v / 256);
-                self.put(a, Size::Byte, v);
-            }
-            Size::Word => {
-                self.put(a + 3, Size::Byte, v / 256 / 256 / 256);
-                self.put(a + 2, Size::Byte, v / 256 / 256);
-                self.put(a + 1, Size::Byte, v / 256);
-                self.put(a, Size::Byte, v);
-            }
-        }
+        self.put_byte_by_byte(a, n.bytes(), v);
         true
     }
 }

@@ -3,11 +3,10 @@ use Rattle.std.specs.Prelude.{is_some}
 use Rattle.std.proofs.Common.{◌≡◌, true, sym, ap, ◌∙◌}
 use Rattle.std.specs.Vec.{with_item}
 use Rattle.std.proofs.lemmas.Option.{get_or_from_slice_get}
-use Rattle.rv_machine.specs.Bytes.{ByteMap, number_at, with_number}
+use Rattle.rv_machine.specs.Bytes.{number_at, with_number}
 use Rattle.rv_machine.specs.Flat.{flat_bytes}
 use Rattle.rv_machine.specs.Paged.{bytes_in, paged_bytes}
 use Rattle.rv_machine.specs.Sizes.{byte_count}
-use Rattle.rv_machine.proofs.ByteLaws.{is_some-with_number}
 use Rattle.rv_machine.proofs.Pages.{number_at-one, number_at-page, with_number-page}
 use Rattle.rv_machine.proofs.paged.PagedMemory.put.Goals as goal
 
@@ -45,9 +44,3 @@ returns-clause-byte c = λ byte.
     let bytes = paged_bytes c.args.self.now in
     sym (ap is_some (sym (number_at-one bytes c.args.a))
     ∙ ap (λ m. is_some (number_at bytes (byte_count m) c.args.a)) (sym byte) ∙ there_now c)
-
-pub returns-clause-extent : goal.returns-clause-extent
-returns-clause-extent c = λ x.
-    let bytes = paged_bytes c.args.self.now in
-    ap (λ (m : ByteMap). is_some (m x)) (stored c)
-    ∙ is_some-with_number bytes (byte_count c.args.n) c.args.a c.args.v x (there_now c)
