@@ -1,10 +1,12 @@
 -- What these proofs take from the proofs of the crates below, in one place.
 pub use Rattle.rv_machine.proofs.Face.{
+  IsOwn,
   IsSameTurn,
   Runs-determined,
   Runs-more,
   Turn-determined,
   count-few,
+  effect_own,
   entries_of-append,
   goes_on≢stops,
   is_some-with_number,

@@ -1,6 +1,6 @@
 -- What is read from a word is an instruction that has that word.
 use Rattle.std.proofs.Common.{◌≡◌, ℕ, ◌/◌, ◌%◌, ◌^◌, ◌<◌, Bool, true, false, cond, ◌==◌, ◌&&◌, List, [], ◌∷◌, Option}
-use Rattle.std.proofs.Common.{Some, IfSome, find, refl, sym, arith, eqb-true}
+use Rattle.std.proofs.Common.{Some, None, IfSome, find, refl, sym, subst, arith, eqb-true}
 use Rattle.std.specs.Option.{option_map}
 use Rattle.std.proofs.lemmas.Bool.{and_parts}
 use Rattle.rv_code.specs.declared.instructions.Instr.{Instr}
@@ -21,6 +21,7 @@ use Rattle.rv_code.specs.Words.{ecall_word, ebreak_word}
 use Rattle.rv_code.specs.private.Reading.{opcode_at, funct3_at, funct7_at, upper_at, branch_at, load_at, store_at}
 use Rattle.rv_code.specs.private.Reading.{immediate_at, shift_at, register_at, multiply_at, divide_at, jump_at}
 use Rattle.rv_code.specs.private.Reading.{jump_register_at, op_imm_at, muldiv_at, op_at, fence_at, system_at, group_at}
+use Rattle.rv_code.specs.private.Reading.{reading}
 
 -- what is made of an item that a search finds, which passes the test
 IfSome-found : {X : Type 0} (made : X → Instr) (test : X → Bool) (xs : List X) (P : Instr → Type 0)
@@ -30,13 +31,13 @@ IfSome-found made test (x ∷ xs) P holds =
     elim (test x) as (λ b. test x ≡ b → IfSome (option_map made (cond b (Some x) (find test xs))) P)
     [ true ↦ λ passes. holds x passes | false ↦ λ _. IfSome-found made test xs P holds ] refl
 
-module _ (word : ℕ) (fits : word < 2 ^ 32) where
-  -- an instruction that has this word
+module _ (word : ℕ) where
+  -- an instruction that has this word, where it is a word
   abbrev HasWord : Instr → Type 0
-  HasWord i = IsInstr i × (word_of i ≡ word)
+  HasWord i = IsInstr i × (word < 2 ^ 32 → word_of i ≡ word)
 
   -- where one is read, it has the word
-  abbrev pub IsOf : Option Instr → Type 0
+  abbrev IsOf : Option Instr → Type 0
   IsOf read = IfSome read HasWord
 
   -- a choice by a test of two numbers, each side with what the test says
@@ -68,34 +69,34 @@ module _ (word : ℕ) (fits : word < 2 ^ 32) where
       IfSome-found _ (λ o. (upper_row o).opcode == opcode_at word) upper_operations HasWord
       (λ o passes.
       let opcode : (upper_row o).opcode ≡ opcode_at word = eqb-true _ _ passes in
-      ((omega arith, omega arith), omega arith))
+      ((omega arith, omega arith), λ fits. omega arith))
 
   load_has : opcode_at word ≡ load_opcode → IsOf (load_at word)
   unfolding load_at word_of
   load_has opcode =
-      by_funct3 _ load_row load_operations (λ o funct3. ((omega arith, omega arith, omega arith), omega arith))
+      by_funct3 _ load_row load_operations (λ o funct3. ((omega arith, omega arith, omega arith), λ fits. omega arith))
 
   store_has : opcode_at word ≡ store_opcode → IsOf (store_at word)
   unfolding store_at word_of
   store_has opcode =
-      by_funct3 _ store_row store_operations (λ o funct3. ((omega arith, omega arith, omega arith), omega arith))
+      by_funct3 _ store_row store_operations (λ o funct3. ((omega arith, omega arith, omega arith), λ fits. omega arith))
 
   branch_has : opcode_at word ≡ branch_opcode → IsOf (branch_at word)
   unfolding branch_at word_of
   branch_has opcode =
-      by_funct3 _ branch_row branch_tests (λ o funct3. ((omega arith, omega arith, omega arith), omega arith))
+      by_funct3 _ branch_row branch_tests (λ o funct3. ((omega arith, omega arith, omega arith), λ fits. omega arith))
 
   immediate_has : opcode_at word ≡ op_imm_opcode → IsOf (immediate_at word)
   unfolding immediate_at word_of
   immediate_has opcode =
       by_funct3 _ immediate_row immediate_operations
-      (λ o funct3. ((omega arith, omega arith, omega arith), omega arith))
+      (λ o funct3. ((omega arith, omega arith, omega arith), λ fits. omega arith))
 
   shift_has : opcode_at word ≡ op_imm_opcode → IsOf (shift_at word)
   unfolding shift_at word_of
   shift_has opcode =
       by_funct7 _ shift_row shift_operations
-      (λ o funct3 funct7. ((omega arith, omega arith, omega arith), omega arith))
+      (λ o funct3 funct7. ((omega arith, omega arith, omega arith), λ fits. omega arith))
 
   op_imm_has : opcode_at word ≡ op_imm_opcode → IsOf (op_imm_at word)
   unfolding op_imm_at
@@ -105,18 +106,18 @@ module _ (word : ℕ) (fits : word < 2 ^ 32) where
   unfolding register_at word_of
   register_has opcode =
       by_funct7 _ register_row register_operations
-      (λ o funct3 funct7. ((omega arith, omega arith, omega arith), omega arith))
+      (λ o funct3 funct7. ((omega arith, omega arith, omega arith), λ fits. omega arith))
 
   multiply_has : opcode_at word ≡ op_opcode → funct7_at word ≡ muldiv_funct7 → IsOf (multiply_at word)
   unfolding multiply_at word_of
   multiply_has opcode funct7 =
       by_funct3 _ multiply_row multiply_operations
-      (λ o funct3. ((omega arith, omega arith, omega arith), omega arith))
+      (λ o funct3. ((omega arith, omega arith, omega arith), λ fits. omega arith))
 
   divide_has : opcode_at word ≡ op_opcode → funct7_at word ≡ muldiv_funct7 → IsOf (divide_at word)
   unfolding divide_at word_of
   divide_has opcode funct7 =
-      by_funct3 _ divide_row divide_operations (λ o funct3. ((omega arith, omega arith, omega arith), omega arith))
+      by_funct3 _ divide_row divide_operations (λ o funct3. ((omega arith, omega arith, omega arith), λ fits. omega arith))
 
   muldiv_has : opcode_at word ≡ op_opcode → funct7_at word ≡ muldiv_funct7 → IsOf (muldiv_at word)
   unfolding muldiv_at
@@ -129,25 +130,25 @@ module _ (word : ℕ) (fits : word < 2 ^ 32) where
 
   jump_has : opcode_at word ≡ jal_opcode → IsOf (jump_at word)
   unfolding word_of
-  jump_has opcode = ((omega arith, omega arith), omega arith)
+  jump_has opcode = ((omega arith, omega arith), λ fits. omega arith)
 
   jump_register_has : opcode_at word ≡ jalr_opcode → IsOf (jump_register_at word)
   unfolding jump_register_at word_of
   jump_register_has opcode =
-      choice (funct3_at word) 0 _ _ (λ funct3. ((omega arith, omega arith, omega arith), omega arith)) tt
+      choice (funct3_at word) 0 _ _ (λ funct3. ((omega arith, omega arith, omega arith), λ fits. omega arith)) tt
 
   fence_has : opcode_at word ≡ misc_mem_opcode → IsOf (fence_at word)
   unfolding fence_at word_of
   fence_has opcode =
       choice (funct3_at word) 0 _ _
-      (λ funct3. ((omega arith, omega arith, omega arith, omega arith, omega arith), omega arith)) tt
+      (λ funct3. ((omega arith, omega arith, omega arith, omega arith, omega arith), λ fits. omega arith)) tt
 
   system_has : IsOf (system_at word)
   unfolding system_at word_of
   system_has =
-      choice word ecall_word _ _ (λ e. (tt, sym e)) (choice word ebreak_word _ _ (λ e. (tt, sym e)) tt)
+      choice word ecall_word _ _ (λ e. (tt, λ fits. sym e)) (choice word ebreak_word _ _ (λ e. (tt, λ fits. sym e)) tt)
 
-  pub group_has : IsOf (group_at (opcode_at word) word)
+  group_has : IsOf (group_at (opcode_at word) word)
   group_has =
       choice (opcode_at word) op_imm_opcode _ _ op_imm_has
       (choice (opcode_at word) op_opcode _ _ op_has
@@ -158,3 +159,16 @@ module _ (word : ℕ) (fits : word < 2 ^ 32) where
       (choice (opcode_at word) jalr_opcode _ _ jump_register_has
       (choice (opcode_at word) misc_mem_opcode _ _ fence_has
       (choice (opcode_at word) system_opcode _ _ (λ _. system_has) upper_has))))))))
+
+  pub reading_in_range : (i : Instr) → reading word ≡ Some i → IsInstr i
+  unfolding reading
+  reading_in_range i read = (subst IsOf read group_has).0
+
+  -- where it is a word
+  with_word : (read : Option Instr) → IsOf read → word < 2 ^ 32 → IfSome read (λ i. IsInstr i × (word_of i ≡ word))
+  with_word (Some i) has fits = (has.0, has.1 fits)
+  with_word None has fits = tt
+
+  pub group_has_word : word < 2 ^ 32
+      → IfSome (group_at (opcode_at word) word) (λ i. IsInstr i × (word_of i ≡ word))
+  group_has_word = with_word _ group_has

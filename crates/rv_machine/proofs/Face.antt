@@ -14,7 +14,6 @@ pub use Rattle.rv_machine.proofs.ByteLaws.{
   with_number_above,
   with_number_below,
 }
-pub use Rattle.rv_machine.proofs.EndingLaws.{jump_done}
 pub use Rattle.rv_machine.proofs.EntryLaws.{differ-apart, first-unique}
 pub use Rattle.rv_machine.proofs.Halting.{keeps_inside, shown_alone, stopped_alone}
 pub use Rattle.rv_machine.proofs.Locality.{IsSameTurn, turn_same}
@@ -33,7 +32,15 @@ pub use Rattle.rv_machine.proofs.RunLaws.{
 }
 pub use Rattle.rv_machine.proofs.Shown.{entries_of-append}
 pub use Rattle.rv_machine.proofs.SystemLaws.{MemberTurn-determined}
-pub use Rattle.rv_machine.proofs.TotalLaws.{Runs-more, run_of_state, turn_of_state, turn_stops}
+pub use Rattle.rv_machine.proofs.TotalLaws.{
+  IsOwn,
+  Runs-more,
+  effect_own,
+  run_of_state,
+  turn_of_state,
+  turn_stops,
+  turn_within_budget,
+}
 pub use Rattle.rv_machine.proofs.TurnedLemmas.{stopped_at, turn_made, went_to}
 pub use Rattle.rv_machine.proofs.TurnLaws.{
   branch_leads,
@@ -41,6 +48,7 @@ pub use Rattle.rv_machine.proofs.TurnLaws.{
   divide_leads,
   ecall_halts,
   immediate_leads,
+  jump_done,
   jump_leads,
   load_leads,
   moved_to-bytes,

@@ -1,7 +1,6 @@
 pub mod Alone
 pub mod ByteLaws
 pub mod Calls
-pub mod EndingLaws
 pub mod EntryLaws
 pub mod Fresh
 pub mod Halting

@@ -64,6 +64,7 @@ impl FlatMemory {
 
     // The number of the bytes from this place on.
     #[inline]
+    #[tactic(auto, unfolding(crate::specs::Bytes::number_at))]
     fn number(&self, start: usize, n: Size) -> u32
         requires { start + byte_count n ≤ vec_len self.now.bytes }
         ensures number { number_at (flat_bytes self.now) (byte_count n) (self.now.base + start) ≡ Some result }

@@ -70,6 +70,7 @@ fn load_plan<M: Memory>(memory: &M, operation: LoadOperation, rd: Reg, a: u32) -
 
 /// The plan of a load of this size.
 #[inline(always)]
+#[tactic(auto, unfolding(crate::specs::Machine::ending_of))]
 fn sized_load_plan<M: Memory>(
     memory: &M,
     size: Size,
@@ -112,6 +113,7 @@ fn store_plan<M: Memory>(memory: &M, operation: StoreOperation, a: u32, value: u
 
 /// The plan of a store of this size.
 #[inline(always)]
+#[tactic(auto, unfolding(crate::specs::Machine::ending_of))]
 fn sized_store_plan<M: Memory>(
     memory: &M,
     size: Size,
@@ -166,6 +168,7 @@ fn product_event(profile: Profile, a: u32, b: u32) -> Option<Event>
 
 /// The plan of an instruction of the code that does this.
 #[inline(always)]
+#[tactic(auto, unfolding(crate::specs::Machine::ending_of))]
 fn effect_plan<M: Memory>(hart: &Hart, code: &CodeRegion, effect: Effect, memory: &M) -> Plan
     ensures ends { let s = state_of hart.now (M.bytes memory.now) in
         ends_as result.event result.change s ≡ ending_of (code_of code.now).profile effect s }

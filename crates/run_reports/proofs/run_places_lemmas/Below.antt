@@ -2,5 +2,5 @@
 pub use Rattle.rv_machine.proofs.EntryLaws.{entries_of-injective}
 pub use Rattle.rv_machine.proofs.RunLaws.{Leads-more, Runs-determined}
 pub use Rattle.rv_machine.proofs.Shown.{entries_of-append}
-pub use Rattle.rv_machine.proofs.TotalLaws.{Runs-more, turn_stops, run_of_state}
+pub use Rattle.rv_machine.proofs.TotalLaws.{IsOwn, effect_own, Runs-more, turn_stops, run_of_state}
 pub use Rattle.rv_machine.proofs.TurnedLemmas.{stopped_at, turn_made, went_to}

@@ -1,59 +1,18 @@
 -- The first entry of a run, and how far two runs reach that differ.
-use Rattle.std.specs.Prelude.{nat_eq, slice_get}
-use Rattle.std.proofs.Common.{◌≡◌, ◌≢◌, ℕ, zero, suc, ◌%◌, ◌<◌, ◌≤◌, ◌⊎◌, Bool, true, false, cond, List, [], ◌∷◌}
+use Rattle.std.specs.Prelude.{slice_get}
+use Rattle.std.proofs.Common.{◌≡◌, ◌≢◌, ℕ, zero, suc, ◌%◌, ◌<◌, ◌≤◌, ◌⊎◌, List, [], ◌∷◌}
 use Rattle.std.proofs.Common.{Option, Some, None, length, take, refl, sym, ap, ◌∙◌, subst, inl, inr, arith}
 use Rattle.rv_code.specs.Words.{word_of}
-use Rattle.rv_machine.specs.declared.effects.Effect.{Effect}
-use Rattle.rv_machine.specs.declared.effects.Effect.TheVariants.{Computes, Multiplies, Divides, Jumps, Branches}
-use Rattle.rv_machine.specs.declared.effects.Effect.TheVariants.{Passes, Loads, Stores, Calls, Breaks}
 use Rattle.rv_machine.specs.declared.observation.Observation.{Observation}
 use Rattle.rv_machine.specs.declared.stops.Stop.{Stop}
 use Rattle.rv_machine.specs.declared.stops.Stop.TheVariants.{RecorderRefused}
-use Rattle.rv_machine.specs.Bytes.{number_at}
-use Rattle.rv_machine.specs.Effects.{effect_of, load_size, store_size}
+use Rattle.rv_machine.specs.Effects.{effect_of}
 use Rattle.rv_machine.specs.Entries.{Entry, program_counter, entries_of, IsFirstDifference}
 use Rattle.rv_machine.specs.Leakage.{stays, turns, halts, Runs, halted, cut_short, spent}
-use Rattle.rv_machine.specs.Machine.{State, Code, word_at, Ending, goes_on, stops, here, loaded, stored, ending_of}
+use Rattle.rv_machine.specs.Machine.{State, Code, word_at, Ending, goes_on, stops}
 use Rattle.rv_machine.specs.Machine.{Turn, pc_misaligned, not_code, no_instruction, executes}
-use Rattle.rv_machine.specs.Sizes.{byte_count}
-use Rattle.run_reports.proofs.run_places_lemmas.Below.{Runs-determined}
-use Rattle.word.specs.declared.profile.Profile.{Profile}
+use Rattle.run_reports.proofs.run_places_lemmas.Below.{IsOwn, effect_own, Runs-determined}
 use Rattle.run_reports.specs.run_places.Places.{Ends, ShowsNext, IsLastBefore, ShowsFewer}
-
--- What an instruction shows is of its own program counter, whether it goes on or stops.
-
-abbrev pub ShowsHere : State → Ending → Type 0
-ShowsHere s (goes_on o t) = o.pc ≡ s.pc
-ShowsHere s (stops seen stop) = seen ≡ here s
-
-either_here : (s : State) (b : Bool) (e f : Ending) → ShowsHere s e → ShowsHere s f → ShowsHere s (cond b e f)
-either_here s true e f one other = one
-either_here s false e f one other = other
-
-pub effect_here : (profile : Profile) (e : Effect) (s : State) → ShowsHere s (ending_of profile e s)
-unfolding ending_of
-effect_here profile (Computes rd value) s = refl
-effect_here profile (Multiplies rd a b value) s = refl
-effect_here profile (Divides rd a b value) s = refl
-effect_here profile (Jumps rd target) s = either_here s (nat_eq (target % 4) 0) _ _ refl refl
-effect_here profile (Branches target) s = either_here s (nat_eq (target % 4) 0) _ _ refl refl
-effect_here profile Passes s = refl
-effect_here profile (Loads operation rd a) s =
-    either_here s (nat_eq (a % byte_count (load_size operation)) 0) _ _
-    (from_number (number_at s.bytes (byte_count (load_size operation)) a)) refl
-  where
-    from_number : (o : Option ℕ) → ShowsHere s (loaded s operation a rd o)
-    from_number (Some value) = refl
-    from_number None = refl
-effect_here profile (Stores operation a value) s =
-    either_here s (nat_eq (a % byte_count (store_size operation)) 0) _ _
-    (over_number (number_at s.bytes (byte_count (store_size operation)) a)) refl
-  where
-    over_number : (o : Option ℕ) → ShowsHere s (stored s (store_size operation) a value o)
-    over_number (Some old) = refl
-    over_number None = refl
-effect_here profile Calls s = refl
-effect_here profile Breaks s = refl
 
 -- A turn shows its program counter first where a word stands there, and nothing where none does.
 
@@ -74,9 +33,9 @@ Opens code pc first = ((first ≡ None) × (Stands code pc → ⊥)) ⊎ ((first
 stands : (code : Code) (pc word : ℕ) → pc % 4 ≡ 0 → word_at code pc ≡ Some word → Stands code pc
 stands code pc word even is = (even, λ none. cc)
 
-opens_here : (s : State) (e : Ending) → ShowsHere s e → first_entry (shown_by e) ≡ Some (program_counter s.pc)
-opens_here s (goes_on o t) same = ap (λ pc. Some (program_counter pc)) same
-opens_here s (stops seen stop) same = ap first_entry same
+opens_here : (s : State) (e : Ending) → IsOwn s e → first_entry (shown_by e) ≡ Some (program_counter s.pc)
+opens_here s (goes_on o t) own = ap (λ pc. Some (program_counter pc)) own
+opens_here s (stops seen stop) own = ap first_entry own.0
 
 turn_opens : {code : Code} {s : State} {e : Ending} → Turn code s e → Opens code s.pc (first_entry (shown_by e))
 turn_opens (pc_misaligned odd) = inl (refl, λ there. odd there.0)
@@ -84,7 +43,7 @@ turn_opens (not_code even none) = inl (refl, λ there. there.1 none)
 turn_opens {code} {s} (no_instruction {word = word} even is misfit) = inr (refl, stands code s.pc word even is)
 turn_opens {code} {s} (executes {ending = e} i even is ok ends) =
     inr (
-      opens_here s e (subst (ShowsHere s) (sym ends) (effect_here code.profile (effect_of i s.pc s.regs) s)),
+      opens_here s e (subst (IsOwn s) (sym ends) (effect_own code.profile (effect_of i s.pc s.regs) s)),
       stands code s.pc (word_of i) even is,
     )
 

@@ -9,9 +9,9 @@ use Rattle.rv_machine.specs.Effects.{effect_of}
 use Rattle.rv_machine.specs.Entries.{Entry, program_counter, events_of, entries_of, IsFirstDifference}
 use Rattle.rv_machine.specs.Machine.{State, Code, Ending, goes_on, stops, here, Turn, pc_misaligned, not_code}
 use Rattle.rv_machine.specs.Machine.{no_instruction, executes}
-use Rattle.run_reports.proofs.run_places_lemmas.Below.{entries_of-injective, Runs-determined, entries_of-append}
+use Rattle.run_reports.proofs.run_places_lemmas.Below.{IsOwn, effect_own, entries_of-injective, Runs-determined}
+use Rattle.run_reports.proofs.run_places_lemmas.Below.{entries_of-append}
 use Rattle.run_reports.specs.run_places.Places.{Ends, ShowsNext, IsLastBefore}
-use Rattle.run_reports.proofs.run_places_lemmas.Openings.{ShowsHere, effect_here}
 use Rattle.run_reports.proofs.run_places_lemmas.Runs.{ends_next, entries_more}
 
 -- What a turn shows, it shows of its own program counter.
@@ -33,11 +33,11 @@ turn_here (pc_misaligned odd) = λ o same. cc
 turn_here (not_code even none) = λ o same. cc
 turn_here {s = s} (no_instruction even is misfit) = here_alone s
 turn_here {code} {s} (executes {ending = e} i even is ok ends) =
-    from_shown e (subst (ShowsHere s) (sym ends) (effect_here code.profile (effect_of i s.pc s.regs) s))
+    from_own e (subst (IsOwn s) (sym ends) (effect_own code.profile (effect_of i s.pc s.regs) s))
   where
-    from_shown : (e : Ending) → ShowsHere s e → IsHere s.pc e
-    from_shown (goes_on o t) same = same
-    from_shown (stops seen stop) same = λ o is. here_alone s o (sym same ∙ is)
+    from_own : (e : Ending) → IsOwn s e → IsHere s.pc e
+    from_own (goes_on o t) own = own
+    from_own (stops seen stop) own = λ o is. here_alone s o (sym own.0 ∙ is)
 
 next_here : (code : Code) (t : State) (o : Observation) → ShowsNext code t o → o.pc ≡ t.pc
 next_here code t o (inl (u, turn)) = turn_here turn

@@ -1,11 +1,11 @@
 use Rattle.std.proofs.Common.{◌∙◌, ap, sym}
 use Rattle.rv_code.specs.private.Reading.{reading}
 use Rattle.rv_code.proofs.WordLaws.{reading-word_of}
-use Rattle.rv_code.proofs.Found.{group_has}
+use Rattle.rv_code.proofs.Found.{group_has_word}
 use Rattle.rv_code.proofs.decoding.decode.Goals as goal
 
 pub returns-clause-found : goal.returns-clause-found
-returns-clause-found c = rw c.in_group.ensures (group_has c.args.word c.ranges.word.fits)
+returns-clause-found c = rw c.in_group.ensures (group_has_word c.args.word c.ranges.word.fits)
 
 pub returns-clause-only : goal.returns-clause-only
 unfolding reading
