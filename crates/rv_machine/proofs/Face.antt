@@ -17,7 +17,8 @@ pub use Rattle.rv_machine.proofs.ByteLaws.{
 pub use Rattle.rv_machine.proofs.EntryLaws.{differ-apart, first-unique}
 pub use Rattle.rv_machine.proofs.Halting.{keeps_inside, shown_alone, stopped_alone}
 pub use Rattle.rv_machine.proofs.Locality.{IsSameTurn, turn_same}
-pub use Rattle.rv_machine.proofs.Pairs.{count-few}
+pub use Rattle.rv_machine.proofs.Pairs.{count-few, one-ends, other-ends}
+pub use Rattle.rv_machine.proofs.Progressing.{InStep, differ_after, same_after}
 pub use Rattle.rv_machine.proofs.RunLaws.{
   Halts-after,
   Halts-determined,
@@ -29,8 +30,9 @@ pub use Rattle.rv_machine.proofs.RunLaws.{
   Runs-determined,
   Turn-determined,
   goes_on≢stops,
+  no_longer,
 }
-pub use Rattle.rv_machine.proofs.Shown.{entries_of-append}
+pub use Rattle.rv_machine.proofs.Shown.{entries_of-append, nothing_shown, something_shown}
 pub use Rattle.rv_machine.proofs.SystemLaws.{MemberTurn-determined}
 pub use Rattle.rv_machine.proofs.TotalLaws.{
   IsOwn,

@@ -85,14 +85,8 @@ fn turns_apart<M: Memory>(
     ensures other_made { Makes (code_of code.now)
         other.old.turns_left (state_of other.old.hart (M.bytes other.old.memory)) result.1
         other.new.turns_left (state_of other.new.hart (M.bytes other.new.memory)) }
-    ensures shown { (rest : List Observation)
-        → IsShown (code_of code.now) one.new.turns_left (state_of one.new.hart (M.bytes one.new.memory)) rest
-        → IsShown (code_of code.now) one.old.turns_left (state_of one.old.hart (M.bytes one.old.memory)) (followed_by result.0 rest) }
     ensures ended { result.0 ≡ None → one.new.turns_left ≡ 0 }
     ensures fewer { IsSome result.0 → one.new.turns_left < one.old.turns_left }
-    ensures other_shown { (rest : List Observation)
-        → IsShown (code_of code.now) other.new.turns_left (state_of other.new.hart (M.bytes other.new.memory)) rest
-        → IsShown (code_of code.now) other.old.turns_left (state_of other.old.hart (M.bytes other.old.memory)) (followed_by result.1 rest) }
     ensures other_ended { result.1 ≡ None → other.new.turns_left ≡ 0 }
 {
     let seen = one.turn(alloc, code);
@@ -115,14 +109,8 @@ fn both_turns<M: Memory>(
     ensures other_made { Makes (code_of code.now)
         other.old.turns_left (state_of other.old.hart (M.bytes other.old.memory)) result.1
         other.new.turns_left (state_of other.new.hart (M.bytes other.new.memory)) }
-    ensures shown { (rest : List Observation)
-        → IsShown (code_of code.now) one.new.turns_left (state_of one.new.hart (M.bytes one.new.memory)) rest
-        → IsShown (code_of code.now) one.old.turns_left (state_of one.old.hart (M.bytes one.old.memory)) (followed_by result.0 rest) }
     ensures ended { result.0 ≡ None → one.new.turns_left ≡ 0 }
     ensures fewer { IsSome result.0 → one.new.turns_left < one.old.turns_left }
-    ensures other_shown { (rest : List Observation)
-        → IsShown (code_of code.now) other.new.turns_left (state_of other.new.hart (M.bytes other.new.memory)) rest
-        → IsShown (code_of code.now) other.old.turns_left (state_of other.old.hart (M.bytes other.old.memory)) (followed_by result.1 rest) }
     ensures other_ended { result.1 ≡ None → other.new.turns_left ≡ 0 }
 {
     let pc = one.hart.pc();

@@ -63,9 +63,6 @@ impl<M: Memory> Running<M> {
         ensures made { Makes (code_of code.now)
             self.old.turns_left (state_of self.old.hart (M.bytes self.old.memory)) (Some result)
             self.new.turns_left (state_of self.new.hart (M.bytes self.new.memory)) }
-        ensures shown { (rest : List Observation)
-            → IsShown (code_of code.now) self.new.turns_left (state_of self.new.hart (M.bytes self.new.memory)) rest
-            → IsShown (code_of code.now) self.old.turns_left (state_of self.old.hart (M.bytes self.old.memory)) (result ∷ rest) }
         ensures fewer { self.new.turns_left < self.old.turns_left }
     {
         let plan = plan_of(&self.hart, code, word, &self.memory);
@@ -81,10 +78,6 @@ impl<M: Memory> Running<M> {
         ensures made { (code : Code) → let s = state_of self.old.hart (M.bytes self.old.memory) in
             Turn code s (ends_as plan.event plan.change s)
             → Makes code self.old.turns_left s (Some result) self.new.turns_left (state_of self.new.hart (M.bytes self.new.memory)) }
-        ensures shown { (code : Code) (rest : List Observation) → let s = state_of self.old.hart (M.bytes self.old.memory) in
-            Turn code s (ends_as plan.event plan.change s)
-            → IsShown code self.new.turns_left (state_of self.new.hart (M.bytes self.new.memory)) rest
-            → IsShown code self.old.turns_left s (result ∷ rest) }
         ensures fewer { self.new.turns_left < self.old.turns_left }
     {
         let seen = Observation {

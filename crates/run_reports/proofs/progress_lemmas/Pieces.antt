@@ -1,8 +1,8 @@
 -- A run in pieces: turns that go on, and then a run.
 use Rattle.std.proofs.Common.{◌≡◌, ◌≢◌, ℕ, ◌+◌, ◌≤◌, List, ◌++◌, refl, subst, arith}
-use Rattle.rv_machine.proofs.Face.{Turn-determined, goes_on≢stops, Leads-append, Halts-after, turn_within_budget}
-use Rattle.rv_machine.specs.Leakage.{Leads, stays, turns, halts, Runs, halted, cut_short, spent}
-use Rattle.rv_machine.specs.Machine.{State, Code, stops, Turn}
+use Rattle.rv_machine.proofs.Face.{Leads-append, Halts-after, no_longer, turn_within_budget}
+use Rattle.rv_machine.specs.Leakage.{Leads, halts, Runs, halted, cut_short, spent}
+use Rattle.rv_machine.specs.Machine.{State, Code}
 use Rattle.rv_machine.specs.declared.observation.Observation.{Observation}
 use Rattle.rv_machine.specs.declared.stops.Stop.{Stop}
 use Rattle.rv_machine.specs.declared.stops.Stop.TheVariants.{Budget, RecorderRefused}
@@ -13,18 +13,6 @@ pub all_made : {code : Code} {n : ℕ} {s t : State} {seen : List Observation} {
 all_made (halted le (halts first end is)) budget = absurd (turn_within_budget end budget)
 all_made (cut_short lt first end shows) budget = cc
 all_made (spent all) budget = all
-
--- no turns follow one that stops
-no_longer : {code : Code} {m n : ℕ} {s t u : State} {a b last : List Observation} {stop : Stop} → Leads code m s a t
-    → Turn code t (stops last stop) → Leads code n s b u → n ≤ m
-no_longer first end stays = omega arith
-no_longer stays end (turns other rest) = absurd (goes_on≢stops other end)
-no_longer {code} {t = t} {u = u} (turns {n = m} {o = o} {t = s'} first rest) end
-    (turns {n = n} {o = p} {seen = b} {t = s''} other then) =
-    let e = Turn-determined first other in
-    let same : s'' ≡ s' = cc in
-    let then' = subst (λ x. Leads code n x b u) same then in
-    omega (arith, no_longer rest end then')
 
 -- turns that go on, and then a run
 pub run_after : {code : Code} {m n budget : ℕ} {s t u : State} {seen more : List Observation} {stop : Stop}

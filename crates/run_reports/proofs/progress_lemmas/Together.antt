@@ -1,20 +1,17 @@
 -- Two runs in step: what they have shown together, and how far both go on.
-use Rattle.std.proofs.Common.{◌≡◌, ℕ, zero, suc, ◌+◌, ◌*◌, ◌≤◌, ◌<◌, Bool, List, [], ◌∷◌, ◌++◌, length, length-append}
-use Rattle.std.proofs.Common.{Option, Some, None, append_assoc, zero-add, suc-add, refl, sym, ap, ◌∙◌, subst, arith}
+use Rattle.std.proofs.Common.{◌≡◌, ℕ, suc, ◌+◌, ◌*◌, ◌≤◌, ◌<◌, Bool, List, [], ◌∷◌, ◌++◌, length, length-append, Option}
+use Rattle.std.proofs.Common.{Some, None, append_assoc, refl, sym, ap, ◌∙◌, subst, arith}
 use Rattle.std.specs.Prelude.{slice_get}
 use Rattle.std.proofs.lemmas.List.{append_cancel_left}
 use Rattle.run_reports.proofs.progress_lemmas.Told.{all_told}
 use Rattle.run_reports.specs.progress.GoingOn.{BothGoOn, Reaches, HasLines, IsTold}
 use Rattle.run_reports.specs.progress.Lines.{turns_a_line, WentOut}
-use Rattle.rv_machine.proofs.Face.{Leads-append, Turn-determined, goes_on≢stops, entries_of-append, run_of_state}
-use Rattle.rv_machine.specs.Entries.{Entry, program_counter, entries_of, IsFirstDifference, Compares}
-use Rattle.rv_machine.specs.Leakage.{Leads, stays, turns, Runs, halted, cut_short, spent, halts, IsShown, followed_by}
+use Rattle.rv_machine.proofs.Face.{Leads-append, Turn-determined, goes_on≢stops}
+use Rattle.rv_machine.specs.Entries.{entries_of, IsFirstDifference}
+use Rattle.rv_machine.specs.Leakage.{Leads, stays, turns}
 use Rattle.rv_machine.specs.Machine.{State, Code}
 use Rattle.rv_machine.specs.Progress.{Makes, rests, advances, finishes, MakesAll, begins, further}
 use Rattle.rv_machine.specs.declared.observation.Observation.{Observation}
-use Rattle.rv_machine.specs.declared.pairing.Pairing.{Pairing}
-use Rattle.rv_machine.specs.declared.pairing.Pairing.TheVariants.{Differ}
-use Rattle.rv_machine.specs.declared.stops.Stop.{Stop}
 
 -- Turns that leave more to be made go on.
 
@@ -159,84 +156,3 @@ told_at_end {before = before} {after = after} whole count steps is turn turn' du
   },
   all_told whole count before after went,
 )
-
--- What they show.
-
--- what a later state shows follows, in an earlier one, what this turn shows
-abbrev pub TurnShows : Code → ℕ → State → ℕ → State → Option Observation → Type 0
-TurnShows code m s n t seen = (rest : List Observation) → IsShown code n t rest
-    → IsShown code m s (followed_by seen rest)
-
--- and this list
-abbrev pub ListShows : Code → ℕ → State → ℕ → State → List Observation → Type 0
-ListShows code m s n t seen = (rest : List Observation) → IsShown code n t rest → IsShown code m s (seen ++ rest)
-
-pub shows_further : {code : Code} {m n k : ℕ} {s t u : State} {last : Option Observation} {o : Observation}
-    (seen : List Observation) → ListShows code m s n t seen → last ≡ Some o → TurnShows code n t k u last
-    → ListShows code m s k u (seen ++ o ∷ [])
-shows_further {code} {m} {n} {k} {s} {t} {u} {o = o} seen back is turn = λ rest shown.
-    let next = subst (λ last. TurnShows code n t k u last) is turn in
-    subst (λ xs. IsShown code m s xs) (sym (append_assoc seen (o ∷ []) rest)) (back (o ∷ rest) (next rest shown))
-
-runs_no_turns : {code : Code} {s t : State} {seen : List Observation} {stop : Stop} → Runs code zero s seen stop t
-    → seen ≡ []
-runs_no_turns (halted within (halts first end is)) = absurd (omega (arith, within))
-runs_no_turns (cut_short within first end shows) = absurd (omega (arith, within))
-runs_no_turns (spent stays) = refl
-
--- a turn that showed something, and something behind it
-pub shows_some : {code : Code} {m n : ℕ} {s t : State} {last : Option Observation} {o : Observation} → last ≡ Some o
-    → TurnShows code m s n t last → (rest : List Observation) × IsShown code m s (o ∷ rest)
-shows_some {code} {m} {n} {s} {t} is turn =
-    let run = run_of_state code n t in
-    (run.0, subst (λ last. TurnShows code m s n t last) is turn run.0 (run.1, run.2, run.3, run.4))
-
--- and one that showed nothing, and was the last
-pub shows_none : {code : Code} {m n : ℕ} {s t : State} {last : Option Observation} → last ≡ None → n ≡ 0
-    → TurnShows code m s n t last → IsShown code m s []
-shows_none {code} {m} {n} {s} {t} is none turn =
-    let run = run_of_state code zero t in
-    let empty : run.0 ≡ [] = runs_no_turns run.3 in
-    let shown : IsShown code 0 t [] = subst (λ xs. IsShown code 0 t xs) empty (run.1, run.2, run.3, run.4) in
-    subst (λ last. TurnShows code m s n t last) is turn [] (subst (λ k. IsShown code k t []) (sym none) shown)
-
-behind_common : (common one other : List Entry) (place : ℕ) → IsFirstDifference one other place
-    → IsFirstDifference (common ++ one) (common ++ other) (length common + place)
-behind_common [] one other place first = rw zero-add first
-behind_common (x ∷ common) one other place first =
-    let later = behind_common common one other place first in
-    rw suc-add (record { before = ap (λ list. x ∷ list) later.before; there = later.there })
-
-pub other_ends : (o : Observation) (seen : List Observation)
-    → IsFirstDifference (entries_of (o ∷ seen)) (entries_of []) 0
-other_ends o seen = record { before = refl; there = apart }
-  where
-    apart : Some (program_counter o.pc) ≡ None → ⊥
-    apart same = cc
-
-pub one_ends : (o : Observation) (seen : List Observation)
-    → IsFirstDifference (entries_of []) (entries_of (o ∷ seen)) 0
-one_ends o seen = record { before = refl; there = apart }
-  where
-    apart : None ≡ Some (program_counter o.pc) → ⊥
-    apart same = cc
-
--- what an answer about two runs says
-abbrev pub IsAnswer : Code → ℕ → State → ℕ → State → Pairing → Type 0
-IsAnswer code m s m' s' answer =
-    (seen seen' : List Observation) × IsShown code m s seen × IsShown code m' s' seen'
-    × Compares (entries_of seen) (entries_of seen') answer
-
--- what they show behind a list of so many entries differs
-pub differ_behind : {code : Code} {m n m' n' place : ℕ} {s t s' t' : State} {a b : List Observation} {k : ℕ}
-    (seen : List Observation) → length (entries_of seen) ≡ place → ListShows code m s n t seen
-    → ListShows code m' s' n' t' seen → IsShown code n t a → IsShown code n' t' b
-    → IsFirstDifference (entries_of a) (entries_of b) k → IsAnswer code m s m' s' (Differ (place + k))
-differ_behind {a = a} {b = b} {k = k} seen is back back' shown shown' first =
-    let whole = behind_common (entries_of seen) (entries_of a) (entries_of b) k first in (
-      seen ++ a,
-      seen ++ b,
-      back a shown,
-      back' b shown',
-      rw (← is, entries_of-append seen a, entries_of-append seen b) whole,
-    )

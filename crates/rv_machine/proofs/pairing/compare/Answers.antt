@@ -2,13 +2,12 @@
 use Rattle.std.proofs.Common.{[], Some, None, is_some, refl, sym, ap, add-zero, arith}
 use Rattle.rv_machine.specs.Progress.{begins}
 use Rattle.rv_machine.proofs.Pairs.{one-ends, other-ends, count-few}
-use Rattle.rv_machine.proofs.Progressing.{step_on, part_after, end_after}
-use Rattle.rv_machine.proofs.Shown.{something_shown, nothing_shown, more_in_common, differ_after, same_after}
+use Rattle.rv_machine.proofs.Progressing.{step_on, part_after, end_after, differ_after, same_after}
+use Rattle.rv_machine.proofs.Shown.{something_shown, nothing_shown}
 use Rattle.rv_machine.proofs.pairing.compare.Goals as goal
 
 pub turns-init : goal.turns-init
 turns-init g c = record {
-  common = ([], refl, λ rest shown. shown, λ rest shown. shown);
   steps = ([], refl, begins, begins);
   few = omega arith;
 }
@@ -16,18 +15,18 @@ turns-init g c = record {
 pub returns-in_default-seen_other-clause-compared : goal.returns-in_default-seen_other-clause-compared
 returns-in_default-seen_other-clause-compared g c =
     let turns = c.both_turns-seen.ensures in
-    let one = something_shown c.in-Some.is turns.shown in
+    let one = something_shown c.in-Some.is turns.made in
     let ended = nothing_shown c.in_default-seen_other.is (turns.other_ended c.in_default-seen_other.is)
-    turns.other_shown in
+    turns.other_made in
     rw (sym (add-zero c.turns.place))
-    (differ_after c.turns.invariant.common one.1 ended (other-ends c.in-Some.seen one.0))
+    (differ_after c.turns.invariant.steps one.1 ended (other-ends c.in-Some.seen one.0))
 
 pub returns-in-Some-first_difference-clause-compared : goal.returns-in-Some-first_difference-clause-compared
 returns-in-Some-first_difference-clause-compared g c =
     let turns = c.both_turns-seen.ensures in
-    let one = something_shown c.in-Some.is turns.shown in
-    let other = something_shown c.in-Some-seen_other-2.is turns.other_shown in
-    differ_after c.turns.invariant.common one.1 other.1 (c.in-Some-first_difference.ensures.differ one.0 other.0)
+    let one = something_shown c.in-Some.is turns.made in
+    let other = something_shown c.in-Some-seen_other-2.is turns.other_made in
+    differ_after c.turns.invariant.steps one.1 other.1 (c.in-Some-first_difference.ensures.differ one.0 other.0)
 
 pub turns-preserved : goal.turns-preserved
 turns-preserved g c =
@@ -36,8 +35,6 @@ turns-preserved g c =
     let many = c.entry_count-place.ensures in
     let few = count-few c.in-Some.seen in
     record {
-      common = more_in_common c.entry_count-place.result c.turns.invariant.common c.in-Some.is
-          c.in-Some-seen_other-2.is same many turns.shown turns.other_shown;
       steps = step_on c.entry_count-place.result c.turns.invariant.steps c.in-Some.is c.in-Some-seen_other-2.is same
           many turns.made turns.other_made;
       few = omega (arith, few, many, c.turns.invariant.few, turns.fewer (ap is_some c.in-Some.is));
@@ -46,17 +43,17 @@ turns-preserved g c =
 pub returns-in-Some-seen_other-clause-compared : goal.returns-in-Some-seen_other-clause-compared
 returns-in-Some-seen_other-clause-compared g c =
     let turns = c.both_turns-seen.ensures in
-    let ended = nothing_shown c.in_default.is (turns.ended c.in_default.is) turns.shown in
-    let other = something_shown c.in-Some-seen_other.is turns.other_shown in
+    let ended = nothing_shown c.in_default.is (turns.ended c.in_default.is) turns.made in
+    let other = something_shown c.in-Some-seen_other.is turns.other_made in
     rw (sym (add-zero c.turns.place))
-    (differ_after c.turns.invariant.common ended other.1 (one-ends c.in-Some-seen_other.field-0 other.0))
+    (differ_after c.turns.invariant.steps ended other.1 (one-ends c.in-Some-seen_other.field-0 other.0))
 
 pub returns-in-None-clause-compared : goal.returns-in-None-clause-compared
 returns-in-None-clause-compared g c =
     let turns = c.both_turns-seen.ensures in
-    let ended = nothing_shown c.in_default.is (turns.ended c.in_default.is) turns.shown in
-    let ended' = nothing_shown c.in-None.is (turns.other_ended c.in-None.is) turns.other_shown in
-    same_after c.turns.invariant.common ended ended'
+    let ended = nothing_shown c.in_default.is (turns.ended c.in_default.is) turns.made in
+    let ended' = nothing_shown c.in-None.is (turns.other_ended c.in-None.is) turns.other_made in
+    same_after c.turns.invariant.steps ended ended'
 
 pub returns-in_default-seen_other-clause-parted : goal.returns-in_default-seen_other-clause-parted
 returns-in_default-seen_other-clause-parted g c =

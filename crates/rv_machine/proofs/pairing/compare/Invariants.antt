@@ -3,19 +3,12 @@ use Rattle.std.proofs.Common.{◌+◌, ◌*◌, ◌≤◌}
 use Rattle.rv_machine.specs.Harts.{state_of}
 use Rattle.rv_machine.specs.Regions.{code_of}
 use Rattle.rv_machine.proofs.Progressing.{InStep}
-use Rattle.rv_machine.proofs.Shown.{InCommon}
 use Rattle.rv_machine.proofs.pairing.compare.Given as goal
 
 abbrev pub invariant-turns : goal.invariant-turns
 invariant-turns g l =
     let bytes = g.M.Memory.bytes in
     record {
-      common : InCommon (code_of l.code)
-          l.fn.one.turns_left (state_of l.fn.one.hart (bytes l.fn.one.memory)) l.one.turns_left
-          (state_of l.one.hart (bytes l.one.memory))
-          l.fn.other.turns_left (state_of l.fn.other.hart (bytes l.fn.other.memory)) l.other.turns_left
-          (state_of l.other.hart (bytes l.other.memory))
-          l.place;
       steps : InStep (code_of l.code)
           l.fn.one.turns_left (state_of l.fn.one.hart (bytes l.fn.one.memory)) l.one.turns_left
           (state_of l.one.hart (bytes l.one.memory))

@@ -1,20 +1,29 @@
 -- Another turn of each, or the comparison's end.
-use Rattle.std.proofs.Common.{ℕ, [], ◌∷◌, ◌++◌, length, length-append, Some}
-use Rattle.std.proofs.Common.{is_some, inl, inr, refl, sym, ap, ◌∙◌, subst, add-zero, arith}
-use Rattle.run_reports.proofs.progress_lemmas.Together.{step_on, both_go_on, shows_further, shows_some, shows_none}
-use Rattle.run_reports.proofs.progress_lemmas.Together.{told_at_end}
-use Rattle.run_reports.proofs.progress_lemmas.Together.{one_ended, other_ended, they_differ, other_ends, one_ends}
-use Rattle.run_reports.proofs.progress_lemmas.Together.{differ_behind}
+use Rattle.std.proofs.Common.{◌≡◌, ℕ, List, [], ◌∷◌, ◌++◌, length, length-append, is_some, inl, inr, refl, sym, ap}
+use Rattle.std.proofs.Common.{◌∙◌, subst, add-zero, arith}
+use Rattle.run_reports.proofs.progress_lemmas.Together.{InStep, step_on, both_go_on, told_at_end, one_ended}
+use Rattle.run_reports.proofs.progress_lemmas.Together.{other_ended, they_differ}
 use Rattle.run_reports.proofs.progress_lemmas.Told.{none_yet}
-use Rattle.rv_machine.proofs.Face.{entries_of-append, count-few}
+use Rattle.rv_machine.proofs.Face.{entries_of-append, count-few, differ_after, same_after, something_shown}
+use Rattle.rv_machine.proofs.Face.{nothing_shown, one-ends, other-ends}
+use Rattle.rv_machine.proofs.Face as machine
 use Rattle.rv_machine.specs.Entries.{entries_of}
 use Rattle.rv_machine.specs.Harts.{state_of}
+use Rattle.rv_machine.specs.Machine.{State, Code}
 use Rattle.rv_machine.specs.Progress.{MakesAll, begins}
 use Rattle.rv_machine.specs.Regions.{code_of}
+use Rattle.rv_machine.specs.declared.observation.Observation.{Observation}
 use Rattle.run_reports.proofs.progress.comparing.compare_telling.Goals.{else-is_due-via-then-is_due+then-one-gt0+else-other-gt0}
 use Rattle.run_reports.proofs.progress.comparing.compare_telling.Goals.{else-is_due-via-then-is_due+else-one-gt0}
 use Rattle.run_reports.proofs.progress.comparing.compare_telling.Goals.{else-is_due-via-else-is_due}
 use Rattle.run_reports.proofs.progress.comparing.compare_telling.Goals as goal
+
+-- what both have shown has so many entries
+in_step : {code : Code} {m m' n n' place : ℕ} {s t s' t' : State} {seen : List Observation}
+    → length (entries_of seen) ≡ place → InStep code m s n t s' n' t' seen → m' ≡ m
+    → machine.InStep code m s n t m' s' n' t' place
+in_step {code} {n' = n'} {s' = s'} {t' = t'} {seen = seen} is made equal =
+    (seen, is, made.0, subst (λ k. MakesAll code k s' seen n' t') (sym equal) made.1)
 
 pub turns-init : goal.turns-init
 turns-init g c =
@@ -30,8 +39,6 @@ turns-init g c =
         refl,
         refl,
         (begins, subst (λ (m : ℕ). MakesAll code m t' [] other.turns_left t') c.requires.equal begins),
-        λ rest shown. shown,
-        λ rest shown. shown,
       );
       few = omega arith;
       few_entries = omega arith;
@@ -47,11 +54,11 @@ turns-init g c =
 pub returns-in_default-seen_other-clause-compared : goal.returns-in_default-seen_other-clause-compared
 returns-in_default-seen_other-clause-compared g c =
     let shown = c.turns.invariant.shown in
-    let one = shows_some c.in-Some.is c.turn-seen.ensures.shown in
+    let one = something_shown c.in-Some.is c.turn-seen.ensures.made in
     let none = c.in_default-seen_other.is in
-    let ended = shows_none none (c.turn-seen_other.ensures.ended none) c.turn-seen_other.ensures.shown in
+    let ended = nothing_shown none (c.turn-seen_other.ensures.ended none) c.turn-seen_other.ensures.made in
     rw (sym (add-zero c.turns.place))
-    (differ_behind shown.0 shown.2 shown.4 shown.5 one.1 ended (other_ends c.in-Some.seen one.0))
+    (differ_after (in_step shown.2 shown.3 c.requires.equal) one.1 ended (other-ends c.in-Some.seen one.0))
 
 pub returns-in_default-seen_other-clause-told : goal.returns-in_default-seen_other-clause-told
 returns-in_default-seen_other-clause-told g c = λ tells.
@@ -62,9 +69,9 @@ returns-in_default-seen_other-clause-told g c = λ tells.
 pub returns-in-Some-first_difference-clause-compared : goal.returns-in-Some-first_difference-clause-compared
 returns-in-Some-first_difference-clause-compared g c =
     let shown = c.turns.invariant.shown in
-    let one = shows_some c.in-Some.is c.turn-seen.ensures.shown in
-    let other = shows_some c.in-Some-seen_other-2.is c.turn-seen_other.ensures.shown in
-    differ_behind shown.0 shown.2 shown.4 shown.5 one.1 other.1 (c.in-Some-first_difference.ensures.differ one.0 other.0)
+    let one = something_shown c.in-Some.is c.turn-seen.ensures.made in
+    let other = something_shown c.in-Some-seen_other-2.is c.turn-seen_other.ensures.made in
+    differ_after (in_step shown.2 shown.3 c.requires.equal) one.1 other.1 (c.in-Some-first_difference.ensures.differ one.0 other.0)
 
 pub returns-in-Some-first_difference-clause-told : goal.returns-in-Some-first_difference-clause-told
 returns-in-Some-first_difference-clause-told g c = λ tells.
@@ -78,10 +85,10 @@ pub returns-in-Some-seen_other-clause-compared : goal.returns-in-Some-seen_other
 returns-in-Some-seen_other-clause-compared g c =
     let shown = c.turns.invariant.shown in
     let none = c.in_default.is in
-    let ended = shows_none none (c.turn-seen.ensures.ended none) c.turn-seen.ensures.shown in
-    let other = shows_some c.in-Some-seen_other.is c.turn-seen_other.ensures.shown in
+    let ended = nothing_shown none (c.turn-seen.ensures.ended none) c.turn-seen.ensures.made in
+    let other = something_shown c.in-Some-seen_other.is c.turn-seen_other.ensures.made in
     rw (sym (add-zero c.turns.place))
-    (differ_behind shown.0 shown.2 shown.4 shown.5 ended other.1 (one_ends c.in-Some-seen_other.field-0 other.0))
+    (differ_after (in_step shown.2 shown.3 c.requires.equal) ended other.1 (one-ends c.in-Some-seen_other.field-0 other.0))
 
 pub returns-in-Some-seen_other-clause-told : goal.returns-in-Some-seen_other-clause-told
 returns-in-Some-seen_other-clause-told g c = λ tells.
@@ -94,9 +101,9 @@ returns-in-None-clause-compared g c =
     let shown = c.turns.invariant.shown in
     let none = c.in_default.is in
     let none' = c.in-None.is in
-    let ended = shows_none none (c.turn-seen.ensures.ended none) c.turn-seen.ensures.shown in
-    let ended' = shows_none none' (c.turn-seen_other.ensures.ended none') c.turn-seen_other.ensures.shown in
-    (shown.0 ++ [], shown.0 ++ [], shown.4 [] ended, shown.5 [] ended', refl)
+    let ended = nothing_shown none (c.turn-seen.ensures.ended none) c.turn-seen.ensures.made in
+    let ended' = nothing_shown none' (c.turn-seen_other.ensures.ended none') c.turn-seen_other.ensures.made in
+    same_after (in_step shown.2 shown.3 c.requires.equal) ended ended'
 
 pub returns-in-None-clause-told : goal.returns-in-None-clause-told
 returns-in-None-clause-told g c = λ tells.
@@ -112,7 +119,6 @@ turns-preserved-then-other-gt0 g c =
     let other = c.turn-seen_other.ensures in
     let seen = c.in-Some.seen in
     let same = c.in_default-first_difference.ensures.equal refl in
-    let is' = c.in-Some-seen_other-2.is ∙ ap Some (sym same) in
     let longer = length-append shown.0 (seen ∷ []) in
     let entries = ap length (entries_of-append shown.0 (seen ∷ [])) ∙ length-append (entries_of shown.0) (entries_of (seen ∷ [])) in
     let many = c.entry_count-place.ensures in
@@ -125,8 +131,6 @@ turns-preserved-then-other-gt0 g c =
         omega (arith, longer, shown.1),
         omega (arith, entries, many, shown.2),
         steps,
-        shows_further shown.0 shown.4 c.in-Some.is one.shown,
-        shows_further shown.0 shown.5 is' other.shown,
       );
       few = omega (arith, all.few, fewer);
       few_entries = omega (arith, all.few_entries, many, count-few seen);
@@ -155,7 +159,6 @@ turns-preserved g c =
     let other = c.turn-seen_other.ensures in
     let seen = c.in-Some.seen in
     let same = c.in_default-first_difference.ensures.equal refl in
-    let is' = c.in-Some-seen_other-2.is ∙ ap Some (sym same) in
     let longer = length-append shown.0 (seen ∷ []) in
     let entries = ap length (entries_of-append shown.0 (seen ∷ [])) ∙ length-append (entries_of shown.0) (entries_of (seen ∷ [])) in
     let many = c.entry_count-place.ensures in
@@ -167,8 +170,6 @@ turns-preserved g c =
         omega (arith, longer, shown.1),
         omega (arith, entries, many, shown.2),
         step_on shown.3 c.in-Some.is c.in-Some-seen_other-2.is same one.made other.made,
-        shows_further shown.0 shown.4 c.in-Some.is one.shown,
-        shows_further shown.0 shown.5 is' other.shown,
       );
       few = omega (arith, all.few, fewer);
       few_entries = omega (arith, all.few_entries, many, count-few seen);

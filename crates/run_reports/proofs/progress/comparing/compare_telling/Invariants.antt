@@ -1,6 +1,6 @@
 -- What both runs have shown so far is one list, and a line went out behind each so many turns after which both went on.
 use Rattle.std.proofs.Common.{◌≡◌, suc, ◌+◌, ◌*◌, ◌≤◌, ◌<◌, List, length, IsTrue}
-use Rattle.run_reports.proofs.progress_lemmas.Together.{InStep, ListShows}
+use Rattle.run_reports.proofs.progress_lemmas.Together.{InStep}
 use Rattle.run_reports.specs.progress.GoingOn.{BothGoOn, Reaches}
 use Rattle.run_reports.specs.progress.Lines.{turns_a_line, WentOut}
 use Rattle.rv_machine.specs.Entries.{entries_of}
@@ -20,9 +20,7 @@ invariant-turns g l =
     let t' = state_of l.other.hart (bytes l.other.memory) in
     record {
       shown : (seen : List Observation) × (length seen ≡ l.made) × (length (entries_of seen) ≡ l.place)
-          × InStep code budget s l.one.turns_left t s' l.other.turns_left t' seen
-          × ListShows code budget s l.one.turns_left t seen
-          × ListShows code l.fn.other.turns_left s' l.other.turns_left t' seen;
+          × InStep code budget s l.one.turns_left t s' l.other.turns_left t' seen;
       few : l.made + l.one.turns_left ≤ budget;
       few_entries : l.place ≤ 2 * l.made;
       last : l.lines.count * turns_a_line ≤ l.made;

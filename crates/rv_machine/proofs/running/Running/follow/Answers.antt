@@ -6,8 +6,3 @@ pub returns-clause-made : goal.returns-clause-made
 returns-clause-made g c =
     c.make.ensures.made (code_of c.args.code.now)
     (c.plan_of-plan.ensures.turn c.requires.even c.requires.there c.requires.decoded)
-
-pub returns-clause-shown : goal.returns-clause-shown
-returns-clause-shown g c =
-    λ rest shown. c.make.ensures.shown (code_of c.args.code.now) rest
-    (c.plan_of-plan.ensures.turn c.requires.even c.requires.there c.requires.decoded) shown

@@ -1,25 +1,11 @@
 -- What is shown after a turn follows what the turn shows.
-use Rattle.std.proofs.Common.{◌≡◌, ◌-◌, suc, [], Option, Some, None, refl, subst, arith}
-use Rattle.rv_machine.specs.declared.stops.Stop.TheVariants.{RecorderRefused}
+use Rattle.std.proofs.Common.{◌≡◌, ◌-◌, suc, None, subst, arith}
 use Rattle.rv_machine.specs.Harts.{state_of}
-use Rattle.rv_machine.specs.Leakage.{IsShown, stopped}
 use Rattle.rv_machine.specs.Regions.{code_of}
 use Rattle.rv_machine.specs.Progress.{Makes, finishes}
 use Rattle.rv_machine.proofs.Progressing.{no_turn_makes}
-use Rattle.rv_machine.proofs.Shown.{turn_shows}
+use Rattle.rv_machine.proofs.Shown.{makes_shows}
 use Rattle.rv_machine.proofs.running.Running.turn.Goals as goal
-
-pub returns-in_default-clause-shown : goal.returns-in_default-clause-shown
-returns-in_default-clause-shown g c = λ rest shown.
-    let code = code_of c.args.code.now in
-    let begun = c.args.self.now in
-    let s = state_of begun.hart (g.M.Memory.bytes begun.memory) in
-    let left = begun.turns_left - 1 in
-    let more : suc left ≡ begun.turns_left = omega arith in
-    let stop = c.in_default.field-0 in
-    let calm = λ (e : ◌≡◌ {A = Option _} (Some stop) (Some RecorderRefused)). c.in_default.ensures.nowhere_calm cc in
-    subst (λ n. IsShown code n s rest) more
-    (turn_shows code left 0 s s _ (Some stop) [] c.in_default.ensures.nowhere stopped calm refl rest shown)
 
 pub returns-in_default-clause-made : goal.returns-in_default-clause-made
 returns-in_default-clause-made g c =
@@ -28,12 +14,14 @@ returns-in_default-clause-made g c =
     let more : suc (begun.turns_left - 1) ≡ begun.turns_left = omega arith in
     subst (λ n. Makes (code_of c.args.code.now) n s None 0 s) more (finishes c.in_default.ensures.nowhere)
 
-pub returns-clause-shown : goal.returns-clause-shown
-returns-clause-shown g c =
-    λ rest shown. c.make.ensures.shown (code_of c.args.code.now) rest c.in-Ok.ensures.turn shown
-
 pub returns-clause-made : goal.returns-clause-made
 returns-clause-made g c = c.make.ensures.made (code_of c.args.code.now) c.in-Ok.ensures.turn
+
+pub returns-in_default-clause-shown : goal.returns-in_default-clause-shown
+returns-in_default-clause-shown g c = λ rest shown. makes_shows (returns-in_default-clause-made g c) shown
+
+pub returns-clause-shown : goal.returns-clause-shown
+returns-clause-shown g c = λ rest shown. makes_shows (returns-clause-made g c) shown
 
 pub returns-then-self-eq0-clause-made : goal.returns-then-self-eq0-clause-made
 returns-then-self-eq0-clause-made g c =
