@@ -14,7 +14,6 @@ mod fields;
 pub mod immediates;
 pub mod instructions;
 pub mod laws;
-mod mnemonics;
 pub mod offsets;
 pub mod operations;
 pub mod registers;

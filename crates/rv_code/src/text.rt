@@ -1,13 +1,12 @@
 // Instructions as assembly text.
 
 ghost use Rattle.std.specs.Prelude.{Some};
-ghost use Rattle.std.specs.Fmt.{WritesOnOk};
-ghost use Rattle.rv_code.specs.FieldText.{reg_text};
+ghost use Rattle.std.specs.Fmt.{WritesOnOk, decimal};
+ghost use Rattle.rv_code.specs.FieldText.{reg_text, immediate_text, upper_text, branch_offset_text};
 ghost use Rattle.rv_code.specs.Text.{address_text, text_of, three_operands, two_operands};
-ghost use Rattle.rv_code.specs.declared.instructions.Instr.TheVariants.{Branch, Fence, Immediate, Jump, Shift, Upper};
+ghost use Rattle.rv_code.specs.declared.instructions.Instr.TheVariants.{Fence, Jump};
 
 use crate::instructions::Instr;
-use crate::operations::{BranchTest, ImmediateOperation, ShiftOperation, UpperOperation};
 use crate::{BranchOffset, FenceBits, Immediate12, JumpOffset, Reg, ShiftAmount, UpperImmediate};
 use std::fmt;
 
@@ -16,18 +15,36 @@ impl fmt::Display for Instr {
 
     fn fmt<W: fmt::Write>(&self, f: &mut fmt::Formatter<W>) -> fmt::Result {
         match *self {
-            Instr::Upper(operation, rd, value) => upper(f, operation, rd, value),
+            Instr::Upper(operation, rd, value) => upper(f, operation.row().mnemonic, rd, value),
             Instr::Jump(rd, offset) => jump(f, rd, offset),
             Instr::JumpRegister(rd, rs1, offset) => at_address(f, "jalr", rd, offset, rs1),
-            Instr::Branch(test, rs1, rs2, offset) => branch(f, test, rs1, rs2, offset),
+            Instr::Branch(test, rs1, rs2, offset) => branch(
+                f,
+                test.row().mnemonic,
+                rs1,
+                rs2,
+                offset,
+            ),
             Instr::Load(operation, rd, rs1, offset) => {
                 at_address(f, operation.row().mnemonic, rd, offset, rs1)
             }
             Instr::Store(operation, rs2, rs1, offset) => {
                 at_address(f, operation.row().mnemonic, rs2, offset, rs1)
             }
-            Instr::Immediate(operation, rd, rs1, value) => immediate(f, operation, rd, rs1, value),
-            Instr::Shift(operation, rd, rs1, amount) => shift(f, operation, rd, rs1, amount),
+            Instr::Immediate(operation, rd, rs1, value) => immediate(
+                f,
+                operation.row().mnemonic,
+                rd,
+                rs1,
+                value,
+            ),
+            Instr::Shift(operation, rd, rs1, amount) => shift(
+                f,
+                operation.row().mnemonic,
+                rd,
+                rs1,
+                amount,
+            ),
             Instr::Register(operation, rd, rs1, rs2) => {
                 registers(f, operation.row().mnemonic, rd, rs1, rs2)
             }
@@ -72,13 +89,13 @@ fn at_address<W: fmt::Write>(
 
 fn upper<W: fmt::Write>(
     f: &mut fmt::Formatter<W>,
-    operation: UpperOperation,
+    mnemonic: &str,
     rd: Reg,
     value: UpperImmediate,
 ) -> fmt::Result
-    ensures { WritesOnOk W.write_str_gives f.old result (text_of (Upper operation rd value)) f.new }
+    ensures { WritesOnOk W.write_str_gives f.old result (two_operands mnemonic.now (reg_text rd) (upper_text value)) f.new }
 {
-    write!(f, "{operation} {rd}, {value}")
+    write!(f, "{mnemonic} {rd}, {value}")
 }
 
 fn jump<W: fmt::Write>(f: &mut fmt::Formatter<W>, rd: Reg, offset: JumpOffset) -> fmt::Result
@@ -89,38 +106,38 @@ fn jump<W: fmt::Write>(f: &mut fmt::Formatter<W>, rd: Reg, offset: JumpOffset) -
 
 fn branch<W: fmt::Write>(
     f: &mut fmt::Formatter<W>,
-    test: BranchTest,
+    mnemonic: &str,
     rs1: Reg,
     rs2: Reg,
     offset: BranchOffset,
 ) -> fmt::Result
-    ensures { WritesOnOk W.write_str_gives f.old result (text_of (Branch test rs1 rs2 offset)) f.new }
+    ensures { WritesOnOk W.write_str_gives f.old result (three_operands mnemonic.now (reg_text rs1) (reg_text rs2) (branch_offset_text offset)) f.new }
 {
-    write!(f, "{test} {rs1}, {rs2}, {offset}")
+    write!(f, "{mnemonic} {rs1}, {rs2}, {offset}")
 }
 
 fn immediate<W: fmt::Write>(
     f: &mut fmt::Formatter<W>,
-    operation: ImmediateOperation,
+    mnemonic: &str,
     rd: Reg,
     rs1: Reg,
     value: Immediate12,
 ) -> fmt::Result
-    ensures { WritesOnOk W.write_str_gives f.old result (text_of (Immediate operation rd rs1 value)) f.new }
+    ensures { WritesOnOk W.write_str_gives f.old result (three_operands mnemonic.now (reg_text rd) (reg_text rs1) (immediate_text value)) f.new }
 {
-    write!(f, "{operation} {rd}, {rs1}, {value}")
+    write!(f, "{mnemonic} {rd}, {rs1}, {value}")
 }
 
 fn shift<W: fmt::Write>(
     f: &mut fmt::Formatter<W>,
-    operation: ShiftOperation,
+    mnemonic: &str,
     rd: Reg,
     rs1: Reg,
     amount: ShiftAmount,
 ) -> fmt::Result
-    ensures { WritesOnOk W.write_str_gives f.old result (text_of (Shift operation rd rs1 amount)) f.new }
+    ensures { WritesOnOk W.write_str_gives f.old result (three_operands mnemonic.now (reg_text rd) (reg_text rs1) (decimal amount)) f.new }
 {
-    write!(f, "{operation} {rd}, {rs1}, {amount}")
+    write!(f, "{mnemonic} {rd}, {rs1}, {amount}")
 }
 
 /// A fence: its mode, and the kinds of accesses before and after it.
