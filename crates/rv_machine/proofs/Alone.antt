@@ -111,6 +111,12 @@ module _ (own : ℕ → ByteMap) (j : ℕ) (bytes : ByteMap) where
   with_own_other : (k : ℕ) → k ≢ j → with_own own j bytes k ≡ own k
   with_own_other k apart = ap (λ b. cond b bytes (own k)) (ne_eqb k j apart)
 
+  -- what holds of those that became others, and of the rest
+  with_own_each : (P : ByteMap → Type 0) (k : ℕ) → (k ≡ j → P bytes) → (k ≢ j → P (own k)) → P (with_own own j bytes k)
+  with_own_each P k changed kept =
+      ⊎_elim (λ (e : k ≡ j). subst P (sym (with_own_same k e)) (changed e))
+      (λ (e : k ≢ j). subst P (sym (with_own_other k e)) (kept e)) (cases_eq k j)
+
 -- One turn of a system.
 
 -- after one turn of a member
@@ -126,20 +132,13 @@ module _ (own : ℕ → ByteMap) (s : System) (apart : AreApart own s) (j : ℕ)
   module _ (alone : TurnAlone (own j) s.bytes m seen bytes after) where
     extent_kept : (k a : ℕ) → is_some (with_own own j alone.own' k a) ≡ is_some (own k a)
     extent_kept k a =
-        ⊎_elim
-        (λ (e : k ≡ j). ap (λ (b : ByteMap). is_some (b a)) (with_own_same own j alone.own' k e)
-        ∙ alone.changes.extent a ∙ ap (λ i. is_some (own i a)) (sym e))
-        (λ (e : k ≢ j). ap (λ (b : ByteMap). is_some (b a)) (with_own_other own j alone.own' k e))
-        (cases_eq k j)
+        with_own_each own j alone.own' (λ b. is_some (b a) ≡ is_some (own k a)) k
+        (λ e. alone.changes.extent a ∙ ap (λ i. is_some (own i a)) (sym e)) (λ e. refl)
 
     there_kept : (k : ℕ) → Covers (with_own own j alone.own' k) bytes
     there_kept k =
-        ⊎_elim
-        (λ (e : k ≡ j). subst (λ (b : ByteMap). Covers b bytes) (sym (with_own_same own j alone.own' k e))
-        alone.changes.covers)
-        (λ (e : k ≢ j). subst (λ (b : ByteMap). Covers b bytes) (sym (with_own_other own j alone.own' k e))
-        (λ a there. alone.changes.elsewhere a (apart.apart k j a e there) ∙ apart.there k a there))
-        (cases_eq k j)
+        with_own_each own j alone.own' (λ b. Covers b bytes) k (λ e. alone.changes.covers)
+        (λ e a there. alone.changes.elsewhere a (apart.apart k j a e there) ∙ apart.there k a there)
 
     inside_after : KeepsInside alone.own' after
     inside_after n more end last makes =
@@ -148,16 +147,13 @@ module _ (own : ℕ → ByteMap) (s : System) (apart : AreApart own s) (j : ℕ)
     inside_kept : (k : ℕ) (it : Member) → slice_get (with_member s.members j after) k ≡ Some it
         → KeepsInside (with_own own j alone.own' k) it
     inside_kept k it at' =
-        ⊎_elim
-        (λ (e : k ≡ j).
+        with_own_each own j alone.own' (λ b. KeepsInside b it) k
+        (λ e.
         let is : slice_get (with_member s.members j after) k ≡ Some after =
         ap (slice_get (with_member s.members j after)) e ∙ with_member_same s.members j m after at in
         let same : after ≡ it = same_Some after it (sym is ∙ at') in
-        subst (λ (b : ByteMap). KeepsInside b it) (sym (with_own_same own j alone.own' k e))
-        (subst (KeepsInside alone.own') same inside_after))
-        (λ (e : k ≢ j). subst (λ (b : ByteMap). KeepsInside b it) (sym (with_own_other own j alone.own' k e))
-        (apart.inside k it (sym (with_member_other s.members j k after e) ∙ at')))
-        (cases_eq k j)
+        subst (KeepsInside alone.own') same inside_after)
+        (λ e. apart.inside k it (sym (with_member_other s.members j k after e) ∙ at'))
 
     -- and the members' own bytes are apart as before
     pub still_apart : AreApart (with_own own j alone.own') (after_turn s j after bytes)

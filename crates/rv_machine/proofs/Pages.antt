@@ -12,6 +12,7 @@ use Rattle.rv_machine.specs.Flat.{flat_bytes}
 use Rattle.rv_machine.specs.Paged.{zeros_in, first_of, bytes_in}
 use Rattle.rv_machine.specs.declared.flat.FlatMemory.{FlatMemory}
 use Rattle.rv_machine.specs.declared.paged.AddressRange.{AddressRange}
+use Rattle.rv_machine.specs.declared.paged.PagedMemory.{PagedMemory}
 use Rattle.rv_machine.proofs.ByteLaws.{number_at-suc, number_at-zero, number_at_same, with_byte_same, with_byte_other}
 use Rattle.rv_machine.proofs.ByteLaws.{with_number-suc, with_number_below, with_number_above, is_some-with_number}
 use Rattle.rv_machine.proofs.ByteLaws.{joined_parts}
@@ -95,10 +96,12 @@ with_number_within old other (suc n) a v x low high =
     ∙ with_number_within old other n (a + 1) (v / 256) x (omega arith) (omega arith)
     ∙ sym (two ∙ with_byte_other (with_number other n (a + 1) (v / 256)) a (v % 256) x e)) (cases_eq x a)
 
--- the first page
-pub first_at : (pages : List FlatMemory) (page : FlatMemory) → 0 < length pages → page ≡ get_or pages 0 page
-    → slice_get pages 0 ≡ Some page
-first_at pages page some read = slice_get_read pages _ _ page refl some read
+-- the first page, which there is always
+pub first_at : (memory : PagedMemory) (page : FlatMemory) → page ≡ get_or memory.pages.items 0 page
+    → slice_get memory.pages.items 0 ≡ Some page
+first_at memory page read =
+    let some : 0 < length memory.pages.items = omega (arith, memory.first, memory.pages.ok.0) in
+    slice_get_read memory.pages.items _ _ page refl some read
 
 -- the page that has all bytes of a number, where none before it has one of them
 module _ (pages : List FlatMemory) (i : ℕ) (page : FlatMemory) (n a : ℕ) (at : slice_get pages i ≡ Some page)
