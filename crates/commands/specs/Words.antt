@@ -7,7 +7,8 @@ use Rattle.language.specs.arguments.Within.{AreWithin, words_of}
 use Rattle.language.specs.declared.arguments.fault.ArgumentFault.{ArgumentFault}
 use Rattle.image_reports.specs.certificates.Given.{fault_of_given}
 use Rattle.image_reports.specs.certificates.Texts.{numbers_given}
-use Rattle.hepurita.specs.Paired.{shifted, first_of}
+use Rattle.language.specs.arguments.Faults.{shifted}
+use Rattle.hepurita.specs.Paired.{first_of}
 use Rattle.hepurita.specs.declared.fault.RunFault.{RunFault}
 use Rattle.hepurita.specs.declared.fault.RunFault.TheVariants.{Argument, Memory, Stopped}
 use Rattle.language.specs.declared.signature.Param.{Param}

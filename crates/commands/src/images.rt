@@ -6,7 +6,8 @@ ghost use Rattle.std.specs.Option.{option_map};
 ghost use Rattle.language.specs.arguments.Texts.{fault_of_texts};
 ghost use Rattle.language.specs.arguments.Within.{AreWithin};
 ghost use Rattle.codegen.specs.Loaded.{params_of};
-ghost use Rattle.hepurita.specs.Paired.{Paired, shifted};
+ghost use Rattle.language.specs.arguments.Faults.{shifted};
+ghost use Rattle.hepurita.specs.Paired.{Paired};
 ghost use Rattle.codegen.specs.image_fields.Limits.{most_parameters};
 ghost use Rattle.streams.specs.Streams.{Writes, WritesPart};
 ghost use Rattle.commands.specs.Images.{HoldsImage, NoImage};
@@ -230,19 +231,10 @@ fn later_args(alloc: Global, params: &[Param], arguments: &[&str]) -> Result<Arg
 {
     match read_args(alloc, params, arguments) {
         Ok(args) => Ok(args),
-        Err(
-            RunFault::Argument {
-                rule,
-                index: Some(index),
-            },
-        ) => Err(RunFault::Argument {
-            rule,
-            index: Some(index + params.len()),
-        }),
-        Err(RunFault::Argument { rule, index: None }) => Err(RunFault::Argument {
-            rule,
-            index: None,
-        }),
+        Err(RunFault::Argument { rule, index }) => {
+            let fault = ArgumentFault { rule, index };
+            Err(RunFault::from(fault.behind(params.len())))
+        }
         Err(RunFault::Memory) => Err(RunFault::Memory),
         Err(RunFault::Stopped(stop)) => Err(RunFault::Stopped(stop)),
     }

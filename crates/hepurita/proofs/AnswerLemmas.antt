@@ -33,7 +33,8 @@ use Rattle.language.specs.Tree.{ProcedureTree, ProgramTree}
 use Rattle.hepurita.specs.declared.fault.RunFault.{RunFault}
 use Rattle.hepurita.specs.Answers.{Builds, IsTheOutcome, IsSame}
 use Rattle.hepurita.specs.Executed.{Executed, answer_at, refused, out_of_memory, ran}
-use Rattle.hepurita.specs.Paired.{Paired, Observed, pair_fault, first_of, shifted}
+use Rattle.language.specs.arguments.Faults.{shifted}
+use Rattle.hepurita.specs.Paired.{Paired, Observed, pair_fault, first_of}
 use Rattle.hepurita.specs.Paired as pairs
 use Rattle.hepurita.specs.declared.optimised.Optimisation.{Optimisation}
 use Rattle.hepurita.proofs.JudgementLemmas.{one_export}

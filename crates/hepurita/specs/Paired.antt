@@ -1,8 +1,8 @@
 -- What two runs of an image look like side by side.
-use Rattle.std.specs.Prelude.{◌≡◌, ℕ, ◌+◌, ◌==◌, ◌&&◌, List, length, Option, Some, None, Result, Ok, Err}
+use Rattle.std.specs.Prelude.{◌≡◌, ◌==◌, ◌&&◌, List, length, Option, Some, None, Result, Ok, Err}
 use Rattle.std.specs.Prelude.{if◌then◌else◌}
 use Rattle.std.specs.Option.{option_map}
-use Rattle.language.specs.arguments.Faults.{fault_of, count_fault}
+use Rattle.language.specs.arguments.Faults.{fault_of, count_fault, shifted}
 use Rattle.language.specs.declared.arguments.fault.ArgumentFault.{ArgumentFault}
 use Rattle.codegen.specs.image_fields.Fields.{Fields}
 use Rattle.rv_machine.specs.Entries.{entries_of, Compares}
@@ -16,15 +16,12 @@ use Rattle.hepurita.specs.declared.fault.RunFault.TheVariants.{Argument, Memory}
 use Rattle.hepurita.specs.Uncut.{ImageEnds}
 use Rattle.codegen.specs.Loaded.{params_of}
 
--- a fault of the second list: its arguments are numbered after those of the first
-abbrev pub shifted : ℕ → ArgumentFault → ArgumentFault
-shifted count fault = record { rule = fault.rule; index = option_map (λ i. i + count) fault.index }
-
 abbrev pub first_of : Option ArgumentFault → Option ArgumentFault → Option ArgumentFault
 first_of (Some fault) later = Some fault
 first_of None later = later
 
--- the first fault of two lists: the count of either before all else, then the first list's, then the second's
+-- the first fault of two lists: the count of either before all else, then the first list's, then the second's, whose
+-- arguments are numbered after those of the first
 abbrev pub pair_fault : List Param → List Arg → List Arg → Option ArgumentFault
 pair_fault params one other =
     if length one == length params && length other == length params

@@ -29,14 +29,7 @@ pub fn fault_of_both(image: &Image, one: &Args, other: &Args) -> Option<Argument
         return Some(fault);
     }
     let fault = first_fault(image, other)?;
-    let index = match fault.index {
-        Some(index) => Some(index + count),
-        None => None,
-    };
-    Some(ArgumentFault {
-        rule: fault.rule,
-        index,
-    })
+    Some(fault.behind(count))
 }
 
 /// Runs an image on two lists of arguments, and compares what an observer sees of the two runs.

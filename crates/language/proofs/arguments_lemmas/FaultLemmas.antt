@@ -1,7 +1,9 @@
 -- The first fault, one argument at a time, and where there is none.
 use Rattle.std.proofs.Common.{◌≡◌, ℕ, ◌+◌, ◌<◌, ◌≤◌, ◌↔◌, Bool, true, false, nat_le, if◌then◌else◌, ◌==◌, List, []}
-use Rattle.std.proofs.Common.{◌∷◌, length, map, get_or, drop, All, Decides, Option, Some, None, refl, sym, ap, ◌∙◌, arith}
+use Rattle.std.proofs.Common.{◌∷◌, ◌^◌, cond, length, map, get_or, drop, All, Decides, Option, Some, None, refl, sym, ap}
+use Rattle.std.proofs.Common.{◌∙◌, arith}
 use Rattle.std.specs.List.{list_all}
+use Rattle.std.specs.Option.{IfSome}
 use Rattle.std.proofs.lemmas.Bool.{false≢true}
 use Rattle.std.proofs.lemmas.Bool.Decides.{Decides-by_and, Decides-eqb, nat_tests}
 use Rattle.std.proofs.lemmas.List.{at_drop_more, at_drop_all, length-map}
@@ -46,6 +48,47 @@ module _ {P A : Type 0} (rule : P → A → Option ArgumentRule) where
   fault_from-passed i params args p a h k e =
       let later = fault_from rule (i + 1) (drop (i + 1) params) (drop (i + 1) args) in
       fault_from-turn i params args p a h k ∙ ap (λ o. fault_at i o later) e
+
+  -- the number of a faulty argument is below the count of parameters
+  numbered : (params : List P) (args : List A) (low : ℕ) (fault : ArgumentFault) (i : ℕ)
+      → fault_from rule low params args ≡ Some fault → fault.index ≡ Some i → i < low + length params
+  numbered [] args low fault i h at = cc
+  numbered (param ∷ params) [] low fault i h at = cc
+  numbered (param ∷ params) (arg ∷ args) low fault i h at =
+      by (rule param arg) h (λ k. numbered params args (low + 1) fault i k at)
+    where
+      by : (broken : Option ArgumentRule) → fault_at low broken (fault_from rule (low + 1) params args) ≡ Some fault
+          → (fault_from rule (low + 1) params args ≡ Some fault → i < low + 1 + length params)
+          → i < low + length (param ∷ params)
+      by None k rest = omega (arith, rest k)
+      by (Some rule) k rest =
+          let first : record { rule = rule; index = Some low } ≡ fault = cc in
+          let index : Some low ≡ Some i = ap (λ (f : ArgumentFault). f.index) first ∙ at in
+          let same : low ≡ i = cc in
+          omega (arith, same)
+
+  index_below : (params : List P) (args : List A) (fault : ArgumentFault) (i : ℕ)
+      → fault_by rule params args ≡ Some fault → fault.index ≡ Some i → i < length params
+  index_below params args fault i h at = by (length args == length params) h
+    where
+      by : (b : Bool) → cond b (fault_from rule 0 params args) (Some count_fault) ≡ Some fault → i < length params
+      by true k = omega (arith, numbered params args 0 fault i k at)
+      by false k =
+          let first : count_fault ≡ fault = cc in
+          let index : None ≡ Some i = ap (λ (f : ArgumentFault). f.index) first ∙ at in
+          cc
+
+  -- so it has a number behind others too
+  pub behind_fits : (params : List P) (args : List A) (fault : ArgumentFault) (others : ℕ)
+      → fault_by rule params args ≡ Some fault → length params + others ≤ 2 ^ 64
+      → IfSome fault.index (λ index. index + others < 2 ^ 64)
+  behind_fits params args fault others h few =
+      by fault.index (λ i at. let below = index_below params args fault i h at in omega (arith, below, few))
+    where
+      by : (index : Option ℕ) → ((i : ℕ) → index ≡ Some i → i + others < 2 ^ 64)
+          → IfSome index (λ i. i + others < 2 ^ 64)
+      by None each = tt
+      by (Some i) each = each i refl
 
 -- ---- where there is none
 pub fault_at-None : (at : ℕ) (broken : Option ArgumentRule) (later : Option ArgumentFault)

@@ -4,6 +4,7 @@ use Rattle.std.specs.Borrow.{Bor}
 use Rattle.std.specs.Prelude.{◌≡◌, ℕ, ◌+◌, Bool, true, false, if◌then◌else◌, nat_le, ◌==◌, List, [], ◌∷◌, length, Option}
 use Rattle.std.specs.Prelude.{Some, None}
 use Rattle.std.specs.List.{list_all}
+use Rattle.std.specs.Option.{option_map}
 use Rattle.language.specs.declared.signature.Form.{Form}
 use Rattle.language.specs.declared.signature.Form.TheVariants.{SingleWord, FixedArray, MutableArray}
 use Rattle.language.specs.declared.signature.Kind.{Kind}
@@ -36,6 +37,10 @@ rule_of param arg = if has_shape param.form param.length arg then rule_of_words 
 -- the fault of the wrong count, which no argument has alone
 abbrev pub count_fault : ArgumentFault
 count_fault = record { rule = Count; index = None }
+
+-- the same fault, of an argument that stands behind so many others
+abbrev pub shifted : ℕ → ArgumentFault → ArgumentFault
+shifted others fault = record { rule = fault.rule; index = option_map (λ i. i + others) fault.index }
 
 -- the fault of the argument numbered `at` where it breaks a rule, else a later one
 abbrev pub fault_at : ℕ → Option ArgumentRule → Option ArgumentFault → Option ArgumentFault

@@ -1,4 +1,5 @@
-ghost use Rattle.std.specs.Prelude.{◌≡◌};
+ghost use Rattle.std.specs.Prelude.{◌≡◌, ◌+◌, ◌^◌, ◌<◌, IfSome};
+ghost use Rattle.language.specs.arguments.Faults.{shifted};
 
 use std::fmt;
 
@@ -66,6 +67,21 @@ impl ArgumentFault {
         ArgumentFault {
             rule,
             index: Some(index),
+        }
+    }
+
+    /// The same fault, of an argument that stands behind so many others.
+    pub fn behind(self, others: usize) -> Self
+        requires { IfSome self.index (λ index. index + others < 2 ^ 64) }
+        ensures { result ≡ shifted others self }
+    {
+        let index = match self.index {
+            Some(index) => Some(index + others),
+            None => None,
+        };
+        ArgumentFault {
+            rule: self.rule,
+            index,
         }
     }
 }

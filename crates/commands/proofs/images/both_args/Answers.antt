@@ -3,7 +3,7 @@ use Rattle.std.proofs.Common.{◌≡◌, List, ℕ, None, Err, map, length, refl
 use Rattle.std.proofs.lemmas.Result.{err_from_is_err_and}
 use Rattle.std.specs.Option.{option_map}
 use Rattle.language.specs.arguments.Texts.{fault_of_texts}
-use Rattle.hepurita.specs.Paired.{shifted}
+use Rattle.language.specs.arguments.Faults.{shifted}
 use Rattle.commands.specs.Words.{fault_of_both, AreSpelled, IsFaultOfWords}
 use Rattle.commands.proofs.WordLemmas.{fault_of_words, fault_of_first, fault_of_second, passed_on, first_words}
 use Rattle.commands.proofs.WordLemmas.{second_words, count_of_words, spelled_from}

@@ -1,35 +1,35 @@
 -- The first fault of the second list, numbered on from the first.
-use Rattle.std.proofs.Common.{◌≡◌, ◌<◌, map, length, Some, None, refl, ap, arith}
+use Rattle.std.proofs.Common.{◌≡◌, length, map, Err, refl, sym, ap, ◌∙◌, subst, arith}
 use Rattle.std.specs.Option.{option_map}
-use Rattle.language.specs.arguments.Texts.{fault_of_texts}
-use Rattle.hepurita.specs.Paired.{shifted}
-use Rattle.commands.proofs.WordLemmas.{index_below, shifted_fault, spelled_from, fault_told}
+use Rattle.language.proofs.arguments_lemmas.FaultLemmas.{behind_fits}
+use Rattle.language.specs.arguments.Faults.{shifted}
+use Rattle.language.specs.arguments.Texts.{fault_of_texts, rule_of_text}
+use Rattle.language.specs.declared.arguments.fault.ArgumentFault.{ArgumentFault}
+use Rattle.commands.specs.Words.{IsFaultOfWords}
+use Rattle.hepurita.specs.declared.fault.RunFault.{RunFault}
+use Rattle.hepurita.specs.declared.fault.RunFault.TheVariants.{Argument}
+use Rattle.commands.proofs.WordLemmas.{spelled_from}
 use Rattle.commands.proofs.images.later_args.Goals as goal
 
-pub overflow_add-result : goal.overflow_add-result
-overflow_add-result c =
-    let arm = c.in-Err-Argument-default-Some in
-    let words = map (λ word. word.now) c.args.arguments.now in
-    let first : fault_of_texts c.args.params.now words ≡ Some (record { rule = arm.rule; index = Some arm.index }) =
-    fault_told _ c.read_args.result arm.field-0 arm.rule arm.field-0-1 (Some arm.index) arm.is arm.field-0-is
-    arm.field-0-1-is c.read_args.ensures.fault in
-    let low : arm.index < length c.args.params.now = index_below c.args.params.now words _ arm.index first refl in
-    omega arith
-
-pub returns-in-Err-Argument-default-Some-clause-refused : goal.returns-in-Err-Argument-default-Some-clause-refused
-returns-in-Err-Argument-default-Some-clause-refused c =
-    let arm = c.in-Err-Argument-default-Some in
-    shifted_fault c.args.params.now _ arm.rule arm.index
-    (fault_told _ c.read_args.result arm.field-0 arm.rule arm.field-0-1 (Some arm.index) arm.is arm.field-0-is
-    arm.field-0-1-is c.read_args.ensures.fault)
-
-pub returns-in-Err-Argument-default-None-clause-refused : goal.returns-in-Err-Argument-default-None-clause-refused
-returns-in-Err-Argument-default-None-clause-refused c =
-    let arm = c.in-Err-Argument-default-None in
-    ap (option_map (shifted (length c.args.params.now)))
-    (fault_told _ c.read_args.result arm.field-0 arm.rule arm.field-0-1 None arm.is arm.field-0-is
-    arm.field-0-1-is c.read_args.ensures.fault)
+pub behind-requires : goal.behind-requires
+behind-requires c =
+    let arm = c.in-Err-Argument in
+    let fault : ArgumentFault = record { rule = arm.rule; index = arm.index } in
+    let told = (arm.ensures.fault fault).0 (ap (λ (why : RunFault). Err why) arm.field-0-is) in
+    behind_fits rule_of_text c.args.params.now _ fault _ told (omega (arith, c.requires))
 
 pub returns-in-Ok-clause-found : goal.returns-in-Ok-clause-found
 returns-in-Ok-clause-found c =
     spelled_from c.args.arguments.now (λ word. word.now) refl c.in-Ok.ensures.within c.in-Ok.ensures.found
+
+pub returns-in-Err-Argument-clause-refused : goal.returns-in-Err-Argument-clause-refused
+returns-in-Err-Argument-clause-refused c =
+    let arm = c.in-Err-Argument in
+    let count = length c.args.params.now in
+    let words = map (λ word. word.now) c.args.arguments.now in
+    let fault : ArgumentFault = record { rule = arm.rule; index = arm.index } in
+    let told = (arm.ensures.fault fault).0 (ap (λ (why : RunFault). Err why) arm.field-0-is) in
+    let is : c.from.result ≡ Argument arm.rule (shifted count fault).index = c.from.ensures
+    ∙ ap (λ (f : ArgumentFault). Argument f.rule f.index) c.behind.ensures in
+    subst (IsFaultOfWords (option_map (shifted count) (fault_of_texts c.args.params.now words))) (sym is)
+    (ap (option_map (shifted count)) told)
