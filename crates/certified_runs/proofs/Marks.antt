@@ -1,8 +1,8 @@
 -- Flags and marks: what is read of them, and what becomes of them when some are set.
-use Rattle.std.specs.Prelude.{nat_eq, slice_index_or, slice_set, is_some, ◌&&◌}
-use Rattle.std.proofs.Common.{◌≡◌, ◌≢◌, ℕ, zero, suc, ◌+◌, ◌*◌, ◌/◌, ◌%◌, ◌<◌, ◌≤◌, Bool, true, false, cond, List}
-use Rattle.std.proofs.Common.{length, Option, Some, None, eq-eqb, ne_eqb, refl, sym, ap, ◌∙◌, ⊎_elim, arith}
-use Rattle.std.proofs.Common.{replicate, get_or-set_same, get_or-set_other}
+use Rattle.std.specs.Prelude.{nat_eq, slice_index_or, is_some, ◌&&◌}
+use Rattle.std.proofs.Common.{◌≡◌, ◌≢◌, ℕ, zero, suc, ◌+◌, ◌*◌, ◌/◌, ◌%◌, ◌<◌, ◌≤◌, Bool, true, false}
+use Rattle.std.proofs.Common.{Option, Some, None, eq-eqb, ne_eqb, refl, sym, ap, ◌∙◌, ⊎_elim, arith}
+use Rattle.std.proofs.Common.{replicate}
 use Rattle.std.specs.Option.{option_eq}
 use Rattle.std.proofs.Math.Path.{fun_ext}
 use Rattle.std.proofs.lemmas.Bool.{cases_eq, cases_lt, le-leb, lt-leb, lt-ltb, le-ltb}
@@ -12,7 +12,7 @@ use Rattle.rv_machine.specs.Bytes.{ByteMap, joined, number_at, with_number}
 use Rattle.rv_machine.specs.Sizes.{byte_count}
 use Rattle.certified_runs.proofs.Below.{number_at-zero, number_at-suc, with_number-suc, with_byte_same}
 use Rattle.certified_runs.proofs.Below.{with_byte_other, with_number_below, with_number_above, is_some-with_number}
-use Rattle.certified_runs.specs.Known.{knows_bytes, with_register_known, with_bytes_known}
+use Rattle.certified_runs.specs.Known.{knows_bytes, with_bytes_known}
 use Rattle.certified_runs.specs.Parts.{known_registers, all_registers, is_known_mark, known_bytes}
 use Rattle.certified_runs.specs.private.Changes.{mark_of}
 use Rattle.certified_runs.specs.private.Turned.{HaveOneExtent}
@@ -27,22 +27,6 @@ all_set (suc n) (suc r) = all_set n r
 -- flags that are all set
 pub all_flags : (n : ℕ) → known_registers (replicate n true) ≡ all_registers
 all_flags n = fun_ext (all_set n)
-
--- one flag was set anew
-pub flag_put : (flags : List Bool) (rd : ℕ) (known : Bool) → rd < length flags
-    → known_registers (slice_set flags rd known) ≡ with_register_known (known_registers flags) rd known
-flag_put flags rd known within = fun_ext at
-  where
-    at : (r : ℕ) → known_registers (slice_set flags rd known) r
-        ≡ with_register_known (known_registers flags) rd known r
-    at r =
-        ⊎_elim
-        (λ (e : r ≡ rd). ap (λ x. slice_index_or (slice_set flags rd known) x true) e
-        ∙ get_or-set_same flags rd known true within
-        ∙ sym (ap (λ b. cond b known (slice_index_or flags r true)) (eq-eqb r rd e)))
-        (λ (e : r ≢ rd). get_or-set_other flags rd r known true e
-        ∙ sym (ap (λ b. cond b known (slice_index_or flags r true)) (ne_eqb r rd e)))
-        (cases_eq r rd)
 
 -- Bytes.
 

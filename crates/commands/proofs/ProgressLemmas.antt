@@ -1,6 +1,5 @@
 -- What goes out while an image runs, case by case.
 use Rattle.std.proofs.Common.{◌≡◌, ◌⊎◌, inl, inr, ℕ, Bool, true, false, List, Option, Result, Ok, Err, OnOk, OnErr, sym, subst}
-use Rattle.certified_runs.specs.declared.shifts.Shifts.{Shifts}
 use Rattle.codegen.specs.Loaded.{params_of, code_at, loaded_at}
 use Rattle.commands.specs.declared.command_line.words.Request.{Request}
 use Rattle.commands.specs.Certificates.{shifts_seen}
@@ -24,14 +23,6 @@ on_ok (Err fault) p = tt
 pub on_err : {T E P : Type 0} (answer : Result T E) → P → OnErr answer P
 on_err (Ok done) p = tt
 on_err (Err fault) p = p
-
-pub weaker_on_ok : {T E P Q : Type 0} (answer : Result T E) → (P → Q) → OnOk answer P → OnOk answer Q
-weaker_on_ok (Ok done) so p = so p
-weaker_on_ok (Err fault) so p = tt
-
-pub weaker_on_err : {T E P Q : Type 0} (answer : Result T E) → (P → Q) → OnErr answer P → OnErr answer Q
-weaker_on_err (Ok done) so p = tt
-weaker_on_err (Err fault) so p = so p
 
 -- the lines of a run from the loaded state are those of the image's run
 pub told_of_image : (Has : Counting) {code : Code} {steps : ℕ} {s : State} {before after : List ℕ} (image : Fields)

@@ -7,7 +7,7 @@ use Rattle.std.proofs.Common.{add-one}
 use Rattle.std.proofs.lemmas.Bool.{cases_eq, cases_lt, le-leb, lt-leb, lt-ltb, le-ltb, false≢true}
 use Rattle.std.proofs.lemmas.List.{length-map}
 use Rattle.std.proofs.Math.ListN.{get_or-map}
-use Rattle.image_reports.proofs.certificates_lemmas.Below.{fault_from-left, fault_by-None, IsWithin-from_rule_of, bytes_within}
+use Rattle.image_reports.proofs.certificates_lemmas.Below.{fault_from-left, fault_by-None, IsWithin-from_rule_of}
 use Rattle.image_reports.proofs.certificates_lemmas.Below.{is_some-with_argument, no_slot}
 use Rattle.language.specs.arguments.Faults.{fault_from}
 use Rattle.language.specs.arguments.Within.{HasShape}
@@ -15,11 +15,7 @@ use Rattle.certified_runs.specs.Known.{Known, with_bytes_known}
 use Rattle.certified_runs.specs.Parts.{is_known_mark, known_bytes}
 use Rattle.certified_runs.specs.declared.shifts.Shifts.{Shifts}
 use Rattle.hepurita.specs.Frames.{HoldsSlot}
-use Rattle.codegen.specs.image_fields.Fields.{slot_bytes}
 use Rattle.codegen.specs.declared.image_fields.slot.Slot.{Slot}
-use Rattle.language.specs.declared.signature.Form.{Form}
-use Rattle.language.specs.declared.signature.Form.TheVariants.{SingleWord, FixedArray, MutableArray}
-use Rattle.language.specs.declared.signature.Kind.{Kind}
 use Rattle.language.specs.declared.signature.Param.{Param}
 use Rattle.language.specs.declared.values.Arg.{Arg}
 use Rattle.rv_machine.specs.Bytes.{ByteMap, zeros}
@@ -86,12 +82,6 @@ none_unknown known at =
     let is : with_bytes_known known 0 at false x ≡ known x =
     rw (le-leb at x low, le-ltb x (at + 0) past) refl in is)
     (cases_lt x at))
-
--- an argument's bytes lie in its slot
-pub argument_inside : (form : Form) (kind : Kind) (n : ℕ) → argument_bytes form kind n ≤ slot_bytes form kind n
-argument_inside SingleWord kind n = omega arith
-argument_inside FixedArray kind n = bytes_within kind n
-argument_inside MutableArray kind n = bytes_within kind n
 
 -- Arguments.
 

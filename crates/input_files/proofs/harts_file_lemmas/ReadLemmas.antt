@@ -5,20 +5,10 @@ use Rattle.std.proofs.lemmas.List.{map-append}
 use Rattle.std.proofs.lemmas.List.FromFn.{get_or-enumerate_from, length-enumerate_from}
 use Rattle.std.specs.List.{enumerate_from}
 use Rattle.std.specs.Option.{option_map}
-use Rattle.input_files.specs.harts_file.Lines.{PlannedHart, PlannedTurns, Said, a_hart, some_turns, lines_of, said_of, said_in}
+use Rattle.input_files.specs.harts_file.Lines.{PlannedTurns, Said, a_hart, some_turns, lines_of, said_of, said_in}
 use Rattle.input_files.specs.harts_file.private.Reading.{held, held_turns}
 
 -- ---- what is held of what a line says
-pub held_none : (said : Option Said) → None ≡ option_map held said → said ≡ None
-held_none None e = refl
-held_none (Some said) e = cc
-
-pub held_hart : (said : Option Said) (hart : PlannedHart) → Some (a_hart hart) ≡ option_map held said
-    → said ≡ Some (a_hart hart)
-held_hart None hart e = cc
-held_hart (Some (a_hart other)) hart e = sym e
-held_hart (Some (some_turns turns)) hart e = cc
-
 pub held_as : (said : Option Said) (turns : PlannedTurns) → Some (some_turns turns) ≡ option_map held said
     → (whole : PlannedTurns) × (said ≡ Some (some_turns whole)) × (turns ≡ held_turns whole)
 held_as None turns e = cc

@@ -1,6 +1,6 @@
 -- One round after another.
-use Rattle.std.proofs.Common.{◌≡◌, ℕ, zero, suc, ◌+◌, ◌*◌, ◌<◌, ◌≤◌, List, [], ◌∷◌, ◌++◌, sym, ap, ◌∙◌, arith}
-use Rattle.std.proofs.Common.{append_assoc, append-nil, map-id, mul-le-mul_right, suc-mul, add-one}
+use Rattle.std.proofs.Common.{◌≡◌, ℕ, zero, suc, ◌+◌, List, [], ◌∷◌, ◌++◌, sym, ap, ◌∙◌, arith}
+use Rattle.std.proofs.Common.{append_assoc, append-nil, map-id}
 use Rattle.std.proofs.lemmas.List.FromFn.{map-range_with_len_more}
 use Rattle.std.specs.List.{range_with_len, repeat}
 
@@ -16,9 +16,3 @@ repeat_suc (suc n) xs = ap (λ l. xs ++ l) (repeat_suc n xs) ∙ sym (append_ass
 
 pub repeat_more : (n : ℕ) (xs : List ℕ) → repeat (n + 1) xs ≡ repeat n xs ++ xs
 repeat_more n xs = let e : n + 1 ≡ suc n = omega arith in ap (λ k. repeat k xs) e ∙ repeat_suc n xs
-
--- there is room for one round more
-pub next_round : (counter count harts : ℕ) → counter < count → counter * harts + harts ≤ count * harts
-next_round counter count harts h =
-    let more : suc counter ≤ count = h in
-    omega (arith, mul-le-mul_right harts more, suc-mul counter harts)

@@ -1,6 +1,6 @@
 -- Cells with one mark more.
 use Rattle.std.proofs.Common.{◌≡◌, ℕ, ◌<◌, ◌==◌, ◌&&◌, ◌||◌, Bool, true, false, List, [], ◌∷◌, ◌++◌, length, get_or}
-use Rattle.std.proofs.Common.{set, replicate, append_assoc, append-nil, refl, sym, ap, ◌∙◌, subst, arith, ⊎_elim}
+use Rattle.std.proofs.Common.{set, replicate, append_assoc, refl, sym, ap, ◌∙◌, subst, arith, ⊎_elim}
 use Rattle.std.proofs.lemmas.Bool.{eq-eqb, ne_eqb, cases_eq}
 use Rattle.std.proofs.lemmas.List.{length-set, length-replicate, get_or-set_same, get_or-set_other, get_or-replicate}
 use Rattle.std.proofs.lemmas.List.{get_or_read}
@@ -27,10 +27,6 @@ adds_then {axes} {axes'} {first} {second} {mid = mid} {new = new} same one two b
     let after = two (before ++ first) (subst (λ a. IsGrid a (before ++ first) mid) (sym same) (one before grid)) in
     subst (λ a. IsGrid a (before ++ (first ++ second)) new) same
     (subst (λ marks. IsGrid axes' marks new) (append_assoc before first second) after)
-
--- no marks more
-pub adds_nothing : {axes : Axes} {cells : List Cell} → Adds axes [] cells cells
-adds_nothing {axes} {cells} before grid = subst (λ marks. IsGrid axes marks cells) (sym (append-nil before)) grid
 
 or_last : (x here y : Bool) → here ≡ true → (x || (here && y || false)) ≡ (x || y)
 or_last true here y is = refl
