@@ -1,16 +1,14 @@
 -- A call comes to the same where the called body stands in its place.
-use Rattle.std.proofs.Common.{◌≡◌, ℕ, ◌+◌, ◌<◌, ◌≤◌, true, false, List, [], ◌∷◌, length, Option, Some, None, ◌⊎◌, inl}
-use Rattle.std.proofs.Common.{inr, refl, sym, ap, ◌∙◌, subst, arith, true≢false}
-use Rattle.std.proofs.lemmas.Option.{none-some}
+use Rattle.std.proofs.Common.{◌≡◌, ℕ, ◌+◌, ◌<◌, true, false, List, [], ◌∷◌, length, Option, Some, None, ◌⊎◌, inl}
+use Rattle.std.proofs.Common.{inr, refl, sym, ap, ◌∙◌, subst, arith}
+use Rattle.std.proofs.lemmas.Bool.{false_from_ne_true}
 use Rattle.inline.specs.declared.numbering.Numbered.{Numbered}
 use Rattle.inline.specs.Flat.{FlatBlock, chain}
 use Rattle.inline.specs.FlatMeaning.{Values, after_all, path_along, path_of_result}
-use Rattle.inline.specs.FlatTyping.{Types}
+use Rattle.inline.specs.FlatTyping.{Types, types_after_all}
 use Rattle.inline.specs.Numbering.{Numbers, Callable, callable, callables, begun, passed, passed_variables, block}
 use Rattle.inline.specs.Numbering.{call_block, call_value, call_result, value_of, names_after_all}
 use Rattle.inline.specs.Path.{either, first_fault}
-use Rattle.language.specs.declared.signature.Form.{Form}
-use Rattle.language.specs.declared.signature.Form.TheVariants.{SingleWord, FixedArray, MutableArray}
 use Rattle.language.specs.declared.signature.Label.{Label}
 use Rattle.language.specs.declared.typing.Callee.{Callee}
 use Rattle.language.specs.declared.typing.ValueType.{ValueType}
@@ -28,32 +26,15 @@ use Rattle.inline.proofs.Begun.{Enters, array_passed, enters, distinct_none}
 use Rattle.inline.proofs.Called.{Agrees, Spares, IsKept, Ready}
 use Rattle.inline.proofs.Chains.{after_chain, fault_chain}
 use Rattle.inline.proofs.Comes.{Comes, then_comes, also, either-assoc}
-use Rattle.inline.proofs.Copied.{Changes, changes_or_not, spares_begun, copied}
+use Rattle.inline.proofs.Copied.{Changes, changes_or_not, spares_begun, copied, word_immutable}
 use Rattle.inline.proofs.Linked.{Linked}
-use Rattle.inline.proofs.Parameters.{NoVariables, typed_with}
+use Rattle.inline.proofs.Parameters.{no_names}
 use Rattle.inline.proofs.Procedures.{IsCallable}
 use Rattle.inline.proofs.Passing.{passed_keeps, passed_comes}
 use Rattle.inline.proofs.Terms.{Holds, Shows}
 
--- before the first parameter
-pub no_names : (scope : Scope) → NoVariables scope → (types : Types) (n : ℕ) → types.profile ≡ scope.profile
-    → ((x : ℕ) → n ≤ x → types.at x ≡ None) → Linked scope [] types n
-no_names scope none types n observed fresh = record {
-  observed = observed;
-  known = λ text v is. absurd (none text v is);
-  none = λ text is. refl;
-  below = λ text x is. absurd (none-some x is);
-  apart = λ a b x y is is' equal free. absurd (none-some x is);
-  fresh = fresh;
-}
-
 mutable_is_array : (p : ParameterTree) → is_mutable p.form ≡ true → is_word p.form ≡ false
-mutable_is_array p free = by_form p.form free
-  where
-    by_form : (form : Form) → is_mutable form ≡ true → is_word form ≡ false
-    by_form SingleWord free = absurd (true≢false (sym free))
-    by_form FixedArray free = refl
-    by_form MutableArray free = refl
+mutable_is_array p free = false_from_ne_true (is_word p.form) (λ word. word_immutable p.form word free)
 
 -- a call changes only what may be changed
 no_change : (scope : Scope) {ps : List ParameterTree} {es : List ExprTree} → ArePassed scope ps es
@@ -66,7 +47,7 @@ no_change scope (one_passed {p = p} {ps = ps} {argument = e} {arguments = es} is
     by_first : Changes names x (p ∷ ps) (e ∷ es) → (Changes names x ps es → ⊥) → ⊥
     by_first (inl here) rest =
         let a = array_passed scope names types n linked is (mutable_is_array p here.0) in
-        spares.spared a.text _ a.found (a.enough here.0) (sym a.here ∙ here.1)
+        spares.spared a.text _ a.found (a.enough here.0) here.1
     by_first (inr later) rest = rest later
 
 module _ (earlier : List ProcedureTree) (scope : Scope) (names : Numbers) (n : ℕ)
@@ -82,7 +63,7 @@ module _ (earlier : List ProcedureTree) (scope : Scope) (names : Numbers) (n : �
     start = n + length (passed_variables p.parameters c.arguments)
 
     abbrev own_types : Types
-    own_types = typed_with ready.types n (passed_variables p.parameters c.arguments)
+    own_types = types_after_all ready.types (passed names n p.parameters c.arguments)
 
     abbrev body_block : FlatBlock
     body_block = block (callables meant.before) own start p.body

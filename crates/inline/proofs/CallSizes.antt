@@ -1,16 +1,15 @@
 -- A call has as many nodes once its names are numbers, and what it declares besides takes no more words than a third
 -- of them.
-use Rattle.std.proofs.Common.{◌≡◌, ℕ, ◌+◌, ◌*◌, ◌≤◌, Bool, true, false, if◌then◌else◌, List, [], ◌∷◌, ◌++◌, length}
-use Rattle.std.proofs.Common.{map, Option, None, Some, refl, sym, subst, arith}
+use Rattle.std.proofs.Common.{◌≡◌, ℕ, ◌+◌, ◌*◌, ◌≤◌, List, [], ◌∷◌, ◌++◌, length}
+use Rattle.std.proofs.Common.{map, Option, None, Some, inl, inr, refl, sym, ap, subst, arith}
+use Rattle.std.proofs.lemmas.Bool.{cases_Bool}
 use Rattle.inline.specs.declared.flat.FlatVariable.{FlatVariable}
 use Rattle.inline.specs.Flat.{TermTree, elements_by}
 use Rattle.inline.specs.Flat as flat
-use Rattle.inline.specs.FlatSize.{term_nodes, terms_nodes, body_nodes, value_nodes, declared_words}
+use Rattle.inline.specs.FlatSize.{term_nodes, terms_nodes, body_nodes, value_nodes, declared_words, words_of}
 use Rattle.inline.specs.Numbering.{Numbers, Callable, callable, callables, passed, passed_variables, begun}
 use Rattle.inline.specs.Numbering.{call_block, call_variables, call_result, call_value, value_given, value_of}
 use Rattle.inline.specs.Numbering.{declared_in_all, dropped_block, dropped_variables, names_after_all, block, term}
-use Rattle.language.specs.declared.signature.Form.{Form}
-use Rattle.language.specs.declared.signature.Form.TheVariants.{SingleWord, FixedArray, MutableArray}
 use Rattle.language.specs.declared.signature.Label.{Label}
 use Rattle.language.specs.declared.typing.ValueType.{ValueType}
 use Rattle.language.specs.declared.typing.ValueType.TheVariants.{Word}
@@ -21,8 +20,9 @@ use Rattle.language.specs.Size.{block_words, words_of_called, passed_words, exte
 use Rattle.language.specs.Tree.{ExprTree, number, truth, name, prefix, binary, rotate, convert, select, element}
 use Rattle.language.specs.Tree.{CallTree, ParameterTree, ProcedureTree, ReturnTree}
 use Rattle.language.specs.Types.{Scope}
-use Rattle.language.specs.Typing.{is_mutable, result_value}
-use Rattle.language.specs.WellTyped.{labelled, ArePassed, none_passed, one_passed, IsCall, of_procedure}
+use Rattle.language.specs.Typing.{result_value}
+use Rattle.language.specs.WellTyped.{ArePassed, none_passed, one_passed, IsCall, of_procedure}
+use Rattle.inline.proofs.Begun.{own_word}
 use Rattle.inline.proofs.ChainTypes.{chain-nodes}
 use Rattle.inline.proofs.Below.{known-named}
 use Rattle.inline.proofs.Procedures.{Stand, IsWithin}
@@ -50,16 +50,9 @@ same_result names None = refl
 same_result names (Some r) = omega (arith, same_nodes names r.value)
 
 -- each expression is a node
-some_nodes : (e : TermTree) → 1 ≤ term_nodes e
+pub some_nodes : (e : TermTree) → 1 ≤ term_nodes e
 some_nodes (flat.number value kind) = omega arith
-some_nodes (flat.truth value) = omega arith
-some_nodes (flat.variable x) = omega arith
-some_nodes (flat.prefix operator width operand) = omega arith
-some_nodes (flat.binary place operator width left right) = omega arith
-some_nodes (flat.rotate width operand amount) = omega arith
-some_nodes (flat.convert kind operand) = omega arith
-some_nodes (flat.select condition accepted otherwise) = omega arith
-some_nodes (flat.element place x size index) = omega arith
+some_nodes other = omega arith
 
 -- Results.
 
@@ -120,29 +113,18 @@ passed_nodes : (names : Numbers) (n : ℕ) (ps : List ParameterTree) (es : List 
     → body_nodes (passed names n ps es) ≡ nodes_passed (word_arguments ps es)
 passed_nodes names n [] es = refl
 passed_nodes names n (p ∷ ps) [] = refl
-passed_nodes names n (p ∷ ps) (e ∷ es) =
-    by_form (is_word p.form) (passed_nodes names (n + 1) ps es) (passed_nodes names n ps es)
-  where
-    by_form : (b : Bool) → body_nodes (passed names (n + 1) ps es) ≡ nodes_passed (word_arguments ps es)
-        → body_nodes (passed names n ps es) ≡ nodes_passed (word_arguments ps es)
-        → body_nodes (if b then flat.first (flat.declare n (labelled p.kind p.label) false (term names e))
-        (passed names (n + 1) ps es) else passed names n ps es)
-        ≡ nodes_passed (if b then e ∷ word_arguments ps es else word_arguments ps es)
-    by_form true one other = omega (arith, one, same_nodes names e)
-    by_form false one other = other
+passed_nodes names n (p ∷ ps) (e ∷ es) = elim (cases_Bool (is_word p.form)) [
+  | inl word ↦ rw word (omega (arith, passed_nodes names (n + 1) ps es, same_nodes names e))
+  | inr array ↦ rw array (passed_nodes names n ps es)
+]
 
 passed_take : {scope : Scope} {ps : List ParameterTree} {es : List ExprTree} → ArePassed scope ps es
     → declared_words (passed_variables ps es) ≡ passed_words ps
 passed_take none_passed = refl
-passed_take (one_passed {p = p} {ps = ps} {arguments = es} is shares are) = by_form p.form (passed_take are)
-  where
-    by_form : (form : Form) → declared_words (passed_variables ps es) ≡ passed_words ps
-        → declared_words (if is_word form then record
-        { word = labelled p.kind p.label; mutable = is_mutable form; elements = elements_by form p.length } ∷
-        passed_variables ps es else passed_variables ps es) ≡ (if is_word form then 1 else 0) + passed_words ps
-    by_form SingleWord same = omega (arith, same)
-    by_form FixedArray same = omega (arith, same)
-    by_form MutableArray same = omega (arith, same)
+passed_take (one_passed {p = p} {ps = ps} {arguments = es} is shares are) = elim (cases_Bool (is_word p.form)) [
+  | inl word ↦ rw word (omega (arith, passed_take are, ap words_of (own_word p p.form word)))
+  | inr array ↦ rw array (omega (arith, passed_take are))
+]
 
 -- a call, with the variables that it declares
 pub record CallSized (names : Numbers) (n : ℕ) (c : CallTree) (type : ValueType) (o : Option Callable)

@@ -1,16 +1,13 @@
 -- A call is well typed once its names are numbers: words are declared, and then comes the called body.
-use Rattle.std.proofs.Common.{◌≡◌, ℕ, ◌+◌, Bool, true, false, if◌then◌else◌, List, [], ◌∷◌, length, Option, Some}
-use Rattle.std.proofs.Common.{None, refl, sym, ap, ◌∙◌, subst, arith}
-use Rattle.std.proofs.lemmas.Option.{none-some}
+use Rattle.std.proofs.Common.{◌≡◌, ℕ, ◌+◌, false, List, [], ◌∷◌, length, Option, Some}
+use Rattle.std.proofs.Common.{None, inl, inr, refl, sym, ap, ◌∙◌, subst, arith}
+use Rattle.std.proofs.lemmas.Bool.{cases_Bool}
 use Rattle.inline.specs.declared.flat.FlatVariable.{FlatVariable}
-use Rattle.inline.specs.Flat.{TermTree, word_as, elements_by}
-use Rattle.inline.specs.Flat as flat
+use Rattle.inline.specs.Flat.{TermTree, word_as}
 use Rattle.inline.specs.FlatTyping.{Types, with_type, AreTyped, IsResult, Suits, types_after_all}
 use Rattle.inline.specs.Numbering.{Numbers, Callable, callable, callables, passed, passed_variables, own_variable}
 use Rattle.inline.specs.Numbering.{begun, call_block, call_variables, call_result, call_value, value_given, value_of}
-use Rattle.inline.specs.Numbering.{declared_in_all, names_after_all, block, term, dropped_block, dropped_variables}
-use Rattle.language.specs.declared.signature.Form.{Form}
-use Rattle.language.specs.declared.signature.Form.TheVariants.{SingleWord, FixedArray, MutableArray}
+use Rattle.inline.specs.Numbering.{declared_in_all, names_after_all, block, dropped_block, dropped_variables}
 use Rattle.language.specs.declared.signature.Label.{Label}
 use Rattle.language.specs.declared.signature.Label.TheVariants.{Public, Secret}
 use Rattle.language.specs.declared.typing.Declared.TheVariants.{Procedure}
@@ -21,16 +18,16 @@ use Rattle.language.specs.Grammatical.{AreAllSmall}
 use Rattle.language.specs.Meaning.{is_word}
 use Rattle.language.specs.Tree.{ExprTree, CallTree, ParameterTree, ProcedureTree}
 use Rattle.language.specs.Types.{Scope, found, callee, joined}
-use Rattle.language.specs.Typing.{is_mutable, may_assign, calls_one, assigns_public, body_scope, result_value}
+use Rattle.language.specs.Typing.{may_assign, calls_one, assigns_public, body_scope, result_value}
 use Rattle.language.specs.Typing.{with_procedure}
 use Rattle.language.specs.WellTyped as rules
 use Rattle.language.specs.WellTyped.{labelled, AreNew, ArePassed, none_passed, one_passed, IsCall, of_procedure}
-use Rattle.inline.proofs.Begun.{word_given, enters, distinct_none}
+use Rattle.inline.proofs.Begun.{word_given, own_word, enters, distinct_none}
 use Rattle.inline.proofs.ChainTypes.{chain-types, chain-typed}
 use Rattle.inline.proofs.Below.{known-named}
 use Rattle.inline.proofs.Linked.{Linked, linked_beside}
 use Rattle.inline.proofs.Listed.{Lists, lists_first, lists_left, lists_right}
-use Rattle.inline.proofs.Parameters.{NoVariables, typed_with}
+use Rattle.inline.proofs.Parameters.{NoVariables, no_names}
 use Rattle.inline.proofs.Procedures.{Stand, IsWithin}
 use Rattle.inline.proofs.Terms.{means, still_public, suits_there}
 
@@ -49,63 +46,29 @@ pub record TypedBody (before : List ProcedureTree) (at : Scope) (p : ProcedureTr
 
 -- Words that are passed.
 
--- a word parameter as a variable
-own_word : (p : ParameterTree) (form : Form) → is_word form ≡ true
-    → record { word = labelled p.kind p.label; mutable = is_mutable form; elements = elements_by form p.length }
-    ≡ word_as (labelled p.kind p.label) false
-own_word p SingleWord is = refl
-own_word p FixedArray is = absurd cc
-own_word p MutableArray is = absurd cc
-
-passed_types : (names : Numbers) (types : Types) (n : ℕ) (ps : List ParameterTree) (es : List ExprTree)
-    → types_after_all types (passed names n ps es) ≡ typed_with types n (passed_variables ps es)
-passed_types names types n [] es = refl
-passed_types names types n (p ∷ ps) [] = refl
-passed_types names types n (p ∷ ps) (e ∷ es) = by_form (is_word p.form) refl
-    (passed_types names (with_type types n (word_as (labelled p.kind p.label) false)) (n + 1) ps es)
-    (passed_types names types n ps es)
-  where
-    by_form : (b : Bool) → is_word p.form ≡ b
-        → types_after_all (with_type types n (word_as (labelled p.kind p.label) false)) (passed names (n + 1) ps es)
-        ≡ typed_with (with_type types n (word_as (labelled p.kind p.label) false)) (n + 1) (passed_variables ps es)
-        → types_after_all types (passed names n ps es) ≡ typed_with types n (passed_variables ps es)
-        → types_after_all types (if b then flat.first (flat.declare n (labelled p.kind p.label) false (term names e))
-        (passed names (n + 1) ps es) else passed names n ps es)
-        ≡ typed_with types n (if b then own_variable p ∷ passed_variables ps es else passed_variables ps es)
-    by_form true is one other = one ∙ ap (λ d. typed_with (with_type types n d) (n + 1) (passed_variables ps es))
-        (sym (own_word p p.form is))
-    by_form false is one other = other
-
 module _ (all : List FlatVariable) (control : Label) (scope : Scope) (names : Numbers) where
   passed_typed : {ps : List ParameterTree} {es : List ExprTree} → ArePassed scope ps es → AreAllSmall es
       → (types : Types) (n : ℕ) → Linked scope names types n → Lists all n (passed_variables ps es)
       → AreTyped all types control (passed names n ps es)
   passed_typed none_passed small types n linked lists = tt
   passed_typed (one_passed {p = p} {ps = ps} {argument = e} {arguments = es} is shares are) small types n
-      linked lists =
-      by_form (is_word p.form) refl (λ (types' : Types) (n' : ℕ). passed_typed are small.1 types' n') lists
-    where
-      by_form : (b : Bool) → is_word p.form ≡ b
-          → ((types' : Types) (n' : ℕ) → Linked scope names types' n' → Lists all n' (passed_variables ps es)
-          → AreTyped all types' control (passed names n' ps es))
-          → Lists all n (if b then own_variable p ∷ passed_variables ps es else passed_variables ps es)
-          → AreTyped all types control (if b then flat.first
-          (flat.declare n (labelled p.kind p.label) false (term names e)) (passed names (n + 1) ps es) else passed
-          names n ps es)
-      by_form true form more those =
-          let own = word_as (labelled p.kind p.label) false in
-          let w = word_given is form in
-          let listed = lists_first all n (own_variable p) (passed_variables ps es) those
-          ∙ ap (λ d. Some d) (own_word p p.form form) in (
-            (
-              record { new = linked.fresh n (omega arith); listed = listed },
-              suits_there
-                  (means scope names types n linked w.has small.0) w.suits,
-            ),
-            more (with_type types n own) (n + 1) (linked_beside scope names types n own linked)
-                (lists_right all n (own_variable p ∷ []) (passed_variables ps es) those),
-          )
-      by_form false form more those = more types n linked those
+      linked lists = elim (cases_Bool (is_word p.form)) [
+        | inl word ↦ (
+            let own = word_as (labelled p.kind p.label) false in
+            let w = word_given is word in
+            let those = rw word at lists in
+            let listed = lists_first all n (own_variable p) (passed_variables ps es) those
+            ∙ ap Some (sym (own_word p p.form word)) in
+            rw word (
+              (
+                record { new = linked.fresh n (omega arith); listed = listed },
+                suits_there (means scope names types n linked w.has small.0) w.suits,
+              ),
+              passed_typed are small.1 (with_type types n own) (n + 1) (linked_beside scope names types n own linked)
+                  (lists_right all n (own_variable p ∷ []) (passed_variables ps es) those),
+            ))
+        | inr array ↦ rw array (passed_typed are small.1 types n linked (rw array at lists))
+      ]
 
 -- Calls.
 
@@ -115,18 +78,6 @@ pub record CallFits (all : List FlatVariable) (types : Types) (control : Label) 
   pub typed : AreTyped all types control (call_block o names n es)
   pub result : IsResult (types_after_all types (call_block o names n es)) (call_result o) (call_value o names n es)
   pub gives : type ≡ result_value (call_result o)
-
--- no name of variables stands in a scope of procedures
-none_linked : (scope base : Scope) (names : Numbers) (types : Types) (n : ℕ) → base.profile ≡ scope.profile
-    → NoVariables base → Linked scope names types n → Linked base [] types n
-none_linked scope base names types n same none linked = record {
-  observed = linked.observed ∙ sym same;
-  known = λ text v is. absurd (none text v is);
-  none = λ text is. refl;
-  below = λ text x is. absurd (none-some x is);
-  apart = λ a b x y is is' equal free. absurd (none-some x is);
-  fresh = linked.fresh;
-}
 
 body_fits : (before : List ProcedureTree) (at : Scope) (p : ProcedureTree) → TypedBody before at p
     → (all : List FlatVariable) (control : Label) → (control ≡ Secret → assigns_public at p ≡ false)
@@ -143,18 +94,18 @@ body_fits before at p body all control quiet scope same names types n linked es 
     let inside = types_after_all types front in
     let base = with_procedure at (length before) p in
     let start = enters scope names are base [] types n body.parameters linked
-    (none_linked scope base names types n same body.variables linked) (distinct_none names p.parameters es) in
-    let ready = subst (λ (t : Types). Linked (body_scope at (length before) p) own t m)
-    (sym (passed_types names types n p.parameters es)) start.linked in
+    (no_names base body.variables types n (linked.observed ∙ sym same) linked.fresh)
+    (distinct_none names p.parameters es) in
     let behind = lists_right all n words (declared_in_all (callables before) p.body) lists in
     let one = passed_typed all control scope names are small types n linked
     (lists_left all n words (declared_in_all (callables before) p.body) lists) in
     record {
-      typed = chain-typed all types control front back one (body.typed all control own inside m ready quiet behind);
+      typed = chain-typed all types control front back one
+          (body.typed all control own inside m start.linked quiet behind);
       result = subst (λ (t : Types). IsResult t p.result
           (value_of (names_after_all (callables before) own m p.body) p.returned))
           (sym (chain-types types front back))
-          (body.result own inside m ready);
+          (body.result own inside m start.linked);
       gives = refl;
     }
 

@@ -1,15 +1,14 @@
 -- What is known of procedures that may be called, and of the names where they are.
-use Rattle.std.proofs.Common.{◌≡◌, ℕ, suc, ◌+◌, ◌<◌, ◌≤◌, true, List, [], ◌∷◌, ◌++◌, length, Option, Some, None}
+use Rattle.std.proofs.Common.{◌≡◌, ℕ, ◌+◌, ◌<◌, ◌≤◌, true, List, ◌++◌, length, Option, Some, None}
 use Rattle.std.proofs.Common.{arith, length-append}
 use Rattle.word.specs.declared.profile.Profile.{Profile}
 use Rattle.inline.specs.declared.flat.FlatVariable.{FlatVariable}
 use Rattle.inline.specs.declared.numbering.Numbered.{Numbered}
-use Rattle.inline.specs.Flat.{TermTree, word_as, array_as}
+use Rattle.inline.specs.Flat.{TermTree}
 use Rattle.inline.specs.FlatMeaning.{Values, value_in, after_all, path_along, path_of_result}
-use Rattle.inline.specs.FlatTyping.{Types, with_type}
-use Rattle.inline.specs.Numbering.{Numbers, callables, naming, block, names_after, names_after_all, value_of}
-use Rattle.inline.specs.Numbering.{right_end, right_variables, element_variables, call_variables, call_result}
-use Rattle.inline.specs.Numbering.{dropped_variables, declared_in, declared_in_all, numbers_taken, numbers_taken_all}
+use Rattle.inline.specs.FlatTyping.{Types, with_type, types_after_all}
+use Rattle.inline.specs.Numbering.{Numbers, callables, naming, statement, block, names_after, names_after_all}
+use Rattle.inline.specs.Numbering.{value_of, declared_in, declared_in_all, numbers_taken, numbers_taken_all}
 use Rattle.inline.specs.Path.{either, first_fault}
 use Rattle.language.specs.declared.typing.Declared.TheVariants.{Variable}
 use Rattle.language.specs.declared.signature.Label.{Label}
@@ -19,13 +18,13 @@ use Rattle.language.specs.State.{State, Word}
 use Rattle.language.specs.Tree.{StatementTree, BlockTree, ProcedureTree}
 use Rattle.language.specs.Types.{Scope, declared}
 use Rattle.language.specs.Typing.{with_parameters, scope_after, scope_after_all}
-use Rattle.language.specs.WellTyped.{labelled, AreNew, IsWellTyped, declares, declares_array, assigns}
-use Rattle.language.specs.WellTyped.{assigns_element, calls, chooses, repeats, AreWellTyped, no_statement, one_more}
+use Rattle.language.specs.WellTyped.{AreNew, IsWellTyped, AreWellTyped, no_statement, one_more}
 use Rattle.language.specs.names.Scope.{found}
 use Rattle.inline.proofs.Comes.{Comes}
 use Rattle.inline.proofs.Linked.{Linked, later, linked_declared, variable_as}
+use Rattle.inline.proofs.LinkedAfter.{linked_after}
 use Rattle.inline.proofs.Parameters.{NoVariables}
-use Rattle.inline.proofs.Procedures.{EachCallable, IsCallable, callable_declared}
+use Rattle.inline.proofs.Procedures.{EachCallable, IsCallable, callable_after, callable_declared}
 use Rattle.inline.proofs.Terms.{Shows, word_at}
 
 -- a result that is the flat one's value, where there is one
@@ -100,29 +99,11 @@ module _ (earlier : List ProcedureTree) where
       → (names : Numbers) (n : ℕ) → Ready earlier scope names n
       → Ready earlier (scope_after scope s) (names_after (callables earlier) names n s)
       (n + numbers_taken (callables earlier) s)
-  ready_after (declares {scope = scope} {label = label} {mutable = mutable} {kind = kind} {text =
-      text} {right = right}
-      new has suit flow) names n ready =
-      let k = right_end (callables earlier) n right in
-      let own = word_as (labelled kind label) mutable in
-      let count = length-append (right_variables (callables earlier) right) (own ∷ []) in
-      ready_later (k + 1) (n + length (right_variables (callables earlier) right ++ own ∷ [])) (omega (arith, count))
-      (ready_declared k (ready_later n k (omega arith) ready) text own new)
-  ready_after (declares_array {scope = scope} {label = label} {mutable = mutable} {kind = kind} {size = size}
-      {text = text} new all count flow) names n ready = ready_declared n ready text
-      (array_as (labelled kind label) mutable size) new
-  ready_after (assigns {right = right} is has suit flow) names n ready =
-      ready_later n (n + length (right_variables (callables earlier) right)) (omega arith) ready
-  ready_after (assigns_element {right = right} is has value suit flow) names n ready =
-      ready_later n (n + length (element_variables (callables earlier) right)) (omega arith) ready
-  ready_after (calls {c = c} is) names n ready = ready_later n
-      (n + length (call_variables (callables earlier c.name) c.arguments
-      ++ dropped_variables (call_result (callables earlier c.name)))) (omega arith) ready
-  ready_after (chooses {accepted = accepted} {otherwise = otherwise} has one other) names n ready =
-      ready_later n (n + length (declared_in_all (callables earlier) accepted
-      ++ declared_in_all (callables earlier) otherwise)) (omega arith) ready
-  ready_after (repeats {body = body} low high new inner) names n ready =
-      ready_later n (n + suc (numbers_taken_all (callables earlier) body)) (omega arith) ready
+  ready_after {s = s} here names n ready = record {
+    types = types_after_all ready.types (statement (callables earlier) names n s);
+    linked = linked_after earlier here names ready.types n ready.linked;
+    calls = callable_after earlier (IsCallable IsKept earlier) here ready.calls;
+  }
 
   pub ready_after_all : {scope : Scope} {control : Label} {b : BlockTree} → AreWellTyped earlier scope control b
       → (names : Numbers) (n : ℕ) → Ready earlier scope names n

@@ -1,10 +1,10 @@
 -- A block and another behind it: what is known of both is known of the two.
-use Rattle.std.proofs.Common.{◌≡◌, ℕ, ◌+◌, ◌<◌, ◌≤◌, false, List, refl, ◌∙◌, subst, arith}
+use Rattle.std.proofs.Common.{◌≡◌, ℕ, ◌+◌, ◌<◌, ◌≤◌, false, List, refl, sym, ◌∙◌, subst, arith}
 use Rattle.inline.specs.declared.flat.FlatVariable.{FlatVariable}
-use Rattle.inline.specs.Flat.{FlatTree, declare, array, assign, put, hold, skip, branch, loop, FlatBlock, nothing}
+use Rattle.inline.specs.Flat.{FlatTree, declare, array, hold, FlatBlock, nothing}
 use Rattle.inline.specs.Flat.{first, chain, word_as, array_as, counter_type}
 use Rattle.inline.specs.FlatSize.{body_nodes}
-use Rattle.inline.specs.FlatTyping.{Types, AreTyped, types_after, types_after_all, declarations_in}
+use Rattle.inline.specs.FlatTyping.{Types, with_type, AreTyped, types_after, types_after_all, declarations_in}
 use Rattle.inline.specs.FlatTyping.{declarations_in_all, IsNumbered, AreNumbered}
 use Rattle.language.specs.declared.signature.Label.{Label}
 use Rattle.inline.proofs.Linked.{with_type-other}
@@ -40,62 +40,34 @@ pub chain-nodes : (a b : FlatBlock) → body_nodes (chain a b) ≡ body_nodes a 
 chain-nodes nothing b = omega arith
 chain-nodes (first s rest) b = let same = chain-nodes rest b in omega (arith, same)
 
--- A block changes no observer.
+-- A block that is numbered from n on declares its variables one after another: what each declaration keeps, as the
+-- next number goes on, the block keeps.
+module _ (P : ℕ → Types → Type 0)
+    (declares : (n : ℕ) (types : Types) (d : FlatVariable) → P n types → P (n + 1) (with_type types n d))
+    (goes_on : (n m : ℕ) (types : Types) → n ≤ m → P n types → P m types) where
+  kept_by_one : (s : FlatTree) (n : ℕ) (types : Types) → IsNumbered n s → P n types
+      → P (n + declarations_in s) (types_after types s)
+  kept_by_one (declare x word mutable value) n types is kept =
+      subst (λ y. P (n + 1) (with_type types y (word_as word mutable))) (sym is) (declares n types _ kept)
+  kept_by_one (array x word mutable size values) n types is kept =
+      subst (λ y. P (n + 1) (with_type types y (array_as word mutable size))) (sym is) (declares n types _ kept)
+  kept_by_one (hold x place size index) n types is kept =
+      subst (λ y. P (n + 1) (with_type types y (word_as counter_type false))) (sym is) (declares n types _ kept)
+  kept_by_one other n types is kept = goes_on n (n + declarations_in other) types (omega arith) kept
 
-type_observed : (types : Types) (s : FlatTree) → (types_after types s).profile ≡ types.profile
-type_observed types (declare y word mutable value) = refl
-type_observed types (array y word mutable size values) = refl
-type_observed types (assign y value) = refl
-type_observed types (put place y size index value) = refl
-type_observed types (hold y place size index) = refl
-type_observed types skip = refl
-type_observed types (branch label condition accepted otherwise) = refl
-type_observed types (loop y low high body) = refl
+  pub kept_by_numbered : (b : FlatBlock) (n : ℕ) (types : Types) → AreNumbered n b → P n types
+      → P (n + declarations_in_all b) (types_after_all types b)
+  kept_by_numbered nothing n types are kept = goes_on n (n + 0) types (omega arith) kept
+  kept_by_numbered (first s rest) n types are kept =
+      goes_on ((n + declarations_in s) + declarations_in_all rest) (n + (declarations_in s + declarations_in_all rest))
+      (types_after_all (types_after types s) rest) (omega arith)
+      (kept_by_numbered rest (n + declarations_in s) (types_after types s) are.1
+      (kept_by_one s n types are.0 kept))
 
-pub types_observed : (types : Types) (b : FlatBlock) → (types_after_all types b).profile ≡ types.profile
-types_observed types nothing = refl
-types_observed types (first s rest) = types_observed (types_after types s) rest ∙ type_observed types s
-
--- What is numbered from n on changes the types of no other numbers.
-
-pub type_before : (types : Types) (n : ℕ) (s : FlatTree) → IsNumbered n s → (x : ℕ) → x < n
-    → (types_after types s).at x ≡ types.at x
-type_before types n (declare y word mutable value) is x low =
-    with_type-other types y x (word_as word mutable) (λ e. omega (arith, is, low, e))
-type_before types n (array y word mutable size values) is x low =
-    with_type-other types y x (array_as word mutable size) (λ e. omega (arith, is, low, e))
-type_before types n (assign y value) is x low = refl
-type_before types n (put place y size index value) is x low = refl
-type_before types n (hold y place size index) is x low = with_type-other types y x (word_as counter_type false)
-    (λ e. omega (arith, is, low, e))
-type_before types n skip is x low = refl
-type_before types n (branch label condition accepted otherwise) is x low = refl
-type_before types n (loop y low' high body) is x low = refl
-
+-- so the types of numbers below n stay
 pub types_before : (types : Types) (n : ℕ) (b : FlatBlock) → AreNumbered n b → (x : ℕ) → x < n
     → (types_after_all types b).at x ≡ types.at x
-types_before types n nothing are x low = refl
-types_before types n (first s rest) are x low =
-    types_before (types_after types s) (n + declarations_in s) rest are.1 x
-    (omega (arith, low)) ∙ type_before types n s are.0 x low
-
-type_behind : (types : Types) (n : ℕ) (s : FlatTree) → IsNumbered n s → (x : ℕ) → n + declarations_in s ≤ x
-    → (types_after types s).at x ≡ types.at x
-type_behind types n (declare y word mutable value) is x high =
-    with_type-other types y x (word_as word mutable) (λ e. omega (arith, is, high, e))
-type_behind types n (array y word mutable size values) is x high =
-    with_type-other types y x (array_as word mutable size) (λ e. omega (arith, is, high, e))
-type_behind types n (assign y value) is x high = refl
-type_behind types n (put place y size index value) is x high = refl
-type_behind types n (hold y place size index) is x high = with_type-other types y x (word_as counter_type false)
-    (λ e. omega (arith, is, high, e))
-type_behind types n skip is x high = refl
-type_behind types n (branch label condition accepted otherwise) is x high = refl
-type_behind types n (loop y low' high' body) is x high = refl
-
-pub types_behind : (types : Types) (n : ℕ) (b : FlatBlock) → AreNumbered n b → (x : ℕ) → n + declarations_in_all b ≤ x
-    → (types_after_all types b).at x ≡ types.at x
-types_behind types n nothing are x high = refl
-types_behind types n (first s rest) are x high =
-    types_behind (types_after types s) (n + declarations_in s) rest are.1 x (omega (arith, high))
-    ∙ type_behind types n s are.0 x (omega (arith, high))
+types_before types n b are x low =
+    (kept_by_numbered (λ k t. (x < k) × (t.at x ≡ types.at x))
+    (λ k t d kept. let below = kept.0 in (omega arith, with_type-other t k x d (λ q. omega arith) ∙ kept.1))
+    (λ k m t more kept. let below = kept.0 in (omega arith, kept.1)) b n types are (low, refl)).1

@@ -1,7 +1,7 @@
--- What one block after another does.
-use Rattle.std.proofs.Common.{◌≡◌, refl, ap, sym, ◌∙◌}
+-- What one block after another does, and one turn of a loop after another.
+use Rattle.std.proofs.Common.{◌≡◌, ℕ, zero, suc, ◌+◌, ◌-◌, ◌<◌, refl, ap, sym, ◌∙◌, arith}
 use Rattle.inline.specs.Flat.{FlatTree, FlatBlock, nothing, first, chain}
-use Rattle.inline.specs.FlatMeaning.{Values, after, after_all, path_at, path_along}
+use Rattle.inline.specs.FlatMeaning.{Values, after, after_all, path_at, path_along, turns}
 use Rattle.inline.specs.Numbering.{single}
 use Rattle.inline.specs.Path.{either, first_fault}
 use Rattle.inline.proofs.Comes.{across, either-none, either-assoc}
@@ -25,3 +25,11 @@ fault_chain (first s a) b m =
 -- a block of one statement
 pub fault_single : (s : FlatTree) (m : Values) → first_fault (path_along m (single s)) ≡ first_fault (path_at m s)
 fault_single s m = across (path_at m s) (path_along (after m s) nothing) ∙ either-none (first_fault (path_at m s))
+
+-- what each turn keeps, all turns keep
+pub turns_keep : {S : Type 0} (P : S → Type 0) (turn : ℕ → S → S) (high : ℕ)
+    → ((i : ℕ) (s : S) → i < high → P s → P (turn i s)) → (k i : ℕ) (s : S) → high - i ≡ k → P s
+    → P (turns k i turn s)
+turns_keep P turn high keep zero i s count kept = kept
+turns_keep P turn high keep (suc k) i s count kept =
+    turns_keep P turn high keep k (i + 1) (turn i s) (omega arith) (keep i s (omega arith) kept)

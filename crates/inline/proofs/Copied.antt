@@ -1,7 +1,7 @@
 -- What the caller's names hold once a called body has ended.
-use Rattle.std.proofs.Common.{◌≡◌, ℕ, ◌+◌, ◌<◌, ◌==◌, Bool, true, false, if◌then◌else◌, List, [], ◌∷◌, length, Some}
-use Rattle.std.proofs.Common.{None, ◌⊎◌, inl, inr, refl, sym, ap, ◌∙◌, subst, true≢false, eq-eqb}
-use Rattle.std.proofs.lemmas.Bool.{eqb-true}
+use Rattle.std.proofs.Common.{◌≡◌, ℕ, ◌+◌, ◌<◌, Bool, true, false, List, [], ◌∷◌, Some, None, ◌⊎◌, inl, inr}
+use Rattle.std.proofs.Common.{⊎_elim, refl, sym, ap, ◌∙◌, subst, true≢false}
+use Rattle.std.proofs.lemmas.Bool.{cases_Bool, cases_eq}
 use Rattle.std.proofs.lemmas.Option.{none-some, same_Some}
 use Rattle.std.specs.Str.{bytes_eq}
 use lib.Pointwise.{bytes_decides}
@@ -40,26 +40,19 @@ pub changes_or_not : (names : Numbers) (y : ℕ) (ps : List ParameterTree) (es :
 changes_or_not names y [] es = inr (λ h. h)
 changes_or_not names y (p ∷ ps) [] = inr (λ h. h)
 changes_or_not names y (p ∷ ps) (e ∷ es) =
-    by_two (is_mutable p.form) refl (number_given names e == y) refl (changes_or_not names y ps es)
+    by_first (changes_or_not names y ps es) (cases_Bool (is_mutable p.form)) (cases_eq (number_given names e) y)
   where
-    by_two : (m : Bool) → is_mutable p.form ≡ m → (b : Bool) → (number_given names e == y) ≡ b
-        → Changes names y ps es ⊎ (Changes names y ps es → ⊥)
+    by_first : Changes names y ps es ⊎ (Changes names y ps es → ⊥)
+        → (is_mutable p.form ≡ true) ⊎ (is_mutable p.form ≡ false)
+        → (number_given names e ≡ y) ⊎ (number_given names e ≡ y → ⊥)
         → Changes names y (p ∷ ps) (e ∷ es) ⊎ (Changes names y (p ∷ ps) (e ∷ es) → ⊥)
-    by_two m free b same (inl later) = inl (inr later)
-    by_two true free true same (inr none) = inl (inl (free, eqb-true (number_given names e) y same))
-    by_two false free b same (inr none) = inr neither
-      where
-        neither : Changes names y (p ∷ ps) (e ∷ es) → ⊥
-        neither (inl here) = true≢false (sym here.0 ∙ free)
-        neither (inr there) = none there
-    by_two true free false same (inr none) = inr neither
-      where
-        neither : Changes names y (p ∷ ps) (e ∷ es) → ⊥
-        neither (inl here) = true≢false (sym (eq-eqb (number_given names e) y here.1) ∙ same)
-        neither (inr there) = none there
+    by_first (inl later) free same = inl (inr later)
+    by_first (inr none) (inl free) (inl same) = inl (inl (free, same))
+    by_first (inr none) (inl free) (inr other) = inr (⊎_elim (λ here. other here.1) none)
+    by_first (inr none) (inr kept) same = inr (⊎_elim (λ here. true≢false (sym here.0 ∙ kept)) none)
 
 -- the mutable names of a called body are those of such arrays
-word_immutable : {A : Type 0} (form : Form) → is_word form ≡ true → is_mutable form ≡ true → A
+pub word_immutable : {A : Type 0} (form : Form) → is_word form ≡ true → is_mutable form ≡ true → A
 word_immutable SingleWord is free = absurd (true≢false (sym free))
 word_immutable FixedArray is free = absurd (true≢false (sym free))
 word_immutable MutableArray is free = absurd (true≢false (sym is))
@@ -69,45 +62,25 @@ pub mutable_begun : (names : Numbers) (ps : List ParameterTree) (es : List ExprT
     → (found own text ≡ Some z) ⊎ Changes names z.number ps es
 mutable_begun names [] es own n text z is free = inl is
 mutable_begun names (p ∷ ps) [] own n text z is free = inl is
-mutable_begun names (p ∷ ps) (e ∷ es) own n text z is free =
-    by_form (is_word p.form) refl (mutable_begun names ps es) is
+mutable_begun names (p ∷ ps) (e ∷ es) own n text z is free = elim (cases_Bool (is_word p.form)) [
+  | inl word ↦ with_first n (λ may same. word_immutable p.form word may)
+      (mutable_begun names ps es (naming own p.name n (own_variable p)) (n + 1) text z (rw word at is) free)
+  | inr array ↦ with_first (number_given names e) (λ may same. inr (inl (may, same)))
+      (mutable_begun names ps es (naming own p.name (number_given names e) (own_variable p)) n text z
+      (rw array at is) free)
+]
   where
-    by_form : (b : Bool) → is_word p.form ≡ b
-        → ((own' : Numbers) (n' : ℕ) (text : List ℕ) (z : Numbered) → found (begun names own' n' ps es) text ≡ Some z
-        → z.declaration.mutable ≡ true → (found own' text ≡ Some z) ⊎ Changes names z.number ps es)
-        → found (if b then begun names (naming own p.name n (own_variable p)) (n + 1) ps es else begun names
-        (naming own p.name (number_given names e) (own_variable p)) n ps es) text ≡ Some z
+    with_first : (number : ℕ) → (is_mutable p.form ≡ true → number ≡ z.number
+        → (found own text ≡ Some z) ⊎ Changes names z.number (p ∷ ps) (e ∷ es))
+        → (found (naming own p.name number (own_variable p)) text ≡ Some z) ⊎ Changes names z.number ps es
         → (found own text ≡ Some z) ⊎ Changes names z.number (p ∷ ps) (e ∷ es)
-    by_form true form more there = by_rest (more (naming own p.name n (own_variable p)) (n + 1) text z there free)
-      where
-        by_own : (found own text ≡ Some z) ⊎ ((bytes_eq text p.name ≡ true) × (entry n (own_variable p) ≡ z))
-            → (found own text ≡ Some z) ⊎ Changes names z.number (p ∷ ps) (e ∷ es)
-        by_own (inl old) = inl old
-        by_own (inr new) = word_immutable p.form form (ap (λ (y : Numbered). y.declaration.mutable) new.1 ∙ free)
-
-        by_rest : (found (naming own p.name n (own_variable p)) text ≡ Some z) ⊎ Changes names z.number ps es
-            → (found own text ≡ Some z) ⊎ Changes names z.number (p ∷ ps) (e ∷ es)
-        by_rest (inl here) = by_own (found-split own p.name (entry n (own_variable p)) text z here)
-        by_rest (inr later) = inr (inr later)
-    by_form false form more there =
-        by_rest (more (naming own p.name (number_given names e) (own_variable p)) n text z there free)
-      where
-        by_own : (found own text ≡ Some z) ⊎
-            ((bytes_eq text p.name ≡ true) × (entry (number_given names e) (own_variable p) ≡ z))
-            → (found own text ≡ Some z) ⊎ Changes names z.number (p ∷ ps) (e ∷ es)
-        by_own (inl old) = inl old
-        by_own (inr new) =
-            inr (inl (
-              ap (λ (y : Numbered). y.declaration.mutable) new.1
-                  ∙ free,
-              ap (λ (y : Numbered). y.number) new.1,
-            ))
-
-        by_rest : (found (naming own p.name (number_given names e) (own_variable p)) text ≡ Some z) ⊎ Changes names
-            z.number ps es → (found own text ≡ Some z) ⊎ Changes names z.number (p ∷ ps) (e ∷ es)
-        by_rest (inl here) =
-            by_own (found-split own p.name (entry (number_given names e) (own_variable p)) text z here)
-        by_rest (inr later) = inr (inr later)
+    with_first number new (inr later) = inr (inr later)
+    with_first number new (inl here) =
+        elim (found-split own p.name (entry number (own_variable p)) text z here) [
+          | inl old ↦ inl old
+          | inr own_name ↦ new (ap (λ (y : Numbered). y.declaration.mutable) own_name.1 ∙ free)
+              (ap (λ (y : Numbered). y.number) own_name.1)
+        ]
 
 -- a number that the call changes nowhere
 pub spares_begun : (names : Numbers) (n start x : ℕ) (ps : List ParameterTree) (es : List ExprTree) → x < start
@@ -156,37 +129,30 @@ module _ (scope : Scope) (names : Numbers) (types : Types) (n : ℕ) (linked : L
       by_text true same first =
           let k = known_array scope names types n linked array (array_of p) true known in
           let d = array_as (labelled p.kind p.label) true p.length in
-          let alike = same_Some (entry k.number d) x (sym k.found
+          let y = number_given names (name place array) in
+          let alike = same_Some (entry y d) x (sym k.found
           ∙ (ap (found names) (sym ((bytes_decides text array).0 same)) ∙ there)) in
-          let here = ap (λ (y : Numbered). y.number) k.here in
           let holds = shows p.name _ named in
           let size : elements_by p.form p.length ≡ Some p.length = ap (λ f. elements_by f p.length) form in
-          let ours : Holds d (with_some s array (t p.name) text) (m k.number) = record {
-            is = held_by_name s array text (t p.name) _ holds.is same
-                ∙ (ap (λ o. Some (held p.kind o (m (number_given names (name place array))))) size
-                ∙ ap (λ y. Some (held p.kind (Some p.length) (m y))) here);
-            count = ap (λ y. length (m y)) (sym here) ∙ (holds.count ∙ ap numbers_in size);
+          let ours : Holds d (with_some s array (t p.name) text) (m y) = record {
+            is = held_by_name s array text (t p.name) _ holds.is same ∙ ap (λ o. Some (held p.kind o (m y))) size;
+            count = holds.count ∙ ap numbers_in size;
           } in
           inr (subst (λ (y : Numbered). Holds y.declaration (with_some s array (t p.name) text) (m y.number))
           alike ours)
       by_text false other (inl (inl here)) =
           let k = known_array scope names types n linked array (array_of p) true known in
-          let equal = sym (ap (λ (y : Numbered). y.number) k.here) ∙ here.1 in
           absurd
           (true≢false
-          (sym ((bytes_decides text array).1 (sym (linked.apart array text _ x k.found there equal refl)))
+          (sym ((bytes_decides text array).1 (sym (linked.apart array text _ x k.found there here.1 refl)))
           ∙ other))
       by_text false other (inl (inr later)) = inl later
       by_text false other (inr holds) = inr
           (subst (λ o. Holds x.declaration o (m x.number)) (sym (held_by_other s array text (t p.name) other)) holds)
 
-  none_back : {A : Type 0} → ⊥ ⊎ A → A
-  none_back (inl none) = absurd none
-  none_back (inr holds) = holds
-
   pub copied : {ps : List ParameterTree} {es : List ExprTree} → ArePassed scope ps es → NamesGiven names own ps es
       → (s : State) → Back ps es s → Shows names (copied_out s t ps es) m
-  copied none_passed named s back = λ text x there. none_back (back text x there)
+  copied none_passed named s back = λ text x there. ⊎_elim (λ none. absurd none) (λ holds. holds) (back text x there)
   copied (one_passed {p = p} {ps = ps} {argument = e} {arguments = es} (as_word form has suit) shares are) named s
       back = copied are named.1 (gone_back p.form s t e p.name)
       (immutable_back p SingleWord e ps es s form refl refl back)

@@ -1,6 +1,6 @@
 -- What the crates above take from these proofs, in one place.
 pub use Rattle.inline.proofs.Begun.{Enters, distinct_none, enters}
-pub use Rattle.inline.proofs.CallEnds.{call_means, no_names}
+pub use Rattle.inline.proofs.CallEnds.{call_means}
 pub use Rattle.inline.proofs.CallSizes.{GoTogether, same_all, same_nodes, same_result, value_there}
 pub use Rattle.inline.proofs.Called.{Behaves, IsKept, Ready, ready_after, ready_declared, ready_later}
 pub use Rattle.inline.proofs.Comes.{Comes, fails, well}
@@ -23,7 +23,7 @@ pub use Rattle.inline.proofs.FlatMeanings.{begins, behaves, flat_keeps_meaning}
 pub use Rattle.inline.proofs.FlatPrograms.{flat_is_typed}
 pub use Rattle.inline.proofs.FlatSizes.{flat_is_sized}
 pub use Rattle.inline.proofs.Linked.{Linked, entry, with_type-other, with_type-same}
-pub use Rattle.inline.proofs.Parameters.{all_own, linked_parameters, shows_arguments, typed_with}
+pub use Rattle.inline.proofs.Parameters.{all_own, linked_parameters, no_names, shows_arguments}
 pub use Rattle.inline.proofs.Passing.{passed_comes}
 pub use Rattle.inline.proofs.Procedures.{
   EachCallable,

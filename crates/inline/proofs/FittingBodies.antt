@@ -1,7 +1,8 @@
 -- A well-typed body keeps each variable in scope as it is declared.
-use Rattle.std.proofs.Common.{◌≡◌, ℕ, zero, suc, ◌+◌, ◌-◌, ◌^◌, ◌<◌, ◌≤◌, ◌==◌, Bool, true, false, if◌then◌else◌}
+use Rattle.std.proofs.Common.{◌≡◌, ℕ, zero, suc, ◌-◌, ◌^◌, ◌<◌, ◌≤◌, ◌==◌, Bool, true, false, if◌then◌else◌}
 use Rattle.std.proofs.Common.{List, [], ◌∷◌, length, map, take, drop, All, slice_get, slice_set, Some, sym, ap, ◌∙◌}
 use Rattle.std.proofs.Common.{subst, refl, arith, eqb-true}
+use Rattle.std.proofs.lemmas.Bool.{cond_both}
 use Rattle.std.proofs.lemmas.List.{length-set, length-replicate, length-map}
 use Rattle.std.proofs.lemmas.List.Elements.{All-nil, All-cons, All-set, All-replicate}
 use Rattle.std.proofs.lemmas.Option.{none-some, same_Some}
@@ -10,7 +11,7 @@ use Rattle.inline.specs.declared.flat.FlatVariable.{FlatVariable}
 use Rattle.inline.specs.Fitting.{IsWithinKind, IsHeld, Fits}
 use Rattle.inline.specs.Flat.{TermTree, FlatTree, declare, array, assign, put, hold, skip, branch, loop, FlatBlock}
 use Rattle.inline.specs.Flat.{nothing, first, FlatProgram, word_as, array_as, declaration_of}
-use Rattle.inline.specs.FlatMeaning.{Values, with_value, value_in, elements, turns, after, after_all, given, end_of}
+use Rattle.inline.specs.FlatMeaning.{Values, with_value, value_in, elements, after, after_all, given, end_of}
 use Rattle.inline.specs.FlatTyping.{Types, with_type, AllSuit, HasCount, IsTyped, AreTyped, IsTypedProgram, IsResult}
 use Rattle.inline.specs.FlatTyping.{counter_type, types_after, types_after_all, parameter_types, end_types}
 use Rattle.language.specs.declared.signature.Kind.{Kind}
@@ -21,6 +22,7 @@ use Rattle.language.specs.declared.signature.Param.{Param}
 use Rattle.language.specs.declared.typing.WordType.{WordType}
 use Rattle.language.specs.declared.values.Arg.{Arg}
 use Rattle.language.specs.Types.{joined}
+use Rattle.inline.proofs.Chains.{turns_keep}
 use Rattle.inline.proofs.Fitting.{value_fits, suited_fits, some_bit}
 use Rattle.inline.proofs.Parameters.{argument_count}
 use Rattle.inline.proofs.Linked.{with_type-other}
@@ -44,12 +46,9 @@ fits_declared types m y v own here fits x d is = by_number (x == y) is
 
 pub fits_assigned : (types : Types) (m : Values) (y : ℕ) (v : List ℕ) (own : FlatVariable) → types.at y ≡ Some own
     → IsHeld own v → Fits types m → Fits types (with_value m y v)
-fits_assigned types m y v own there here fits x d is = by_number (x == y) refl
-  where
-    by_number : (b : Bool) → (x == y) ≡ b → IsHeld d (if b then v else m x)
-    by_number true e = subst (λ (t : FlatVariable). IsHeld t v)
-        (same_Some own d (sym there ∙ (ap types.at (sym (eqb-true x y e)) ∙ is))) here
-    by_number false e = fits x d is
+fits_assigned types m y v own there here fits x d is = cond_both (x == y) v (m x) (IsHeld d)
+    (λ same. subst (λ (t : FlatVariable). IsHeld t v)
+    (same_Some own d (sym there ∙ (ap types.at (sym (eqb-true x y same)) ∙ is))) here) (λ other. fits x d is)
 
 -- the elements of a new array
 module _ (types : Types) (m : Values) (fits : Fits types m) (word : WordType) where
@@ -58,25 +57,12 @@ module _ (types : Types) (m : Values) (fits : Fits types m) (word : WordType) wh
   all_fit (e ∷ es) suit = All-cons (IsWithinKind word.kind) (value_in m e) (map (value_in m) es)
       (suited_fits types m fits word e suit.0) (all_fit es suit.1)
 
-  elements_held : (mutable : Bool) (size : ℕ) (es : List TermTree) → AllSuit types word es → HasCount size es
+  pub elements_held : (mutable : Bool) (size : ℕ) (es : List TermTree) → AllSuit types word es → HasCount size es
       → IsHeld (array_as word mutable size) (elements m size es)
   elements_held mutable size [] suit count = record
       { count = length-replicate size 0; within = All-replicate (IsWithinKind word.kind) size 0 (some_bit word.kind) }
   elements_held mutable size (e ∷ es) suit count = record
       { count = length-map (e ∷ es) (value_in m) ∙ count; within = all_fit (e ∷ es) suit }
-
-either_fits : (types : Types) (b : Bool) (m n : Values) → Fits types m → Fits types n
-    → Fits types (if b then n else m)
-either_fits types true m n one other = other
-either_fits types false m n one other = one
-
--- after so many turns, where each keeps it
-fits_turns : (types : Types) (turn : ℕ → Values → Values) (n : ℕ)
-    → ((i : ℕ) (m : Values) → i < n → Fits types m → Fits types (turn i m)) → (k i : ℕ) (m : Values) → n - i ≡ k
-    → Fits types m → Fits types (turns k i turn m)
-fits_turns types turn n step zero i m count fits = fits
-fits_turns types turn n step (suc k) i m count fits = fits_turns types turn n step k (i + 1) (turn i m) (omega arith)
-    (step i m (omega arith) fits)
 
 -- Statements.
 
@@ -110,9 +96,9 @@ module _ (all : List FlatVariable) where
         let under = joined label control in
         let one = fits_after_all accepted types under typed.1 m fits in
         let other = fits_after_all otherwise types under typed.2 m fits in
-        either_fits types (value_in m condition == 0) (after_all m accepted) (after_all m otherwise)
-        (λ x d is. one x d (types_kept all types under accepted typed.1 x d is))
-        (λ x d is. other x d (types_kept all types under otherwise typed.2 x d is))
+        cond_both (value_in m condition == 0) (after_all m otherwise) (after_all m accepted) (Fits types)
+        (λ zero x d is. other x d (types_kept all types under otherwise typed.2 x d is))
+        (λ nonzero x d is. one x d (types_kept all types under accepted typed.1 x d is))
     fits_after (loop y low high body) types control typed m fits =
         let own = word_as counter_type false in
         let inside = with_type types y own in
@@ -120,7 +106,7 @@ module _ (all : List FlatVariable) where
         let b = value_in m high in
         let most : b < 2 ^ 32 = value_fits types m fits typed.1 in
         let turn = λ (i : ℕ) (t : Values). after_all (with_value t y (i ∷ [])) body in
-        fits_turns types turn b
+        turns_keep (Fits types) turn b
         (λ i t less held x d is.
         fits_after_all body inside control typed.3 (with_value t y (i ∷ []))
         (fits_declared types t y (i ∷ []) own (one_held counter_type false i (omega (arith, less, most))) held) x d

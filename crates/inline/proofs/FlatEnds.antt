@@ -4,7 +4,7 @@ use Rattle.std.proofs.Common.{◌∷◌, length, map, replicate, Option, Some, N
 use Rattle.std.proofs.Common.{ap₂, ◌∙◌, subst, arith}
 use Rattle.std.proofs.lemmas.List.{length-set, length-replicate, length-map}
 use Rattle.word.specs.declared.place.Place.{Place}
-use Rattle.inline.specs.declared.numbering.Numbered.{Numbered}
+use Rattle.inline.specs.declared.flat.FlatVariable.{FlatVariable}
 use Rattle.inline.specs.Flat as flat_tree
 use Rattle.inline.specs.Flat.{FlatTree, FlatBlock, chain, word_as, array_as, numbers_in, TermTree}
 use Rattle.inline.specs.FlatMeaning.{Values, value_in, path_in, path_in_all, elements, after, after_all, path_at}
@@ -191,14 +191,13 @@ element_shown scope names types n linked text own is s m shows u w i v same alik
     let d = array_as own.element true own.length in
     let x = known_array scope names types n linked text own true is in
     let y = number_of names text in
-    let known = x.found ∙ ap (λ (z : Numbered). Some (entry z.number d)) (sym x.here) in
-    let holds = shows text (entry y d) known in
+    let holds = shows text (entry y d) x.found in
     subst (λ t. Shows names t (flat.with_value m y (slice_set (m y) i v)))
     (sym (with_another s text own.element.kind (m y) u.value w holds.is
     ∙ ap₂ (λ j (z : state.Word). with_value s text (state.array own.element.kind (slice_set (m y) j z.value))) same
     alike))
     (shows_changed scope names types n linked s m shows text d (state.array own.element.kind (slice_set (m y) i v))
-    (slice_set (m y) i v) (record { is = refl; count = length-set (m y) i v ∙ holds.count }) y known refl)
+    (slice_set (m y) i v) (record { is = refl; count = length-set (m y) i v ∙ holds.count }) y x.found refl)
 
 -- the element that is evaluated first
 element_first : (scope : Scope) (names : Numbers) (types : Types) (n : ℕ) → Linked scope names types n
@@ -210,9 +209,9 @@ element_first scope names types n linked text own is s m shows bracket target in
     let d = array_as own.element true own.length in
     let x = known_array scope names types n linked text own true is in
     let y = number_of names text in
-    let holds = shows text (entry y d) (x.found ∙ ap (λ (z : Numbered). Some (entry z.number d)) (sym x.here)) in
+    let holds = shows text (entry y d) x.found in
     element_asked s bracket target text index own.element.kind (m y) (size_of names text) i holds.is
-    (holds.count ∙ ap (λ (z : Numbered). numbers_in z.declaration.elements) (sym x.here)) u evaluated same
+    (holds.count ∙ ap (λ (o : FlatVariable). numbers_in o.elements) (sym x.declared)) u evaluated same
 
 module _ (ps : List ProcedureTree) where
   -- what is to be shown of a statement and of a block
@@ -297,8 +296,7 @@ module _ (ps : List ProcedureTree) where
           assigns is,
           shows_changed scope names ready.types n ready.linked r.state end good.shows text (word_as own true)
               (single (word_given r.word)) (v ∷ []) (holds_word own true (word_given r.word) v good.word)
-              (number_of names text)
-              (x.found ∙ ap (λ (y : Numbered). Some (entry y.number (word_as own true))) (sym x.here)) refl,
+              (number_of names text) x.found refl,
         ))
         (λ at is. assignment_faults is))
     same_end (rules.assigns_element {scope = scope} {place = place} {bracket = bracket} {target =

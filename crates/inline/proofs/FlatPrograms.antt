@@ -21,9 +21,10 @@ use Rattle.language.specs.Typing.{assigns_public, parameters_assign, block_assig
 use Rattle.language.specs.Typing.{violations, scope_after_all}
 use Rattle.language.specs.WellTyped.{Returns, nothing_returned, value_returned, IsProcedure}
 use Rattle.inline.proofs.CallTypes.{TypedBody}
-use Rattle.inline.proofs.FlatTypes.{IsHushed, typed_block, linked_after_all}
+use Rattle.inline.proofs.FlatTypes.{IsHushed, typed_block}
 use Rattle.inline.proofs.Hiding.{either_false, hides_none, hides_parameters}
 use Rattle.inline.proofs.Linked.{Linked}
+use Rattle.inline.proofs.LinkedAfter.{linked_after_all}
 use Rattle.inline.proofs.Listed.{Lists, lists_end, block_takes, all_counted}
 use Rattle.inline.proofs.Parameters.{linked_parameters, all_own}
 use Rattle.inline.proofs.Procedures.{Stand, Exported, IsAt, IsWithin, own_typing, variables_within, earlier_within}

@@ -1,10 +1,9 @@
 -- A well-typed statement is well typed once its names are numbers, under the control label of the source, and under
 -- secret control too where it assigns to nothing public.
-use Rattle.std.proofs.Common.{◌≡◌, ℕ, suc, ◌+◌, Bool, false, true, List, [], ◌∷◌, ◌++◌, length, map, Option, Some}
-use Rattle.std.proofs.Common.{None, refl, sym, ap, ◌∙◌, subst, arith, length-append}
+use Rattle.std.proofs.Common.{◌≡◌, ℕ, ◌+◌, Bool, false, true, List, [], ◌∷◌, length, map, Option, Some}
+use Rattle.std.proofs.Common.{None, refl, sym, ap, ◌∙◌, subst, arith}
 use Rattle.std.proofs.lemmas.List.{length-map}
 use Rattle.inline.specs.declared.flat.FlatVariable.{FlatVariable}
-use Rattle.inline.specs.declared.numbering.Numbered.{Numbered}
 use Rattle.inline.specs.Flat.{chain, word_as, array_as, numbers_in}
 use Rattle.inline.specs.Flat as tree
 use Rattle.inline.specs.FlatTyping.{Types, AreTyped, IsPut, Suits, types_after_all, with_type, counter_type}
@@ -12,7 +11,7 @@ use Rattle.inline.specs.FlatTyping as flat
 use Rattle.inline.specs.Numbering.{Numbers, Callables, callables, call_block, call_variables, call_result, call_value}
 use Rattle.inline.specs.Numbering.{right_block, right_variables, right_end, right, value_given, element_block}
 use Rattle.inline.specs.Numbering.{element_variables, dropped_block, dropped_variables, statement, block, names_after}
-use Rattle.inline.specs.Numbering.{names_after_all, naming, number_of, size_of, declared_in, declared_in_all}
+use Rattle.inline.specs.Numbering.{naming, number_of, size_of, declared_in, declared_in_all}
 use Rattle.inline.specs.Numbering.{numbers_taken, numbers_taken_all, term, single}
 use Rattle.language.specs.declared.signature.Kind.TheVariants.{Boolean}
 use Rattle.language.specs.declared.signature.Label.{Label}
@@ -21,10 +20,10 @@ use Rattle.language.specs.declared.typing.ArrayType.{ArrayType}
 use Rattle.language.specs.declared.typing.ValueType.TheVariants.{Word, Array}
 use Rattle.language.specs.declared.typing.WordType.{WordType}
 use Rattle.language.specs.Grammatical.{AreSmall, AreAllSmall, AreSmallValues, IsSmallRight, IsPlain, ArePlain}
-use Rattle.language.specs.Tree.{ExprTree, RightTree, StatementTree, declaration, assignment, element_assignment, call}
+use Rattle.language.specs.Tree.{ExprTree, RightTree, StatementTree}
 use Rattle.language.specs.Tree.{BlockTree, ProcedureTree, written}
 use Rattle.language.specs.Types.{Scope, joined}
-use Rattle.language.specs.Typing.{block_assigns, right_assigns, scope_after, scope_after_all, statement_assigns}
+use Rattle.language.specs.Typing.{block_assigns, right_assigns, statement_assigns}
 use Rattle.language.specs.WellTyped as rules
 use Rattle.language.specs.WellTyped.{labelled, IsVariable, FlowsTo, public_flows, secret_flows, Gives, of_call}
 use Rattle.language.specs.WellTyped.{of_value, IsWellTyped, declares, declares_array, assigns, assigns_element, calls}
@@ -36,7 +35,8 @@ use Rattle.inline.proofs.Hiding.{Hides, hides_after, hides_counter, either_false
 use Rattle.inline.proofs.KnownLemmas.{AllKnown}
 use Rattle.inline.proofs.Linked.{Linked, Serves, KnownAs, linked_beside, linked_declared, known_word, known_array}
 use Rattle.inline.proofs.Linked.{later, with_type-same}
-use Rattle.inline.proofs.Listed.{Lists, IsCounted, call_takes, right_takes, statement_takes, passed_over, all_counted}
+use Rattle.inline.proofs.Listed.{Lists, IsCounted, call_takes, passed_over, all_counted}
+use Rattle.inline.proofs.LinkedAfter.{linked_after, linked_right}
 use Rattle.inline.proofs.Listed.{lists_first, lists_left, lists_right}
 use Rattle.inline.proofs.Procedures.{Stand, IsAt, IsWithin, callable_after, callable_declared}
 use Rattle.inline.proofs.Terms.{means, suits_there}
@@ -71,10 +71,8 @@ served {d = d} serves free = serves.is
 array_there : {names : Numbers} {types : Types} {text : List ℕ} {array : ArrayType}
     → KnownAs names types text (array_as array.element true array.length)
     → types.at (number_of names text) ≡ Some (array_as array.element true (size_of names text))
-array_there {types = types} {array = own} x =
-    ap (λ (x : Numbered). types.at x.number) x.here
-    ∙ (served x.typed refl ∙ ap (λ (x : Numbered). Some
-    (array_as own.element true (numbers_in x.declaration.elements))) (sym x.here))
+array_there {array = own} x = served x.typed refl
+    ∙ ap (λ (d : FlatVariable). Some (array_as own.element true (numbers_in d.elements))) (sym x.declared)
 
 -- the first values of an array
 module _ (scope : Scope) (names : Numbers) (types : Types) (n : ℕ) (linked : Linked scope names types n) where
@@ -110,74 +108,6 @@ module _ (earlier : List ProcedureTree) where
 
   abbrev counted : AllKnown IsCounted known
   counted = all_counted earlier
-
-  -- names, types and numbers still go together behind a right side
-  linked_right : (scope : Scope) (names : Numbers) (types : Types) (n : ℕ) → Linked scope names types n
-      → (r : RightTree)
-      → Linked scope names (types_after_all types (right_block known names n r)) (right_end known n r)
-  linked_right scope names types n linked r = passed_over scope names types n (right_block known names n r)
-      (length (right_variables known r)) (right_takes known counted names n r) linked
-
-  -- after a statement
-  pub linked_after : {scope : Scope} {control : Label} {s : StatementTree} → IsWellTyped earlier scope control s
-      → (names : Numbers) (types : Types) (n : ℕ) → Linked scope names types n
-      → Linked (scope_after scope s) (names_after known names n s) (types_after_all types (statement known names n s))
-      (n + numbers_taken known s)
-  linked_after (declares {scope = scope} {place = place} {label = label} {mutable = mutable} {kind =
-      kind} {text = text}
-      {right = r} new has suit flow) names types n linked =
-      let own = word_as (labelled kind label) mutable in
-      let vars = right_variables known r in
-      let front = right_block known names n r in
-      let m = right_end known n r in
-      let count = length-append vars (own ∷ []) in
-      let same : m + 1 ≡ n + length (vars ++ own ∷ []) = omega (arith, count) in
-      let there = linked_declared scope names (types_after_all types front) m
-      (linked_right scope names types n linked r) text own new in
-      subst (Linked (scope_after scope (declaration place label mutable kind text r)) (naming names text m own)
-      (types_after_all types (statement known names n (declaration place label mutable kind text r)))) same
-      (subst (λ t. Linked (scope_after scope (declaration place label mutable kind text r))
-      (naming names text m own) t
-      (m + 1)) (sym (chain-types types front
-      (single (tree.declare m (labelled kind label) mutable (right known names n r))))) there)
-  linked_after (declares_array {scope = scope} {label = label} {mutable = mutable} {kind = kind} {size = size}
-      {text = text} new all count flow) names types n linked =
-      linked_declared scope names types n linked text (array_as (labelled kind label) mutable size) new
-  linked_after (assigns {scope = scope} {place = place} {target = target} {text = text} {right = r} is has suit flow)
-      names types n linked = passed_over scope names types n _ _
-      (statement_takes known counted names n (assignment place target text r)) linked
-  linked_after (assigns_element {scope = scope} {place = place} {bracket = bracket} {target = target} {text = text}
-      {index = index} {right = r} is has value suit flow) names types n linked =
-      passed_over scope names types n _ _
-      (statement_takes known counted names n (element_assignment place bracket target text index r)) linked
-  linked_after (calls {scope = scope} {c = c} is) names types n linked =
-      passed_over scope names types n _ _ (statement_takes known counted names n (call c)) linked
-  linked_after (chooses {scope = scope} {accepted = accepted} {otherwise = otherwise} has one other) names
-      types n linked =
-      later scope names types n (n + length (declared_in_all known accepted ++ declared_in_all known otherwise))
-      (omega arith) linked
-  linked_after (repeats {scope = scope} {body = body} low high new inner) names types n linked =
-      later scope names types n (n + suc (numbers_taken_all known body)) (omega arith) linked
-
-  pub linked_after_all : {scope : Scope} {control : Label} {b : BlockTree} → AreWellTyped earlier scope control b
-      → (names : Numbers) (types : Types) (n : ℕ) → Linked scope names types n
-      → Linked (scope_after_all scope b) (names_after_all known names n b)
-      (types_after_all types (block known names n b)) (n + numbers_taken_all known b)
-  linked_after_all (no_statement {scope = scope}) names types n linked =
-      later scope names types n (n + 0) (omega arith) linked
-  linked_after_all (one_more {scope = scope} {statement = s} {rest = rest} here there) names types n linked =
-      let m = n + numbers_taken known s in
-      let next = names_after known names n s in
-      let back = block known next m rest in
-      let inside = types_after_all types (statement known names n s) in
-      let end = linked_after_all there next inside m (linked_after here names types n linked) in
-      let count = length-append (declared_in known s) (declared_in_all known rest) in
-      let same : m + numbers_taken_all known rest ≡ n + length (declared_in known s ++ declared_in_all known rest) =
-      omega (arith, count) in
-      subst (Linked (scope_after_all (scope_after scope s) rest) (names_after_all known next m rest)
-      (types_after_all types (chain (statement known names n s) back))) same
-      (subst (λ t. Linked (scope_after_all (scope_after scope s) rest) (names_after_all known next m rest) t
-      (m + numbers_taken_all known rest)) (sym (chain-types types (statement known names n s) back)) end)
 
   module _ (at : Scope) (stand : Stand TypedBody earlier at) (all : List FlatVariable) (outer : Label) where
     -- a right side that is well typed
@@ -274,7 +204,7 @@ module _ (earlier : List ProcedureTree) where
           let vars = right_variables known r in
           let front = right_block known names n r in
           let m = right_end known n r in
-          let there = linked_right scope names types n linked r in
+          let there = linked_right earlier scope names types n linked r in
           let f = right_fits has suit within (λ e. (either_false _ (right_assigns at r) (hush e).1).1) names types n
           linked plain (lists_left all n vars (own ∷ []) lists) in
           let listed = lists_first all m own [] (lists_right all n vars (own ∷ []) lists) in
@@ -298,13 +228,13 @@ module _ (earlier : List ProcedureTree) where
           let front = right_block known names n r in
           let m = right_end known n r in
           let inside = types_after_all types front in
-          let x = known_word scope names inside m (linked_right scope names types n linked r) text wanted true is in
+          let x = known_word scope names inside m (linked_right earlier scope names types n linked r) text wanted true is in
           let f = right_fits has suit within (λ e. (hush e).1) names types n linked plain lists in
           chain-typed all types (joined outer control) front
           (single (tree.assign (number_of names text) (right known names n r))) f.typed (
             record {
               word = wanted;
-              known = ap (λ (x : Numbered). inside.at x.number) x.here ∙ served x.typed refl;
+              known = served x.typed refl;
               suits = f.suits;
               hidden = still_secret outer flow (λ e. (hush e).0 text _ is refl);
             },
@@ -363,7 +293,7 @@ module _ (earlier : List ProcedureTree) where
                 listed = lists_first all n own (declared_in_all known body) lists;
               },
               typed_block inner (callable_declared earlier (IsAt at) scope text _ within)
-                  (λ e. (hides_counter scope text new (hush e).0, (hush e).1)) (naming names text n own)
+                  (λ e. (hides_counter scope text (hush e).0, (hush e).1)) (naming names text n own)
                   (with_type types n own) (n + 1) (linked_declared scope names types n linked text own new) plain.2
                   (lists_right all n (own ∷ []) (declared_in_all known body) lists),
             ),
@@ -388,5 +318,5 @@ module _ (earlier : List ProcedureTree) where
           (lists_left all n (declared_in known s) (declared_in_all known rest) lists))
           (typed_block there (callable_after earlier (IsAt at) here within)
           (λ e. (hides_after at here (hush e).0 (quiet e).0, (quiet e).1)) next (types_after_all types front) m
-          (linked_after here names types n linked) plain.1
+          (linked_after earlier here names types n linked) plain.1
           (lists_right all n (declared_in known s) (declared_in_all known rest) lists))

@@ -1,6 +1,5 @@
 -- A scope in which nothing public may be assigned to.
-use Rattle.std.proofs.Common.{◌≡◌, ℕ, Bool, true, false, ◌||◌, List, Some, None, refl, sym, ◌∙◌, subst, true≢false}
-use Rattle.std.specs.Str.{bytes_eq}
+use Rattle.std.proofs.Common.{◌≡◌, ℕ, Bool, true, false, ◌||◌, List, Some, inl, inr, refl, sym, ap, ◌∙◌, subst, true≢false}
 use Rattle.language.specs.declared.signature.Form.{Form}
 use Rattle.language.specs.declared.signature.Form.TheVariants.{SingleWord, FixedArray, MutableArray}
 use Rattle.language.specs.declared.signature.Label.{Label}
@@ -11,10 +10,10 @@ use Rattle.language.specs.Tree.{ParameterTree, ProcedureTree, StatementTree}
 use Rattle.language.specs.Types.{Scope, found, declared, label_of}
 use Rattle.language.specs.Typing.{is_mutable, is_public_mutable, counter_as, parameter_value, parameters_assign}
 use Rattle.language.specs.Typing.{right_assigns, scope_after, statement_assigns, with_parameters}
-use Rattle.language.specs.WellTyped.{IsWellTyped, declares, declares_array, assigns, assigns_element, calls, chooses}
-use Rattle.language.specs.WellTyped.{repeats, AreNew, no_parameter, one_is_new}
+use Rattle.language.specs.WellTyped.{IsWellTyped, declares, declares_array}
+use Rattle.language.specs.WellTyped.{AreNew, no_parameter, one_is_new}
 use Rattle.inline.proofs.Linked.{same_variable}
-use Rattle.inline.proofs.Below.{found-new, found-other}
+use Rattle.inline.proofs.Below.{found-split}
 use Rattle.inline.proofs.Parameters.{NoVariables}
 
 pub either_false : (a b : Bool) → a || b ≡ false → (a ≡ false) × (b ≡ false)
@@ -26,14 +25,14 @@ abbrev pub Hides : Scope → Type 0
 Hides scope = (text : List ℕ) (v : VariableType) → found scope text ≡ Some (Variable v) → v.mutable ≡ true
     → label_of v.value ≡ Secret
 
-pub hides_declared : (scope : Scope) (name : List ℕ) (v : VariableType) → found scope name ≡ None
+pub hides_declared : (scope : Scope) (name : List ℕ) (v : VariableType)
     → (v.mutable ≡ true → label_of v.value ≡ Secret) → Hides scope → Hides (declared scope name (Variable v))
-hides_declared scope name v new own hides text w is = by_name (bytes_eq text name) refl
-  where
-    by_name : (b : Bool) → bytes_eq text name ≡ b → w.mutable ≡ true → label_of w.value ≡ Secret
-    by_name true e = subst (λ (u : VariableType). u.mutable ≡ true → label_of u.value ≡ Secret)
-        (same_variable v w (sym (found-new scope.names name (Variable v) text e new) ∙ is)) own
-    by_name false e = hides text w (sym (found-other scope.names name (Variable v) text e) ∙ is)
+hides_declared scope name v own hides text w is =
+    elim (found-split scope.names name (Variable v) text (Variable w) is) [
+      | inl old ↦ hides text w old
+      | inr new ↦ subst (λ (u : VariableType). u.mutable ≡ true → label_of u.value ≡ Secret)
+          (same_variable v w (ap Some new.1)) own
+    ]
 
 -- what is no public name that may be assigned to
 secret_one : (label : Label) (mutable : Bool) → is_public_mutable label mutable ≡ false → mutable ≡ true
@@ -48,19 +47,15 @@ module _ (at : Scope) where
       → Hides (scope_after scope s)
   hides_after (declares {scope = scope} {label = label} {mutable = mutable} {text = text} {right = r} new has suit
       flow) hides none =
-      hides_declared scope text _ new
+      hides_declared scope text _
       (secret_one label mutable (either_false (is_public_mutable label mutable) (right_assigns at r) none).0) hides
   hides_after (declares_array {scope = scope} {label = label} {mutable = mutable} {text = text} new suit count flow)
-      hides none = hides_declared scope text _ new (secret_one label mutable none) hides
-  hides_after (assigns is has suit flow) hides none = hides
-  hides_after (assigns_element is has value suit flow) hides none = hides
-  hides_after (calls is) hides none = hides
-  hides_after (chooses has one other) hides none = hides
-  hides_after (repeats low high new inner) hides none = hides
+      hides none = hides_declared scope text _ (secret_one label mutable none) hides
+  hides_after other hides none = hides
 
-pub hides_counter : (scope : Scope) (text : List ℕ) → found scope text ≡ None → Hides scope
+pub hides_counter : (scope : Scope) (text : List ℕ) → Hides scope
     → Hides (declared scope text counter_as)
-hides_counter scope text new hides = hides_declared scope text _ new (λ e. absurd (true≢false (sym e))) hides
+hides_counter scope text hides = hides_declared scope text _ (λ e. absurd (true≢false (sym e))) hides
 
 -- a scope of procedures
 pub hides_none : (scope : Scope) → NoVariables scope → Hides scope
@@ -76,5 +71,5 @@ pub hides_parameters : {scope : Scope} {ps : List ParameterTree} → AreNew scop
 hides_parameters no_parameter hides none = hides
 hides_parameters (one_is_new {scope = scope} {p = p} {ps = ps} here there) hides none =
     let split = either_false (is_public_mutable p.label (is_mutable p.form)) (parameters_assign ps) none in
-    hides_parameters there (hides_declared scope p.name _ here
+    hides_parameters there (hides_declared scope p.name _
     (λ e. parameter_label p p.form ∙ secret_one p.label (is_mutable p.form) split.0 e) hides) split.1

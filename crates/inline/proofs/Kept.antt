@@ -1,6 +1,7 @@
 -- A well-typed statement changes its own numbers and those of mutable names, and no others.
-use Rattle.std.proofs.Common.{◌≡◌, ℕ, zero, suc, ◌+◌, ◌-◌, ◌<◌, ◌≤◌, ◌==◌, Bool, true, false, if◌then◌else◌, List, []}
+use Rattle.std.proofs.Common.{◌≡◌, ℕ, ◌+◌, ◌<◌, ◌≤◌, ◌==◌, true, false, List, []}
 use Rattle.std.proofs.Common.{◌∷◌, length, map, Option, Some, None, ◌⊎◌, inl, inr, refl, sym, ap, ◌∙◌, arith}
+use Rattle.std.proofs.lemmas.Bool.{cond_both}
 use Rattle.std.specs.Str.{bytes_eq}
 use Rattle.inline.specs.declared.flat.FlatVariable.{FlatVariable}
 use Rattle.inline.specs.declared.numbering.Numbered.{Numbered}
@@ -25,7 +26,7 @@ use Rattle.language.specs.names.Scope.{found}
 use Rattle.inline.specs.Flat.{TermTree}
 use Rattle.inline.proofs.Called.{Spares, Ready, ready_later, ready_declared, ready_after}
 use Rattle.inline.proofs.CallEnds.{call_means}
-use Rattle.inline.proofs.Chains.{after_chain}
+use Rattle.inline.proofs.Chains.{after_chain, turns_keep}
 use Rattle.inline.proofs.Linked.{entry, known_word, known_array}
 use Rattle.inline.proofs.Below.{found-split}
 use Rattle.inline.proofs.Rights.{right_means}
@@ -64,32 +65,13 @@ spares_after earlier {s = s} (declares_array {label = label} {mutable = mutable}
     {text = text} new all count flow) names n x spares =
     spares_named names n x spares text n (n + numbers_taken (callables earlier) s)
     (array_as (labelled kind label) mutable size) (omega arith) (omega arith)
-spares_after earlier {s = s} (assigns is has suit flow) names n x spares =
-    spares_later names n (n + numbers_taken (callables earlier) s) x (omega arith) spares
-spares_after earlier {s = s} (assigns_element is has value suit flow) names n x spares =
-    spares_later names n (n + numbers_taken (callables earlier) s) x (omega arith) spares
-spares_after earlier {s = s} (calls is) names n x spares = spares_later names n
-    (n + numbers_taken (callables earlier) s) x (omega arith) spares
-spares_after earlier {s = s} (chooses has one other) names n x spares =
-    spares_later names n (n + numbers_taken (callables earlier) s) x (omega arith) spares
-spares_after earlier {s = s} (repeats low high new inner) names n x spares =
+spares_after earlier {s = s} other names n x spares =
     spares_later names n (n + numbers_taken (callables earlier) s) x (omega arith) spares
 
 -- one statement behind a block
 behind : (b : FlatBlock) (s : FlatTree) (x : ℕ) (m : Values) → ((t : Values) → after t s x ≡ t x)
     → after_all m b x ≡ m x → after_all m (chain b (single s)) x ≡ m x
 behind b s x m step kept = ap (λ (end : Values). end x) (after_chain b (single s) m) ∙ (step (after_all m b) ∙ kept)
-
--- so many turns
-turns_keep : (x k i : ℕ) (turn : ℕ → Values → Values) → ((i : ℕ) (t : Values) → turn i t x ≡ t x) → (m : Values)
-    → turns k i turn m x ≡ m x
-turns_keep x zero i turn step m = refl
-turns_keep x (suc k) i turn step m = turns_keep x k (i + 1) turn step (turn i m) ∙ step i m
-
-either_arm : (b : Bool) (x : ℕ) (one other m : Values) → one x ≡ m x → other x ≡ m x
-    → (if b then other else one) x ≡ m x
-either_arm true x one other m same alike = alike
-either_arm false x one other m same alike = same
 
 -- a result that nothing takes goes into a new variable
 pub dropped_keeps : (k x : ℕ) → x < k → (result : Option WordType) (value : Option TermTree) (m : Values)
@@ -106,13 +88,13 @@ module _ (earlier : List ProcedureTree) where
         → x ≡ number_of names text → ⊥
     other_word text wanted is same =
         let k = known_word scope names ready.types n ready.linked text wanted true is in
-        spares.spared text _ k.found refl (sym (ap (λ (z : Numbered). z.number) k.here) ∙ sym same)
+        spares.spared text _ k.found refl (sym same)
 
     other_array : (text : List ℕ) (array : ArrayType) → IsVariable scope text (Array array) true
         → x ≡ number_of names text → ⊥
     other_array text array is same =
         let k = known_array scope names ready.types n ready.linked text array true is in
-        spares.spared text _ k.found refl (sym (ap (λ (z : Numbered). z.number) k.here) ∙ sym same)
+        spares.spared text _ k.found refl (sym same)
 
   mutual
     pub statement_keeps : {scope : Scope} {control : Label} {s : StatementTree} → IsWellTyped earlier scope control s
@@ -163,22 +145,23 @@ module _ (earlier : List ProcedureTree) where
     statement_keeps (chooses {condition = condition} {accepted = accepted} {otherwise = otherwise} has one other)
         names n ready x spares m =
         let k = n + numbers_taken_all (callables earlier) accepted in
-        either_arm (value_in m (term names condition) == 0) x
-        (after_all m (block (callables earlier) names n accepted))
-        (after_all m (block (callables earlier) names k otherwise)) m
-        (block_keeps one names n ready x spares m)
-        (block_keeps other names k (ready_later n k (omega arith) ready) x
+        cond_both (value_in m (term names condition) == 0) (after_all m (block (callables earlier) names k otherwise))
+        (after_all m (block (callables earlier) names n accepted)) (λ (end : Values). end x ≡ m x)
+        (λ zero. block_keeps other names k (ready_later n k (omega arith) ready) x
         (spares_later names n k x (omega arith) spares) m)
+        (λ nonzero. block_keeps one names n ready x spares m)
     statement_keeps (repeats {text = text} {low = low} {high = high} {body = body} one other new inner) names n ready
         x spares m =
         let own = word_as counter_type false in
         let inside = naming names text n own in
         let under = spares.below in
-        turns_keep x (value_in m (term names high) - value_in m (term names low)) (value_in m (term names low))
+        turns_keep (λ (t : Values). t x ≡ m x)
         (λ i t. after_all (flat_meaning.with_value t n (i ∷ [])) (block (callables earlier) inside (n + 1) body))
-        (λ i t. block_keeps inner inside (n + 1) (ready_declared n ready text own new) x
+        (value_in m (term names high))
+        (λ i t below same. block_keeps inner inside (n + 1) (ready_declared n ready text own new) x
         (spares_named names n x spares text n (n + 1) own (omega arith) (omega arith))
-        (flat_meaning.with_value t n (i ∷ [])) ∙ with_value-other t n x (i ∷ []) (λ q. omega arith)) m
+        (flat_meaning.with_value t n (i ∷ [])) ∙ (with_value-other t n x (i ∷ []) (λ q. omega arith) ∙ same))
+        _ (value_in m (term names low)) m refl refl
 
     pub block_keeps : {scope : Scope} {control : Label} {b : BlockTree} → AreWellTyped earlier scope control b
         → (names : Numbers) (n : ℕ) → Ready earlier scope names n → (x : ℕ) → Spares names n x → (m : Values)

@@ -1,7 +1,9 @@
 -- What is known of procedures by their names, and one procedure more.
 use Rattle.std.proofs.Common.{◌≡◌, ℕ, Bool, true, false, if◌then◌else◌, List, [], ◌∷◌, ◌++◌, Option, Some, None, sym}
-use Rattle.std.proofs.Common.{ap, ◌∙◌}
+use Rattle.std.proofs.Common.{inl, inr, ap, ◌∙◌}
+use Rattle.std.proofs.lemmas.Bool.{cases_Bool}
 use Rattle.std.proofs.lemmas.List.{append-nil, append_assoc}
+use Rattle.std.proofs.lemmas.Option.{none-some}
 use Rattle.std.specs.Str.{bytes_eq}
 use Rattle.language.specs.Known.{Known, known_of, known_from, nothing_known, first_known, with_known}
 use Rattle.language.specs.Meaning.{named}
@@ -44,29 +46,19 @@ module _ {A : Type 0} (P : A → Type 0) (make : Known A → ProcedureTree → A
 pub named-kept : (before ps : List ProcedureTree) (p : ProcedureTree) (text : List ℕ) (found : Found)
     → named before ps text ≡ Some found → named before (ps ++ p ∷ []) text ≡ Some found
 named-kept before [] p text found is = absurd cc
-named-kept before (q ∷ ps) p text found is =
-    by_name (named-kept (before ++ q ∷ []) ps p text found) (bytes_eq text q.name) is
-  where
-    by_name : (named (before ++ q ∷ []) ps text ≡ Some found
-        → named (before ++ q ∷ []) (ps ++ p ∷ []) text ≡ Some found) → (same : Bool)
-        → (if same then Some (before, q) else named (before ++ q ∷ []) ps text) ≡ Some found
-        → (if same then Some (before, q) else named (before ++ q ∷ []) (ps ++ p ∷ []) text) ≡ Some found
-    by_name later true here = here
-    by_name later false there = later there
+named-kept before (q ∷ ps) p text found is = elim (cases_Bool (bytes_eq text q.name)) [
+  | inl here ↦ rw here (rw here at is)
+  | inr there ↦ rw there (named-kept (before ++ q ∷ []) ps p text found (rw there at is))
+]
 
 -- of another name
 pub named-missed : (before ps : List ProcedureTree) (p : ProcedureTree) (text : List ℕ) → named before ps text ≡ None
     → bytes_eq text p.name ≡ false → named before (ps ++ p ∷ []) text ≡ None
 named-missed before [] p text is other = ap (λ b. if b then Some (before, p) else None) other
-named-missed before (q ∷ ps) p text is other =
-    by_name (λ e. named-missed (before ++ q ∷ []) ps p text e other) (bytes_eq text q.name) is
-  where
-    by_name : (named (before ++ q ∷ []) ps text ≡ None → named (before ++ q ∷ []) (ps ++ p ∷ []) text ≡ None)
-        → (same : Bool)
-        → (if same then Some (before, q) else named (before ++ q ∷ []) ps text) ≡ None
-        → (if same then Some (before, q) else named (before ++ q ∷ []) (ps ++ p ∷ []) text) ≡ None
-    by_name later true here = absurd cc
-    by_name later false there = later there
+named-missed before (q ∷ ps) p text is other = elim (cases_Bool (bytes_eq text q.name)) [
+  | inl here ↦ rw here (rw here at is)
+  | inr there ↦ rw there (named-missed (before ++ q ∷ []) ps p text (rw there at is) other)
+]
 
 -- of a new name
 pub named-new : (before ps : List ProcedureTree) (p : ProcedureTree) (text : List ℕ) → named before ps text ≡ None
@@ -74,14 +66,8 @@ pub named-new : (before ps : List ProcedureTree) (p : ProcedureTree) (text : Lis
 named-new before [] p text is same =
     ap (λ b. if b then Some (before, p) else None) same
     ∙ ap (λ (qs : List ProcedureTree). Some (qs, p)) (sym (append-nil before))
-named-new before (q ∷ ps) p text is same = by_name
-    (λ e. named-new (before ++ q ∷ []) ps p text e same ∙ ap (λ (qs : List ProcedureTree). Some (qs, p))
-    (append_assoc before (q ∷ []) ps)) (bytes_eq text q.name) is
-  where
-    by_name : (named (before ++ q ∷ []) ps text ≡ None → named (before ++ q ∷ []) (ps ++ p ∷ []) text ≡ Some
-        (before ++ q ∷ ps, p)) → (here : Bool)
-        → (if here then Some (before, q) else named (before ++ q ∷ []) ps text) ≡ None
-        → (if here then Some (before, q) else named (before ++ q ∷ []) (ps ++ p ∷ []) text)
-        ≡ Some (before ++ q ∷ ps, p)
-    by_name later true there = absurd cc
-    by_name later false there = later there
+named-new before (q ∷ ps) p text is same = elim (cases_Bool (bytes_eq text q.name)) [
+  | inl here ↦ absurd (none-some (before, q) (sym (rw here at is)))
+  | inr there ↦ rw there (named-new (before ++ q ∷ []) ps p text (rw there at is) same
+      ∙ ap (λ (qs : List ProcedureTree). Some (qs, p)) (append_assoc before (q ∷ []) ps))
+]

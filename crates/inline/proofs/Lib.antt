@@ -10,6 +10,7 @@ pub mod KnownLemmas
 pub mod Procedures
 pub mod Begun
 pub mod Listed
+pub mod LinkedAfter
 pub mod CallTypes
 pub mod Hiding
 pub mod FlatTypes

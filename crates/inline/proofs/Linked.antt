@@ -1,14 +1,15 @@
 -- Names, their types and their numbers, as they go together.
 use Rattle.std.proofs.Common.{◌≡◌, ℕ, ◌+◌, ◌<◌, ◌≤◌, Bool, true, false, if◌then◌else◌, List, Option, Some, None}
-use Rattle.std.proofs.Common.{unwrap_or, refl, sym, ap, ap₂, ◌∙◌, subst, arith, eq-eqb, ne_eqb}
-use Rattle.std.proofs.lemmas.Option.{none-some, same_Some}
+use Rattle.std.proofs.Common.{unwrap_or, ◌⊎◌, inl, inr, refl, sym, ap, ◌∙◌, subst, arith, eq-eqb, ne_eqb}
+use Rattle.std.proofs.lemmas.Bool.{cases_Bool}
+use Rattle.std.proofs.lemmas.Option.{none-some}
 use Rattle.std.specs.Str.{bytes_eq}
 use lib.Pointwise.{bytes_decides}
 use Rattle.inline.specs.declared.flat.FlatVariable.{FlatVariable}
 use Rattle.inline.specs.declared.numbering.Numbered.{Numbered}
 use Rattle.inline.specs.Flat.{word_as, array_as}
 use Rattle.inline.specs.FlatTyping.{Types, with_type, counter_type}
-use Rattle.inline.specs.Numbering.{Numbers, numbered, naming}
+use Rattle.inline.specs.Numbering.{Numbers, numbered, number_of, naming}
 use Rattle.language.specs.names.Scope.{found}
 use Rattle.language.specs.declared.typing.ArrayType.{ArrayType}
 use Rattle.language.specs.declared.typing.ValueType.{ValueType}
@@ -18,7 +19,7 @@ use Rattle.language.specs.declared.typing.WordType.{WordType}
 use Rattle.language.specs.declared.typing.Declared.TheVariants.{Variable}
 use Rattle.language.specs.Types.{Scope, declared}
 use Rattle.language.specs.WellTyped.{IsVariable}
-use Rattle.inline.proofs.Below.{found-new, found-other}
+use Rattle.inline.proofs.Below.{found-kept, found-new, found-other, found-split}
 
 -- what a name stands for in the scope, where it is a variable that is declared so
 abbrev pub value_as : WordType → Option ℕ → ValueType
@@ -27,6 +28,24 @@ value_as word (Some size) = Array (record { element = word; length = size })
 
 abbrev pub variable_as : FlatVariable → VariableType
 variable_as d = record { value = value_as d.word d.elements; mutable = d.mutable }
+
+-- which decides how it is declared
+one_size : (word other : WordType) (size length : Option ℕ) → value_as word size ≡ value_as other length
+    → (word ≡ other) × (size ≡ length)
+one_size word other None None is = (cc, refl)
+one_size word other None (Some n) is = absurd cc
+one_size word other (Some m) None is = absurd cc
+one_size word other (Some m) (Some n) is =
+    let same : record { element = word; length = m } ≡ record { element = other; length = n } = cc in (
+      ap (λ (a : ArrayType). a.element) same,
+      ap (λ (a : ArrayType). Some a.length) same,
+    )
+
+one_declaration : (d e : FlatVariable) → variable_as d ≡ variable_as e → d ≡ e
+one_declaration d e is =
+    let same = one_size d.word e.word d.elements e.elements (ap (λ (v : VariableType). v.value) is) in
+    let free = ap (λ (v : VariableType). v.mutable) is in
+    λ i. record { word = same.0 i; mutable = free i; elements = same.1 i }
 
 -- what stands for a variable of this number, declared so
 abbrev pub entry : ℕ → FlatVariable → Numbered
@@ -46,21 +65,19 @@ pub serves_alike : {there other : Option FlatVariable} {d : FlatVariable} → ot
     → Serves other d
 serves_alike same serves = record { free = serves.free; is = same ∙ serves.is; enough = serves.enough }
 
--- a variable: its number, and what its name is declared as
-pub record Known (names : Numbers) (types : Types) (text : List ℕ) (v : VariableType) : Type 0 where
+-- a variable that is declared so has a number, which serves
+pub record Known (names : Numbers) (types : Types) (text : List ℕ) (d : FlatVariable) : Type 0 where
   pub number : ℕ
-  pub declaration : FlatVariable
-  pub numbered : found names text ≡ Some (entry number declaration)
-  pub is : v ≡ variable_as declaration
-  pub typed : Serves (types.at number) declaration
+  pub numbered : found names text ≡ Some (entry number d)
+  pub typed : Serves (types.at number) d
 
 -- the next number is n
 pub record Linked (scope : Scope) (names : Numbers) (types : Types) (n : ℕ) : Type 0 where
   -- the observer is the same
   pub observed : types.profile ≡ scope.profile
   -- a variable's number has its type
-  pub known : (text : List ℕ) (v : VariableType) → found scope.names text ≡ Some (Variable v)
-      → Known names types text v
+  pub known : (text : List ℕ) (d : FlatVariable) → found scope.names text ≡ Some (Variable (variable_as d))
+      → Known names types text d
   -- only what is in scope has a number
   pub none : (text : List ℕ) → found scope.names text ≡ None → found names text ≡ None
   pub below : (text : List ℕ) (x : Numbered) → found names text ≡ Some x → x.number < n
@@ -76,16 +93,12 @@ pub widened : (scope : Scope) (names : Numbers) (types others : Types) (n m : �
     → Linked scope names others m
 widened scope names types others n m more one same new linked = record {
   observed = one ∙ linked.observed;
-  known = λ text v is.
-      let k = linked.known text v is in
-      let low = linked.below text (entry k.number k.declaration) k.numbered in
+  known = λ text d is.
+      let k = linked.known text d is in
       record {
         number = k.number;
-        declaration = k.declaration;
         numbered = k.numbered;
-        is = k.is;
-        typed = serves_alike
-            (same k.number low) k.typed;
+        typed = serves_alike (same k.number (linked.below text (entry k.number d) k.numbered)) k.typed;
       };
   none = linked.none;
   below = λ text x is. let low = linked.below text x is in omega arith;
@@ -116,85 +129,64 @@ module _ (scope : Scope) (names : Numbers) (types : Types) (n : ℕ) (linked : L
     (low : number < n) (typed : Serves (types.at number) own)
     (clear : (other : List ℕ) (x : Numbered) → found names other ≡ Some x → x.number ≡ number
     → (x.declaration.mutable ≡ true → ⊥) × (own.mutable ≡ true → ⊥)) where
-  after_scope : Scope
-  after_scope = declared scope text (Variable (variable_as own))
+  -- what stands for a name did so before, or this is the name
+  abbrev IsOldOrNew : List ℕ → Numbered → Type 0
+  IsOldOrNew other x = (found names other ≡ Some x) ⊎ ((bytes_eq other text ≡ true) × (entry number own ≡ x))
 
-  after_names : Numbers
-  after_names = naming names text number own
+  split : (other : List ℕ) (x : Numbered) → found (naming names text number own) other ≡ Some x → IsOldOrNew other x
+  split other x is = found-split names text (entry number own) other x is
 
-  this_one : (other : List ℕ) (x : Numbered) → bytes_eq other text ≡ true → found after_names other ≡ Some x
-      → entry number own ≡ x
-  unfolding after_names
-  this_one other x e is =
-      same_Some (entry number own) x (sym (found-new names text (entry number own) other e (linked.none text new))
-      ∙ is)
-
-  old_one : (other : List ℕ) (x : Numbered) → bytes_eq other text ≡ false → found after_names other ≡ Some x
-      → found names other ≡ Some x
-  unfolding after_names
-  old_one other x e is = sym (found-other names text (entry number own) other e) ∙ is
-
-  known_by : (other : List ℕ) (w : VariableType) (b : Bool) → bytes_eq other text ≡ b
-      → found after_scope.names other ≡ Some (Variable w) → Known after_names types other w
-  unfolding after_scope after_names
-  known_by other w true e is =
-      let same = same_variable (variable_as own) w
-      (sym (found-new scope.names text (Variable (variable_as own)) other e new) ∙ is) in
+  known_by : (other : List ℕ) (d : FlatVariable)
+      → (found scope.names other ≡ Some (Variable (variable_as d)))
+      ⊎ ((bytes_eq other text ≡ true) × (Variable (variable_as own) ≡ Variable (variable_as d)))
+      → Known (naming names text number own) types other d
+  known_by other d (inl old) =
+      let k = linked.known other d old in
       record {
+        number = k.number;
+        numbered = found-kept names text (entry number own) other (entry k.number d) k.numbered;
+        typed = k.typed;
+      }
+  known_by other d (inr new_one) =
+      subst (Known (naming names text number own) types other)
+      (one_declaration own d (same_variable (variable_as own) (variable_as d) (ap Some new_one.1))) (record {
         number = number;
-        declaration = own;
-        numbered = found-new names text (entry number own) other e (linked.none text new);
-        is = sym same;
+        numbered = found-new names text (entry number own) other new_one.0 (linked.none text new);
         typed = typed;
-      }
-  known_by other w false e is =
-      let old = linked.known other w (sym (found-other scope.names text (Variable (variable_as own)) other e) ∙ is) in
-      record {
-        number = old.number;
-        declaration = old.declaration;
-        numbered = found-other names text (entry number own) other e ∙ old.numbered;
-        is = old.is;
-        typed = old.typed;
-      }
+      })
 
-  none_by : (other : List ℕ) (b : Bool) → bytes_eq other text ≡ b → found after_scope.names other ≡ None
-      → found after_names other ≡ None
-  unfolding after_scope after_names
-  none_by other true e is = absurd
-      (none-some (Variable (variable_as own))
-      (sym is ∙ found-new scope.names text (Variable (variable_as own)) other e new))
-  none_by other false e is = found-other names text (entry number own) other e
-      ∙ linked.none other (sym (found-other scope.names text (Variable (variable_as own)) other e) ∙ is)
+  none_by : (other : List ℕ) → found (declared scope text (Variable (variable_as own))).names other ≡ None
+      → found (naming names text number own) other ≡ None
+  none_by other is = elim (cases_Bool (bytes_eq other text)) [
+    | inl same ↦ absurd (none-some (Variable (variable_as own))
+        (sym is ∙ found-new scope.names text (Variable (variable_as own)) other same new))
+    | inr apart ↦ found-other names text (entry number own) other apart
+        ∙ linked.none other (sym (found-other scope.names text (Variable (variable_as own)) other apart) ∙ is)
+  ]
 
-  below_by : (other : List ℕ) (x : Numbered) (b : Bool) → bytes_eq other text ≡ b → found after_names other ≡ Some x
-      → x.number < n
-  below_by other x true e is = let same = ap (λ (z : Numbered). z.number) (this_one other x e is) in
-      omega (arith, same, low)
-  below_by other x false e is = linked.below other x (old_one other x e is)
+  below_by : (other : List ℕ) (x : Numbered) → IsOldOrNew other x → x.number < n
+  below_by other x (inl old) = linked.below other x old
+  below_by other x (inr new_one) = let same = ap (λ (z : Numbered). z.number) new_one.1 in omega (arith, same, low)
 
-  apart_by : (a b : List ℕ) (x y : Numbered) (s t : Bool) → bytes_eq a text ≡ s → bytes_eq b text ≡ t
-      → found after_names a ≡ Some x → found after_names b ≡ Some y → x.number ≡ y.number
-      → x.declaration.mutable ≡ true
-      → a ≡ b
-  apart_by a b x y true true d e is is' equal free = (bytes_decides a text).0 d ∙ sym ((bytes_decides b text).0 e)
-  apart_by a b x y true false d e is is' equal free =
-      let same = this_one a x d is in
-      absurd ((clear b y (old_one b y e is') (sym equal ∙ ap (λ (z : Numbered). z.number) (sym same))).1
-      (ap (λ (z : Numbered). z.declaration.mutable) same ∙ free))
-  apart_by a b x y false true d e is is' equal free =
-      let same = this_one b y e is' in
-      absurd ((clear a x (old_one a x d is) (equal ∙ ap (λ (z : Numbered). z.number) (sym same))).0 free)
-  apart_by a b x y false false d e is is' equal free =
-      linked.apart a b x y (old_one a x d is) (old_one b y e is') equal free
+  apart_by : (a b : List ℕ) (x y : Numbered) → IsOldOrNew a x → IsOldOrNew b y → x.number ≡ y.number
+      → x.declaration.mutable ≡ true → a ≡ b
+  apart_by a b x y (inl old) (inl older) equal free = linked.apart a b x y old older equal free
+  apart_by a b x y (inl old) (inr new_one) equal free =
+      absurd ((clear a x old (equal ∙ ap (λ (z : Numbered). z.number) (sym new_one.1))).0 free)
+  apart_by a b x y (inr new_one) (inl old) equal free =
+      absurd ((clear b y old (sym equal ∙ ap (λ (z : Numbered). z.number) (sym new_one.1))).1
+      (ap (λ (z : Numbered). z.declaration.mutable) new_one.1 ∙ free))
+  apart_by a b x y (inr one) (inr other) equal free =
+      (bytes_decides a text).0 one.0 ∙ sym ((bytes_decides b text).0 other.0)
 
   pub linked_named : Linked (declared scope text (Variable (variable_as own))) (naming names text number own) types n
-  unfolding after_scope after_names
   linked_named = record {
     observed = linked.observed;
-    known = λ other w. known_by other w (bytes_eq other text) refl;
-    none = λ other. none_by other (bytes_eq other text) refl;
-    below = λ other x. below_by other x (bytes_eq other text) refl;
-    apart = λ a b x y. apart_by a b x y (bytes_eq a text) (bytes_eq b text) refl refl;
+    known = λ other d is.
+        known_by other d (found-split scope.names text (Variable (variable_as own)) other (Variable (variable_as d)) is);
+    none = none_by;
+    below = λ other x is. below_by other x (split other x is);
+    apart = λ a b x y is is'. apart_by a b x y (split a x is) (split b y is');
     fresh = linked.fresh;
   }
 
@@ -220,51 +212,27 @@ linked_declared scope names types n linked text own new =
 
 -- a name's number and its type, where it is declared so
 pub record KnownAs (names : Numbers) (types : Types) (text : List ℕ) (d : FlatVariable) : Type 0 where
-  pub number : ℕ
-  pub found : found names text ≡ Some (entry number d)
-  pub typed : Serves (types.at number) d
-  pub here : numbered names text ≡ entry number d
-
-as_word : (word : WordType) (mutable : Bool) (own : WordType) (free : Bool) (size : Option ℕ)
-    → Word word ≡ value_as own size → mutable ≡ free
-    → record { word = own; mutable = free; elements = size } ≡ word_as word mutable
-as_word word mutable own free None e f =
-    let same : own ≡ word = cc in
-    ap₂ word_as same (sym f)
-as_word word mutable own free (Some size) e f = absurd cc
-
-as_array : (array : ArrayType) (mutable : Bool) (own : WordType) (free : Bool) (size : Option ℕ)
-    → Array array ≡ value_as own size → mutable ≡ free
-    → record { word = own; mutable = free; elements = size } ≡ array_as array.element mutable array.length
-as_array array mutable own free None e f = absurd cc
-as_array array mutable own free (Some size) e f =
-    let same : record { element = own; length = size } ≡ array = cc in
-    ap₂ (λ (a : ArrayType) b. array_as a.element b a.length) same (sym f)
+  pub found : found names text ≡ Some (entry (number_of names text) d)
+  pub typed : Serves (types.at (number_of names text)) d
+  pub declared : (numbered names text).declaration ≡ d
 
 module _ (scope : Scope) (names : Numbers) (types : Types) (n : ℕ) (linked : Linked scope names types n) where
-  known_as : (text : List ℕ) (v : VariableType) (d : FlatVariable)
-      → ((own : FlatVariable) → v ≡ variable_as own → own ≡ d) → found scope.names text ≡ Some (Variable v)
+  known_as : (text : List ℕ) (d : FlatVariable) → found scope.names text ≡ Some (Variable (variable_as d))
       → KnownAs names types text d
-  known_as text v d so is =
-      let k = linked.known text v is in
-      subst (KnownAs names types text) (so k.declaration k.is) (record {
-        number = k.number;
-        found = k.numbered;
-        typed = k.typed;
-        here = ap (λ (o : Option Numbered). unwrap_or {T = Numbered} o
-            (record { number = 0; declaration = word_as counter_type false })) k.numbered;
-      })
+  known_as text d is =
+      let k = linked.known text d is in
+      let here : numbered names text ≡ entry k.number d = ap (λ o. unwrap_or {T = Numbered} o
+      (record { number = 0; declaration = word_as counter_type false })) k.numbered in
+      record {
+        found = k.numbered ∙ ap (λ (x : Numbered). Some (entry x.number d)) (sym here);
+        typed = serves_alike (ap (λ (x : Numbered). types.at x.number) here) k.typed;
+        declared = ap (λ (x : Numbered). x.declaration) here;
+      }
 
   pub known_word : (text : List ℕ) (word : WordType) (mutable : Bool) → IsVariable scope text (Word word) mutable
       → KnownAs names types text (word_as word mutable)
-  known_word text word mutable =
-      known_as text (record { value = Word word; mutable = mutable }) (word_as word mutable)
-      (λ own e. as_word word mutable own.word own.mutable own.elements (ap (λ (v : VariableType). v.value) e)
-      (ap (λ (v : VariableType). v.mutable) e))
+  known_word text word mutable = known_as text (word_as word mutable)
 
   pub known_array : (text : List ℕ) (array : ArrayType) (mutable : Bool) → IsVariable scope text (Array array) mutable
       → KnownAs names types text (array_as array.element mutable array.length)
-  known_array text array mutable =
-      known_as text (record { value = Array array; mutable = mutable }) (array_as array.element mutable array.length)
-      (λ own e. as_array array mutable own.word own.mutable own.elements (ap (λ (v : VariableType). v.value) e)
-      (ap (λ (v : VariableType). v.mutable) e))
+  known_array text array mutable = known_as text (array_as array.element mutable array.length)

@@ -1,6 +1,8 @@
 -- Where declarations stand in the list of all, and how many there are.
-use Rattle.std.proofs.Common.{◌≡◌, ℕ, zero, suc, ◌+◌, Bool, true, false, List, [], ◌∷◌, ◌++◌, length, Option, Some}
-use Rattle.std.proofs.Common.{None, if◌then◌else◌, refl, ap, ◌∙◌, sym, subst, arith, slice_get, length-append}
+use Rattle.std.proofs.Common.{◌≡◌, ℕ, zero, suc, ◌+◌, false, List, [], ◌∷◌, ◌++◌, length, Option, Some}
+use Rattle.std.proofs.Common.{None, refl, ap, ◌∙◌, sym, subst, arith, slice_get, length-append}
+use Rattle.std.proofs.Common.{inl, inr}
+use Rattle.std.proofs.lemmas.Bool.{cases_Bool}
 use Rattle.std.proofs.lemmas.Option.{none-some}
 use Rattle.inline.specs.declared.flat.FlatVariable.{FlatVariable}
 use Rattle.inline.specs.Flat.{TermTree, FlatTree, FlatBlock, chain, word_as, counter_type}
@@ -8,11 +10,11 @@ use Rattle.inline.specs.Flat as flat
 use Rattle.inline.specs.FlatTyping.{Types, types_after_all, declarations_in, declarations_in_all, IsNumbered}
 use Rattle.inline.specs.FlatTyping.{AreNumbered}
 use Rattle.inline.specs.Numbering.{Numbers, Callable, Callables, callable, callables, passed, passed_variables}
-use Rattle.inline.specs.Numbering.{own_variable, call_block, call_variables, call_result, call_value, call_names}
+use Rattle.inline.specs.Numbering.{call_block, call_variables, call_result, call_value, call_names}
 use Rattle.inline.specs.Numbering.{call_start, right_block, right_variables, right_end, right, value_given}
 use Rattle.inline.specs.Numbering.{element_block, element_variables, dropped_block, dropped_variables, declared_in}
 use Rattle.inline.specs.Numbering.{declared_in_all, numbers_taken, numbers_taken_all, names_after, naming, statement}
-use Rattle.inline.specs.Numbering.{block, single, term, number_of, size_of}
+use Rattle.inline.specs.Numbering.{block, single, number_of, size_of}
 use Rattle.word.specs.declared.place.Place.{Place}
 use Rattle.language.specs.declared.typing.WordType.{WordType}
 use Rattle.language.specs.Meaning.{is_word}
@@ -21,9 +23,9 @@ use Rattle.language.specs.Tree.{declaration, array, assignment, element_assignme
 use Rattle.language.specs.Tree.{BlockTree, nothing, first}
 use Rattle.language.specs.Types.{Scope}
 use Rattle.language.specs.WellTyped.{labelled}
-use Rattle.inline.proofs.ChainTypes.{chain-declarations, chain-numbered, types_observed, types_before, types_behind}
+use Rattle.inline.proofs.ChainTypes.{chain-declarations, chain-numbered, kept_by_numbered}
 use Rattle.inline.proofs.KnownLemmas.{OnSome, AllKnown, known-true}
-use Rattle.inline.proofs.Linked.{Linked, widened}
+use Rattle.inline.proofs.Linked.{Linked, later, linked_beside}
 
 -- in the list of all, these stand from n on
 abbrev pub Lists : List FlatVariable → ℕ → List FlatVariable → Type 0
@@ -96,10 +98,9 @@ pub passed_over : (scope : Scope) (names : Numbers) (types : Types) (n : ℕ) (b
     → Takes n b count → Linked scope names types n → Linked scope names (types_after_all types b) (n + count)
 passed_over scope names types n b count takes linked =
     let same = takes.counted in
-    widened scope names types (types_after_all types b) n (n + count) (omega arith) (types_observed types b)
-    (types_before types n b takes.numbered)
-    (λ x high. types_behind types n b takes.numbered x (omega (arith, same, high))
-    ∙ linked.fresh x (omega (arith, high))) linked
+    later scope names (types_after_all types b) (n + declarations_in_all b) (n + count) (omega (arith, same))
+    (kept_by_numbered (λ k t. Linked scope names t k) (λ k t d. linked_beside scope names t k d)
+    (λ k m t. later scope names t k m) b n types takes.numbered linked)
 
 -- Calls.
 
@@ -111,18 +112,13 @@ pub passed_takes : (names : Numbers) (n : ℕ) (ps : List ParameterTree) (es : L
     → Takes n (passed names n ps es) (length (passed_variables ps es))
 passed_takes names n [] es = record { numbered = tt; counted = refl }
 passed_takes names n (p ∷ ps) [] = record { numbered = tt; counted = refl }
-passed_takes names n (p ∷ ps) (e ∷ es) =
-    by_form (is_word p.form) (passed_takes names (n + 1) ps es) (passed_takes names n ps es)
-  where
-    by_form : (b : Bool) → Takes (n + 1) (passed names (n + 1) ps es) (length (passed_variables ps es))
-        → Takes n (passed names n ps es) (length (passed_variables ps es))
-        → Takes n (if b then flat.first (flat.declare n (labelled p.kind p.label) false (term names e))
-        (passed names (n + 1) ps es) else passed names n ps es)
-        (length (if b then own_variable p ∷ passed_variables ps es else passed_variables ps es))
-    by_form true one other =
-        let count = one.counted in
-        record { numbered = (refl, one.numbered); counted = omega (arith, count) }
-    by_form false one other = other
+passed_takes names n (p ∷ ps) (e ∷ es) = elim (cases_Bool (is_word p.form)) [
+  | inl word ↦ (
+      let rest = passed_takes names (n + 1) ps es in
+      let count = rest.counted in
+      rw word (record { numbered = (refl, rest.numbered); counted = omega (arith, count) }))
+  | inr given ↦ rw given (passed_takes names n ps es)
+]
 
 module _ (names : Numbers) (es : List ExprTree) where
   pub call_takes : (n : ℕ) (o : Option Callable) → OnSome IsCounted o

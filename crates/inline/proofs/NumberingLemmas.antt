@@ -1,6 +1,8 @@
 -- Numbering statements one by one, and the names that outlast them.
-use Rattle.std.proofs.Common.{◌≡◌, ℕ, ◌+◌, true, false, Bool, List, [], ◌∷◌, ◌++◌, Vec, Global, length, take, is_some}
+use Rattle.std.proofs.Common.{◌≡◌, ℕ, ◌+◌, false, List, [], ◌∷◌, ◌++◌, Vec, Global, length, take, is_some}
 use Rattle.std.proofs.Common.{Option, Some, refl, sym, ap, ap₂, ◌∙◌, length-append}
+use Rattle.std.proofs.Common.{inl, inr}
+use Rattle.std.proofs.lemmas.Bool.{cases_Bool}
 use Rattle.std.proofs.lemmas.List.{append_assoc, append-nil}
 use Rattle.std.proofs.Math.Seq.{take-append_seam}
 use Rattle.inline.proofs.Below.{conditional_tree, loop_tree}
@@ -79,25 +81,19 @@ module _ (s : Statement) (place : Place) (counter : Counter) (low high : Expr) (
 -- a declaration only appends
 declared_more : (names : Numbers) (text : List ℕ) (what : Numbered)
     → (more : Numbers) × (declared names text what ≡ names ++ more)
-declared_more names text what = by (is_some (found names text)) refl
-  where
-    by : (b : Bool) → is_some (found names text) ≡ b → (more : Numbers) × (declared names text what ≡ names ++ more)
-    by true is = rw is ([], sym (append-nil names))
-    by false is = rw is ((text, what) ∷ [], refl)
+declared_more names text what = elim (cases_Bool (is_some (found names text))) [
+  | inl there ↦ rw there ([], sym (append-nil names))
+  | inr new ↦ rw new ((text, what) ∷ [], refl)
+]
 
 after_more : (known : Callables) (names : Numbers) (n : ℕ) (s : StatementTree) → (more : Numbers)
     × (names_after known names n s ≡ names ++ more)
 after_more known names n (declaration place label mutable kind text value) =
     declared_more names text (record
     { number = right_end known n value; declaration = word_as (labelled kind label) mutable })
-after_more known names n (assignment place target text value) = ([], sym (append-nil names))
 after_more known names n (source.array place label mutable kind size text values) =
     declared_more names text (record { number = n; declaration = array_as (labelled kind label) mutable size })
-after_more known names n (source.element_assignment place bracket target text index right) =
-    ([], sym (append-nil names))
-after_more known names n (source.call c) = ([], sym (append-nil names))
-after_more known names n (source.loop place counter text low high body) = ([], sym (append-nil names))
-after_more known names n (conditional place condition accepted otherwise) = ([], sym (append-nil names))
+after_more known names n other = ([], sym (append-nil names))
 
 all_more : (known : Callables) (b : BlockTree) (names : Numbers) (n : ℕ) → (more : Numbers)
     × (names_after_all known names n b ≡ names ++ more)

@@ -1,6 +1,7 @@
 -- Where a body begins: the parameters have the first numbers, and hold the arguments.
-use Rattle.std.proofs.Common.{◌≡◌, ◌≢◌, ℕ, zero, suc, ◌+◌, ◌<◌, ◌≤◌, Bool, true, false, cond, List, [], ◌∷◌, ◌++◌}
+use Rattle.std.proofs.Common.{◌≡◌, ◌≢◌, ℕ, zero, suc, ◌+◌, ◌<◌, ◌≤◌, true, false, inl, inr, cond, List, [], ◌∷◌, ◌++◌}
 use Rattle.std.proofs.Common.{length, map, Option, Some, None, slice_get, refl, sym, ap, ◌∙◌, subst, arith}
+use Rattle.std.proofs.lemmas.Bool.{cases_Bool}
 use Rattle.std.proofs.lemmas.Option.{none-some, same_Some}
 use Rattle.std.specs.Str.{bytes_eq}
 use Rattle.word.specs.declared.profile.Profile.{Profile}
@@ -28,8 +29,8 @@ use Rattle.language.specs.Types.{Scope, declared}
 use Rattle.language.specs.Typing.{with_parameters, parameter_as, parameter_value, is_mutable}
 use Rattle.language.specs.WellTyped.{AreNew, one_is_new}
 use Rattle.inline.proofs.Below.{found-new, found-other, found-kept}
-use Rattle.inline.proofs.Linked.{Linked, widened, entry, value_as, variable_as, linked_declared, with_type-same}
-use Rattle.inline.proofs.Linked.{with_type-other}
+use Rattle.inline.proofs.Linked.{Linked, Serves, serves_itself, widened, later, entry, value_as, variable_as}
+use Rattle.inline.proofs.Linked.{linked_beside, linked_named, with_type-same, with_type-other}
 use Rattle.inline.proofs.Terms.{held, Holds, Shows}
 
 -- what a parameter is declared as
@@ -48,6 +49,25 @@ value_same p MutableArray = refl
 
 pub parameter_same : (p : ParameterTree) → Variable (variable_as (own p)) ≡ parameter_as p
 parameter_same p = ap (λ v. Variable (record { value = v; mutable = is_mutable p.form })) (sym (value_same p p.form))
+
+-- it has a number: one of its own, or that of a caller's array
+pub linked_parameter : (scope : Scope) (names : Numbers) (types : Types) (n : ℕ) → Linked scope names types n
+    → (p : ParameterTree) → found scope.names p.name ≡ None → (number : ℕ) → number < n
+    → Serves (types.at number) (own p)
+    → ((other : List ℕ) (x : Numbered) → found names other ≡ Some x → x.number ≡ number
+    → (x.declaration.mutable ≡ true → ⊥) × ((own p).mutable ≡ true → ⊥))
+    → Linked (declared scope p.name (parameter_as p)) (naming names p.name number (own p)) types n
+linked_parameter scope names types n linked p new number low serves clear =
+    subst (λ v. Linked (declared scope p.name v) (naming names p.name number (own p)) types n) (parameter_same p)
+    (linked_named scope names types n linked p.name new number (own p) low serves clear)
+
+pub linked_own : (scope : Scope) (names : Numbers) (types : Types) (n : ℕ) → Linked scope names types n
+    → (p : ParameterTree) → found scope.names p.name ≡ None → (d : FlatVariable) → d ≡ own p
+    → Linked (declared scope p.name (parameter_as p)) (naming names p.name n (own p)) (with_type types n d) (n + 1)
+linked_own scope names types n linked p new d same =
+    linked_parameter scope names (with_type types n d) (n + 1) (linked_beside scope names types n d linked) p new n
+    (omega arith) (serves_itself _ (own p) (with_type-same types n d ∙ ap Some same))
+    (λ other x is equal. let low = linked.below other x is in absurd (omega (arith, low, equal)))
 
 -- Numbers.
 
@@ -79,17 +99,12 @@ itself text = (bytes_decides text text).1 refl
 begins : (ps : List ParameterTree) (scope : Scope) (names : Numbers) (types : Types) (n : ℕ) → AreNew scope ps
     → Linked scope names types n → Begins scope names types n ps
 begins [] scope names types n new linked =
-    let same : n ≡ n + 0 = omega arith in
-    record { linked = subst (Linked scope names types) same linked; named = tt }
+    record { linked = later scope names types n (n + 0) (omega arith) linked; named = tt }
 begins (p ∷ ps) scope names types n (one_is_new here there) linked =
-    let next =
-    subst (λ d. Linked (declared scope p.name d) (naming names p.name n (own p)) (with_type types n (own p))
-    (n + 1)) (parameter_same p) (linked_declared scope names types n linked p.name (own p) here) in
-    let rest = begins ps _ (naming names p.name n (own p)) (with_type types n (own p)) (n + 1) there next in
-    let same : (n + 1) + length ps ≡ n + length (p ∷ ps) = omega arith in
+    let rest = begins ps _ (naming names p.name n (own p)) (with_type types n (own p)) (n + 1) there
+    (linked_own scope names types n linked p here (own p) refl) in
     record {
-      linked = subst (Linked (with_parameters scope (p ∷ ps)) (numbering.with_parameters names n (p ∷ ps))
-          (typed_with types n (all_own (p ∷ ps)))) same rest.linked;
+      linked = later _ _ _ ((n + 1) + length ps) (n + length (p ∷ ps)) (omega arith) rest.linked;
       named = (
         kept_parameters ps (naming names p.name n (own p)) (n + 1) p.name (entry n (own p))
             (found-new names p.name (entry n (own p)) p.name (itself p.name) (linked.none p.name here)),
@@ -140,16 +155,22 @@ retyped scope names types others n one same linked =
 abbrev pub NoVariables : Scope → Type 0
 NoVariables scope = (text : List ℕ) (v : VariableType) → found scope.names text ≢ Some (Variable v)
 
-pub where_begun : (profile : Profile) (scope : Scope) → scope.profile ≡ profile → NoVariables scope
-    → (ps : List ParameterTree) → AreNew scope ps → Begins scope [] (no_types profile) 0 ps
-where_begun profile scope observed none ps new = begins ps scope [] (no_types profile) 0 new (record {
-  observed = sym observed;
-  known = λ text v is. absurd (none text v is);
+-- before the first declaration
+pub no_names : (scope : Scope) → NoVariables scope → (types : Types) (n : ℕ) → types.profile ≡ scope.profile
+    → ((x : ℕ) → n ≤ x → types.at x ≡ None) → Linked scope [] types n
+no_names scope none types n observed fresh = record {
+  observed = observed;
+  known = λ text d is. absurd (none text (variable_as d) is);
   none = λ text is. refl;
   below = λ text x is. absurd (none-some x is);
   apart = λ a b x y is is' equal free. absurd (none-some x is);
-  fresh = λ x high. refl;
-})
+  fresh = fresh;
+}
+
+pub where_begun : (profile : Profile) (scope : Scope) → scope.profile ≡ profile → NoVariables scope
+    → (ps : List ParameterTree) → AreNew scope ps → Begins scope [] (no_types profile) 0 ps
+where_begun profile scope observed none ps new = begins ps scope [] (no_types profile) 0 new
+    (no_names scope none (no_types profile) 0 (sym observed) (λ x high. refl))
 
 pub linked_parameters : (profile : Profile) (scope : Scope) → scope.profile ≡ profile → NoVariables scope
     → (ps : List ParameterTree) → AreNew scope ps
@@ -217,30 +238,24 @@ later_holds p ps rest (arg ∷ args) text index d e within holds =
 passed : (ps : List ParameterTree) (names : Numbers) (n : ℕ) (rest : List FlatVariable) (text : List ℕ) (x : Numbered)
     → found names text ≡ None → found (numbering.with_parameters names n ps) text ≡ Some x → Passed n ps rest text x
 passed [] names n rest text x none is = absurd (none-some x (sym none ∙ is))
-passed (p ∷ ps) names n rest text x none is = by_name (bytes_eq text p.name) refl
-    (λ old. passed ps (naming names p.name n (own p)) (n + 1) rest text x old is)
-  where
-    by_name : (b : Bool) → bytes_eq text p.name ≡ b
-        → (found (naming names p.name n (own p)) text ≡ None → Passed (n + 1) ps rest text x)
-        → Passed n (p ∷ ps) rest text x
-    by_name true e more =
-        let new = ap (found names) (sym ((bytes_decides text p.name).0 e)) ∙ none in
-        let here = kept_parameters ps (naming names p.name n (own p)) (n + 1) text (entry n (own p))
-        (found-new names p.name (entry n (own p)) text e new) in
-        let same = same_Some (entry n (own p)) x (sym here ∙ is) in
-        let zeroth : n ≡ n + 0 = omega arith in
-        subst (Passed n (p ∷ ps) rest text) same
-        (record { index = 0; number = zeroth; holds = λ args. first_holds p ps rest args text e })
-    by_name false e more =
-        let r = more (found-other names p.name (entry n (own p)) text e ∙ none) in
-        let i = r.index in
-        let same : (n + 1) + i ≡ n + suc i = omega arith in
-        record {
-          index = suc r.index;
-          number = r.number ∙ same;
-          holds = λ args within. later_holds p ps rest args text
-              r.index x.declaration e within r.holds;
-        }
+passed (p ∷ ps) names n rest text x none is = elim (cases_Bool (bytes_eq text p.name)) [
+  | inl e ↦ (
+      let new = ap (found names) (sym ((bytes_decides text p.name).0 e)) ∙ none in
+      let here = kept_parameters ps (naming names p.name n (own p)) (n + 1) text (entry n (own p))
+      (found-new names p.name (entry n (own p)) text e new) in
+      let zeroth : n ≡ n + 0 = omega arith in
+      subst (Passed n (p ∷ ps) rest text) (same_Some (entry n (own p)) x (sym here ∙ is))
+      (record { index = 0; number = zeroth; holds = λ args. first_holds p ps rest args text e }))
+  | inr e ↦ (
+      let r = passed ps (naming names p.name n (own p)) (n + 1) rest text x
+      (found-other names p.name (entry n (own p)) text e ∙ none) is in
+      let same : (n + 1) + r.index ≡ n + suc r.index = omega arith in
+      record {
+        index = suc r.index;
+        number = r.number ∙ same;
+        holds = λ args within. later_holds p ps rest args text r.index x.declaration e within r.holds;
+      })
+]
 
 -- the parameters hold the arguments
 pub shows_arguments : (ps : List ParameterTree) (rest : List FlatVariable) (args : List Arg)

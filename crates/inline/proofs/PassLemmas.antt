@@ -1,18 +1,17 @@
 -- The arguments of a call, passed one by one.
-use Rattle.std.proofs.Common.{◌≡◌, ℕ, ◌+◌, Bool, true, false, if◌then◌else◌, List, [], ◌∷◌, ◌++◌, length, get_or}
+use Rattle.std.proofs.Common.{◌≡◌, ℕ, ◌+◌, false, inl, inr, List, [], ◌∷◌, ◌++◌, length, get_or}
 use Rattle.std.proofs.Common.{drop, map, nat_lt, ◌<◌, ◌≤◌, arith, refl, sym, ap, ap₂, subst, ◌∙◌, length-append}
 use Rattle.std.proofs.lemmas.List.{append_assoc, append-nil, drop_all, drop_more}
+use Rattle.std.proofs.lemmas.Bool.{cases_Bool}
 use Rattle.std.proofs.lemmas.Bool.Decides.{nat_tests}
 use Rattle.inline.proofs.BlockLemmas.{behind, chain_nothing}
 use Rattle.inline.specs.declared.flat.FlatVariable.{FlatVariable}
 use Rattle.inline.specs.Flat.{FlatBlock, nothing, chain}
-use Rattle.inline.specs.Flat as flat
-use Rattle.inline.specs.Numbering.{Numbers, begun, naming, number_given, own_variable, passed, passed_variables, term}
+use Rattle.inline.specs.Numbering.{Numbers, begun, naming, number_given, own_variable, passed, passed_variables}
 use Rattle.language.specs.Meaning.{is_word}
 use Rattle.language.specs.declared.tree.Expr.{Expr}
 use Rattle.language.specs.declared.tree.Parameter.{Parameter}
 use Rattle.language.specs.Tree.{ExprTree, ParameterTree, expr_tree, parameter_tree}
-use Rattle.language.specs.WellTyped.{labelled}
 
 same : (n : ℕ) → n ≡ n + 0
 same n = omega arith
@@ -25,37 +24,24 @@ module _ (names : Numbers) (n : ℕ) (p : ParameterTree) (ps : List ParameterTre
 
   passed_more : passed names n (p ∷ ps) (e ∷ es)
       ≡ chain (passed names n (p ∷ []) (e ∷ [])) (passed names (n + length one) ps es)
-  passed_more = by (is_word p.form)
-    where
-      by : (word : Bool) →
-          (if word then flat.first (flat.declare n (labelled p.kind p.label) false (term names e))
-          (passed names (n + 1) ps es) else passed names n ps es)
-          ≡ chain (if word then flat.first (flat.declare n (labelled p.kind p.label) false (term names e)) nothing
-          else nothing)
-          (passed names (n + length (if word then own_variable p ∷ [] else [])) ps es)
-      by true = refl
-      by false = ap (λ k. passed names k ps es) (same n)
+  passed_more = elim (cases_Bool (is_word p.form)) [
+    | inl word ↦ rw word refl
+    | inr array ↦ rw array (ap (λ k. passed names k ps es) (same n))
+  ]
 
   begun_more : (own : Numbers) → begun names own n (p ∷ ps) (e ∷ es)
       ≡ begun names (begun names own n (p ∷ []) (e ∷ [])) (n + length one) ps es
-  begun_more own = by (is_word p.form)
-    where
-      by : (word : Bool) →
-          (if word then begun names (naming own p.name n (own_variable p)) (n + 1) ps es else begun names
-          (naming own p.name (number_given names e) (own_variable p)) n ps es)
-          ≡ begun names (if word then naming own p.name n (own_variable p)
-          else naming own p.name (number_given names e) (own_variable p))
-          (n + length (if word then own_variable p ∷ [] else [])) ps es
-      by true = refl
-      by false = ap (λ k. begun names (naming own p.name (number_given names e) (own_variable p)) k ps es) (same n)
+  begun_more own = elim (cases_Bool (is_word p.form)) [
+    | inl word ↦ rw word refl
+    | inr array ↦ rw array
+        (ap (λ k. begun names (naming own p.name (number_given names e) (own_variable p)) k ps es) (same n))
+  ]
 
   variables_more : passed_variables (p ∷ ps) (e ∷ es) ≡ one ++ passed_variables ps es
-  variables_more = by (is_word p.form)
-    where
-      by : (word : Bool) → (if word then own_variable p ∷ passed_variables ps es else passed_variables ps es)
-          ≡ (if word then own_variable p ∷ [] else []) ++ passed_variables ps es
-      by true = refl
-      by false = refl
+  variables_more = elim (cases_Bool (is_word p.form)) [
+    | inl word ↦ rw word refl
+    | inr array ↦ rw array refl
+  ]
 
 -- nothing is left behind the end
 below : (i n : ℕ) → false ≡ nat_lt i n → n ≤ i

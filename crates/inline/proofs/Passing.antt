@@ -1,11 +1,11 @@
 -- What a called body's names hold where it begins: words as evaluated, arrays as the caller's.
-use Rattle.std.proofs.Common.{◌≡◌, ℕ, ◌+◌, ◌<◌, Bool, true, false, if◌then◌else◌, List, [], ◌∷◌, Option, Some, None}
-use Rattle.std.proofs.Common.{refl, sym, ap, ◌∙◌, subst, arith, true≢false}
+use Rattle.std.proofs.Common.{◌≡◌, ℕ, ◌+◌, ◌<◌, true, false, if◌then◌else◌, List, [], ◌∷◌, Option, Some, None}
+use Rattle.std.proofs.Common.{inl, inr, refl, sym, ap, ◌∙◌, subst, arith, true≢false}
+use Rattle.std.proofs.lemmas.Bool.{cases_Bool}
 use Rattle.std.proofs.lemmas.Option.{none-some, same_Some}
 use Rattle.std.specs.Str.{bytes_eq}
 use lib.Pointwise.{bytes_decides}
 use Rattle.inline.specs.declared.numbering.Numbered.{Numbered}
-use Rattle.inline.specs.Flat as flat
 use Rattle.inline.specs.Flat.{elements_by, numbers_in}
 use Rattle.inline.specs.FlatMeaning.{Values, value_in, path_in, after_all, path_along}
 use Rattle.inline.specs.FlatMeaning as flat_meaning
@@ -25,7 +25,7 @@ use Rattle.language.specs.Types.{Scope}
 use Rattle.language.specs.WellTyped as rules
 use Rattle.language.specs.WellTyped.{labelled, ArePassed, none_passed, one_passed}
 use Rattle.language.specs.names.Scope.{found}
-use Rattle.inline.proofs.Begun.{ArrayGiven, word_given, array_passed, kept_begun}
+use Rattle.inline.proofs.Begun.{word_given, array_passed, kept_begun}
 use Rattle.inline.proofs.Comes.{Comes, well, then_comes, also, across}
 use Rattle.inline.proofs.Linked.{Linked, entry, later}
 use Rattle.inline.proofs.Below.{found-new, found-other}
@@ -37,17 +37,12 @@ pub passed_keeps : (names : Numbers) (ps : List ParameterTree) (es : List ExprTr
     → after_all m (passed names n ps es) x ≡ m x
 passed_keeps names [] es n x low m = refl
 passed_keeps names (p ∷ ps) [] n x low m = refl
-passed_keeps names (p ∷ ps) (e ∷ es) n x low m = by_form (is_word p.form)
-    (passed_keeps names ps es (n + 1) x (omega arith) (flat_meaning.with_value m n (value_in m (term names e) ∷ []))
-    ∙ with_value-other m n x (value_in m (term names e) ∷ []) (λ q. omega arith))
-    (passed_keeps names ps es n x low m)
-  where
-    by_form : (b : Bool) → after_all (flat_meaning.with_value m n (value_in m (term names e) ∷ []))
-        (passed names (n + 1) ps es) x ≡ m x → after_all m (passed names n ps es) x ≡ m x
-        → after_all m (if b then flat.first (flat.declare n (labelled p.kind p.label) false (term names e))
-        (passed names (n + 1) ps es) else passed names n ps es) x ≡ m x
-    by_form true one other = one
-    by_form false one other = other
+passed_keeps names (p ∷ ps) (e ∷ es) n x low m = elim (cases_Bool (is_word p.form)) [
+  | inl word ↦ rw word
+      (passed_keeps names ps es (n + 1) x (omega arith) (flat_meaning.with_value m n (value_in m (term names e) ∷ []))
+      ∙ with_value-other m n x (value_in m (term names e) ∷ []) (λ q. omega arith))
+  | inr array ↦ rw array (passed_keeps names ps es n x low m)
+]
 
 pub held_by_name : (s : State) (text other : List ℕ) (v : Option Value) (w : Value) → v ≡ Some w
     → bytes_eq other text ≡ true → with_some s text v other ≡ Some w
@@ -81,89 +76,37 @@ AreHeld names n ps es s m vs =
     (after_all m (passed names n ps es) x.number)
 
 module _ (scope : Scope) (names : Numbers) (types : Types) (s : State) where
-  -- the first parameter, which is a word or none
-  module _ (p : ParameterTree) (ps : List ParameterTree) (e : ExprTree) (es : List ExprTree) (n : ℕ)
-      (m : Values) where
-    -- what a word parameter makes of the variables
-    abbrev put_there : Values
-    put_there = flat_meaning.with_value m n (value_in m (term names e) ∷ [])
-
-    abbrev Whole : Bool → Option Value → List Word → Type 0
-    Whole b value left =
-        (own : Numbers) (text : List ℕ) (x : Numbered) → found own text ≡ None
-        → found (if b then begun names (naming own p.name n (own_variable p)) (n + 1) ps es else begun names
-        (naming own p.name (number_given names e) (own_variable p)) n ps es) text ≡ Some x
-        → Holds x.declaration (with_some (meaning.begun s ps es left) p.name value text)
-        (after_all m (if b then flat.first (flat.declare n (labelled p.kind p.label) false (term names e))
-        (passed names (n + 1) ps es) else passed names n ps es) x.number)
-
-    -- what is to be shown, by whether the first is a word
-    abbrev Goal : Bool → Form → Type 0
-    Goal b form =
-        Comes (EvaluatesAll s (if b then e ∷ word_arguments ps es else word_arguments ps es))
-        (λ vs. Whole b (argument_held s form e vs) (words_left form vs))
-        (first_fault
-        (path_along m (if b then flat.first (flat.declare n (labelled p.kind p.label) false (term names e))
-        (passed names (n + 1) ps es) else passed names n ps es)))
-
-    -- with one more name
-    with_one : (number n' : ℕ) (m' : Values) (value : Option Value) (w : Value) (left : List Word) → value ≡ Some w
-        → Holds (own_variable p) (Some w) (after_all m' (passed names n' ps es) number)
-        → AreHeld names n' ps es s m' left
-        → (own : Numbers) (text : List ℕ) (x : Numbered) → found own text ≡ None
-        → found (begun names (naming own p.name number (own_variable p)) n' ps es) text ≡ Some x
-        → Holds x.declaration (with_some (meaning.begun s ps es left) p.name value text)
-        (after_all m' (passed names n' ps es) x.number)
-    with_one number n' m' value w left there first rest own text x none is = by_text (bytes_eq text p.name) refl
-      where
-        by_text : (b : Bool) → bytes_eq text p.name ≡ b → Holds x.declaration
-            (with_some (meaning.begun s ps es left) p.name value text) (after_all m' (passed names n' ps es) x.number)
-        by_text true same =
+  -- with one more name, for what its variable holds
+  with_one : (p : ParameterTree) (ps : List ParameterTree) (es : List ExprTree) (number n : ℕ) (m : Values)
+      (value : Option Value) (w : Value) (left : List Word) → value ≡ Some w
+      → Holds (own_variable p) (Some w) (after_all m (passed names n ps es) number) → AreHeld names n ps es s m left
+      → (own : Numbers) (text : List ℕ) (x : Numbered) → found own text ≡ None
+      → found (begun names (naming own p.name number (own_variable p)) n ps es) text ≡ Some x
+      → Holds x.declaration (with_some (meaning.begun s ps es left) p.name value text)
+      (after_all m (passed names n ps es) x.number)
+  with_one p ps es number n m value w left there first rest own text x none is =
+      elim (cases_Bool (bytes_eq text p.name)) [
+        | inl same ↦ (
             let d = own_variable p in
             let new = ap (found own) (sym ((bytes_decides text p.name).0 same)) ∙ none in
-            let here = kept_begun names ps es (naming own p.name number d) n' text (entry number d)
+            let here = kept_begun names ps es (naming own p.name number d) n text (entry number d)
             (found-new own p.name (entry number d) text same new) in
-            let alike = same_Some (entry number d) x (sym here ∙ is) in
             subst (λ (z : Numbered). Holds z.declaration (with_some (meaning.begun s ps es left) p.name value text)
-            (after_all m' (passed names n' ps es) z.number)) alike
-            (subst (λ o. Holds d o (after_all m' (passed names n' ps es) number))
-            (sym (held_by_name (meaning.begun s ps es left) p.name text value w there same)) first)
-        by_text false other =
-            subst (λ o. Holds x.declaration o (after_all m' (passed names n' ps es) x.number))
+            (after_all m (passed names n ps es) z.number)) (same_Some (entry number d) x (sym here ∙ is))
+            (subst (λ o. Holds d o (after_all m (passed names n ps es) number))
+            (sym (held_by_name (meaning.begun s ps es left) p.name text value w there same)) first))
+        | inr other ↦ subst (λ o. Holds x.declaration o (after_all m (passed names n ps es) x.number))
             (sym (held_by_other (meaning.begun s ps es left) p.name text value other))
             (rest (naming own p.name number (own_variable p)) text x
             (found-other own p.name (entry number (own_variable p)) text other ∙ none) is)
+      ]
 
-    word_holds : (w : Word) (v : ℕ) → p.form ≡ SingleWord → w ≡ word_at p.kind v
-        → Holds (own_variable p) (Some (single w)) (v ∷ [])
-    word_holds w v form same = record {
-      is = ap (λ u. Some (single u)) same ∙ ap (λ f. Some (held p.kind (elements_by f p.length) (v ∷ []))) (sym form);
-      count = ap (λ f. numbers_in (elements_by f p.length)) (sym form);
-    }
-
-    word_whole : (w : Word) (vs : List Word) → p.form ≡ SingleWord → w ≡ word_at p.kind (value_in m (term names e))
-        → AreHeld names (n + 1) ps es s put_there vs → Whole true (Some (single w)) vs
-    word_whole w vs form same rest =
-        let v = value_in m (term names e) ∷ [] in
-        let kept = passed_keeps names ps es (n + 1) n (omega arith) put_there ∙ with_value-same m n v in
-        with_one n (n + 1) put_there (Some (single w)) (single w) vs refl
-        (subst (Holds (own_variable p) (Some (single w))) (sym kept)
-        (word_holds w (value_in m (term names e)) form same)) rest
-
-    array_whole : (vs : List Word) → Shows names s m → ArrayGiven names types n p e → AreHeld names n ps es s m vs
-        → Whole false (array_named s e) vs
-    array_whole vs shows a rest =
-        let there = shows a.text _ a.found in
-        let words = m a.number in
-        let value = held p.kind (Some p.length) words in
-        let kept = passed_keeps names ps es n a.number a.low m in
-        let holds : Holds (own_variable p) (Some value) words = record {
-          is = ap (λ o. Some (held p.kind o words)) (sym a.elements);
-          count = there.count ∙ ap numbers_in (sym a.elements);
-        } in
-        with_one (number_given names e) n m (array_named s e) value vs (ap (array_named s) a.named ∙ there.is)
-        (subst (Holds (own_variable p) (Some value)) (sym (ap (after_all m (passed names n ps es)) a.here ∙ kept))
-        holds) rest
+  word_holds : (p : ParameterTree) (w : Word) (v : ℕ) → p.form ≡ SingleWord → w ≡ word_at p.kind v
+      → Holds (own_variable p) (Some (single w)) (v ∷ [])
+  word_holds p w v form same = record {
+    is = ap (λ u. Some (single u)) same ∙ ap (λ f. Some (held p.kind (elements_by f p.length) (v ∷ []))) (sym form);
+    count = ap (λ f. numbers_in (elements_by f p.length)) (sym form);
+  }
 
   -- the words of arguments, from left to right
   pub passed_comes : {ps : List ParameterTree} {es : List ExprTree} → ArePassed scope ps es → AreAllSmall es → (n : ℕ)
@@ -173,47 +116,46 @@ module _ (scope : Scope) (names : Numbers) (types : Types) (s : State) where
   passed_comes none_passed small n linked m shows =
       well [] none_left (λ own text x none is. absurd (none-some x (sym none ∙ is)))
   passed_comes (one_passed {p = p} {ps = ps} {argument = e} {arguments = es} is shares are) small n linked m shows =
-      by_form (is_word p.form) refl (passed_comes are small.1)
-    where
-      by_form : (b : Bool) → is_word p.form ≡ b
-          → ((n' : ℕ) → Linked scope names types n' → (m' : Values) → Shows names s m'
-          → Comes (EvaluatesAll s (word_arguments ps es)) (AreHeld names n' ps es s m')
-          (first_fault (path_along m' (passed names n' ps es))))
-          → Goal p ps e es n m (is_word p.form) p.form
-      by_form true form more =
-          let g = word_given is form in
-          let next = put_there p ps e es n m in
-          let v = value_in m (term names e) in
-          let shows' = shows_kept names s m next shows
-          (λ text x there. let low = linked.below text x there in with_value-other m n x.number (v ∷ [])
-          (λ q. omega arith)) in
-          let rest = more (n + 1) (later scope names types n (n + 1) (omega arith) linked) next shows' in
-          subst (Goal p ps e es n m (is_word p.form)) (sym g.form)
-          (subst (λ b. Goal p ps e es n m b SingleWord) (sym form)
-          (subst (Comes (EvaluatesAll s (e ∷ word_arguments ps es))
-          (λ vs. Whole p ps e es n m true (argument_held s SingleWord e vs) (words_left SingleWord vs)))
-          (sym (across (path_in m (term names e)) (path_along next (passed names (n + 1) ps es))))
-          (then_comes ((means scope names types n linked g.has small.0).value s m shows)
-          (λ w one same.
-          also rest
-          (λ vs all holds. (
-            w ∷ vs,
-            one_more one all,
-            word_whole p ps e es n m w vs g.form
-                (same ∙ ap (λ k. word_at k v) (kind_suits g.suits)) holds,
-          ))
-          (λ at all. later_faults one all))
-          (λ at one. this_faults one))))
-      by_form false form more =
-          let a = array_passed scope names types n linked is form in
-          subst (λ b. Goal p ps e es n m b p.form) (sym form)
-          (also (more n linked m shows)
-          (λ vs all holds. (
-            vs,
-            all,
-            subst (λ left. Whole p ps e es n m false (argument_held s p.form e vs) left)
-                (sym (no_word_left p.form vs form))
-                (subst (λ value. Whole p ps e es n m false value vs) (sym (array_held s p.form e vs form))
-                (array_whole p ps e es n m vs shows a holds)),
-          ))
-          (λ at all. all))
+      elim (cases_Bool (is_word p.form)) [
+        | inl word ↦ (
+            let g = word_given is word in
+            let v = value_in m (term names e) in
+            let next = flat_meaning.with_value m n (v ∷ []) in
+            let shown = shows_kept names s m next shows
+            (λ text x there. let low = linked.below text x there in with_value-other m n x.number (v ∷ [])
+            (λ q. omega arith)) in
+            let here = passed_keeps names ps es (n + 1) n (omega arith) next ∙ with_value-same m n (v ∷ []) in
+            rw (word, across (path_in m (term names e)) (path_along next (passed names (n + 1) ps es)))
+            (then_comes ((means scope names types n linked g.has small.0).value s m shows)
+            (λ w one same.
+            also (passed_comes are small.1 (n + 1) (later scope names types n (n + 1) (omega arith) linked) next shown)
+            (λ vs all holds. (
+              w ∷ vs,
+              one_more one all,
+              rw word (with_one p ps es n (n + 1) next _ (single w) _ (ap (λ f. argument_held s f e (w ∷ vs)) g.form)
+                  (subst (Holds (own_variable p) (Some (single w))) (sym here)
+                  (word_holds p w v g.form (same ∙ ap (λ k. word_at k v) (kind_suits g.suits))))
+                  (subst (AreHeld names (n + 1) ps es s next) (sym (ap (λ f. words_left f (w ∷ vs)) g.form)) holds)),
+            ))
+            (λ at all. later_faults one all))
+            (λ at one. this_faults one)))
+        | inr array ↦ (
+            let a = array_passed scope names types n linked is array in
+            let there = shows a.text _ a.found in
+            let words = m (number_given names e) in
+            let value = held p.kind (Some p.length) words in
+            rw array (also (passed_comes are small.1 n linked m shows)
+            (λ vs all holds. (
+              vs,
+              all,
+              rw array (with_one p ps es (number_given names e) n m _ value _
+                  (array_held s p.form e vs array ∙ (ap (array_named s) a.named ∙ there.is))
+                  (subst (Holds (own_variable p) (Some value))
+                  (sym (passed_keeps names ps es n (number_given names e) a.low m)) (record {
+                    is = ap (λ o. Some (held p.kind o words)) (sym a.elements);
+                    count = there.count ∙ ap numbers_in (sym a.elements);
+                  }))
+                  (subst (AreHeld names n ps es s m) (sym (no_word_left p.form vs array)) holds)),
+            ))
+            (λ at all. all)))
+      ]

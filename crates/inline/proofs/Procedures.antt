@@ -1,7 +1,8 @@
 -- A statement about each procedure that may be called, by induction over the text.
-use Rattle.std.proofs.Common.{◌≡◌, ◌≢◌, ℕ, zero, suc, ◌<◌, Bool, true, false, if◌then◌else◌, List, [], ◌∷◌, ◌++◌}
+use Rattle.std.proofs.Common.{◌≡◌, ◌≢◌, ℕ, zero, suc, ◌<◌, Bool, true, false, List, [], ◌∷◌, ◌++◌}
 use Rattle.std.proofs.Common.{length, Some, None, is_some, refl, sym, ap, ◌∙◌, subst, arith, slice_get, length-append}
-use Rattle.std.proofs.Common.{◌⊎◌, inl, inr}
+use Rattle.std.proofs.Common.{inl, inr}
+use Rattle.std.proofs.lemmas.Bool.{cases_Bool}
 use Rattle.std.proofs.lemmas.List.{nil_from_length}
 use Rattle.std.proofs.lemmas.Option.{none-some, same_Some}
 use Rattle.std.specs.List.{AllByRecursion}
@@ -17,8 +18,8 @@ use Rattle.language.specs.Tree.{ParameterTree, ProcedureTree, ProgramTree, State
 use Rattle.language.specs.Types.{Scope, empty, found, declared}
 use Rattle.language.specs.Typing.{assigns_public, parameter_as, scope_after, violations, with_parameters}
 use Rattle.language.specs.Typing.{with_procedure}
-use Rattle.language.specs.WellTyped.{IsWellTyped, declares, declares_array, assigns, assigns_element, calls, chooses}
-use Rattle.language.specs.WellTyped.{repeats, IsProcedure, AreProcedures, no_procedure, one_procedure}
+use Rattle.language.specs.WellTyped.{IsWellTyped, declares, declares_array}
+use Rattle.language.specs.WellTyped.{IsProcedure, AreProcedures, no_procedure, one_procedure}
 use Rattle.inline.proofs.KnownLemmas.{named-kept, named-missed, named-new}
 use Rattle.inline.proofs.Below.{found-new, found-other, found-split}
 use Rattle.inline.proofs.Parameters.{NoVariables}
@@ -67,23 +68,17 @@ module _ (earlier : List ProcedureTree) (Is : Profile → List ℕ → Callee �
   pub callable_declared : (scope : Scope) (name : List ℕ) (v : VariableType) → EachCallable earlier Is scope
       → EachCallable earlier Is (declared scope name (Variable v))
   callable_declared scope name v each text c p is there =
-      by_name (found-split scope.names name (Variable v) text (Procedure c) is)
-    where
-      by_name : (found scope text ≡ Some (Procedure c)) ⊎ ((bytes_eq text name ≡ true) × (Variable v ≡ Procedure c))
-          → Is scope.profile text c p
-      by_name (inl old) = each text c p old there
-      by_name (inr new) = absurd (no_callee c v (ap (λ d. Some d) (sym new.1)))
+      elim (found-split scope.names name (Variable v) text (Procedure c) is) [
+        | inl old ↦ each text c p old there
+        | inr new ↦ absurd (no_callee c v (ap (λ d. Some d) (sym new.1)))
+      ]
 
   pub callable_after : {scope : Scope} {control : Label} {s : StatementTree} → IsWellTyped earlier scope control s
       → EachCallable earlier Is scope → EachCallable earlier Is (scope_after scope s)
   callable_after (declares {scope = scope} {text = text} new has suit flow) each = callable_declared scope text _ each
   callable_after (declares_array {scope = scope} {text = text} new suit count flow) each =
       callable_declared scope text _ each
-  callable_after (assigns is has suit flow) each = each
-  callable_after (assigns_element is has value suit flow) each = each
-  callable_after (calls is) each = each
-  callable_after (chooses has one other) each = each
-  callable_after (repeats low high new inner) each = each
+  callable_after other each = each
 
   pub callable_parameters : (ps : List ParameterTree) (scope : Scope) → EachCallable earlier Is scope
       → EachCallable earlier Is (with_parameters scope ps)
@@ -140,45 +135,46 @@ module _ (Good : List ProcedureTree → Scope → ProcedureTree → Type 0) wher
     there : (text : List ℕ) → bytes_eq text p.name ≡ false → found after text ≡ found scope text
     there text e = found-other scope.names p.name (Procedure own) text e
 
-    variables_by : (text : List ℕ) (b : Bool) → bytes_eq text p.name ≡ b → (v : VariableType)
-        → found after text ≢ Some (Variable v)
-    variables_by text true e v is = no_callee own v (sym (here text e) ∙ is)
-    variables_by text false e v is = stand.variables text v (sym (there text e) ∙ is)
-
     -- what a procedure's name is in its own body
     pub variables_within : NoVariables after
-    variables_within text v is = variables_by text (bytes_eq text p.name) refl v is
+    variables_within text v is = elim (cases_Bool (bytes_eq text p.name)) [
+      | inl e ↦ no_callee own v (sym (here text e) ∙ is)
+      | inr e ↦ stand.variables text v (sym (there text e) ∙ is)
+    ]
 
     -- which may not call itself
     pub earlier_within : IsWithin earlier scope after
-    earlier_within text c q is get = (refl, by_name (bytes_eq text p.name) refl)
-      where
-        by_name : (b : Bool) → bytes_eq text p.name ≡ b → found scope text ≡ Some (Procedure c)
-        by_name true e =
+    earlier_within text c q is get = (
+      refl,
+      elim (cases_Bool (bytes_eq text p.name)) [
+        | inl e ↦ (
             let same = same_callee own c (sym (here text e) ∙ is) in
             absurd (none-some q (sym (get_none earlier)
-            ∙ (ap (λ (d : Callee). slice_get earlier d.number) same ∙ get)))
-        by_name false e = sym (there text e) ∙ is
+            ∙ (ap (λ (d : Callee). slice_get earlier d.number) same ∙ get))))
+        | inr e ↦ sym (there text e) ∙ is
+      ],
+    )
 
     -- so what it may call is what stands before it
     pub callable_within : EachCallable earlier (IsCallable earlier) after
     callable_within text c q is get = stand.callable text c q (earlier_within text c q is get).1 get
 
-    below_by : (text : List ℕ) (c : Callee) (b : Bool) → bytes_eq text p.name ≡ b
-        → found after text ≡ Some (Procedure c) → c.number < length (earlier ++ p ∷ [])
-    below_by text c true e is =
-        let same = ap (λ (d : Callee). d.number) (same_callee own c (sym (here text e) ∙ is)) in
+    below_by : (text : List ℕ) (c : Callee) → found after text ≡ Some (Procedure c)
+        → c.number < length (earlier ++ p ∷ [])
+    below_by text c is =
         let count = length-append earlier (p ∷ []) in
-        omega (arith, same, count)
-    below_by text c false e is =
-        let low = stand.below text c (sym (there text e) ∙ is) in
-        let count = length-append earlier (p ∷ []) in
-        omega (arith, low, count)
+        elim (cases_Bool (bytes_eq text p.name)) [
+          | inl e ↦ (
+              let same = ap (λ (d : Callee). d.number) (same_callee own c (sym (here text e) ∙ is)) in
+              omega (arith, same, count))
+          | inr e ↦ (let low = stand.below text c (sym (there text e) ∙ is) in omega (arith, low, count))
+        ]
 
-    new_by : (text : List ℕ) (b : Bool) → bytes_eq text p.name ≡ b → found after text ≡ None
-        → named [] (earlier ++ p ∷ []) text ≡ None
-    new_by text true e is = absurd (none-some (Procedure own) (sym is ∙ here text e))
-    new_by text false e is = named-missed [] earlier p text (stand.new text (sym (there text e) ∙ is)) e
+    new_by : (text : List ℕ) → found after text ≡ None → named [] (earlier ++ p ∷ []) text ≡ None
+    new_by text is = elim (cases_Bool (bytes_eq text p.name)) [
+      | inl e ↦ absurd (none-some (Procedure own) (sym is ∙ here text e))
+      | inr e ↦ named-missed [] earlier p text (stand.new text (sym (there text e) ∙ is)) e
+    ]
 
     callable_by : Good earlier scope p → (text : List ℕ) (c : Callee) (q : ProcedureTree) (b : Bool)
         → bytes_eq text p.name ≡ b → found after text ≡ Some (Procedure c)
@@ -213,8 +209,8 @@ module _ (Good : List ProcedureTree → Scope → ProcedureTree → Type 0) wher
     one_stands : Good earlier scope p → Stand (earlier ++ p ∷ []) after
     one_stands good = record {
       variables = variables_within;
-      below = λ text c. below_by text c (bytes_eq text p.name) refl;
-      new = λ text. new_by text (bytes_eq text p.name) refl;
+      below = below_by;
+      new = new_by;
       callable = λ text c q. callable_by good text c q (bytes_eq text p.name) refl;
     }
 
@@ -231,37 +227,27 @@ module _ (Good : List ProcedureTree → Scope → ProcedureTree → Type 0) wher
     all_before : (earlier ps before : List ProcedureTree) (p : ProcedureTree) → exported earlier ps ≡ Some (before, p)
         → AllByRecursion Extra before → AllByRecursion Extra earlier
     all_before earlier [] before p is all = absurd (none-some _ is)
-    all_before earlier (q ∷ qs) before p is all = by_word (is_some q.export)
-        (λ rest. (all_front Extra earlier q (all_before (earlier ++ q ∷ []) qs before p rest all)).0) is
-      where
-        by_word : (b : Bool) → (exported (earlier ++ q ∷ []) qs ≡ Some (before, p) → AllByRecursion Extra earlier)
-            → (if b then Some (earlier, q) else exported (earlier ++ q ∷ []) qs) ≡ Some (before, p)
-            → AllByRecursion Extra earlier
-        by_word true rest e = subst (AllByRecursion Extra)
-            (sym (ap (λ (z : List ProcedureTree × ProcedureTree). z.0) (same_Some (earlier, q) (before, p) e))) all
-        by_word false rest e = rest e
+    all_before earlier (q ∷ qs) before p is all = elim (cases_Bool (is_some q.export)) [
+      | inl word ↦ subst (AllByRecursion Extra) (sym (ap (λ (z : List ProcedureTree × ProcedureTree). z.0)
+          (same_Some (earlier, q) (before, p) (rw word at is)))) all
+      | inr none ↦ (all_front Extra earlier q (all_before (earlier ++ q ∷ []) qs before p (rw none at is) all)).0
+    ]
 
     the_export : {earlier : List ProcedureTree} {scope : Scope} {ps : List ProcedureTree}
         → AreProcedures earlier scope ps → (before : List ProcedureTree) (p : ProcedureTree) → Stand earlier scope
         → AllByRecursion Extra before → exported earlier ps ≡ Some (before, p) → Exported scope.profile before p
     the_export no_procedure before p stand all is = absurd (none-some _ is)
     the_export (one_procedure {earlier = earlier} {scope = scope} {p = q} {ps = qs} this more) before p stand all is =
-        by_word (is_some q.export) (λ rest. the_export more before p
-        (one_stands earlier scope stand q this.is_new
-        (step earlier scope q stand this
-        (all_front Extra earlier q (all_before (earlier ++ q ∷ []) qs before p rest all)).1)) all rest) is
-      where
-        by_word : (b : Bool) → (exported (earlier ++ q ∷ []) qs ≡ Some (before, p) → Exported scope.profile before p)
-            → (if b then Some (earlier, q) else exported (earlier ++ q ∷ []) qs) ≡ Some (before, p)
-            → Exported scope.profile before p
-        by_word true rest e =
-            let same = same_Some (earlier, q) (before, p) e in
-            let one = ap (λ (z : List ProcedureTree × ProcedureTree). z.0) same in
-            let other = ap (λ (z : List ProcedureTree × ProcedureTree). z.1) same in
-            subst (λ (x : List ProcedureTree). Exported scope.profile x p) one
-            (subst (λ x. Exported scope.profile earlier x) other
-            (record { scope = scope; observed = refl; stand = stand; typed = this }))
-        by_word false rest e = rest e
+        elim (cases_Bool (is_some q.export)) [
+          | inl word ↦ subst (λ (z : List ProcedureTree × ProcedureTree). Exported scope.profile z.0 z.1)
+              (same_Some (earlier, q) (before, p) (rw word at is))
+              (record { scope = scope; observed = refl; stand = stand; typed = this })
+          | inr none ↦ (
+              let rest = rw none at is in
+              the_export more before p (one_stands earlier scope stand q this.is_new
+              (step earlier scope q stand this
+              (all_front Extra earlier q (all_before (earlier ++ q ∷ []) qs before p rest all)).1)) all rest)
+        ]
 
     -- of a program that violates no rule
     pub own_typing : (profile : Profile) (program : ProgramTree) (before : List ProcedureTree) (p : ProcedureTree)

@@ -1,6 +1,8 @@
 -- States of the source beside the values of numbered variables, as declarations and assignments change both.
-use Rattle.std.proofs.Common.{◌≡◌, ℕ, ◌+◌, Bool, true, false, if◌then◌else◌, List, Option, Some, None, refl, sym, ap}
+use Rattle.std.proofs.Common.{◌≡◌, ℕ, ◌+◌, true, if◌then◌else◌, List, Option, Some, None, refl, sym, ap}
 use Rattle.std.proofs.Common.{◌∙◌, subst, arith, true≢false, ne_eqb, eq-eqb}
+use Rattle.std.proofs.Common.{inl, inr}
+use Rattle.std.proofs.lemmas.Bool.{cases_Bool}
 use Rattle.std.proofs.lemmas.Option.{same_Some}
 use Rattle.std.specs.Str.{bytes_eq}
 use lib.Pointwise.{bytes_decides}
@@ -13,8 +15,8 @@ use Rattle.inline.specs.FlatTyping.{Types}
 use Rattle.inline.specs.Numbering.{Numbers, Callables, naming, names_after, names_after_all, numbers_taken, right_end}
 use Rattle.language.specs.names.Scope.{found}
 use Rattle.language.specs.State.{State, Value, with_value}
-use Rattle.language.specs.Tree.{StatementTree, declaration, array, assignment, element_assignment, call, conditional}
-use Rattle.language.specs.Tree.{loop, BlockTree, nothing, first}
+use Rattle.language.specs.Tree.{StatementTree, declaration, array}
+use Rattle.language.specs.Tree.{BlockTree, nothing, first}
 use Rattle.language.specs.Types.{Scope}
 use Rattle.language.specs.WellTyped.{labelled}
 use Rattle.inline.proofs.Linked.{Linked, entry}
@@ -37,42 +39,37 @@ module _ (scope : Scope) (names : Numbers) (types : Types) (n : ℕ) (linked : L
     (m : Values) (shows : Shows names s m) (text : List ℕ) (own : FlatVariable) (v : Value) (numbers : List ℕ)
     (holds : Holds own (Some v) numbers) where
   -- after a declaration
-  module _ (new : found scope.names text ≡ None) where
-    declared_by : (other : List ℕ) (x : Numbered) (b : Bool) → bytes_eq other text ≡ b
-        → found (naming names text n own) other ≡ Some x → Holds x.declaration (with_value s text v other)
-        (flat.with_value m n numbers x.number)
-    declared_by other x true e is =
+  pub shows_declared : found scope.names text ≡ None
+      → Shows (naming names text n own) (with_value s text v) (flat.with_value m n numbers)
+  shows_declared new other x is = elim (cases_Bool (bytes_eq other text)) [
+    | inl e ↦ (
         let same = same_Some (entry n own) x (sym (found-new names text (entry n own) other e (linked.none text new))
         ∙ is) in
         holds_by (ap (λ (y : Numbered). y.declaration) same) (sym (ap (λ b. if b then Some v else s other) e))
-        (sym (with_value-same m n numbers) ∙ ap (λ (y : Numbered). flat.with_value m n numbers y.number) same) holds
-    declared_by other x false e is =
+        (sym (with_value-same m n numbers) ∙ ap (λ (y : Numbered). flat.with_value m n numbers y.number) same) holds)
+    | inr e ↦ (
         let old = sym (found-other names text (entry n own) other e) ∙ is in
         let low = linked.below other x old in
         holds_by refl (sym (ap (λ b. if b then Some v else s other) e))
-        (sym (with_value-other m n x.number numbers (λ q. omega arith))) (shows other x old)
-
-    pub shows_declared : Shows (naming names text n own) (with_value s text v) (flat.with_value m n numbers)
-    shows_declared other x is = declared_by other x (bytes_eq other text) refl is
+        (sym (with_value-other m n x.number numbers (λ q. omega arith))) (shows other x old))
+  ]
 
   -- after an assignment
-  module _ (y : ℕ) (known : found names text ≡ Some (entry y own)) (free : own.mutable ≡ true) where
-    changed_by : (other : List ℕ) (x : Numbered) (b : Bool) → bytes_eq other text ≡ b → found names other ≡ Some x
-        → Holds x.declaration (with_value s text v other) (flat.with_value m y numbers x.number)
-    changed_by other x true e is =
+  pub shows_changed : (y : ℕ) → found names text ≡ Some (entry y own) → own.mutable ≡ true
+      → Shows names (with_value s text v) (flat.with_value m y numbers)
+  shows_changed y known free other x is = elim (cases_Bool (bytes_eq other text)) [
+    | inl e ↦ (
         let same = same_Some (entry y own) x (sym known
         ∙ (ap (found names) (sym ((bytes_decides other text).0 e)) ∙ is)) in
         holds_by (ap (λ (z : Numbered). z.declaration) same) (sym (ap (λ b. if b then Some v else s other) e))
-        (sym (with_value-same m y numbers) ∙ ap (λ (z : Numbered). flat.with_value m y numbers z.number) same) holds
-    changed_by other x false e is =
+        (sym (with_value-same m y numbers) ∙ ap (λ (z : Numbered). flat.with_value m y numbers z.number) same) holds)
+    | inr e ↦ (
         let apart = λ (q : x.number ≡ y). true≢false
         (sym ((bytes_decides other text).1 (sym (linked.apart text other (entry y own) x known is (sym q) free)))
         ∙ e) in
         holds_by refl (sym (ap (λ b. if b then Some v else s other) e))
-        (sym (with_value-other m y x.number numbers apart)) (shows other x is)
-
-    pub shows_changed : Shows names (with_value s text v) (flat.with_value m y numbers)
-    shows_changed other x is = changed_by other x (bytes_eq other text) refl is
+        (sym (with_value-other m y x.number numbers apart)) (shows other x is))
+  ]
 
 -- What holds of a state where no number of a name has changed.
 pub shows_kept : (names : Numbers) (s : State) (m o : Values) → Shows names s m
@@ -90,11 +87,7 @@ module _ (known : Callables) where
       found-kept names own (entry (right_end known n value) (word_as (labelled kind label) mutable)) text x h
   kept_number (array place label mutable kind size own values) names n text x h =
       found-kept names own (entry n (array_as (labelled kind label) mutable size)) text x h
-  kept_number (assignment place target own value) names n text x h = h
-  kept_number (element_assignment place bracket target own index value) names n text x h = h
-  kept_number (call c) names n text x h = h
-  kept_number (conditional place condition accepted otherwise) names n text x h = h
-  kept_number (loop place counter own low high body) names n text x h = h
+  kept_number other names n text x h = h
 
   pub kept_numbers : (b : BlockTree) (names : Numbers) (n : ℕ) (text : List ℕ) (x : Numbered)
       → found names text ≡ Some x → found (names_after_all known names n b) text ≡ Some x

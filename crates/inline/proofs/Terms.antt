@@ -129,22 +129,12 @@ marks_found false false place a b w = refl
 made_kind : {profile : Profile} {operation : Operation} {one other whole : WordType}
     → rules.Makes profile operation one other whole → operation_kind operation one.kind ≡ whole.kind
 made_kind (rules.arithmetic numeric) = refl
-made_kind (rules.multiplication numeric may) = refl
-made_kind (rules.division numeric) = refl
-made_kind (rules.shift numeric) = refl
-made_kind rules.equality = refl
-made_kind (rules.order numeric) = refl
-made_kind rules.logic = refl
+made_kind other = refl
 
 made_label : {profile : Profile} {operation : Operation} {one other whole : WordType}
     → rules.Makes profile operation one other whole → joined one.label other.label ≡ whole.label
 made_label (rules.arithmetic numeric) = refl
-made_label (rules.multiplication numeric may) = refl
-made_label (rules.division numeric) = refl
-made_label (rules.shift numeric) = refl
-made_label rules.equality = refl
-made_label (rules.order numeric) = refl
-made_label rules.logic = refl
+made_label other = refl
 
 -- the word that is chosen
 picked : (is_zero : Bool) (k : Kind) (a b : ℕ)
@@ -178,13 +168,11 @@ module _ (scope : Scope) (names : Numbers) (types : Types) (n : ℕ) (linked : L
   means {type = word} (rules.of_name {place = place} {text = text} {mutable = mutable} is) small =
       let k = known_word scope names types n linked text word mutable is in
       record {
-        kind = ap (λ (x : Numbered). x.declaration.word.kind) k.here;
-        label = ap (λ (x : Numbered). x.declaration.word.label) k.here;
-        typed = flat.of_variable (ap (λ (x : Numbered). types.at x.number) k.here ∙ k.typed.is);
+        kind = ap (λ (d : FlatVariable). d.word.kind) k.declared;
+        label = ap (λ (d : FlatVariable). d.word.label) k.declared;
+        typed = flat.of_variable k.typed.is;
         value = λ s m shows.
-            with_none s (name place text) _ refl
-            (ap (λ o. gives (word_held o)) (shows text _ k.found).is
-            ∙ ap (λ (x : Numbered). gives (word_at word.kind (slice_index (m x.number) 0))) (sym k.here));
+            with_none s (name place text) _ refl (ap (λ o. gives (word_held o)) (shows text _ k.found).is);
       }
   means (rules.of_prefix {place = place} {operator = operator} {operand = operand} {kind = kind} {label =
       label} has takes) small =
@@ -287,13 +275,13 @@ module _ (scope : Scope) (names : Numbers) (types : Types) (n : ℕ) (linked : L
   means (rules.of_element {place = place} {target = target} {text = text} {index = index} {array = own} {mutable =
       mutable} is has) small =
       let k = known_array scope names types n linked text own mutable is in
+      let size = ap (λ (d : FlatVariable). numbers_in d.elements) k.declared in
       let i = means has small in
       record {
-        kind = ap (λ (x : Numbered). x.declaration.word.kind) k.here;
-        label = ap (λ (x : Numbered). x.declaration.word.label) k.here;
-        typed = flat.of_element (ap (λ (x : Numbered). types.at x.number) k.here
-            ∙ (k.typed.is ∙ ap (λ (x : Numbered). Some
-            (array_as own.element k.typed.free (numbers_in x.declaration.elements))) (sym k.here))) i.typed;
+        kind = ap (λ (d : FlatVariable). d.word.kind) k.declared;
+        label = ap (λ (d : FlatVariable). d.word.label) k.declared;
+        typed = flat.of_element
+            (k.typed.is ∙ ap (λ n. Some (array_as own.element k.typed.free n)) (sym size)) i.typed;
         value = λ s m shows.
             let v = value_in m (term names index) in
             let p = path_in m (term names index) in
@@ -303,9 +291,8 @@ module _ (scope : Scope) (names : Numbers) (types : Types) (n : ℕ) (linked : L
             let holds = shows text _ k.found in
             let found : element_held place (s text) v ≡ ending_by (first_fault mark) w =
             ap (λ o. element_held place o v) holds.is
-            ∙ (element_found place own.element.kind (m k.number) own.length v holds.count
-            ∙ ap (λ (x : Numbered). ending_by (first_fault (indexed place (numbers_in x.declaration.elements) v ∷ []))
-            (word_at own.element.kind (slice_index (m x.number) v))) (sym k.here)) in
+            ∙ element_found place own.element.kind (m (number_of names text)) (size_of names text) v
+            (holds.count ∙ sym size) in
             subst (Comes (Evaluates s e) (λ v. v ≡ w))
             (ap (λ f. either f (first_fault mark)) (either-none (first_fault p)) ∙ sym (across p mark))
             (at_node s e (word_at Uint32 v ∷ []) w (either (first_fault p) None) (first_fault mark)

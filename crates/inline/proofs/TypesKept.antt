@@ -2,7 +2,7 @@
 use Rattle.std.proofs.Common.{◌≡◌, ℕ, false, List, Some, None, sym, ap, ◌∙◌}
 use Rattle.std.proofs.lemmas.Option.{none-some}
 use Rattle.inline.specs.declared.flat.FlatVariable.{FlatVariable}
-use Rattle.inline.specs.Flat.{FlatTree, declare, array, assign, put, hold, skip, branch, loop, FlatBlock, nothing}
+use Rattle.inline.specs.Flat.{FlatTree, declare, array, hold, FlatBlock, nothing}
 use Rattle.inline.specs.Flat.{first, word_as, array_as}
 use Rattle.inline.specs.FlatTyping.{Types, counter_type, IsTyped, AreTyped, types_after, types_after_all}
 use Rattle.language.specs.declared.signature.Label.{Label}
@@ -19,13 +19,9 @@ module _ (all : List FlatVariable) where
       with_type-other types x y (word_as word mutable) (new_number types x y d typed.0.new known) ∙ known
   type_kept types control (array x word mutable size values) typed y d known =
       with_type-other types x y (array_as word mutable size) (new_number types x y d typed.0.new known) ∙ known
-  type_kept types control (assign x value) typed y d known = known
-  type_kept types control (put place x size index value) typed y d known = known
   type_kept types control (hold x place size index) typed y d known =
       with_type-other types x y (word_as counter_type false) (new_number types x y d typed.0.new known) ∙ known
-  type_kept types control skip typed y d known = known
-  type_kept types control (branch label condition accepted otherwise) typed y d known = known
-  type_kept types control (loop x low high body) typed y d known = known
+  type_kept types control other typed y d known = known
 
   pub types_kept : (types : Types) (control : Label) (b : FlatBlock) → AreTyped all types control b
       → (y : ℕ) (d : FlatVariable) → types.at y ≡ Some d → (types_after_all types b).at y ≡ Some d

@@ -39,7 +39,6 @@ pub use Rattle.inline.proofs.Face.{
   shows_before,
   shows_declared,
   shows_kept,
-  typed_with,
   variables_within,
   well,
   with_value-other,

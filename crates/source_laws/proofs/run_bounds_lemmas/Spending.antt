@@ -7,7 +7,7 @@ use Rattle.inline.specs.Flat as flat_tree
 use Rattle.inline.specs.FlatMeaning.{Values, value_in, after_all}
 use Rattle.inline.specs.FlatMeaning as flat
 use Rattle.inline.specs.FlatSize.{term_nodes, value_nodes}
-use Rattle.inline.specs.FlatTyping.{Types, counter_type}
+use Rattle.inline.specs.FlatTyping.{Types, counter_type, types_after_all}
 use Rattle.inline.specs.Numbering as numbering
 use Rattle.inline.specs.Numbering.{Numbers, Callable, callable, callables, single as single_block}
 use Rattle.inline.specs.Numbering.{begun as begun_names, passed as passed_block, passed_variables, number_of, size_of}
@@ -16,7 +16,7 @@ use Rattle.inline.specs.Numbering.{numbers_taken_all, right, right_block, right_
 use Rattle.inline.specs.Numbering.{call_result, call_variables, value_given, value_of, dropped_block}
 use Rattle.source_laws.proofs.run_bounds_lemmas.Below.{Enters, enters, distinct_none, Ready, ready_later, ready_declared, ready_after}
 use Rattle.source_laws.proofs.run_bounds_lemmas.Below.{Behaves, call_means, no_names, same_nodes, same_all, same_end, same_ends, Linked}
-use Rattle.source_laws.proofs.run_bounds_lemmas.Below.{entry, found-kept, typed_with, passed_comes, EachCallable, IsCallable}
+use Rattle.source_laws.proofs.run_bounds_lemmas.Below.{entry, found-kept, passed_comes, EachCallable, IsCallable}
 use Rattle.source_laws.proofs.run_bounds_lemmas.Below.{callable_after, callable_declared, shows_declared, shows_before, shows_kept}
 use Rattle.source_laws.proofs.run_bounds_lemmas.Below.{with_value-other, Shows, word_at, means, value-worked, passed-worked}
 use Rattle.source_laws.proofs.run_bounds_lemmas.Below.{statement-worked, block-worked}
@@ -108,7 +108,7 @@ module _ (ps : List ProcedureTree) where
       start = n + length (passed_variables p.parameters c.arguments)
 
       abbrev own_types : Types
-      own_types = typed_with ready.types n (passed_variables p.parameters c.arguments)
+      own_types = types_after_all ready.types (passed_block names n p.parameters c.arguments)
 
       entered : Enters counted.good.behaves.scope names p.parameters c.arguments own own_types start
       entered =
