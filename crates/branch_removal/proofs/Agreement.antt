@@ -1,6 +1,6 @@
 -- Two states that hold the same in those variables in scope that are looked at.
-use Rattle.std.proofs.Common.{◌≡◌, ℕ, ◌==◌, Bool, true, false, cond, List, Some, refl, sym, ap, ◌∙◌, subst}
-use Rattle.std.proofs.lemmas.Bool.{eqb-true}
+use Rattle.std.proofs.Common.{◌≡◌, ℕ, ◌==◌, List, Some, inl, inr, sym, ap, ◌∙◌, subst}
+use Rattle.std.proofs.lemmas.Bool.{cases_Bool, eqb-true}
 use Rattle.std.proofs.lemmas.Option.{same_Some}
 use Rattle.inline.specs.declared.flat.FlatVariable.{FlatVariable}
 use Rattle.inline.specs.FlatMeaning.{Values, with_value}
@@ -24,17 +24,15 @@ module _ (sees : Sees) (types : Types) (m n : Values) (x : ℕ) (v w : List ℕ)
     → v ≡ w) (agree : Agree sees types m n) where
   -- the same is put into a variable that is in scope
   pub set_in_both : types.at x ≡ Some new → Agree sees types (with_value m x v) (with_value n x w)
-  set_in_both there y d known seen = by_number (y == x) refl
-    where
-      by_number : (b : Bool) → (y == x) ≡ b → cond b v (m y) ≡ cond b w (n y)
-      by_number true is =
-          equal (subst sees (same_Some d new (sym known ∙ (ap types.at (eqb-true y x is) ∙ there))) seen)
-      by_number false is = agree y d known seen
+  set_in_both there y d known seen = elim (cases_Bool (y == x)) [
+    | inl same ↦ rw same
+        (equal (subst sees (same_Some d new (sym known ∙ (ap types.at (eqb-true y x same) ∙ there))) seen))
+    | inr other ↦ rw other (agree y d known seen)
+  ]
 
   -- the same is the first value of a variable
   pub declared_in_both : Agree sees (with_type types x new) (with_value m x v) (with_value n x w)
-  declared_in_both y d known seen = by_number (y == x) known
-    where
-      by_number : (b : Bool) → cond b (Some new) (types.at y) ≡ Some d → cond b v (m y) ≡ cond b w (n y)
-      by_number true is = equal (subst sees (sym (same_Some new d is)) seen)
-      by_number false is = agree y d is seen
+  declared_in_both y d known seen = elim (cases_Bool (y == x)) [
+    | inl same ↦ rw same (equal (subst sees (sym (same_Some new d (rw same at known))) seen))
+    | inr other ↦ rw other (agree y d (rw other at known) seen)
+  ]

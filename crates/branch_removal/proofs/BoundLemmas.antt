@@ -1,6 +1,7 @@
 -- Straight code keeps the bounds of the body that it is made for.
-use Rattle.std.proofs.Common.{◌≡◌, ℕ, ◌+◌, ◌*◌, ◌≤◌, List, [], ◌∷◌, Option, None, Some, max, slice_index, refl, arith}
+use Rattle.std.proofs.Common.{◌≡◌, ℕ, ◌+◌, ◌*◌, ◌≤◌, List, [], ◌∷◌, Option, None, Some, max, slice_index, arith}
 use Rattle.std.proofs.Math.Nat.{max-le, mul-le-mul_left}
+use Rattle.inline.proofs.Face.{some_nodes}
 use Rattle.inline.specs.declared.flat.FlatVariable.{FlatVariable}
 use Rattle.inline.specs.Flat.{TermTree, FlatTree, declare, array, assign, put, hold, skip, branch, loop, FlatBlock}
 use Rattle.inline.specs.Flat.{nothing, first, FlatProgram}
@@ -12,25 +13,14 @@ use Rattle.language.specs.Limits.{most_nodes}
 use Rattle.intervals.specs.Work.{tree_work, body_work, ranged}
 use Rattle.language.specs.declared.signature.Label.{Label}
 use Rattle.language.specs.declared.signature.Label.TheVariants.{Public, Secret}
-use Rattle.word.specs.declared.place.Place.{Place}
-use Rattle.branch_removal.specs.Bounds.{statement_nodes, block_nodes, statement_work, block_work, set_work}
+use Rattle.branch_removal.specs.Bounds.{statement_nodes, block_nodes, block_work, set_work}
 use Rattle.branch_removal.specs.Bounds.{IsBounded, IsCounted}
 use Rattle.branch_removal.specs.Heights.{height_of, height_of_all, height_in, height_in_all, depth_in, depth_in_all}
 use Rattle.branch_removal.specs.Heights.{result_height}
-use Rattle.branch_removal.specs.private.Removal.{removed, removed_all, controls_in, controls_in_all, straightened}
+use Rattle.branch_removal.specs.private.Removal.{removed, removed_all, own_controls, controls_in, controls_in_all}
+use Rattle.branch_removal.specs.private.Removal.{straightened}
 use Rattle.branch_removal.specs.Straight.{StraightTree, StraightBlock, chain}
 use Rattle.branch_removal.specs.Straight as straight
-
-some_node : (e : TermTree) → 1 ≤ term_nodes e
-some_node (flat.number value kind) = omega arith
-some_node (flat.truth value) = omega arith
-some_node (flat.variable x) = omega arith
-some_node (flat.prefix operator width operand) = omega arith
-some_node (flat.binary place operator width left right) = omega arith
-some_node (flat.rotate width operand amount) = omega arith
-some_node (flat.convert kind operand) = omega arith
-some_node (flat.select condition accepted otherwise) = omega arith
-some_node (flat.element place x size index) = omega arith
 
 -- Nodes.
 
@@ -41,12 +31,6 @@ nodes-chain (straight.first statement these) those = omega (arith, nodes-chain t
 -- a held index is set, and what does nothing is gone
 mutual
   few_nodes : (within : Option ℕ) (control : ℕ) (s : FlatTree) → block_nodes (removed within control s) ≤ tree_nodes s
-  few_nodes within control (declare x word mutable value) = omega arith
-  few_nodes within control (array x word mutable size values) = omega arith
-  few_nodes within control (assign x value) = omega arith
-  few_nodes within control (put place x size index value) = omega arith
-  few_nodes within control (hold x place size index) = omega arith
-  few_nodes within control skip = omega arith
   few_nodes within control (branch Secret condition accepted otherwise) =
       let xs = removed_all (Some control) (control + 2) accepted in
       let ys = removed_all (Some (control + 1)) (control + 2) otherwise in
@@ -59,6 +43,7 @@ mutual
   few_nodes within control (branch Public condition accepted otherwise) =
       omega (arith, few_nodes_all within control accepted, few_nodes_all within control otherwise)
   few_nodes within control (loop x low high body) = omega (arith, few_nodes_all within control body)
+  few_nodes within control other = omega arith
 
   few_nodes_all : (within : Option ℕ) (control : ℕ) (b : FlatBlock)
       → block_nodes (removed_all within control b) ≤ body_nodes b
@@ -81,15 +66,7 @@ module _ (most : List ℕ) where
 
   set_little : (within : Option ℕ) (value : TermTree) → set_work within value ≤ 1 + term_nodes value
   set_little None (flat.number value kind) = omega arith
-  set_little None (flat.truth value) = omega arith
-  set_little None (flat.variable x) = omega arith
-  set_little None (flat.prefix operator width operand) = omega arith
-  set_little None (flat.binary place operator width left right) = omega arith
-  set_little None (flat.rotate width operand amount) = omega arith
-  set_little None (flat.convert kind operand) = omega arith
-  set_little None (flat.select condition accepted otherwise) = omega arith
-  set_little None (flat.element place x size index) = omega arith
-  set_little (Some control) value = omega arith
+  set_little within value = omega arith
 
   module _ (declared : List FlatVariable) where
     mutual
@@ -98,12 +75,8 @@ module _ (most : List ℕ) where
           → block_work most (removed within control s) ≤ tree_work most s
       no_more_work types label (declare x word mutable value) typed within control =
           omega (arith, set_little None value)
-      no_more_work types label (array x word mutable size values) typed within control = omega arith
       no_more_work types label (assign x value) typed within control = omega (arith, set_little within value)
-      no_more_work types label (put place x size index value) typed within control =
-          omega arith
       no_more_work types label (hold x place size index) typed within control = omega (arith, set_little None index)
-      no_more_work types label skip typed within control = omega arith
       no_more_work types label (branch Secret condition accepted otherwise) typed within control =
           let xs = removed_all (Some control) (control + 2) accepted in
           let ys = removed_all (Some (control + 1)) (control + 2) otherwise in
@@ -120,6 +93,7 @@ module _ (most : List ℕ) where
           ≤ (slice_index most x + 1) * (1 + body_work most body) =
           mul-le-mul_left (slice_index most x + 1) (omega (arith, inner)) in
           omega (arith, turns)
+      no_more_work types label other typed within control = omega arith
 
       pub no_more_work_all : (types : Types) (label : Label) (b : FlatBlock) → AreTyped declared types label b
           → (within : Option ℕ) (control : ℕ)
@@ -156,12 +130,6 @@ most_of_two a b m n p q = max-le (omega (arith, p)) (omega (arith, q))
 mutual
   controls_taken : (within : Option ℕ) (control : ℕ) (s : FlatTree)
       → controls_in s ≤ 2 * taken_in_all (removed within control s)
-  controls_taken within control (declare x word mutable value) = omega arith
-  controls_taken within control (array x word mutable size values) = omega arith
-  controls_taken within control (assign x value) = omega arith
-  controls_taken within control (put place x size index value) = omega arith
-  controls_taken within control (hold x place size index) = omega arith
-  controls_taken within control skip = omega arith
   controls_taken within control (branch Secret condition accepted otherwise) =
       let xs = removed_all (Some control) (control + 2) accepted in
       let ys = removed_all (Some (control + 1)) (control + 2) otherwise in
@@ -178,6 +146,7 @@ mutual
       (controls_taken_all within control accepted) (controls_taken_all within control otherwise) in
       omega (arith, most)
   controls_taken within control (loop x low high body) = omega (arith, controls_taken_all within control body)
+  controls_taken within control other = omega arith
 
   controls_taken_all : (within : Option ℕ) (control : ℕ) (b : FlatBlock)
       → controls_in_all b ≤ 2 * taken_in_all (removed_all within control b)
@@ -189,27 +158,18 @@ mutual
       (controls_taken within control s) (controls_taken_all within control rest) in
       omega (arith, most, taken-chain xs ys)
 
+few_own : (label : Label) → own_controls label ≤ 2
+few_own Public = omega arith
+few_own Secret = omega arith
+
 mutual
   few : (s : FlatTree) → controls_in s ≤ tree_nodes s
-  few (declare x word mutable value) = omega arith
-  few (array x word mutable size values) = omega arith
-  few (assign x value) = omega arith
-  few (put place x size index value) = omega arith
-  few (hold x place size index) = omega arith
-  few skip = omega arith
-  few (branch Secret condition accepted otherwise) =
-      let one = few_all accepted in
-      let other = few_all otherwise in
+  few (branch label condition accepted otherwise) =
       let most : max (controls_in_all accepted) (controls_in_all otherwise) ≤ body_nodes accepted
-      + body_nodes otherwise = max-le (omega (arith, one)) (omega (arith, other)) in
-      omega (arith, most, some_node condition)
-  few (branch Public condition accepted otherwise) =
-      let one = few_all accepted in
-      let other = few_all otherwise in
-      let most : max (controls_in_all accepted) (controls_in_all otherwise) ≤ body_nodes accepted
-      + body_nodes otherwise = max-le (omega (arith, one)) (omega (arith, other)) in
-      omega (arith, most)
+      + body_nodes otherwise = max-le (omega (arith, few_all accepted)) (omega (arith, few_all otherwise)) in
+      omega (arith, most, some_nodes condition, few_own label)
   few (loop x low high body) = omega (arith, few_all body)
+  few other = omega arith
 
   few_all : (b : FlatBlock) → controls_in_all b ≤ body_nodes b
   few_all nothing = omega arith

@@ -9,7 +9,6 @@ pub mod Same
 pub mod Typed
 pub mod Public
 pub mod Loose
-pub mod Fine
 pub mod BoundLemmas
 pub mod Results
 pub mod Shown

@@ -1,96 +1,120 @@
 -- A loose run goes beside the straight run: it agrees with it in what is public. So there is a loose run from any
--- state.
+-- state. And where no loose run of a body meets a fault, straight code for it meets none: each piece of its path lies
+-- on the path of some loose run. Of a branch on a secret one loose run takes the first arm, and another one the second.
 use Rattle.std.proofs.Common.{◌≡◌, ℕ, zero, suc, ◌+◌, ◌-◌, ◌<◌, ◌==◌, Bool, true, false, cond, if◌then◌else◌, List}
 use Rattle.std.proofs.Common.{[], ◌∷◌, ◌++◌, map, replicate, Option, None, Some, slice_set, refl, sym, ap, ap₂, ◌∙◌}
 use Rattle.std.proofs.Common.{subst, arith}
 use Rattle.inline.specs.declared.flat.FlatVariable.{FlatVariable}
-use Rattle.inline.specs.Flat.{TermTree, number, truth, variable, prefix, binary, rotate, convert, select, element}
-use Rattle.inline.specs.Flat.{FlatTree, declare, array, assign, put, hold, skip, branch, loop, FlatBlock, nothing}
-use Rattle.inline.specs.Flat.{first, word_as, array_as}
-use Rattle.inline.specs.FlatMeaning.{Values, with_value, value_in, path_in, path_in_all, turns, path_of_result}
+use Rattle.inline.specs.Flat.{TermTree, FlatTree, declare, array, assign, put, hold, skip, branch, loop, FlatBlock}
+use Rattle.inline.specs.Flat.{nothing, first, word_as, array_as}
+use Rattle.inline.specs.FlatMeaning.{Values, with_value, value_in, path_in, path_in_all, turns, path_of_turns}
 use Rattle.inline.specs.FlatTyping.{Types, with_type, types_of, types_after, types_after_all, IsTyped, AreTyped}
-use Rattle.inline.specs.FlatTyping.{HasType, counter_type}
-use Rattle.inline.specs.Path.{Path, indexed}
-use Rattle.intervals.specs.Loose.{Comes, to_number, to_truth, to_variable, to_prefix, to_binary, to_rotation}
-use Rattle.intervals.specs.Loose.{to_conversion, to_selection, to_element, to_anything, ComeAll, none_left, one_more}
-use Rattle.intervals.specs.Loose.{Leads, declares, declares_array, assigns, puts, holds, skips, chooses, repeats}
-use Rattle.intervals.specs.Loose.{Turns, no_turn, a_turn, LeadAll, ends, goes_on, Returns, nothing_returned, returned}
+use Rattle.inline.specs.FlatTyping.{HasType, IsPut, counter_type}
+use Rattle.inline.specs.Path.{Path, AreFine, bounded, indexed}
+use Rattle.inline.proofs.Face.{types_kept}
+use Rattle.intervals.specs.Loose.{to_anything, none_left, Leads, declares, declares_array, assigns, puts, holds, skips}
+use Rattle.intervals.specs.Loose.{chooses, repeats, Turns, no_turn, a_turn, LeadAll, ends, goes_on}
+use Rattle.intervals.proofs.StrictRuns.{comes, come_all}
 use Rattle.language.specs.WellTyped.{labelled}
 use Rattle.language.specs.declared.signature.Kind.TheVariants.{Boolean}
 use Rattle.language.specs.declared.signature.Label.{Label}
 use Rattle.language.specs.declared.signature.Label.TheVariants.{Public, Secret}
+use Rattle.language.specs.declared.typing.WordType.{WordType}
+use Rattle.word.specs.declared.place.Place.{Place}
 use Rattle.word.specs.declared.profile.Profile.{Profile}
 use Rattle.branch_removal.specs.private.Removal.{take_within, removed, removed_all}
-use Rattle.branch_removal.specs.Straight.{StraightBlock}
+use Rattle.branch_removal.specs.Straight.{StraightTree, StraightBlock}
 use Rattle.branch_removal.specs.Straight as straight
 use Rattle.branch_removal.specs.StraightMeaning.{StraightState, with_variable, value_at, counted, after, after_all}
+use Rattle.branch_removal.specs.StraightMeaning.{path_at, path_along}
 use Rattle.branch_removal.proofs.Agreement.{Agree, what_is_public, set_in_both, declared_in_both}
-use Rattle.branch_removal.proofs.Sequences.{after-chain}
+use Rattle.branch_removal.proofs.Sequences.{after-chain, path-chain, fine_both, fine_front, fine_back, fine_alone}
 use Rattle.branch_removal.proofs.Scopes.{AreAmong, has_type_among, among_beside, among_after, stays_beside}
-use Rattle.branch_removal.proofs.Same.{narrowed}
+use Rattle.branch_removal.proofs.SeenLemmas.{both_seen, fine_alike}
 use Rattle.branch_removal.proofs.Typed.{IsUnder}
 use Rattle.branch_removal.proofs.Unchanged.{hidden, set_quietly, unchanged_all}
-use Rattle.branch_removal.proofs.Values.{public_value, public_suited, public_all}
+use Rattle.branch_removal.proofs.Values.{public_value, public_suited, public_all, one_seen, all_seen}
 
 -- a state with these variables
 abbrev pub holding : Values → StraightState
 holding m = record { variables = m; controls = λ c. false }
 
-module _ (profile : Profile) (declared : List FlatVariable) where
-  -- an expression comes to its value
-  pub comes : (m : Values) (e : TermTree) → Comes (types_of profile declared) m e (value_in m e) (path_in m e)
-  comes m (number value kind) = to_number
-  comes m (truth value) = to_truth
-  comes m (variable x) = to_variable
-  comes m (prefix operator width operand) = to_prefix (comes m operand)
-  comes m (binary place operator width left right) = to_binary (comes m left) (comes m right)
-  comes m (rotate width operand amount) = to_rotation (comes m operand)
-  comes m (convert kind operand) = to_conversion (comes m operand)
-  comes m (select condition accepted otherwise) =
-      to_selection (comes m condition) (comes m accepted) (comes m otherwise)
-  comes m (element place x size index) = to_element (comes m index)
+module _ (profile : Profile) (declared : List FlatVariable) (most : List ℕ) where
+  abbrev all : Types
+  all = types_of profile declared
 
-  pub come_all : (m : Values) (es : List TermTree)
-      → ComeAll (types_of profile declared) m es (map (value_in m) es) (path_in_all m es)
-  come_all m [] = none_left
-  come_all m (e ∷ es) = one_more (comes m e) (come_all m es)
+  -- none of these runs meets a fault
+  abbrev AreSafe : (Values → Path → Type 0) → Type 0
+  AreSafe Runs = (t : Values) (q : Path) → Runs t q → AreFine most q
 
-  pub returns : (m : Values) (value : Option TermTree)
-      → Returns (types_of profile declared) m value (path_of_result m value)
-  returns m None = nothing_returned
-  returns m (Some value) = returned (comes m value)
-
-  -- a loose run of a statement, from m, beside a straight run that ends in s
-  pub record Followed (types : Types) (s : StraightState) (m : Values) (statement : FlatTree) : Type 0 where
+  -- of these runs there is one that agrees with a straight run that ends in s; and the path of that is fine where all
+  -- of them are safe
+  pub record Beside (Runs : Values → Path → Type 0) (types : Types) (s : StraightState) (along : Path) : Type 0 where
     pub end : Values
     pub path : Path
-    pub leads : Leads (types_of profile declared) m statement end path
+    pub runs : Runs end path
     pub agree : Agree what_is_public types s.variables end
+    pub fine : AreSafe Runs → AreFine most along
 
-  pub record FollowedAll (types : Types) (s : StraightState) (m : Values) (body : FlatBlock) : Type 0 where
-    pub end : Values
-    pub path : Path
-    pub leads : LeadAll (types_of profile declared) m body end path
-    pub agree : Agree what_is_public types s.variables end
+  -- it agrees with what fewer types say, too
+  narrowed : {Runs : Values → Path → Type 0} (types later : Types) {s : StraightState} {along : Path}
+      → ((y : ℕ) (d : FlatVariable) → types.at y ≡ Some d → later.at y ≡ Some d) → Beside Runs later s along
+      → Beside Runs types s along
+  narrowed types later kept run = record {
+    end = run.end;
+    path = run.path;
+    runs = run.runs;
+    agree = λ y d known public. run.agree y d (kept y d known) public;
+    fine = run.fine;
+  }
 
-  pub record FollowedTurns (types : Types) (s : StraightState) (m : Values) (x : ℕ) (body : FlatBlock) (n i : ℕ) :
-      Type 0 where
-    pub end : Values
-    pub path : Path
-    pub leads : Turns (types_of profile declared) x body n i m end path
-    pub agree : Agree what_is_public types s.variables end
+  -- one run and another behind it, where the other kind of run goes on from anywhere
+  both_beside : {First Whole : Values → Path → Type 0} {Rest : Values → Values → Path → Type 0}
+      {types later : Types} {s t : StraightState} {a b : Path}
+      → ((m o : Values) (p q : Path) → First m p → Rest m o q → Whole o (p ++ q))
+      → ((m : Values) → (o : Values) × (q : Path) × Rest m o q)
+      → (one : Beside First types s a) → Beside (Rest one.end) later t b → Beside Whole later t (a ++ b)
+  both_beside {a = a} {b = b} joined onward one more = record {
+    end = more.end;
+    path = one.path ++ more.path;
+    runs = joined one.end more.end one.path more.path one.runs more.runs;
+    agree = more.agree;
+    fine = λ safe. fine_both most a b
+        (one.fine (λ t q run. let next = onward t in
+        fine_front most q next.1 (safe next.0 (q ++ next.1) (joined t next.0 q next.1 run next.2))))
+        (more.fine (λ t q run. fine_back most one.path q
+        (safe t (one.path ++ q) (joined one.end t one.path q one.runs run))));
+  }
+
+  -- a statement alone, whose path is as fine as this loose run's
+  alone : {types : Types} {m : Values} {statement : FlatTree} (s : StraightState) (code : StraightTree) (end : Values)
+      (path : Path) → Leads all m statement end path → Agree what_is_public types (after s code).variables end
+      → (AreFine most path → AreFine most (path_at s code))
+      → Beside (Leads all m statement) types (after_all s (straight.first code straight.nothing))
+      (path_along s (straight.first code straight.nothing))
+  alone s code end path runs agree fine = record {
+    end = end;
+    path = path;
+    runs = runs;
+    agree = agree;
+    fine = λ safe. fine_alone most (path_at s code) (fine (safe end path runs));
+  }
 
   -- where each turn has a loose run beside it, so have all turns
-  pub follow_turns : (types : Types) (x : ℕ) (body : FlatBlock) (turn : ℕ → StraightState → StraightState)
+  follow_turns : (types : Types) (x : ℕ) (body : FlatBlock) (turn : ℕ → StraightState → StraightState)
+      (along : ℕ → StraightState → Path)
       → ((i : ℕ) (s : StraightState) (m : Values) → Agree what_is_public types s.variables m
-      → FollowedAll types (turn i s) (with_value m x (i ∷ [])) body)
+      → Beside (LeadAll all (with_value m x (i ∷ [])) body) types (turn i s) (along i s))
       → (n i : ℕ) (s : StraightState) (m : Values) → Agree what_is_public types s.variables m
-      → FollowedTurns types (turns n i turn s) m x body n i
-  follow_turns types x body turn step zero i s m agree = record { end = m; path = []; leads = no_turn; agree = agree }
-  follow_turns types x body turn step (suc n) i s m agree =
+      → Beside (Turns all x body n i m) types (turns n i turn s) (path_of_turns n i turn along s)
+  follow_turns types x body turn along step zero i s m agree =
+      record { end = m; path = []; runs = no_turn; agree = agree; fine = λ safe. tt }
+  follow_turns types x body turn along step (suc n) i s m agree =
+      let more = follow_turns types x body turn along step n (i + 1) in
       let one = step i s m agree in
-      let more = follow_turns types x body turn step n (i + 1) (turn i s) one.end one.agree in
-      record { end = more.end; path = one.path ++ more.path; leads = a_turn one.leads more.leads; agree = more.agree }
+      both_beside {Rest = λ t. Turns all x body n (i + 1) t} (λ t o p q run rest. a_turn run rest)
+      (λ t. let next = more (holding t) t (λ y d known public. refl) in (next.end, next.path, next.runs))
+      one (more (turn i s) one.end one.agree)
 
   -- a secret that is set or kept in the straight run, and set in the loose one
   set_beside : (types : Types) (label : Label) (c x : ℕ) (v w : List ℕ) (new : FlatVariable) → types.at x ≡ Some new
@@ -105,212 +129,215 @@ module _ (profile : Profile) (declared : List FlatVariable) where
       y d there public))
 
   -- a condition on a secret may be true, or false
-  pub either_way : (types : Types) → AreAmong types (types_of profile declared)
+  either_way : (types : Types) → AreAmong types all
       → (m : Values) (condition : TermTree) (accepted otherwise : FlatBlock)
       → HasType types condition (labelled Boolean Secret)
       → (bit : ℕ) → bit < 2 → (t : Values) (q : Path)
-      → LeadAll (types_of profile declared) m (if bit == 0 then otherwise else accepted) t q
-      → Leads (types_of profile declared) m (branch Secret condition accepted otherwise) t (path_in m condition ++ q)
+      → LeadAll all m (if bit == 0 then otherwise else accepted) t q
+      → Leads all m (branch Secret condition accepted otherwise) t (path_in m condition ++ q)
   either_way types among m condition accepted otherwise has bit small t q run =
-      chooses (to_anything (comes m condition) (has_type_among types (types_of profile declared) among has)
-      refl small) run
+      chooses (to_anything (comes all m condition) (has_type_among types all among has) refl small) run
 
-  -- a condition on what is public is what it is
-  pub that_way : (m : Values) (label : Label) (condition : TermTree) (accepted otherwise : FlatBlock) (b : Bool)
-      → (value_in m condition == 0) ≡ b
-      → (t : Values) (q : Path) → LeadAll (types_of profile declared) m (cond b otherwise accepted) t q
-      → Leads (types_of profile declared) m (branch label condition accepted otherwise) t (path_in m condition ++ q)
-  that_way m label condition accepted otherwise b is t q run =
-      chooses (comes m condition)
-      (subst (λ test. LeadAll (types_of profile declared) m (cond test otherwise accepted) t q) (sym is) run)
+  module _ (types : Types) (s : StraightState) (m : Values) (agree : Agree what_is_public types s.variables m) where
+    -- an expression's path is fine where a loose run's is
+    fine_term : (e : TermTree) {word : WordType} → HasType types e word → AreFine most (path_in m e)
+        → AreFine most (path_in s.variables e)
+    fine_term e has fine = fine_alike most types.profile (path_in s.variables e) (path_in m e)
+        (one_seen types s.variables m agree has) fine
 
-  -- what agrees after an arm agrees on what was in scope before it
-  pub in_scope : (types : Types) (label : Label) (body : FlatBlock) → AreTyped declared types label body
-      → (s : StraightState) (m : Values) → FollowedAll (types_after_all types body) s m body
-      → FollowedAll types s m body
-  in_scope types label body typed s m run = record {
-    end = run.end;
-    path = run.path;
-    leads = run.leads;
-    agree = narrowed declared what_is_public types label body _ _ typed run.agree;
-  }
+    -- an element that is set, or kept
+    fine_put : (label : Label) (place : Place) (x size : ℕ) (index value : TermTree)
+        → IsPut types label x size index value
+        → AreFine most (path_in m index ++ indexed place size (value_in m index) ∷ path_in m value)
+        → AreFine most
+        (path_in s.variables index ++ indexed place size (value_at s index) ∷ path_in s.variables value)
+    fine_put label place x size index value typed fine =
+        fine_alike most types.profile
+        (path_in s.variables index ++ indexed place size (value_at s index) ∷ path_in s.variables value)
+        (path_in m index ++ indexed place size (value_in m index) ∷ path_in m value)
+        (both_seen types.profile (path_in s.variables index)
+        (indexed place size (value_at s index) ∷ path_in s.variables value) (path_in m index)
+        (indexed place size (value_in m index) ∷ path_in m value)
+        (one_seen types s.variables m agree typed.index_type)
+        (ap₂ (λ (i : ℕ) (p : Path). indexed place size i ∷ p)
+        (public_value types s.variables m agree typed.index_type refl)
+        (one_seen types s.variables m agree typed.suits.has_type))) fine
 
-  -- both take the same of two arms
-  follow_arm : (types : Types) (condition : TermTree) (accepted otherwise : FlatBlock)
-      → HasType types condition (labelled Boolean Public)
-      → (one_code other_code : StraightBlock) (s : StraightState) (m : Values)
-      → Agree what_is_public types s.variables m
-      → FollowedAll types (after_all s one_code) m accepted → FollowedAll types (after_all s other_code) m otherwise
-      → Followed types (after s (straight.branch condition one_code other_code)) m
-      (branch Public condition accepted otherwise)
-  follow_arm types condition accepted otherwise has one_code other_code s m agree one other =
-      by_test (value_in m condition == 0) refl
-    where
-      same_test : (b : Bool) → (value_in m condition == 0) ≡ b
-          → cond b (after_all s other_code) (after_all s one_code)
-          ≡ after s (straight.branch condition one_code other_code)
-      same_test b is =
-          ap (λ test. cond test (after_all s other_code) (after_all s one_code))
-          (sym (ap (λ v. v == 0) (public_value types s.variables m agree has refl) ∙ is))
-
-      by_test : (b : Bool) → (value_in m condition == 0) ≡ b
-          → Followed types (after s (straight.branch condition one_code other_code)) m
-          (branch Public condition accepted otherwise)
-      by_test true is = record {
-        end = other.end;
-        path = path_in m condition ++ other.path;
-        leads = that_way m Public condition accepted otherwise true is other.end other.path other.leads;
-        agree = subst (λ (t : StraightState). Agree what_is_public types t.variables other.end) (same_test true is)
-            other.agree;
-      }
-      by_test false is = record {
-        end = one.end;
-        path = path_in m condition ++ one.path;
-        leads = that_way m Public condition accepted otherwise false is one.end one.path one.leads;
-        agree = subst (λ (t : StraightState). Agree what_is_public types t.variables one.end)
-            (same_test false is) one.agree;
-      }
+    -- both take the same of two arms, by a condition on what is public
+    follow_arm : (condition : TermTree) (accepted otherwise : FlatBlock)
+        → HasType types condition (labelled Boolean Public) → (one_code other_code : StraightBlock)
+        → Beside (LeadAll all m accepted) types (after_all s one_code) (path_along s one_code)
+        → Beside (LeadAll all m otherwise) types (after_all s other_code) (path_along s other_code)
+        → (b : Bool) → (value_in m condition == 0) ≡ b
+        → Beside (Leads all m (branch Public condition accepted otherwise)) types
+        (after s (straight.branch condition one_code other_code))
+        (path_along s (straight.first (straight.branch condition one_code other_code) straight.nothing))
+    follow_arm condition accepted otherwise has one_code other_code one other b is =
+        let test = ap (λ v. v == 0) (public_value types s.variables m agree has refl) ∙ is in
+        let arm : Beside (LeadAll all m (cond b otherwise accepted)) types
+        (cond b (after_all s other_code) (after_all s one_code))
+        (cond b (path_along s other_code) (path_along s one_code)) =
+        elim b as (λ b. Beside (LeadAll all m (cond b otherwise accepted)) types
+        (cond b (after_all s other_code) (after_all s one_code))
+        (cond b (path_along s other_code) (path_along s one_code))) [ true ↦ other | false ↦ one ] in
+        let way : (t : Values) (q : Path) → LeadAll all m (cond b otherwise accepted) t q
+        → Leads all m (branch Public condition accepted otherwise) t (path_in m condition ++ q) =
+        λ t q run. chooses (comes all m condition) (rw is run) in
+        rw test (record {
+          end = arm.end;
+          path = path_in m condition ++ arm.path;
+          runs = way arm.end arm.path arm.runs;
+          agree = arm.agree;
+          fine = λ safe. fine_alone most _ (fine_both most (path_in s.variables condition) _
+              (fine_term condition has
+              (fine_front most (path_in m condition) arm.path (safe _ _ (way arm.end arm.path arm.runs))))
+              (tt, arm.fine (λ t q run. fine_back most (path_in m condition) q (safe t _ (way t q run)))));
+        })
 
   mutual
     pub follow : (types : Types) (label : Label) (statement : FlatTree) → IsTyped declared types label statement
-        → AreAmong types (types_of profile declared) → (within : Option ℕ) (control : ℕ)
-        → IsUnder declared within label
+        → AreAmong types all → (within : Option ℕ) (control : ℕ) → IsUnder declared within label
         → (s : StraightState) (m : Values) → Agree what_is_public types s.variables m
-        → Followed (types_after types statement) (after_all s (removed within control statement)) m statement
-    follow types label (declare x word mutable value) typed among within control under s m agree = record {
-      end = with_value m x (value_in m value ∷ []);
-      path = path_in m value;
-      leads = declares (comes m value);
-      agree = declared_in_both what_is_public types s.variables m x _ _ (word_as word mutable)
-          (λ public. ap (λ (v : ℕ). v ∷ []) (public_suited types s.variables m agree word value typed.1 public))
-          agree;
-    }
-    follow types label (array x word mutable size []) typed among within control under s m agree = record {
-      end = with_value m x (replicate size 0);
-      path = [];
-      leads = declares_array none_left;
-      agree = declared_in_both what_is_public types s.variables m x _ _ (array_as word mutable size)
-          (λ public. refl) agree;
-    }
-    follow types label (array x word mutable size (e ∷ es)) typed among within control under s m agree = record {
-      end = with_value m x (map (value_in m) (e ∷ es));
-      path = path_in_all m (e ∷ es);
-      leads = declares_array (come_all m (e ∷ es));
-      agree = declared_in_both what_is_public types s.variables m x _ _ (array_as word mutable size)
-          (λ public. public_all types s.variables m agree word (e ∷ es) typed.1 public) agree;
-    }
-    follow types label (assign x value) typed among None control under s m agree = record {
-      end = with_value m x (value_in m value ∷ []);
-      path = path_in m value;
-      leads = assigns (comes m value);
-      agree = set_in_both what_is_public types s.variables m x _ _ _
-          (λ public. ap (λ (v : ℕ). v ∷ [])
-          (public_suited types s.variables m agree typed.word value typed.suits public)) agree typed.known;
-    }
-    follow types label (assign x value) typed among (Some c) control under s m agree = record {
-      end = with_value m x (value_in m value ∷ []);
-      path = path_in m value;
-      leads = assigns (comes m value);
-      agree = set_beside types label c x _ _ _ typed.known typed.hidden under s m agree;
-    }
-    follow types label (put place x size index value) typed among None control under s m agree = record {
-      end = with_value m x (slice_set (m x) (value_in m index) (value_in m value));
-      path = path_in m index ++ indexed place size (value_in m index) ∷ path_in m value;
-      leads = puts (comes m index) (comes m value);
-      agree = set_in_both what_is_public types s.variables m x _ _ _
-          (λ public.
-          ap (λ numbers. slice_set numbers (value_at s index) (value_at s value)) (agree x _ typed.known public)
-          ∙ ap₂ (λ i v. slice_set (m x) i v)
-          (public_value types s.variables m agree typed.index_type refl)
-          (public_suited types s.variables m agree typed.word value typed.suits public))
-          agree typed.known;
-    }
-    follow types label (put place x size index value) typed among (Some c) control under s m agree = record {
-      end = with_value m x (slice_set (m x) (value_in m index) (value_in m value));
-      path = path_in m index ++ indexed place size (value_in m index) ∷ path_in m value;
-      leads = puts (comes m index) (comes m value);
-      agree = set_beside types label c x _ _ _ typed.known typed.hidden under s m agree;
-    }
-    follow types label (hold x place size index) typed among within control under s m agree = record {
-      end = with_value m x (value_in m index ∷ []);
-      path = path_in m index ++ indexed place size (value_in m index) ∷ [];
-      leads = holds (comes m index);
-      agree = declared_in_both what_is_public types s.variables m x _ _ (word_as counter_type false)
-          (λ public. ap (λ (v : ℕ). v ∷ []) (public_value types s.variables m agree typed.1 refl)) agree;
-    }
+        → Beside (Leads all m statement) (types_after types statement)
+        (after_all s (removed within control statement)) (path_along s (removed within control statement))
+    follow types label (declare x word mutable value) typed among within control under s m agree =
+        alone s (straight.set None x value) _ _ (declares (comes all m value))
+        (declared_in_both what_is_public types s.variables m x _ _ (word_as word mutable)
+        (λ public. ap (λ (v : ℕ). v ∷ []) (public_suited types s.variables m agree word value typed.1 public)) agree)
+        (fine_term types s m agree value typed.1.has_type)
+    follow types label (array x word mutable size []) typed among within control under s m agree =
+        alone s (straight.array x size []) (with_value m x (replicate size 0)) [] (declares_array none_left)
+        (declared_in_both what_is_public types s.variables m x _ _ (array_as word mutable size) (λ public. refl) agree)
+        (λ fine. tt)
+    follow types label (array x word mutable size (e ∷ es)) typed among within control under s m agree =
+        alone s (straight.array x size (e ∷ es)) (with_value m x (map (value_in m) (e ∷ es))) (path_in_all m (e ∷ es))
+        (declares_array (come_all all m (e ∷ es)))
+        (declared_in_both what_is_public types s.variables m x _ _ (array_as word mutable size)
+        (λ public. public_all types s.variables m agree word (e ∷ es) typed.1 public) agree)
+        (fine_alike most types.profile (path_in_all s.variables (e ∷ es)) (path_in_all m (e ∷ es))
+        (all_seen types s.variables m agree word (e ∷ es) typed.1))
+    follow types label (assign x value) typed among None control under s m agree =
+        alone s (straight.set None x value) _ _ (assigns (comes all m value))
+        (set_in_both what_is_public types s.variables m x _ _ _
+        (λ public. ap (λ (v : ℕ). v ∷ [])
+        (public_suited types s.variables m agree typed.word value typed.suits public)) agree typed.known)
+        (fine_term types s m agree value typed.suits.has_type)
+    follow types label (assign x value) typed among (Some c) control under s m agree =
+        alone s (straight.set (Some c) x value) _ _ (assigns (comes all m value))
+        (set_beside types label c x _ _ _ typed.known typed.hidden under s m agree)
+        (fine_term types s m agree value typed.suits.has_type)
+    follow types label (put place x size index value) typed among None control under s m agree =
+        alone s (straight.put None place x size index value) _ _ (puts (comes all m index) (comes all m value))
+        (set_in_both what_is_public types s.variables m x _ _ _
+        (λ public.
+        ap (λ numbers. slice_set numbers (value_at s index) (value_at s value)) (agree x _ typed.known public)
+        ∙ ap₂ (λ i v. slice_set (m x) i v)
+        (public_value types s.variables m agree typed.index_type refl)
+        (public_suited types s.variables m agree typed.word value typed.suits public))
+        agree typed.known)
+        (fine_put types s m agree label place x size index value typed)
+    follow types label (put place x size index value) typed among (Some c) control under s m agree =
+        alone s (straight.put (Some c) place x size index value) _ _ (puts (comes all m index) (comes all m value))
+        (set_beside types label c x _ _ _ typed.known typed.hidden under s m agree)
+        (fine_put types s m agree label place x size index value typed)
+    follow types label (hold x place size index) typed among within control under s m agree =
+        alone s (straight.set None x index) _ _ (holds (comes all m index))
+        (declared_in_both what_is_public types s.variables m x _ _ (word_as counter_type false)
+        (λ public. ap (λ (v : ℕ). v ∷ []) (public_value types s.variables m agree typed.1 refl)) agree)
+        (λ fine. fine_term types s m agree index typed.1 (fine_front most (path_in m index) _ fine))
     follow types label skip typed among within control under s m agree =
-        record { end = m; path = []; leads = skips; agree = agree }
+        record { end = m; path = []; runs = skips; agree = agree; fine = λ safe. tt }
     follow types label (branch Secret condition accepted otherwise) typed among within control under s m agree =
         let taken : StraightState = after s (take_within within control condition) in
         let code : StraightBlock = removed_all (Some control) (control + 2) accepted in
         let other : StraightBlock = removed_all (Some (control + 1)) (control + 2) otherwise in
-        let one = follow_all types Secret accepted typed.1 among (Some control) (control + 2) refl taken m agree in
+        let way = either_way types among m condition accepted otherwise typed.0 in
+        let one = narrowed types _ (types_kept declared types Secret accepted typed.1)
+        (follow_all types Secret accepted typed.1 among (Some control) (control + 2) refl taken m agree) in
+        let more = follow_all types Secret otherwise typed.2 among (Some (control + 1)) (control + 2) refl
+        (after_all taken code) m
+        (λ y d known public.
+        unchanged_all declared what_is_public types Secret accepted typed.1 (Some control) (control + 2) taken
+        (hidden refl (λ e p. p)) y d known public
+        ∙ agree y d known public) in
         record {
           end = one.end;
           path = path_in m condition ++ one.path;
-          leads = either_way types among m condition accepted otherwise typed.0 1 (omega arith) one.end
-              one.path one.leads;
+          runs = way 1 (omega arith) one.end one.path one.runs;
           agree = λ y d known public.
               ap (λ (t : StraightState). t.variables y) (after-chain taken code other)
               ∙ (unchanged_all declared what_is_public types Secret otherwise typed.2 (Some (control + 1))
-              (control + 2) (after_all taken code)
-              (hidden refl (λ e p. p)) y d known public
-              ∙ narrowed declared what_is_public types Secret accepted _ _ typed.1 one.agree y d known public);
+              (control + 2) (after_all taken code) (hidden refl (λ e p. p)) y d known public
+              ∙ one.agree y d known public);
+          fine = λ safe. fine_both most (path_in s.variables condition) (path_along taken (straight.chain code other))
+              (fine_term types s m agree condition typed.0 (fine_front most (path_in m condition) one.path
+              (safe one.end (path_in m condition ++ one.path) (way 1 (omega arith) one.end one.path one.runs))))
+              (subst (AreFine most) (sym (path-chain taken code other))
+              (fine_both most (path_along taken code) (path_along (after_all taken code) other)
+              (one.fine (λ t q run. fine_back most (path_in m condition) q (safe t _ (way 1 (omega arith) t q run))))
+              (more.fine (λ t q run. fine_back most (path_in m condition) q
+              (safe t _ (way 0 (omega arith) t q run))))));
         }
     follow types label (branch Public condition accepted otherwise) typed among within control under s m agree =
-        follow_arm types condition accepted otherwise typed.0 (removed_all within control accepted)
-        (removed_all within control otherwise) s m agree
-        (in_scope types label accepted typed.1 _ m
+        follow_arm types s m agree condition accepted otherwise typed.0 (removed_all within control accepted)
+        (removed_all within control otherwise)
+        (narrowed types _ (types_kept declared types label accepted typed.1)
         (follow_all types label accepted typed.1 among within control under s m agree))
-        (in_scope types label otherwise typed.2 _ m
+        (narrowed types _ (types_kept declared types label otherwise typed.2)
         (follow_all types label otherwise typed.2 among within control under s m agree))
+        (value_in m condition == 0) refl
     follow types label (loop x low high body) typed among within control under s m agree =
         let inner = with_type types x (word_as counter_type false) in
         let from = public_value types s.variables m agree typed.0 refl in
         let to = public_value types s.variables m agree typed.1 refl in
         let turn : ℕ → StraightState → StraightState =
         λ i t. after_all (counted x i t) (removed_all within control body) in
-        let made = follow_turns types x body turn
-        (λ i t n so_far.
-        let one = follow_all inner label body typed.3 (among_beside profile declared types x _ typed.2.listed among)
+        let along : ℕ → StraightState → Path = λ i t. path_along (counted x i t) (removed_all within control body) in
+        let made = follow_turns types x body turn along
+        (λ i t n so_far. narrowed types _
+        (λ y d known. types_kept declared inner label body typed.3 y d (stays_beside types x _ typed.2.new y d known))
+        (follow_all inner label body typed.3 (among_beside profile declared types x _ typed.2.listed among)
         within control under (counted x i t) (with_value n x (i ∷ []))
         (declared_in_both what_is_public types t.variables n x (i ∷ []) (i ∷ []) (word_as counter_type false)
-        (λ public. refl) so_far) in
-        record {
-          end = one.end;
-          path = one.path;
-          leads = one.leads;
-          agree = λ y d known public.
-              narrowed declared what_is_public inner label body _ _ typed.3 one.agree y d
-              (stays_beside types x _ typed.2.new y d known) public;
-        })
+        (λ public. refl) so_far)))
         (value_in m high - value_in m low) (value_in m low) s m agree in
+        let bounds : Path = path_in m low ++ path_in m high in
+        let mark = bounded x (value_in m low) (value_in m high) in
         record {
           end = made.end;
-          path = _;
-          leads = repeats (comes m low) (comes m high) made.leads;
+          path = bounds ++ mark ∷ made.path;
+          runs = repeats (comes all m low) (comes all m high) made.runs;
           agree = subst (λ (t : StraightState). Agree what_is_public types t.variables made.end)
               (sym (ap₂ (λ l h. turns (h - l) l turn s) from to)) made.agree;
+          fine = λ safe.
+              let whole = safe made.end _ (repeats (comes all m low) (comes all m high) made.runs) in
+              let ends = fine_front most bounds (mark ∷ made.path) whole in
+              fine_alone most _
+              (fine_both most (path_in s.variables low ++ path_in s.variables high) _
+              (fine_both most (path_in s.variables low) (path_in s.variables high)
+              (fine_term types s m agree low typed.0 (fine_front most (path_in m low) (path_in m high) ends))
+              (fine_term types s m agree high typed.1 (fine_back most (path_in m low) (path_in m high) ends)))
+              (subst (AreFine most) (sym (ap₂ (λ (l h : ℕ). bounded x l h ∷ path_of_turns (h - l) l turn along s)
+              from to)) (
+                (fine_back most bounds (mark ∷ made.path) whole).0,
+                made.fine (λ t q run. (fine_back most bounds (mark ∷ q)
+                    (safe t _ (repeats (comes all m low) (comes all m high) run))).1),
+              )));
         }
 
     pub follow_all : (types : Types) (label : Label) (body : FlatBlock) → AreTyped declared types label body
-        → AreAmong types (types_of profile declared) → (within : Option ℕ) (control : ℕ)
-        → IsUnder declared within label
+        → AreAmong types all → (within : Option ℕ) (control : ℕ) → IsUnder declared within label
         → (s : StraightState) (m : Values) → Agree what_is_public types s.variables m
-        → FollowedAll (types_after_all types body) (after_all s (removed_all within control body)) m body
+        → Beside (LeadAll all m body) (types_after_all types body)
+        (after_all s (removed_all within control body)) (path_along s (removed_all within control body))
     follow_all types label nothing typed among within control under s m agree =
-        record { end = m; path = []; leads = ends; agree = agree }
+        record { end = m; path = []; runs = ends; agree = agree; fine = λ safe. tt }
     follow_all types label (first statement rest) typed among within control under s m agree =
+        let code : StraightBlock = removed within control statement in
         let one = follow types label statement typed.0 among within control under s m agree in
         let more = follow_all (types_after types statement) label rest typed.1
-        (among_after profile declared types label statement typed.0 among) within control under
-        (after_all s (removed within control statement)) one.end one.agree in
-        record {
-          end = more.end;
-          path = one.path ++ more.path;
-          leads = goes_on one.leads more.leads;
-          agree =
-              subst (λ (t : StraightState). Agree what_is_public (types_after_all (types_after types statement) rest)
-              t.variables more.end)
-              (sym (after-chain s (removed within control statement) (removed_all within control rest))) more.agree;
-        }
+        (among_after profile declared types label statement typed.0 among) within control under in
+        rw (after-chain s code (removed_all within control rest), path-chain s code (removed_all within control rest))
+        (both_beside {Rest = λ t. LeadAll all t rest} (λ t o p q run onward. goes_on run onward)
+        (λ t. let next = more (holding t) t (λ y d known public. refl) in (next.end, next.path, next.runs))
+        one (more (after_all s code) one.end one.agree))

@@ -1,6 +1,6 @@
 -- Two runs of well-typed straight code that sets only what is secret under a control value: what is public is the
 -- same in both throughout, and so is what is seen of the path.
-use Rattle.std.proofs.Common.{◌≡◌, ℕ, ◌-◌, ◌==◌, Bool, true, false, cond, List, [], ◌∷◌, ◌++◌, Option, None, Some}
+use Rattle.std.proofs.Common.{◌≡◌, ℕ, ◌-◌, ◌==◌, true, false, cond, List, [], ◌∷◌, ◌++◌, Option, None, Some}
 use Rattle.std.proofs.Common.{slice_set, slice_get, refl, sym, ap, ap₂, ◌∙◌, subst}
 use Rattle.inline.specs.declared.flat.FlatVariable.{FlatVariable}
 use Rattle.inline.specs.Flat.{TermTree, word_as, array_as}
@@ -65,13 +65,8 @@ module _ (profile : Profile) (declared : List FlatVariable) (controls : ℕ) whe
   one_arm s t condition accepted otherwise equal one other =
       subst (λ v. InStep (after s (branch condition accepted otherwise))
       (cond (v == 0) (after_all t otherwise) (after_all t accepted))) equal
-      (by_test (value_at s condition == 0))
-    where
-      by_test : (b : Bool)
-          → InStep (cond b (after_all s otherwise) (after_all s accepted))
-          (cond b (after_all t otherwise) (after_all t accepted))
-      by_test true = other
-      by_test false = one
+      (elim (value_at s condition == 0) as (λ b. InStep (cond b (after_all s otherwise) (after_all s accepted))
+      (cond b (after_all t otherwise) (after_all t accepted))) [ true ↦ other | false ↦ one ])
 
   -- a counter is at the same number
   counted_in_step : (x : ℕ) → slice_get declared x ≡ Some (word_as counter_type false) → (i : ℕ) (s t : StraightState)
@@ -152,12 +147,9 @@ module _ (profile : Profile) (declared : List FlatVariable) (controls : ℕ) whe
       ∷ cond (value_at t condition == 0) (path_along t otherwise) (path_along t accepted))
   arm_seen s t condition accepted otherwise equal one other =
       ap (λ v. decided v ∷ seen profile (cond (v == 0) (path_along s otherwise) (path_along s accepted))) equal
-      ∙ ap (λ (p : Path). decided (value_at t condition) ∷ p) (by_test (value_at t condition == 0))
-    where
-      by_test : (b : Bool) → seen profile (cond b (path_along s otherwise) (path_along s accepted))
-          ≡ seen profile (cond b (path_along t otherwise) (path_along t accepted))
-      by_test true = other
-      by_test false = one
+      ∙ ap (λ (p : Path). decided (value_at t condition) ∷ p)
+      (elim (value_at t condition == 0) as (λ b. seen profile (cond b (path_along s otherwise) (path_along s accepted))
+      ≡ seen profile (cond b (path_along t otherwise) (path_along t accepted))) [ true ↦ other | false ↦ one ])
 
   mutual
     pub same_seen : (statement : StraightTree) → IsTyped profile declared controls statement

@@ -1,5 +1,5 @@
 -- What is quiet has no path.
-use Rattle.std.proofs.Common.{◌≡◌, ℕ, ◌&&◌, true, false, not, [], ◌++◌, refl, ap₂, ◌∙◌}
+use Rattle.std.proofs.Common.{◌≡◌, ℕ, ◌&&◌, true, false, true≢false, not, [], ◌++◌, refl, sym, ap₂, ◌∙◌}
 use Rattle.std.proofs.lemmas.Bool.{cond-false, or_parts, and_parts, not-true}
 use Rattle.branch_removal.specs.Quiet.{is_marked, is_quiet}
 use Rattle.inline.specs.Flat.{TermTree, number, truth, variable, prefix, binary, rotate, convert, select, element}
@@ -35,7 +35,4 @@ quiet_path m (select condition accepted otherwise) quiet =
     ap₂ (λ (p q : Path). p ++ q)
     (ap₂ (λ (p q : Path). p ++ q) (quiet_path m condition inner.0) (quiet_path m accepted inner.1))
     (quiet_path m otherwise outer.1)
-quiet_path m (element place x size index) quiet = absurd (none_true quiet)
-  where
-    none_true : false ≡ true → ⊥
-    none_true h = cc
+quiet_path m (element place x size index) quiet = absurd (true≢false (sym quiet))

@@ -26,12 +26,13 @@ use Rattle.branch_removal.specs.StraightTyping.{IsTypedStraight}
 use Rattle.branch_removal.proofs.Agreement.{Agree, everything}
 use Rattle.branch_removal.proofs.BoundLemmas.{bounded, counted}
 use Rattle.branch_removal.specs.Bounds.{IsCounted}
-use Rattle.branch_removal.proofs.Fine.{fine_all}
 use Rattle.branch_removal.proofs.Sequences.{fine_both, fine_front, fine_back}
-use Rattle.branch_removal.proofs.Loose.{returns, follow_all}
+use Rattle.intervals.proofs.StrictRuns.{result_comes}
+use Rattle.branch_removal.proofs.Loose.{follow_all}
 use Rattle.branch_removal.proofs.Results.{parameters_among, parameter_at, all_arrays}
 use Rattle.branch_removal.proofs.Same.{same_all}
-use Rattle.branch_removal.proofs.Scopes.{AreAmong, among_after_all, result_among, stays_all}
+use Rattle.branch_removal.proofs.Scopes.{AreAmong, among_after_all, result_among}
+use Rattle.inline.proofs.Face.{types_kept}
 use Rattle.branch_removal.proofs.Typed.{hidden_all, typed_all}
 use Rattle.branch_removal.proofs.SeenLemmas.{fine_alike}
 use Rattle.branch_removal.proofs.Shown.{same_paths, same_public}
@@ -59,7 +60,7 @@ module _ (p : FlatProgram) (typed : IsTypedProgram p) where
   parameter_stays : (k : ℕ) (parameter : Param) → slice_get p.parameters k ≡ Some parameter
       → (end_types p).at k ≡ Some (declaration_of parameter)
   parameter_stays k parameter there =
-      stays_all p.declared (parameter_types p.profile p.parameters) Public p.body typed.body k
+      types_kept p.declared (parameter_types p.profile p.parameters) Public p.body typed.body k
       (declaration_of parameter) (parameter_at p.parameters k parameter there)
 
   module _ (args : List Arg) where
@@ -78,19 +79,19 @@ module _ (p : FlatProgram) (typed : IsTypedProgram p) where
         → AreFine turns (path_of (straightened (ranged p)) args)
     fine_path turns safe within =
         let s = start (straightened (ranged p)) args in
-        let run = follow_all p.profile p.declared (parameter_types p.profile p.parameters) Public p.body typed.body
+        let types = types_of p.profile p.declared in
+        let run = follow_all p.profile p.declared turns (parameter_types p.profile p.parameters) Public p.body typed.body
         first_among None 0 tt s (given p.declared args) (λ y d known public. refl) in
         fine_both turns (path_along s (removed_all None 0 p.body))
         (path_of_result (end_of (straightened (ranged p)) args) p.value)
-        (fine_all p.profile p.declared turns (parameter_types p.profile p.parameters) Public p.body typed.body
-        first_among None 0 tt s (given p.declared args) (λ y d known public. refl)
+        (run.fine
         (λ t q leads. fine_front turns q (path_of_result t p.value)
         (safe args _ within (record {
           end = t;
           front = q;
           back = path_of_result t p.value;
           body = leads;
-          result = returns p.profile p.declared t p.value;
+          result = result_comes types t p.value;
           whole = refl;
         }))))
         (fine_alike turns (end_types p).profile (path_of_result (end_of (straightened (ranged p)) args) p.value)
@@ -101,8 +102,8 @@ module _ (p : FlatProgram) (typed : IsTypedProgram p) where
           end = run.end;
           front = run.path;
           back = path_of_result run.end p.value;
-          body = run.leads;
-          result = returns p.profile p.declared run.end p.value;
+          body = run.runs;
+          result = result_comes types run.end p.value;
           whole = refl;
         }))))
 

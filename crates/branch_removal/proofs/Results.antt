@@ -19,25 +19,19 @@ use Rattle.language.specs.declared.typing.WordType.{WordType}
 use Rattle.language.specs.declared.values.Arg.{Arg}
 use Rattle.language.specs.Typing.{is_mutable}
 use Rattle.word.specs.declared.profile.Profile.{Profile}
+use Rattle.intervals.proofs.Safe.{get_before}
 use Rattle.branch_removal.proofs.Agreement.{Agree, what_is_public}
 use Rattle.branch_removal.proofs.Scopes.{AreAmong}
 use Rattle.branch_removal.proofs.Values.{public_suited}
 
 -- The parameters are the first variables.
 
-front_get : {A : Type 0} (n : ℕ) (xs : List A) (x : ℕ) (d : A) → slice_get (take n xs) x ≡ Some d
-    → slice_get xs x ≡ Some d
-front_get zero xs x d there = absurd (none-some d there)
-front_get (suc n) [] x d there = there
-front_get (suc n) (y ∷ xs) zero d there = there
-front_get (suc n) (y ∷ xs) (suc x) d there = front_get n xs x d there
-
 pub parameters_among : (profile : Profile) (parameters : List Param) (declared : List FlatVariable)
     → take (length parameters) declared ≡ map declaration_of parameters
     → AreAmong (types_of profile (map declaration_of parameters)) (types_of profile declared)
 parameters_among profile parameters declared first = record {
   profile = refl;
-  at = λ x d there. front_get (length parameters) declared x d
+  at = λ x d there. get_before (length parameters) declared x d
       (ap (λ (ds : List FlatVariable). slice_get ds x) first ∙ there);
 }
 
@@ -123,7 +117,6 @@ pub same_return : (types : Types) (m n : Values) → Agree what_is_public types 
     → IfSome returned (λ (word : WordType). word.label ≡ Public)
     → option_map (value_in m) value ≡ option_map (value_in n) value
 same_return types m n agree None None typed public = refl
-same_return types m n agree None (Some value) typed public = absurd typed
-same_return types m n agree (Some word) None typed public = absurd typed
 same_return types m n agree (Some word) (Some value) typed public =
     ap Some (public_suited types m n agree word value typed public)
+same_return types m n agree returned value typed public = absurd typed

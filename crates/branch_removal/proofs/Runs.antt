@@ -1,8 +1,9 @@
 -- Runs of straight code one after the other, turns of loops, and the control values that statements leave alone.
 use Rattle.std.proofs.Common.{◌≡◌, ℕ, zero, suc, ◌+◌, ◌-◌, ◌<◌, ◌==◌, Bool, true, false, cond, List, [], ◌∷◌}
-use Rattle.std.proofs.Common.{Option, None, Some, slice_set, refl, ap, ◌∙◌, subst, arith}
-use Rattle.std.proofs.lemmas.Bool.{cond-false, cond-true, ne_eqb, eq-eqb}
-use Rattle.inline.specs.Flat.{FlatTree, declare, array, assign, put, hold, skip, branch, loop, FlatBlock, nothing}
+use Rattle.std.proofs.Common.{Option, Some, slice_set, refl, ap, ◌∙◌, subst, arith}
+use Rattle.std.proofs.lemmas.Bool.{cond-false, cond-true, cond_both, ne_eqb, eq-eqb}
+use Rattle.inline.proofs.Face.{turns_keep}
+use Rattle.inline.specs.Flat.{FlatTree, assign, put, branch, loop, FlatBlock, nothing}
 use Rattle.inline.specs.Flat.{first}
 use Rattle.inline.specs.FlatMeaning.{turns, path_of_turns}
 use Rattle.inline.specs.Path.{Path, seen}
@@ -17,13 +18,7 @@ use Rattle.branch_removal.proofs.Sequences.{after-chain}
 
 -- Turns.
 
--- what each turn keeps, all turns keep
-pub turns_keep : {S : Type 0} (P : S → Type 0) (turn : ℕ → S → S) → ((i : ℕ) (s : S) → P s → P (turn i s))
-    → (n i : ℕ) (s : S) → P s → P (turns n i turn s)
-turns_keep P turn keep zero i s p = p
-turns_keep P turn keep (suc n) i s p = turns_keep P turn keep n (i + 1) (turn i s) (keep i s p)
-
--- so it is with what holds of two loops
+-- what each turn of two loops keeps, both loops keep
 pub turns_relate : {S T : Type 0} (R : S → T → Type 0) (f : ℕ → S → S) (g : ℕ → T → T)
     → ((i : ℕ) (s : S) (t : T) → R s t → R (f i s) (g i t))
     → (n i : ℕ) (s : S) (t : T) → R s t → R (turns n i f s) (turns n i g t)
@@ -74,27 +69,16 @@ under_controls : (b : Bool) (s : StraightState) (x : ℕ) (v : List ℕ)
 under_controls true s x v = refl
 under_controls false s x v = refl
 
--- of two blocks that both leave a control value alone
-either_control : (b : Bool) (s one other : StraightState) (c : ℕ) → one.controls c ≡ s.controls c
-    → other.controls c ≡ s.controls c
-    → (cond b other one).controls c ≡ s.controls c
-either_control true s one other c accepted otherwise = otherwise
-either_control false s one other c accepted otherwise = accepted
-
 mutual
   -- a statement takes no control value below its own
   pub controls_stay : (within : Option ℕ) (control : ℕ) (statement : FlatTree) (s : StraightState) (c : ℕ)
       → c < control
       → (after_all s (removed within control statement)).controls c ≡ s.controls c
-  controls_stay within control (declare x word mutable value) s c below = refl
-  controls_stay within control (array x word mutable size values) s c below = refl
   controls_stay within control (assign x value) s c below =
       ap (λ (controls : ℕ → Bool). controls c) (under_controls (holds s within) s x (value_at s value ∷ []))
   controls_stay within control (put place x size index value) s c below =
       ap (λ (controls : ℕ → Bool). controls c)
       (under_controls (holds s within) s x (slice_set (s.variables x) (value_at s index) (value_at s value)))
-  controls_stay within control (hold x place size index) s c below = refl
-  controls_stay within control skip s c below = refl
   controls_stay within control (branch Secret condition accepted otherwise) s c below =
       let taken : StraightState = after s (take_within within control condition) in
       let code : StraightBlock = removed_all (Some control) (control + 2) accepted in
@@ -104,14 +88,16 @@ mutual
       ∙ (controls_stay_all (Some control) (control + 2) accepted taken c (omega arith)
       ∙ lower_control s control _ _ c below))
   controls_stay within control (branch Public condition accepted otherwise) s c below =
-      either_control (value_at s condition == 0) s (after_all s (removed_all within control accepted))
-      (after_all s (removed_all within control otherwise)) c
-      (controls_stay_all within control accepted s c below) (controls_stay_all within control otherwise s c below)
+      cond_both (value_at s condition == 0) (after_all s (removed_all within control otherwise))
+      (after_all s (removed_all within control accepted)) (λ (t : StraightState). t.controls c ≡ s.controls c)
+      (λ zero. controls_stay_all within control otherwise s c below)
+      (λ nonzero. controls_stay_all within control accepted s c below)
   controls_stay within control (loop x low high body) s c below =
       turns_keep (λ (t : StraightState). t.controls c ≡ s.controls c)
-      (λ i t. after_all (counted x i t) (removed_all within control body))
-      (λ i t same. controls_stay_all within control body (counted x i t) c below ∙ same)
-      (value_at s high - value_at s low) (value_at s low) s refl
+      (λ i t. after_all (counted x i t) (removed_all within control body)) (value_at s high)
+      (λ i t few same. controls_stay_all within control body (counted x i t) c below ∙ same)
+      (value_at s high - value_at s low) (value_at s low) s refl refl
+  controls_stay within control other s c below = refl
 
   pub controls_stay_all : (within : Option ℕ) (control : ℕ) (body : FlatBlock) (s : StraightState) (c : ℕ)
       → c < control

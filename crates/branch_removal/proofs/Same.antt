@@ -19,7 +19,8 @@ use Rattle.branch_removal.proofs.Agreement.{Sees, Agree, everything, set_in_both
 use Rattle.branch_removal.proofs.Sequences.{after-chain}
 use Rattle.branch_removal.proofs.Runs.{turns_relate_from, first_control, second_control, controls_stay}
 use Rattle.branch_removal.proofs.Runs.{controls_stay_all}
-use Rattle.branch_removal.proofs.Scopes.{stays_all, stays_beside}
+use Rattle.inline.proofs.Face.{types_kept}
+use Rattle.branch_removal.proofs.Scopes.{stays_beside}
 use Rattle.branch_removal.proofs.Unchanged.{switched_off, unchanged_all}
 use Rattle.branch_removal.proofs.Values.{one_value, all_values}
 
@@ -45,7 +46,7 @@ module _ (declared : List FlatVariable) where
       → AreTyped declared types label body
       → Agree sees (types_after_all types body) m n → Agree sees types m n
   narrowed sees types label body m n typed agree y d known seen =
-      agree y d (stays_all declared types label body typed y d known) seen
+      agree y d (types_kept declared types label body typed y d known) seen
 
   same_assigned : (types : Types) (label : Label) (x : ℕ) (value : TermTree)
       → IsTyped declared types label (assign x value)

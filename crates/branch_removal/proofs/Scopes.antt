@@ -1,14 +1,15 @@
 -- What is in scope stays in scope, as it is declared, and is declared so in the list of all variables.
-use Rattle.std.proofs.Common.{◌≡◌, ℕ, ◌==◌, Bool, true, false, cond, List, [], ◌∷◌, Option, None, Some, slice_get}
-use Rattle.std.proofs.Common.{refl, sym, ap, ◌∙◌, subst}
-use Rattle.std.proofs.lemmas.Bool.{eqb-true, false_from_ne_true, cond-false}
+use Rattle.std.proofs.Common.{◌≡◌, ℕ, ◌==◌, false, List, [], ◌∷◌, Option, None, Some, slice_get}
+use Rattle.std.proofs.Common.{inl, inr, refl, ap, ◌∙◌, subst}
+use Rattle.std.proofs.lemmas.Bool.{cases_Bool, eqb-true, ne_eqb, cond-false}
 use Rattle.std.proofs.lemmas.Option.{none-some}
 use Rattle.inline.specs.declared.flat.FlatVariable.{FlatVariable}
-use Rattle.inline.specs.Flat.{TermTree, FlatTree, declare, array, assign, put, hold, skip, branch, loop, FlatBlock}
+use Rattle.inline.specs.Flat.{TermTree, FlatTree, declare, array, hold, FlatBlock}
 use Rattle.inline.specs.Flat.{nothing, first}
 use Rattle.inline.specs.FlatTyping.{Types, with_type, types_of, HasType, of_number, of_truth, of_variable, of_prefix}
 use Rattle.inline.specs.FlatTyping.{of_binary, of_rotation, of_conversion, of_selection, of_element, Suits, AllSuit}
 use Rattle.inline.specs.FlatTyping.{IsResult, IsTyped, AreTyped, types_after, types_after_all}
+use Rattle.inline.proofs.Face.{new_number, with_type-other}
 use Rattle.branch_removal.specs.StraightTyping.{types_but}
 use Rattle.language.specs.declared.signature.Label.{Label}
 use Rattle.language.specs.declared.typing.WordType.{WordType}
@@ -18,34 +19,13 @@ use Rattle.word.specs.declared.profile.Profile.{Profile}
 
 -- a new variable is none of those in scope
 pub apart : (types : Types) (x y : ℕ) (d : FlatVariable) → types.at x ≡ None → types.at y ≡ Some d → (y == x) ≡ false
-apart types x y d new known =
-    false_from_ne_true (y == x) (λ equal. none-some d (sym new ∙ (ap types.at (sym (eqb-true y x equal)) ∙ known)))
+apart types x y d new known = ne_eqb y x (new_number types x y d new known)
 
 -- what is in scope is as it was where a new variable is declared
 pub stays_beside : (types : Types) (x : ℕ) (new : FlatVariable) → types.at x ≡ None
     → (y : ℕ) (d : FlatVariable) → types.at y ≡ Some d → (with_type types x new).at y ≡ Some d
 stays_beside types x new absent y d known =
-    cond-false (y == x) (Some new) (types.at y) (apart types x y d absent known) ∙ known
-
-module _ (declared : List FlatVariable) where
-  mutual
-    pub stays : (types : Types) (label : Label) (statement : FlatTree) → IsTyped declared types label statement
-        → (y : ℕ) (d : FlatVariable) → types.at y ≡ Some d → (types_after types statement).at y ≡ Some d
-    stays types label (declare x word mutable value) typed y d known = stays_beside types x _ typed.0.new y d known
-    stays types label (array x word mutable size values) typed y d known =
-        stays_beside types x _ typed.0.new y d known
-    stays types label (assign x value) typed y d known = known
-    stays types label (put place x size index value) typed y d known = known
-    stays types label (hold x place size index) typed y d known = stays_beside types x _ typed.0.new y d known
-    stays types label skip typed y d known = known
-    stays types label (branch own condition accepted otherwise) typed y d known = known
-    stays types label (loop x low high body) typed y d known = known
-
-    pub stays_all : (types : Types) (label : Label) (body : FlatBlock) → AreTyped declared types label body
-        → (y : ℕ) (d : FlatVariable) → types.at y ≡ Some d → (types_after_all types body).at y ≡ Some d
-    stays_all types label nothing typed y d known = known
-    stays_all types label (first statement rest) typed y d known =
-        stays_all (types_after types statement) label rest typed.1 y d (stays types label statement typed.0 y d known)
+    with_type-other types x y new (new_number types x y d absent known) ∙ known
 
 -- both are for one observer, and one is declared as the other says, wherever it says something
 pub record AreAmong (types all : Types) : Type 0 where
@@ -84,24 +64,20 @@ module _ (types all : Types) (among : AreAmong types all) where
   pub result_among : (returned : Option WordType) (value : Option TermTree) → IsResult types returned value
       → IsResult all returned value
   result_among None None result = tt
-  result_among None (Some value) result = absurd result
-  result_among (Some word) None result = absurd result
   result_among (Some word) (Some value) result = suits_among word value result
+  result_among returned value result = absurd result
 
 -- a variable that is listed as it is declared
 pub among_beside : (profile : Profile) (declared : List FlatVariable) (types : Types) (x : ℕ) (new : FlatVariable)
     → slice_get declared x ≡ Some new
     → AreAmong types (types_of profile declared) → AreAmong (with_type types x new) (types_of profile declared)
-among_beside profile declared types x new listed among =
-    record { profile = among.profile; at = λ y d known. beside y d known }
-  where
-    beside : (y : ℕ) (d : FlatVariable) → (with_type types x new).at y ≡ Some d → slice_get declared y ≡ Some d
-    beside y d known = by_number (y == x) refl known
-      where
-        by_number : (b : Bool) → (y == x) ≡ b → cond b (Some new) (types.at y) ≡ Some d
-            → slice_get declared y ≡ Some d
-        by_number true is known = ap (slice_get declared) (eqb-true y x is) ∙ (listed ∙ known)
-        by_number false is known = among.at y d known
+among_beside profile declared types x new listed among = record {
+  profile = among.profile;
+  at = λ y d known. elim (cases_Bool (y == x)) [
+    | inl same ↦ ap (slice_get declared) (eqb-true y x same) ∙ (listed ∙ rw same at known)
+    | inr other ↦ among.at y d (rw other at known)
+  ];
+}
 
 module _ (profile : Profile) (declared : List FlatVariable) where
   mutual
@@ -112,13 +88,9 @@ module _ (profile : Profile) (declared : List FlatVariable) where
         among_beside profile declared types x _ typed.0.listed among
     among_after types label (array x word mutable size values) typed among =
         among_beside profile declared types x _ typed.0.listed among
-    among_after types label (assign x value) typed among = among
-    among_after types label (put place x size index value) typed among = among
     among_after types label (hold x place size index) typed among =
         among_beside profile declared types x _ typed.0.listed among
-    among_after types label skip typed among = among
-    among_after types label (branch own condition accepted otherwise) typed among = among
-    among_after types label (loop x low high body) typed among = among
+    among_after types label other typed among = among
 
     pub among_after_all : (types : Types) (label : Label) (body : FlatBlock) → AreTyped declared types label body
         → AreAmong types (types_of profile declared)
@@ -140,9 +112,10 @@ among_but profile declared types x new among = record {
 -- and these are among all
 pub but_among : (profile : Profile) (declared : List FlatVariable) (x : ℕ)
     → AreAmong (types_but profile declared x) (types_of profile declared)
-but_among profile declared x = record { profile = refl; at = λ y d known. by_number y d (y == x) known }
-  where
-    by_number : (y : ℕ) (d : FlatVariable) (b : Bool) → cond b None (slice_get declared y) ≡ Some d
-        → slice_get declared y ≡ Some d
-    by_number y d true known = absurd (none-some d known)
-    by_number y d false known = known
+but_among profile declared x = record {
+  profile = refl;
+  at = λ y d known. elim (cases_Bool (y == x)) [
+    | inl same ↦ absurd (none-some d (rw same at known))
+    | inr other ↦ rw other at known
+  ];
+}

@@ -1,6 +1,6 @@
 -- What an observer sees of a path that is made of parts; and a path is fine exactly where what is seen of it is.
 use Rattle.std.proofs.Common.{◌≡◌, ℕ, List, [], ◌∷◌, ◌++◌, refl, sym, ap, ap₂, ◌∙◌, append_assoc, subst}
-use Rattle.inline.specs.Path.{Path, decided, bounded, indexed, divided, multiplied, AreFine, shown_of, seen}
+use Rattle.inline.specs.Path.{Path, multiplied, AreFine, shown_of, seen}
 use Rattle.word.specs.declared.profile.Profile.{Profile}
 use Rattle.word.specs.declared.profile.Profile.TheVariants.{P1, P2}
 
@@ -22,30 +22,24 @@ module _ (turns : List ℕ) (profile : Profile) where
   -- what is seen of a fine path is fine
   pub fine_seen : (path : Path) → AreFine turns path → AreFine turns (seen profile path)
   fine_seen [] fine = tt
-  fine_seen (decided value ∷ rest) fine = (fine.0, fine_seen rest fine.1)
-  fine_seen (bounded x low high ∷ rest) fine = (fine.0, fine_seen rest fine.1)
-  fine_seen (indexed place size index ∷ rest) fine = (fine.0, fine_seen rest fine.1)
-  fine_seen (divided place left right ∷ rest) fine = (fine.0, fine_seen rest fine.1)
   fine_seen (multiplied left right ∷ rest) fine = by_profile profile (fine_seen rest fine.1)
     where
       by_profile : (p : Profile) → AreFine turns (seen profile rest)
           → AreFine turns (shown_of p (multiplied left right) ++ seen profile rest)
       by_profile P1 more = more
       by_profile P2 more = (tt, more)
+  fine_seen (mark ∷ rest) fine = (fine.0, fine_seen rest fine.1)
 
   -- and a path is fine where what is seen of it is: a multiplication is no fault
   pub seen_fine : (path : Path) → AreFine turns (seen profile path) → AreFine turns path
   seen_fine [] fine = tt
-  seen_fine (decided value ∷ rest) fine = (fine.0, seen_fine rest fine.1)
-  seen_fine (bounded x low high ∷ rest) fine = (fine.0, seen_fine rest fine.1)
-  seen_fine (indexed place size index ∷ rest) fine = (fine.0, seen_fine rest fine.1)
-  seen_fine (divided place left right ∷ rest) fine = (fine.0, seen_fine rest fine.1)
   seen_fine (multiplied left right ∷ rest) fine = (tt, seen_fine rest (by_profile profile fine))
     where
       by_profile : (p : Profile) → AreFine turns (shown_of p (multiplied left right) ++ seen profile rest)
           → AreFine turns (seen profile rest)
       by_profile P1 more = more
       by_profile P2 more = more.1
+  seen_fine (mark ∷ rest) fine = (fine.0, seen_fine rest fine.1)
 
   -- so of two paths of which the same is seen
   pub fine_alike : (a b : Path) → seen profile a ≡ seen profile b → AreFine turns b → AreFine turns a

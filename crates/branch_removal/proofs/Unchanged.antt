@@ -1,8 +1,8 @@
 -- What an arm leaves alone: under a false control value all that is in scope before it, and under a secret condition
 -- all that is public, whatever the control value.
-use Rattle.std.proofs.Common.{◌≡◌, ℕ, ◌+◌, ◌-◌, ◌<◌, ◌==◌, Bool, true, false, cond, List, [], ◌∷◌, Option, None, Some}
+use Rattle.std.proofs.Common.{◌≡◌, ℕ, ◌+◌, ◌-◌, ◌<◌, ◌==◌, false, cond, List, [], ◌∷◌, Option, Some}
 use Rattle.std.proofs.Common.{slice_set, refl, sym, ap, ◌∙◌, arith}
-use Rattle.std.proofs.lemmas.Bool.{cond-false, false_from_ne_true, eqb-true, and_left}
+use Rattle.std.proofs.lemmas.Bool.{cond-false, cond_both, false_from_ne_true, eqb-true, and_left}
 use Rattle.std.proofs.lemmas.Option.{same_Some}
 use Rattle.inline.specs.declared.flat.FlatVariable.{FlatVariable}
 use Rattle.inline.specs.Flat.{TermTree, FlatTree, declare, array, assign, put, hold, skip, branch, loop, FlatBlock}
@@ -16,9 +16,10 @@ use Rattle.branch_removal.specs.StraightMeaning.{StraightState, holds, with_vari
 use Rattle.branch_removal.specs.StraightMeaning.{after_all}
 use Rattle.branch_removal.proofs.Agreement.{Sees, Agree, what_is_public}
 use Rattle.branch_removal.proofs.Sequences.{after-chain}
-use Rattle.branch_removal.proofs.Runs.{turns_keep, first_control, second_control, controls_stay}
+use Rattle.branch_removal.proofs.Runs.{first_control, second_control, controls_stay}
 use Rattle.branch_removal.proofs.Runs.{controls_stay_all}
-use Rattle.branch_removal.proofs.Scopes.{apart, stays, stays_beside}
+use Rattle.branch_removal.proofs.Scopes.{apart, stays_beside}
+use Rattle.inline.proofs.Face.{turns_keep, type_kept}
 use Rattle.branch_removal.proofs.Values.{secret≢public}
 
 -- why nothing that is looked at changes: the enclosing control value is false, or only what is public is looked at
@@ -67,22 +68,11 @@ pub set_quietly : (sees : Sees) (types : Types) (label : Label) (within : Option
 set_quietly sees types label within control s x v new known secret (switched_off {c = c} below off) y d there seen =
     ap (λ (t : StraightState). t.variables y) (cond-false (s.controls c) (with_variable s x v) s off)
 set_quietly sees types label within control s x v new known secret (hidden is public) y d there seen =
-    by_control (holds s within)
-  where
-    other : (y == x) ≡ false
-    other = false_from_ne_true (y == x) (λ equal.
-        let one : d ≡ new = same_Some d new (sym there ∙ (ap types.at (eqb-true y x equal) ∙ known)) in
-        secret≢public (sym (secret is) ∙ (ap (λ (e : FlatVariable). e.word.label) (sym one) ∙ public d seen)))
-
-    by_control : (b : Bool) → (cond b (with_variable s x v) s).variables y ≡ s.variables y
-    by_control true = cond-false (y == x) v (s.variables y) other
-    by_control false = refl
-
-either_arm : (b : Bool) (s one other : StraightState) (y : ℕ) → one.variables y ≡ s.variables y
-    → other.variables y ≡ s.variables y
-    → (cond b other one).variables y ≡ s.variables y
-either_arm true s one other y accepted otherwise = otherwise
-either_arm false s one other y accepted otherwise = accepted
+    let other : (y == x) ≡ false = false_from_ne_true (y == x) (λ equal.
+    let one : d ≡ new = same_Some d new (sym there ∙ (ap types.at (eqb-true y x equal) ∙ known)) in
+    secret≢public (sym (secret is) ∙ (ap (λ (e : FlatVariable). e.word.label) (sym one) ∙ public d seen))) in
+    cond_both (holds s within) (with_variable s x v) s (λ (t : StraightState). t.variables y ≡ s.variables y)
+    (λ set. cond-false (y == x) v (s.variables y) other) (λ kept. refl)
 
 module _ (declared : List FlatVariable) (sees : Sees) where
   mutual
@@ -113,14 +103,15 @@ module _ (declared : List FlatVariable) (sees : Sees) where
         ∙ unchanged_all types Secret accepted typed.1 (Some control) (control + 2) taken
         (quiet_first sees label within control condition s quiet) y d known seen)
     unchanged types label (branch Public condition accepted otherwise) typed within control s quiet y d known seen =
-        either_arm (value_at s condition == 0) s (after_all s (removed_all within control accepted))
-        (after_all s (removed_all within control otherwise)) y
-        (unchanged_all types label accepted typed.1 within control s quiet y d known seen)
-        (unchanged_all types label otherwise typed.2 within control s quiet y d known seen)
+        cond_both (value_at s condition == 0) (after_all s (removed_all within control otherwise))
+        (after_all s (removed_all within control accepted))
+        (λ (t : StraightState). t.variables y ≡ s.variables y)
+        (λ zero. unchanged_all types label otherwise typed.2 within control s quiet y d known seen)
+        (λ nonzero. unchanged_all types label accepted typed.1 within control s quiet y d known seen)
     unchanged types label (loop x low high body) typed within control s quiet y d known seen =
         (turns_keep (λ (t : StraightState). Quiet sees label within control t × (t.variables y ≡ s.variables y))
-        (λ i t. after_all (counted x i t) (removed_all within control body))
-        (λ i t so_far. (
+        (λ i t. after_all (counted x i t) (removed_all within control body)) (value_at s high)
+        (λ i t below so_far. (
           quiet_after sees label within control t _
               (λ c below. controls_stay_all within control body (counted x i t) c below) so_far.0,
           unchanged_all (with_type types x (word_as counter_type false)) label body typed.3 within control
@@ -129,7 +120,7 @@ module _ (declared : List FlatVariable) (sees : Sees) where
               (stays_beside types x _ typed.2.new y d known) seen
               ∙ (cond-false (y == x) (i ∷ []) (t.variables y) (apart types x y d typed.2.new known) ∙ so_far.1),
         ))
-        (value_at s high - value_at s low) (value_at s low) s (quiet, refl)).1
+        (value_at s high - value_at s low) (value_at s low) s refl (quiet, refl)).1
 
     pub unchanged_all : (types : Types) (label : Label) (body : FlatBlock) → AreTyped declared types label body
         → (within : Option ℕ) (control : ℕ) (s : StraightState) → Quiet sees label within control s
@@ -142,5 +133,5 @@ module _ (declared : List FlatVariable) (sees : Sees) where
         (after_all s (removed within control statement))
         (quiet_after sees label within control s _
         (λ c below. controls_stay within control statement s c below) quiet)
-        y d (stays declared types label statement typed.0 y d known) seen
+        y d (type_kept declared types label statement typed.0 y d known) seen
         ∙ unchanged types label statement typed.0 within control s quiet y d known seen)

@@ -23,28 +23,14 @@ use Rattle.language.specs.declared.typing.WordType.{WordType}
 use Rattle.language.specs.Operators.{operation_of}
 use Rattle.language.specs.Operators.{operated, prefix_value, width_of}
 use Rattle.language.specs.Types.{joined, is_secret}
-use Rattle.language.specs.WellTyped.{Makes, arithmetic, multiplication, division as divides_public, shift, equality}
-use Rattle.language.specs.WellTyped.{order, logic, both_public as public_factors}
+use Rattle.language.specs.WellTyped.{Makes, multiplication, division as divides_public}
+use Rattle.language.specs.WellTyped.{both_public as public_factors}
+use Rattle.intervals.proofs.LooseTypes.{joined_public}
 use Rattle.branch_removal.proofs.SeenLemmas.{both_seen}
 use Rattle.branch_removal.proofs.Agreement.{Agree, everything, what_is_public}
 
 pub secret≢public : Secret ≢ Public
 secret≢public h = true≢false (ap is_secret h)
-
-joined_public : (m n : Label) → joined m n ≡ Public → (m ≡ Public) × (n ≡ Public)
-joined_public Public n h = (refl, h)
-joined_public Secret n h = absurd (secret≢public h)
-
--- what is made of two words is public only where both are
-public_operands : {profile : Profile} {operation : Operation} {a b whole : WordType}
-    → Makes profile operation a b whole → whole.label ≡ Public → (a.label ≡ Public) × (b.label ≡ Public)
-public_operands (arithmetic {l = l} {m = m} numeric) label = joined_public l m label
-public_operands (multiplication {l = l} {m = m} numeric may) label = joined_public l m label
-public_operands (divides_public numeric) label = (refl, refl)
-public_operands (shift {l = l} {m = m} numeric) label = joined_public l m label
-public_operands (equality {l = l} {m = m}) label = joined_public l m label
-public_operands (order {l = l} {m = m} numeric) label = joined_public l m label
-public_operands (logic {l = l} {m = m}) label = joined_public l m label
 
 -- of two operations the same is seen where their public operands are the same: what an observer sees of an operation
 -- is public
@@ -61,30 +47,53 @@ same_marks profile place Remainder (divides_public numeric) a b c d left right =
     ap₂ (λ u v. divided place u v ∷ []) (left refl) (right refl)
 same_marks profile place operator makes a b c d left right = refl
 
+-- What is looked at goes by labels: by all of them, or by the public one alone.
 module _ (types : Types) (one other : Values) where
+  module _ (Asked : Label → Type 0) (public : Asked Public)
+      (both : (m n : Label) → Asked (joined m n) → Asked m × Asked n)
+      (flows : (wanted label : Label) → (wanted ≡ Public → label ≡ Public) → Asked wanted → Asked label)
+      (agree : Agree (λ d. Asked d.word.label) types one other) where
+    -- what is made of two words is asked only where both are
+    asked_operands : {profile : Profile} {operation : Operation} {a b whole : WordType}
+        → Makes profile operation a b whole → Asked whole.label → Asked a.label × Asked b.label
+    asked_operands (divides_public numeric) label = (public, public)
+    asked_operands makes label = both _ _ label
+
+    same_value : {e : TermTree} {whole : WordType} → HasType types e whole → Asked whole.label
+        → value_in one e ≡ value_in other e
+    same_value (of_number below) label = refl
+    same_value of_truth label = refl
+    same_value (of_variable {x = x} is) label = ap (λ numbers. slice_index numbers 0) (agree x _ is label)
+    same_value (of_prefix {operator = operator} {width = width} has takes even) label =
+        ap (prefix_value operator width) (same_value has label)
+    same_value (of_binary {operator = operator} {width = width} has more makes even) label =
+        let labels = asked_operands makes label in
+        ap₂ (operated operator width) (same_value has labels.0) (same_value more labels.1)
+    same_value (of_rotation {width = width} {amount = amount} has numeric low high even) label =
+        ap (λ v. rotated_left width v amount) (same_value has label)
+    same_value (of_conversion {kind = kind} has numeric) label =
+        ap (converted (width_of kind)) (same_value has label)
+    same_value (of_selection {condition = condition} {accepted = accepted} {otherwise = otherwise} {l = l} {m =
+        m} {n = n} chooser has more) label =
+        let outer = both l (joined m n) label in
+        let labels = both m n outer.1 in
+        ap (λ z. if z == 0 then value_in one otherwise else value_in one accepted) (same_value chooser outer.0)
+        ∙ ap₂ (λ z u. if value_in other condition == 0 then z else u) (same_value more labels.1)
+        (same_value has labels.0)
+    same_value (of_element {x = x} is index) label = ap₂ slice_index (agree x _ is label) (same_value index public)
+
+    same_values : (wanted : WordType) (es : List TermTree) → AllSuit types wanted es → Asked wanted.label
+        → map (value_in one) es ≡ map (value_in other) es
+    same_values wanted [] suits label = refl
+    same_values wanted (e ∷ es) suits label =
+        ap₂ (λ (v : ℕ) (vs : List ℕ). v ∷ vs) (same_value suits.0.has_type (flows _ _ suits.0.label label))
+        (same_values wanted es suits.1 label)
+
   module _ (agree : Agree what_is_public types one other) where
     pub public_value : {e : TermTree} {whole : WordType} → HasType types e whole → whole.label ≡ Public
         → value_in one e ≡ value_in other e
-    public_value (of_number below) label = refl
-    public_value of_truth label = refl
-    public_value (of_variable {x = x} is) label = ap (λ numbers. slice_index numbers 0) (agree x _ is label)
-    public_value (of_prefix {operator = operator} {width = width} has takes even) label =
-        ap (prefix_value operator width) (public_value has label)
-    public_value (of_binary {operator = operator} {width = width} has more makes even) label =
-        let labels = public_operands makes label in
-        ap₂ (operated operator width) (public_value has labels.0) (public_value more labels.1)
-    public_value (of_rotation {width = width} {amount = amount} has numeric low high even) label =
-        ap (λ v. rotated_left width v amount) (public_value has label)
-    public_value (of_conversion {kind = kind} has numeric) label =
-        ap (converted (width_of kind)) (public_value has label)
-    public_value (of_selection {condition = condition} {accepted = accepted} {otherwise = otherwise} {l = l} {m =
-        m} {n = n} chooser has more) label =
-        let outer = joined_public l (joined m n) label in
-        let labels = joined_public m n outer.1 in
-        ap (λ z. if z == 0 then value_in one otherwise else value_in one accepted) (public_value chooser outer.0)
-        ∙ ap₂ (λ z u. if value_in other condition == 0 then z else u) (public_value more labels.1)
-        (public_value has labels.0)
-    public_value (of_element {x = x} is index) label = ap₂ slice_index (agree x _ is label) (public_value index refl)
+    public_value has label =
+        same_value (λ l. l ≡ Public) refl joined_public (λ wanted label flow. flow) agree has label
 
     -- so does what suits where a public value is wanted
     pub public_suited : (wanted : WordType) (e : TermTree) → Suits types wanted e → wanted.label ≡ Public
@@ -93,10 +102,8 @@ module _ (types : Types) (one other : Values) where
 
     pub public_all : (wanted : WordType) (es : List TermTree) → AllSuit types wanted es → wanted.label ≡ Public
         → map (value_in one) es ≡ map (value_in other) es
-    public_all wanted [] suits label = refl
-    public_all wanted (e ∷ es) suits label =
-        ap₂ (λ (v : ℕ) (vs : List ℕ). v ∷ vs) (public_suited wanted e suits.0 label)
-        (public_all wanted es suits.1 label)
+    public_all wanted es suits label =
+        same_values (λ l. l ≡ Public) refl joined_public (λ wanted label flow. flow) agree wanted es suits label
 
     -- what is seen of the path is public
     pub one_seen : {e : TermTree} {whole : WordType} → HasType types e whole
@@ -139,32 +146,17 @@ module _ (types : Types) (one other : Values) where
     pub result_seen : (returned : Option WordType) (value : Option TermTree) → IsResult types returned value
         → seen types.profile (path_of_result one value) ≡ seen types.profile (path_of_result other value)
     result_seen None None result = refl
-    result_seen None (Some value) result = absurd result
-    result_seen (Some word) None result = absurd result
     result_seen (Some word) (Some value) result = one_seen result.has_type
+    result_seen returned value result = absurd result
 
   module _ (agree : Agree everything types one other) where
     pub one_value : {e : TermTree} {whole : WordType} → HasType types e whole → value_in one e ≡ value_in other e
-    one_value (of_number below) = refl
-    one_value of_truth = refl
-    one_value (of_variable {x = x} is) = ap (λ numbers. slice_index numbers 0) (agree x _ is tt)
-    one_value (of_prefix {operator = operator} {width = width} has takes even) =
-        ap (prefix_value operator width) (one_value has)
-    one_value (of_binary {operator = operator} {width = width} has more makes even) =
-        ap₂ (operated operator width) (one_value has) (one_value more)
-    one_value (of_rotation {width = width} {amount = amount} has numeric low high even) =
-        ap (λ v. rotated_left width v amount) (one_value has)
-    one_value (of_conversion {kind = kind} has numeric) = ap (converted (width_of kind)) (one_value has)
-    one_value (of_selection {condition = condition} {accepted = accepted} {otherwise = otherwise} chooser has more) =
-        ap (λ z. if z == 0 then value_in one otherwise else value_in one accepted) (one_value chooser)
-        ∙ ap₂ (λ z u. if value_in other condition == 0 then z else u) (one_value more) (one_value has)
-    one_value (of_element {x = x} is index) = ap₂ slice_index (agree x _ is tt) (one_value index)
+    one_value has = same_value (λ l. Unit {0}) tt (λ m n asked. (tt, tt)) (λ wanted label flow asked. tt) agree has tt
 
     pub all_values : (wanted : WordType) (es : List TermTree) → AllSuit types wanted es
         → map (value_in one) es ≡ map (value_in other) es
-    all_values wanted [] suits = refl
-    all_values wanted (e ∷ es) suits =
-        ap₂ (λ (v : ℕ) (vs : List ℕ). v ∷ vs) (one_value suits.0.has_type) (all_values wanted es suits.1)
+    all_values wanted es suits =
+        same_values (λ l. Unit {0}) tt (λ m n asked. (tt, tt)) (λ wanted label flow asked. tt) agree wanted es suits tt
 
     -- and any expression one path
     pub one_path : {e : TermTree} {whole : WordType} → HasType types e whole → path_in one e ≡ path_in other e
@@ -191,6 +183,5 @@ module _ (types : Types) (one other : Values) where
     pub one_result : (returned : Option WordType) (value : Option TermTree) → IsResult types returned value
         → option_map (value_in one) value ≡ option_map (value_in other) value
     one_result None None result = refl
-    one_result None (Some value) result = absurd result
-    one_result (Some word) None result = absurd result
     one_result (Some word) (Some value) result = ap Some (one_value result.has_type)
+    one_result returned value result = absurd result

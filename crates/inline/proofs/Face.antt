@@ -1,8 +1,9 @@
 -- What the crates above take from these proofs, in one place.
 pub use Rattle.inline.proofs.Begun.{Enters, distinct_none, enters}
 pub use Rattle.inline.proofs.CallEnds.{call_means}
-pub use Rattle.inline.proofs.CallSizes.{GoTogether, same_all, same_nodes, same_result, value_there}
+pub use Rattle.inline.proofs.CallSizes.{GoTogether, same_all, same_nodes, same_result, some_nodes, value_there}
 pub use Rattle.inline.proofs.Called.{Behaves, IsKept, Ready, ready_after, ready_declared, ready_later}
+pub use Rattle.inline.proofs.Chains.{turns_keep}
 pub use Rattle.inline.proofs.Comes.{Comes, fails, well}
 pub use Rattle.inline.proofs.CountLemmas.{block_alike, extent_same, statement_alike}
 pub use Rattle.inline.proofs.Fitting.{
@@ -17,6 +18,7 @@ pub use Rattle.inline.proofs.Fitting.{
   value_fits,
   wrapped_fits,
 }
+pub use Rattle.inline.proofs.FinePaths.{fine_back, fine_both, fine_front}
 pub use Rattle.inline.proofs.FittingBodies.{fits_assigned, fits_declared, one_held, parameters_fit}
 pub use Rattle.inline.proofs.FlatEnds.{same_end, same_ends}
 pub use Rattle.inline.proofs.FlatMeanings.{begins, behaves, flat_keeps_meaning}
@@ -39,7 +41,8 @@ pub use Rattle.inline.proofs.Procedures.{
   own_typing,
   variables_within,
 }
-pub use Rattle.inline.proofs.States.{shows_before, shows_declared, shows_kept, with_value-other}
+pub use Rattle.inline.proofs.RowLemmas.{branch_tree, loop_tree}
+pub use Rattle.inline.proofs.States.{shows_before, shows_declared, shows_kept, with_value-other, with_value-same}
 pub use Rattle.inline.proofs.TableLemmas.{Knows, one_told}
 pub use Rattle.inline.proofs.Terms.{Shows, means, word_at}
 pub use Rattle.inline.proofs.TypesKept.{new_number, type_kept, types_kept}

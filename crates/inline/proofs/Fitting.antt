@@ -1,14 +1,14 @@
 -- A well-typed expression's value is within its kind.
-use Rattle.std.proofs.Common.{◌≡◌, ℕ, ◌<◌, ◌==◌, ◌&&◌, ◌||◌, Bool, true, false, not, nat_lt, nat_le, if◌then◌else◌}
-use Rattle.std.proofs.Common.{List, length, All, slice_index, refl, sym, subst, arith}
+use Rattle.std.proofs.Common.{ℕ, ◌<◌, ◌==◌, ◌&&◌, ◌||◌, Bool, true, false, not, nat_lt, nat_le, if◌then◌else◌}
+use Rattle.std.proofs.Common.{List, length, All, slice_index, ⊎_elim, sym, subst, arith}
 use Rattle.std.proofs.lemmas.Nat.{or_lt, xor_lt}
 use Rattle.std.specs.Int.Bits.{and_lt}
 use Rattle.std.proofs.Math.Nat.{div-le_self, mod-le}
-use Rattle.std.proofs.lemmas.Bool.Decides.{nat_tests}
+use Rattle.std.proofs.lemmas.Bool.{cases_lt}
 use Rattle.std.proofs.lemmas.List.{get_or_past}
 use Rattle.word.specs.declared.profile.Profile.{Profile}
 use Rattle.word.specs.declared.width.Width.{Width}
-use Rattle.word.specs.declared.width.Width.TheVariants.{W8, W16, W32}
+use Rattle.word.specs.declared.width.Width.TheVariants.{W8}
 use Rattle.word.specs.Operators.{complemented, rotated_left, wrapped, word_of, quotient, remainder}
 use Rattle.word.specs.Widths.{IsWord}
 use Rattle.inline.specs.Fitting.{IsWithinKind, Fits}
@@ -17,7 +17,7 @@ use Rattle.inline.specs.FlatMeaning.{Values, value_in}
 use Rattle.inline.specs.FlatTyping.{Types, HasType, of_number, of_truth, of_variable, of_prefix, of_binary}
 use Rattle.inline.specs.FlatTyping.{of_rotation, of_conversion, of_selection, of_element, Suits}
 use Rattle.language.specs.declared.signature.Kind.{Kind}
-use Rattle.language.specs.declared.signature.Kind.TheVariants.{Boolean, Uint8, Uint16, Uint32}
+use Rattle.language.specs.declared.signature.Kind.TheVariants.{Boolean}
 use Rattle.language.specs.declared.operators.BinaryOperator.{BinaryOperator}
 use Rattle.language.specs.declared.operators.BinaryOperator.TheVariants.{Either, Both, Equal, Unequal, Less, LessOrEqual}
 use Rattle.language.specs.declared.operators.BinaryOperator.TheVariants.{Greater, GreaterOrEqual, BitOr, BitXor, BitAnd}
@@ -36,9 +36,7 @@ use Rattle.language.specs.WellTyped.{Takes}
 
 pub some_bit : (k : Kind) → IsWithinKind k 0
 some_bit Boolean = omega arith
-some_bit Uint8 = omega arith
-some_bit Uint16 = omega arith
-some_bit Uint32 = omega arith
+some_bit other = omega arith
 
 pub bit_fits : (b : Bool) → word_of b < 2
 bit_fits true = omega arith
@@ -47,25 +45,19 @@ bit_fits false = omega arith
 -- a number of a kind has its kind's bits
 pub number_fits : (k : Kind) (v : ℕ) → IsNumberKind k → IsWord (width_of k) v → IsWithinKind k v
 number_fits Boolean v numeric h = absurd numeric
-number_fits Uint8 v numeric h = h
-number_fits Uint16 v numeric h = h
-number_fits Uint32 v numeric h = h
+number_fits other v numeric h = h
 
 pub wrapped_fits : (w : Width) (n : ℕ) → IsWord w (wrapped w n)
 wrapped_fits W8 n = omega arith
-wrapped_fits W16 n = omega arith
-wrapped_fits W32 n = omega arith
+wrapped_fits other n = omega arith
 
 pub complement_fits : (w : Width) (n : ℕ) → IsWord w (complemented w n)
 complement_fits W8 n = omega arith
-complement_fits W16 n = omega arith
-complement_fits W32 n = omega arith
+complement_fits other n = omega arith
 
 pub fits_number : (k : Kind) (v : ℕ) → IsNumberKind k → IsWithinKind k v → IsWord (width_of k) v
 fits_number Boolean v numeric h = absurd numeric
-fits_number Uint8 v numeric h = h
-fits_number Uint16 v numeric h = h
-fits_number Uint32 v numeric h = h
+fits_number other v numeric h = h
 
 quotient_fits : (w : Width) (a b : ℕ) → IsWord w a → IsWord w (quotient a b)
 quotient_fits w a b low = let less = div-le_self a b in omega (arith, low, less)
@@ -114,12 +106,9 @@ operated_fits Remainder a b (division {kind = k} numeric) low high =
 -- an element is within the kind, or 0 where there is none
 pub element_fits : (kind : Kind) (numbers : List ℕ) (i : ℕ) → All (IsWithinKind kind) numbers
     → IsWithinKind kind (slice_index numbers i)
-element_fits kind numbers i within = by_place (nat_lt i (length numbers)) refl
-  where
-    by_place : (b : Bool) → nat_lt i (length numbers) ≡ b → IsWithinKind kind (slice_index numbers i)
-    by_place true e = within i 0 (grind (arith, nat_tests, e))
-    by_place false e = subst (λ v. IsWithinKind kind v) (sym (get_or_past numbers i 0 (grind (arith, nat_tests, e))))
-        (some_bit kind)
+element_fits kind numbers i within = ⊎_elim (λ low. within i 0 low)
+    (λ past. subst (λ v. IsWithinKind kind v) (sym (get_or_past numbers i 0 past)) (some_bit kind))
+    (cases_lt i (length numbers))
 
 pub either_fits : (kind : Kind) (b : Bool) (x y : ℕ) → IsWithinKind kind x → IsWithinKind kind y
     → IsWithinKind kind (if b then y else x)

@@ -15,7 +15,7 @@ use Rattle.inline.specs.FlatMeaning.{Values, with_value, value_in, elements, aft
 use Rattle.inline.specs.FlatTyping.{Types, with_type, AllSuit, HasCount, IsTyped, AreTyped, IsTypedProgram, IsResult}
 use Rattle.inline.specs.FlatTyping.{counter_type, types_after, types_after_all, parameter_types, end_types}
 use Rattle.language.specs.declared.signature.Kind.{Kind}
-use Rattle.language.specs.declared.signature.Kind.TheVariants.{Boolean, Uint8, Uint16, Uint32}
+use Rattle.language.specs.declared.signature.Kind.TheVariants.{Boolean}
 use Rattle.language.specs.declared.signature.Label.{Label}
 use Rattle.language.specs.declared.signature.Label.TheVariants.{Public}
 use Rattle.language.specs.declared.signature.Param.{Param}
@@ -126,9 +126,7 @@ module _ (all : List FlatVariable) where
 
 within_kind : (kind : Kind) (v : ℕ) → v ≤ greatest_of kind → IsWithinKind kind v
 within_kind Boolean v h = omega (arith, h)
-within_kind Uint8 v h = omega (arith, h)
-within_kind Uint16 v h = omega (arith, h)
-within_kind Uint32 v h = omega (arith, h)
+within_kind other v h = omega (arith, h)
 
 argument_held : (p : Param) (arg : Arg) → IsWithin p arg → IsHeld (declaration_of p) (words_of arg)
 argument_held p arg within = record {

@@ -2,6 +2,7 @@ mod Below
 pub mod Linked
 pub mod Comes
 pub mod Chains
+pub mod FinePaths
 pub mod ChainTypes
 pub mod Terms
 pub mod States

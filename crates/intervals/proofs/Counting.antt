@@ -4,7 +4,7 @@ use Rattle.std.proofs.Common.{arith}
 use Rattle.std.proofs.lemmas.List.{length-set, get_or-set_same, get_or-set_other}
 use Rattle.std.proofs.lemmas.Option.{slice_get_within}
 use Rattle.inline.specs.declared.flat.FlatVariable.{FlatVariable}
-use Rattle.inline.specs.Flat.{FlatTree, declare, array, assign, put, hold, skip, branch, loop, FlatBlock, nothing}
+use Rattle.inline.specs.Flat.{FlatTree, branch, loop, FlatBlock, nothing}
 use Rattle.inline.specs.Flat.{first, word_as}
 use Rattle.inline.specs.FlatTyping.{Types, with_type, counter_type, IsTyped, AreTyped, IsNumbered, AreNumbered}
 use Rattle.inline.specs.FlatTyping.{declarations_in, declarations_in_all, types_after}
@@ -26,12 +26,6 @@ module _ (declared : List FlatVariable) where
   mutual
     -- there are as many as before
     long : (s : FlatTree) (bounds : Bounds) (turns : List ℕ) → length (counted declared bounds turns s) ≡ length turns
-    long (declare x word mutable value) bounds turns = refl
-    long (array x word mutable size values) bounds turns = refl
-    long (assign x value) bounds turns = refl
-    long (put place x size index value) bounds turns = refl
-    long (hold x place size index) bounds turns = refl
-    long skip bounds turns = refl
     long (branch label condition accepted otherwise) bounds turns =
         long_all otherwise (where_false declared bounds label condition)
         (counted_all declared (where_true declared bounds label condition) turns accepted)
@@ -39,6 +33,7 @@ module _ (declared : List FlatVariable) where
     long (loop x low high body) bounds turns =
         let most = most_turns (interval declared bounds low) (interval declared bounds high) in
         long_all body (in_loop declared bounds x low high) (slice_set turns x most) ∙ length-set turns x most
+    long other bounds turns = refl
 
     long_all : (b : FlatBlock) (bounds : Bounds) (turns : List ℕ)
         → length (counted_all declared bounds turns b) ≡ length turns
@@ -50,12 +45,6 @@ module _ (declared : List FlatVariable) where
     -- and those of the numbers before its own stay
     stays : (s : FlatTree) (n : ℕ) (bounds : Bounds) (turns : List ℕ) → IsNumbered n s → (y : ℕ) → y < n
         → slice_index (counted declared bounds turns s) y ≡ slice_index turns y
-    stays (declare x word mutable value) n bounds turns numbered y less = refl
-    stays (array x word mutable size values) n bounds turns numbered y less = refl
-    stays (assign x value) n bounds turns numbered y less = refl
-    stays (put place x size index value) n bounds turns numbered y less = refl
-    stays (hold x place size index) n bounds turns numbered y less = refl
-    stays skip n bounds turns numbered y less = refl
     stays (branch label condition accepted otherwise) n bounds turns numbered y less =
         stay otherwise (n + declarations_in_all accepted) (where_false declared bounds label condition)
         (counted_all declared (where_true declared bounds label condition) turns accepted) numbered.1 y
@@ -66,6 +55,7 @@ module _ (declared : List FlatVariable) where
         stay body (n + 1) (in_loop declared bounds x low high) (slice_set turns x most) numbered.1 y
         (omega (arith, less))
         ∙ set_other turns x most y (λ same. omega (arith, same, numbered.0, less))
+    stays other n bounds turns numbered y less = refl
 
     stay : (b : FlatBlock) (n : ℕ) (bounds : Bounds) (turns : List ℕ) → AreNumbered n b → (y : ℕ) → y < n
         → slice_index (counted_all declared bounds turns b) y ≡ slice_index turns y
@@ -84,12 +74,6 @@ module _ (declared : List FlatVariable) where
       enough : (s : FlatTree) (types : Types) (control : Label) (n : ℕ) (bounds : Bounds) (turns : List ℕ)
           → IsTyped declared types control s → IsNumbered n s → length turns ≡ length declared
           → HasOwn all n (declarations_in s) (counted declared bounds turns s) → AreCounted declared all bounds s
-      enough (declare x word mutable value) types control n bounds turns typed numbered count own = tt
-      enough (array x word mutable size values) types control n bounds turns typed numbered count own = tt
-      enough (assign x value) types control n bounds turns typed numbered count own = tt
-      enough (put place x size index value) types control n bounds turns typed numbered count own = tt
-      enough (hold x place size index) types control n bounds turns typed numbered count own = tt
-      enough skip types control n bounds turns typed numbered count own = tt
       enough (branch label condition accepted otherwise) types control n bounds turns typed numbered count own =
           let one = where_true declared bounds label condition in
           let other = where_false declared bounds label condition in
@@ -115,6 +99,7 @@ module _ (declared : List FlatVariable) where
                 numbered.1 (length-set turns x most ∙ count)
                 (λ y least below. own y (omega (arith, least)) (omega (arith, below))),
           )
+      enough other types control n bounds turns typed numbered count own = tt
 
       pub enough_all : (b : FlatBlock) (types : Types) (control : Label) (n : ℕ) (bounds : Bounds) (turns : List ℕ)
           → AreTyped declared types control b → AreNumbered n b → length turns ≡ length declared

@@ -3,7 +3,7 @@ use Rattle.std.proofs.Common.{ℕ, zero, suc, ◌+◌, ◌-◌, ◌*◌, ◌≤�
 use Rattle.std.proofs.Common.{◌++◌, arith}
 use Rattle.std.proofs.Math.Nat.{mul-le-mul_right}
 use Rattle.language.specs.arguments.Within.{AreWithin}
-use Rattle.inline.specs.Flat.{FlatTree, declare, array, assign, put, hold, skip, branch, loop, FlatBlock, nothing}
+use Rattle.inline.specs.Flat.{FlatTree, branch, loop, FlatBlock, nothing}
 use Rattle.inline.specs.Flat.{first, FlatProgram}
 use Rattle.inline.specs.FlatMeaning.{Values, with_value, value_in, path_in, path_of_turns, after, after_all, path_at}
 use Rattle.inline.specs.FlatMeaning.{path_along, path_of_result, path_of, given, end_of}
@@ -12,18 +12,11 @@ use Rattle.inline.specs.Path.{Path, bounded, AreFine}
 use Rattle.intervals.specs.Evaluated.{evaluated, evaluated_all, evaluated_in_turns, evaluated_by}
 use Rattle.intervals.specs.Loose.{IsSafe}
 use Rattle.intervals.specs.Work.{tree_work, body_work}
+use Rattle.intervals.proofs.Below.{fine_back, fine_front}
 use Rattle.intervals.proofs.StrictRuns.{strict_is_loose}
 use Rattle.language.specs.declared.values.Arg.{Arg}
 
 module _ (most : List ℕ) where
-  front_fine : (p q : Path) → AreFine most (p ++ q) → AreFine most p
-  front_fine [] q both = tt
-  front_fine (mark ∷ p) q both = (both.0, front_fine p q both.1)
-
-  back_fine : (p q : Path) → AreFine most (p ++ q) → AreFine most q
-  back_fine [] q both = both
-  back_fine (mark ∷ p) q both = back_fine p q both.1
-
   -- turns, each of which is within so many nodes where its path is fine
   turns_within : {S : Type 0} (turn : ℕ → S → S) (path : ℕ → S → Path) (count : ℕ → S → ℕ) (share : ℕ)
       → ((i : ℕ) (s : S) → AreFine most (path i s) → count i s ≤ share)
@@ -32,8 +25,8 @@ module _ (most : List ℕ) where
   turns_within turn path count share each zero i s fine = omega arith
   turns_within turn path count share each (suc n) i s fine =
       let rest = path_of_turns n (i + 1) turn path (turn i s) in
-      let one = each i s (front_fine (path i s) rest fine) in
-      let more = turns_within turn path count share each n (i + 1) (turn i s) (back_fine (path i s) rest fine) in
+      let one = each i s (fine_front most (path i s) rest fine) in
+      let more = turns_within turn path count share each n (i + 1) (turn i s) (fine_back most (path i s) rest fine) in
       omega (arith, one, more)
 
   -- one of two arms is within both
@@ -45,18 +38,12 @@ module _ (most : List ℕ) where
 
   mutual
     within_work : (s : FlatTree) (m : Values) → AreFine most (path_at m s) → evaluated m s ≤ tree_work most s
-    within_work (declare x word mutable value) m fine = omega arith
-    within_work (array x word mutable size values) m fine = omega arith
-    within_work (assign x value) m fine = omega arith
-    within_work (put place x size index value) m fine = omega arith
-    within_work (hold x place size index) m fine = omega arith
-    within_work skip m fine = omega arith
     within_work (branch label condition accepted otherwise) m fine =
         let arm = if value_in m condition == 0 then path_along m otherwise else path_along m accepted in
         let one = arm_within (value_in m condition == 0) (evaluated_all m accepted) (evaluated_all m otherwise)
         (path_along m accepted) (path_along m otherwise)
         (body_work most accepted) (body_work most otherwise) (within_work_all accepted m)
-        (within_work_all otherwise m) (back_fine (path_in m condition) arm fine) in
+        (within_work_all otherwise m) (fine_back most (path_in m condition) arm fine) in
         omega (arith, one)
     within_work (loop x low high body) m fine =
         let a = value_in m low in
@@ -66,18 +53,19 @@ module _ (most : List ℕ) where
         let count : ℕ → Values → ℕ = λ i t. evaluated_all (with_value t x (i ∷ [])) body in
         let share = body_work most body in
         let run = path_of_turns (b - a) a turn path m in
-        let behind = back_fine (path_in m low ++ path_in m high) (bounded x a b ∷ run) fine in
+        let behind = fine_back most (path_in m low ++ path_in m high) (bounded x a b ∷ run) fine in
         let some = turns_within turn path count share (λ i t h. within_work_all body (with_value t x (i ∷ [])) h)
         (b - a) a m behind.1 in
         let few = mul-le-mul_right (1 + share) behind.0 in
         omega (arith, some, few)
+    within_work other m fine = omega arith
 
     pub within_work_all : (b : FlatBlock) (m : Values) → AreFine most (path_along m b)
         → evaluated_all m b ≤ body_work most b
     within_work_all nothing m fine = omega arith
     within_work_all (first s rest) m fine =
-        let one = within_work s m (front_fine (path_at m s) (path_along (after m s) rest) fine) in
-        let more = within_work_all rest (after m s) (back_fine (path_at m s) (path_along (after m s) rest) fine) in
+        let one = within_work s m (fine_front most (path_at m s) (path_along (after m s) rest) fine) in
+        let more = within_work_all rest (after m s) (fine_back most (path_at m s) (path_along (after m s) rest) fine) in
         omega (arith, one, more)
 
 -- so of a safe program on arguments within its parameter types
@@ -89,6 +77,6 @@ safe_runs_are_within_work p turns args safe within =
     let back = path_of_result (end_of p args) p.value in
     let body =
     within_work_all turns p.body m
-    (front_fine turns (path_along m p.body) back
+    (fine_front turns (path_along m p.body) back
     (safe args (path_of p args) within (strict_is_loose p args))) in
     omega (arith, body)

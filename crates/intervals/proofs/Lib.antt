@@ -1,6 +1,5 @@
 mod Below
 pub mod UndoingLemmas
-pub mod TreeLemmas
 pub mod WalkLemmas
 pub mod WorkLemmas
 pub mod BoundLemmas

@@ -7,16 +7,15 @@ use Rattle.std.proofs.Math.Nat.{le-min, max-le}
 use Rattle.std.proofs.lemmas.Bool.Decides.{nat_tests}
 use Rattle.std.proofs.lemmas.Option.{none-some, same_Some}
 use Rattle.inline.specs.declared.flat.FlatVariable.{FlatVariable}
-use Rattle.inline.specs.Flat.{word_as, TermTree, number, truth, variable, prefix, binary, rotate, convert, select}
-use Rattle.inline.specs.Flat.{element}
+use Rattle.inline.specs.Flat.{word_as, TermTree, variable}
 use Rattle.inline.specs.FlatMeaning.{Values}
 use Rattle.inline.specs.FlatTyping.{Types, types_of, HasType, of_variable, of_binary}
 use Rattle.inline.specs.Path.{Path}
 use Rattle.intervals.specs.declared.interval.Interval.{Interval}
 use Rattle.intervals.specs.declared.said.Said.{Said}
 use Rattle.intervals.specs.Intervals.{Bounds, known, with_bound, between, full_at, interval}
-use Rattle.intervals.specs.Loose.{Comes, to_number, to_truth, to_variable, to_prefix, to_binary, to_rotation}
-use Rattle.intervals.specs.Loose.{to_conversion, to_selection, to_element, to_anything}
+use Rattle.intervals.specs.Loose.{Comes, to_variable, to_binary}
+use Rattle.intervals.specs.Loose.{to_anything}
 use Rattle.intervals.specs.Narrowing.{is_both, meet, met, met_all, met_at, named, said_where_false, said_where_true}
 use Rattle.intervals.specs.Narrowing.{says, told_false, told_true, told_where_false, told_where_true, where_false}
 use Rattle.intervals.specs.Narrowing.{where_true, with_meet}
@@ -169,14 +168,7 @@ is_both_alone operator is = absurd cc
 
 named_variable : (e : TermTree) (x : ℕ) → named e ≡ Some x → e ≡ variable x
 named_variable (variable y) x is = ap variable (same_Some y x is)
-named_variable (number v k) x is = absurd (none-some x is)
-named_variable (truth v) x is = absurd (none-some x is)
-named_variable (prefix o w e) x is = absurd (none-some x is)
-named_variable (binary p o w l r) x is = absurd (none-some x is)
-named_variable (rotate w e n) x is = absurd (none-some x is)
-named_variable (convert k e) x is = absurd (none-some x is)
-named_variable (select c a b) x is = absurd (none-some x is)
-named_variable (element p y n e) x is = absurd (none-some x is)
+named_variable other x is = absurd (none-some x is)
 
 module _ (declared : List FlatVariable) (types : Types) (bounds : Bounds) (m : Values)
     (holds : Holds declared types bounds m) where
@@ -220,10 +212,6 @@ module _ (declared : List FlatVariable) (types : Types) (bounds : Bounds) (m : V
   condition_true : {profile : Profile} {e : TermTree} {v : ℕ} {p : Path} {w : WordType}
       → Comes (types_of profile declared) m e v p → HasType types e w → w.label ≡ Public → v ≢ 0
       → AreSo m (told_true declared bounds e)
-  condition_true to_number t public h = tt
-  condition_true to_truth t public h = tt
-  condition_true to_variable t public h = tt
-  condition_true (to_prefix c) t public h = tt
   condition_true (to_binary {operator = operator} {width = width} {left = left} {right = right} {a = a} {b = b} c d)
       (of_binary t u makes same) public h =
       let labels = both_public makes public in
@@ -243,20 +231,13 @@ module _ (declared : List FlatVariable) (types : Types) (bounds : Bounds) (m : V
           (other (not_zero b truths.1))
       by false is one other value inside =
           comparison_true operator width (named left) (interval declared bounds right) a b value inside h
-  condition_true (to_rotation c) t public h = tt
-  condition_true (to_conversion c) t public h = tt
-  condition_true (to_selection c d e) t public h = tt
-  condition_true (to_element c) t public h = tt
   condition_true {w = w} (to_anything {word = word} c t secret within) u public h =
       absurd (secret_is_not w word (one_type declared types holds.listed u t) public secret)
+  condition_true other t public h = tt
 
   condition_false : {profile : Profile} {e : TermTree} {v : ℕ} {p : Path} {w : WordType}
       → Comes (types_of profile declared) m e v p → HasType types e w → w.label ≡ Public → v ≡ 0
       → AreSo m (option_to_list (told_false declared bounds e))
-  condition_false to_number t public h = tt
-  condition_false to_truth t public h = tt
-  condition_false to_variable t public h = tt
-  condition_false (to_prefix c) t public h = tt
   condition_false (to_binary {operator = operator} {width = width} {left = left} {right = right} {a = a} {b = b} c d)
       (of_binary {one = one} t u makes same) public h =
       let labels = both_public makes public in
@@ -266,12 +247,9 @@ module _ (declared : List FlatVariable) (types : Types) (bounds : Bounds) (m : V
         greatest_value (subst (λ f. HasType types f one) (named_variable left x is) t),
       ))
       (loose_in declared types bounds m holds d u labels.1) h
-  condition_false (to_rotation c) t public h = tt
-  condition_false (to_conversion c) t public h = tt
-  condition_false (to_selection c d e) t public h = tt
-  condition_false (to_element c) t public h = tt
   condition_false {w = w} (to_anything {word = word} c t secret within) u public h =
       absurd (secret_is_not w word (one_type declared types holds.listed u t) public secret)
+  condition_false other t public h = tt
 
   -- what is known in an arm holds where a run takes it
   pub holds_where_true : (label : Label) {profile : Profile} {e : TermTree} {v : ℕ} {p : Path} {w : WordType}

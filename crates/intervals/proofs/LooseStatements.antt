@@ -2,20 +2,22 @@
 -- path has no fault where the statement has no violation.
 use Rattle.std.proofs.Common.{◌≡◌, ◌≢◌, ◌⊎◌, inl, inr, ℕ, suc, ◌+◌, ◌-◌, ◌<◌, ◌≤◌, ◌==◌, ◌||◌, nat_lt, Bool, true}
 use Rattle.std.proofs.Common.{false, not, if◌then◌else◌, List, [], ◌∷◌, ◌++◌, length, All, Some, slice_get, slice_set}
-use Rattle.std.proofs.Common.{slice_index, refl, sym, ap, ◌∙◌, subst, arith, eqb-true, ne_eqb, eq-eqb, ◌^◌}
+use Rattle.std.proofs.Common.{slice_index, refl, sym, ap, ◌∙◌, subst, arith, eqb-true, ◌^◌}
+use Rattle.std.proofs.lemmas.Bool.{cases_Bool}
 use Rattle.std.proofs.lemmas.Bool.Decides.{nat_tests}
 use Rattle.std.proofs.lemmas.List.{length-set, length-replicate}
 use Rattle.std.proofs.lemmas.List.Elements.{All-nil, All-cons, All-set, All-replicate}
 use Rattle.std.proofs.lemmas.Option.{same_Some}
 use Rattle.inline.specs.declared.flat.FlatVariable.{FlatVariable}
 use Rattle.inline.specs.Fitting.{IsWithinKind, IsHeld}
-use Rattle.inline.specs.Flat.{TermTree, FlatTree, declare, array, assign, put, hold, skip, branch, loop, FlatBlock}
+use Rattle.inline.specs.Flat.{TermTree, FlatTree, branch, loop, FlatBlock}
 use Rattle.inline.specs.Flat.{nothing, first, word_as, array_as}
 use Rattle.inline.specs.FlatMeaning.{Values, with_value}
 use Rattle.inline.specs.FlatTyping.{Types, types_of, with_type, Suits, AllSuit, HasCount, IsNew, IsTyped, AreTyped}
 use Rattle.inline.specs.FlatTyping.{counter_type, types_after, types_after_all}
 use Rattle.inline.specs.Path.{Path, AreFine, bounded, indexed}
-use Rattle.intervals.proofs.Below.{some_bit, fits_assigned, fits_declared, one_held, with_type-same, with_type-other}
+use Rattle.intervals.proofs.Below.{some_bit, fine_both, fits_assigned, fits_declared, one_held, with_type-same}
+use Rattle.intervals.proofs.Below.{with_type-other, with_value-same, with_value-other}
 use Rattle.intervals.proofs.Below.{new_number, type_kept, types_kept}
 use Rattle.intervals.specs.declared.interval.Interval.{Interval}
 use Rattle.intervals.specs.Intervals.{Bounds, known, with_bound, between, interval}
@@ -28,7 +30,7 @@ use Rattle.intervals.specs.Ranges.{is_steady, most_turns, term_violations, terms
 use Rattle.intervals.specs.Ranges.{violations_all}
 use Rattle.intervals.proofs.LooseIntervals.{IsIn}
 use Rattle.intervals.proofs.LooseNarrowing.{at_number, holds_where_false, holds_where_true}
-use Rattle.intervals.proofs.LooseTerms.{Holds, IsKept, fine_both, loose_below, loose_fine, loose_fits, loose_in}
+use Rattle.intervals.proofs.LooseTerms.{Holds, IsKept, loose_below, loose_fine, loose_fits, loose_in}
 use Rattle.intervals.proofs.LooseTerms.{none_in}
 use Rattle.intervals.proofs.LooseTypes.{IsListed}
 use Rattle.language.specs.Types.{is_secret, joined}
@@ -36,18 +38,6 @@ use Rattle.language.specs.declared.signature.Label.{Label}
 use Rattle.language.specs.declared.signature.Label.TheVariants.{Public, Secret}
 use Rattle.language.specs.declared.typing.WordType.{WordType}
 use Rattle.word.specs.declared.profile.Profile.{Profile}
-
--- what a variable holds once it is set, and what another one does
-with_value-same : (m : Values) (x : ℕ) (v : List ℕ) → with_value m x v x ≡ v
-with_value-same m x v = ap (λ b. if b then v else m x) (eq-eqb x x refl)
-
-with_value-other : (m : Values) (x y : ℕ) (v : List ℕ) → (y ≡ x → ⊥) → with_value m x v y ≡ m y
-with_value-other m x y v other = ap (λ b. if b then v else m y) (ne_eqb y x other)
-
--- one of two, each by what the test is
-by_cases : (P : Bool → Type 0) (b : Bool) → (b ≡ true → P true) → (b ≡ false → P false) → P b
-by_cases P true one other = one refl
-by_cases P false one other = other refl
 
 is_zero : (v : ℕ) → (v == 0) ≡ true → v ≡ 0
 is_zero v h = grind (arith, nat_tests)
@@ -82,18 +72,13 @@ counter_in low high i least most = by (nat_lt low.low high.high) refl
 module _ (declared : List FlatVariable) (turns : List ℕ) where
   abbrev mutual
     pub AreCounted : Bounds → FlatTree → Type 0
-    AreCounted bounds (declare x word mutable value) = Unit {0}
-    AreCounted bounds (array x word mutable size values) = Unit {0}
-    AreCounted bounds (assign x value) = Unit {0}
-    AreCounted bounds (put place x size index value) = Unit {0}
-    AreCounted bounds (hold x place size index) = Unit {0}
-    AreCounted bounds skip = Unit {0}
     AreCounted bounds (branch label condition accepted otherwise) =
         AllCounted (where_true declared bounds label condition) accepted
         × AllCounted (where_false declared bounds label condition) otherwise
     AreCounted bounds (loop x low high body) =
         (most_turns (interval declared bounds low) (interval declared bounds high) ≡ slice_index turns x)
         × AllCounted (in_loop declared bounds x low high) body
+    AreCounted bounds other = Unit {0}
 
     pub AllCounted : Bounds → FlatBlock → Type 0
     AllCounted bounds nothing = Unit {0}
@@ -106,21 +91,30 @@ module _ (declared : List FlatVariable) (turns : List ℕ) where
     pub fine : AreFine turns path
 
   -- at the end of an arm or a turn all is known that was known before
-  back : (types after : Types) (before inside bounds : Bounds) (m t : Values) (path : Path)
-      → Holds declared types before m → Done types after bounds m t path
-      → ((x : ℕ) (d : FlatVariable) → types.at x ≡ Some d → after.at x ≡ Some d) → Holds declared types before t
-  back types after before inside bounds m t path holds done kept = record {
-    fits = λ x d is. done.holds.fits x d (kept x d is);
-    kept = λ x i is.
-        let old = holds.kept x i is in
-        record {
-          word = old.word;
-          typed = old.typed;
-          public = old.public;
-          within = subst (λ v. IsIn i (slice_index v 0)) (sym (done.same x old.word old.typed)) old.within;
-        };
-    listed = holds.listed;
+  back : (types after : Types) {before inside : Bounds} {m t : Values} {path : Path} → Holds declared types before m
+      → Done types after inside m t path
+      → ((x : ℕ) (d : FlatVariable) → types.at x ≡ Some d → after.at x ≡ Some d) → Done types types before m t path
+  back types after holds done kept = record {
+    holds = record {
+      fits = λ x d is. done.holds.fits x d (kept x d is);
+      kept = λ x i is.
+          let old = holds.kept x i is in
+          record {
+            word = old.word;
+            typed = old.typed;
+            public = old.public;
+            within = subst (λ v. IsIn i (slice_index v 0)) (sym (done.same x old.word old.typed)) old.within;
+          };
+      listed = holds.listed;
+    };
+    same = done.same;
+    fine = done.fine;
   }
+
+  -- also behind a condition
+  after_both : {types after : Types} {bounds : Bounds} {m t : Values} (p q : Path) → AreFine turns p
+      → Done types after bounds m t q → Done types after bounds m t (p ++ q)
+  after_both p q fine done = record { holds = done.holds; same = done.same; fine = fine_both turns p q fine done.fine }
 
   module _ (types : Types) (bounds : Bounds) (m : Values) (holds : Holds declared types bounds m) where
     -- what suits is within the kind that is wanted
@@ -336,27 +330,29 @@ module _ (declared : List FlatVariable) (turns : List ℕ) where
           (violations_all declared other otherwise) none in
           let firsts = none_in (term_violations declared bounds condition)
           (violations_all declared one accepted) parts.0 in
-          let b : Bool = z == 0 in
-          let block : FlatBlock = if b then otherwise else accepted in
           let under = joined label control in
-          let inside : Bounds = if b then other else one in
-          let arm_typed = by_cases (λ k. AreTyped declared types under (if k then otherwise else accepted)) b
-          (λ e. typed.2) (λ e. typed.1) in
-          let arm_holds = by_cases (λ k. Holds declared types (if k then other else one) m) b
-          (λ e. holds_where_false declared types bounds m holds label c typed.0 refl (is_zero z e))
-          (λ e. holds_where_true declared types bounds m holds label c typed.0 refl (not_zero z e)) in
-          let arm_none =
-          by_cases (λ k. violations_all declared (if k then other else one) (if k then otherwise else accepted)
-          ≡ []) b (λ e. parts.1) (λ e. firsts.1) in
-          let arm_counted = by_cases (λ k. AllCounted (if k then other else one) (if k then otherwise else accepted))
-          b (λ e. counted.1) (λ e. counted.0) in
-          let done = all_done {types = types} {bounds = inside} under arm arm_typed arm_holds arm_none arm_counted in
-          record {
-            holds = back types (types_after_all types block) bounds inside (bounds_after_all declared inside block) m
-                t q holds done (types_kept declared types under block arm_typed);
-            same = done.same;
-            fine = fine_both turns p q (loose_fine declared types bounds m holds turns c typed.0 firsts.0) done.fine;
-          }
+          let block : FlatBlock = if z == 0 then otherwise else accepted in
+          let inside : Bounds = if z == 0 then other else one in
+          let known : AreTyped declared types under block × Holds declared types inside m
+          × (violations_all declared inside block ≡ []) × AllCounted inside block =
+          elim (cases_Bool (z == 0)) [
+            | inl zero ↦ rw zero (
+              typed.2,
+              holds_where_false declared types bounds m holds label c typed.0 refl (is_zero z zero),
+              parts.1,
+              counted.1,
+            )
+            | inr nonzero ↦ rw nonzero (
+              typed.1,
+              holds_where_true declared types bounds m holds label c typed.0 refl (not_zero z nonzero),
+              firsts.1,
+              counted.0,
+            )
+          ] in
+          after_both p q (loose_fine declared types bounds m holds turns c typed.0 firsts.0)
+          (back types (types_after_all types block) holds
+          (all_done {types = types} {bounds = inside} under arm known.0 known.1 known.2 known.3)
+          (types_kept declared types under block known.0))
       loose_done {types = types} {bounds = bounds} control {m = m} {t =
           t} (repeats {x = x} {low = low} {high = high} {body = body} {a = a} {b = b} {p = p} {q = q} {r =
           r} c d run) typed holds none counted =
@@ -404,22 +400,12 @@ module _ (declared : List FlatVariable) (turns : List ℕ) where
           let same = λ (y : ℕ) (word : WordType) (is : types.at y ≡ Some (word_as word false)).
           done.same y word (with_type-other types x y own (new_number types x y (word_as word false) new.new is) ∙ is)
           ∙ new_same types bounds m holds x own (i ∷ []) new held y word is in
-          let after : Holds declared types bounds s = record {
-            fits = λ y d is.
-                let there = with_type-other types x y own (new_number types x y d new.new is) ∙ is in
-                done.holds.fits y d (types_kept declared (with_type types x own) control body typed y d there);
-            kept = λ y j is.
-                let old = holds.kept y j is in
-                record {
-                  word = old.word;
-                  typed = old.typed;
-                  public = old.public;
-                  within = subst (λ v. IsIn j (slice_index v 0)) (sym (same y old.word old.typed)) old.within;
-                };
-            listed = holds.listed;
-          } in
+          let turn = back types (types_after_all (with_type types x own) body) holds
+          (record { holds = done.holds; same = same; fine = done.fine })
+          (λ y d is. types_kept declared (with_type types x own) control body typed y d
+          (with_type-other types x y own (new_number types x y d new.new is) ∙ is)) in
           let others = turns_done {types = types} {bounds = bounds} control low high b below most rest
-          (λ some. omega (arith, room)) (omega (arith, least)) new typed after none counted in
+          (λ some. omega (arith, room)) (omega (arith, least)) new typed turn.holds none counted in
           record {
             holds = others.holds;
             same = λ y word is. others.same y word is ∙ same y word is;

@@ -10,7 +10,7 @@ use Rattle.inline.specs.FlatMeaning.{Values, marks_of}
 use Rattle.inline.specs.FlatTyping.{Types, types_of, HasType, of_number, of_truth, of_variable, of_prefix, of_binary}
 use Rattle.inline.specs.FlatTyping.{of_rotation, of_conversion, of_selection, of_element, counter_type}
 use Rattle.inline.specs.Path.{Path, AreFine, divided, indexed, multiplied}
-use Rattle.intervals.proofs.Below.{bit_fits, element_fits, either_fits, number_fits, operated_fits, prefix_fits}
+use Rattle.intervals.proofs.Below.{bit_fits, fine_both, element_fits, either_fits, number_fits, operated_fits, prefix_fits}
 use Rattle.intervals.proofs.Below.{wrapped_fits}
 use Rattle.intervals.specs.declared.interval.Interval.{Interval}
 use Rattle.intervals.specs.Intervals.{Bounds, known, full_at, full_of, interval}
@@ -25,7 +25,7 @@ use Rattle.language.specs.Operators.{divides, multiplies, operated, prefix_value
 use Rattle.language.specs.Types.{at, joined, when}
 use Rattle.language.specs.declared.rule.Rule.TheVariants.{DivisorMayBeZero, IndexOutOfRange}
 use Rattle.language.specs.declared.signature.Kind.{Kind}
-use Rattle.language.specs.declared.signature.Kind.TheVariants.{Boolean, Uint8, Uint16, Uint32}
+use Rattle.language.specs.declared.signature.Kind.TheVariants.{Boolean, Uint32}
 use Rattle.language.specs.declared.signature.Label.TheVariants.{Public, Secret}
 use Rattle.language.specs.declared.operators.BinaryOperator.{BinaryOperator}
 use Rattle.language.specs.declared.operators.BinaryOperator.TheVariants.{Divide, Remainder}
@@ -55,36 +55,22 @@ pub none_in : {X : Type 0} (xs ys : List X) → xs ++ ys ≡ [] → (xs ≡ []) 
 none_in [] ys h = (refl, h)
 none_in (x ∷ xs) ys h = absurd cc
 
-pub fine_both : (turns : List ℕ) (p q : Path) → AreFine turns p → AreFine turns q → AreFine turns (p ++ q)
-fine_both turns [] q one other = other
-fine_both turns (mark ∷ p) q one other = (one.0, fine_both turns p q one.1 other)
-
 pub both_public : {profile : Profile} {o : _} {a b c : WordType} → Makes profile o a b c → c.label ≡ Public
     → (a.label ≡ Public) × (b.label ≡ Public)
-both_public (arithmetic {l = l} {m = m} p) h = joined_public l m h
-both_public (multiplication {l = l} {m = m} p may) h = joined_public l m h
 both_public (typing.division p) h = (refl, refl)
-both_public (shift {l = l} {m = m} p) h = joined_public l m h
-both_public (equality {l = l} {m = m}) h = joined_public l m h
-both_public (order {l = l} {m = m} p) h = joined_public l m h
-both_public (logic {l = l} {m = m}) h = joined_public l m h
+both_public other h = joined_public _ _ h
 
 -- what is made of words of a width is one
 bit_word : (kind : Kind) (v : ℕ) → v < 2 → IsWord (width_of kind) v
 bit_word Boolean v h = omega (arith, h)
-bit_word Uint8 v h = omega (arith, h)
-bit_word Uint16 v h = omega (arith, h)
-bit_word Uint32 v h = omega (arith, h)
+bit_word other v h = omega (arith, h)
 
 made_word : {profile : Profile} {o : _} {a b c : WordType} → Makes profile o a b c → (v : ℕ) → IsWithinKind c.kind v
     → IsWord (width_of a.kind) v
-made_word (arithmetic {kind = kind} p) v h = word_of_kind kind v h
-made_word (multiplication {kind = kind} p may) v h = word_of_kind kind v h
-made_word (typing.division {kind = kind} p) v h = word_of_kind kind v h
-made_word (shift {kind = kind} p) v h = word_of_kind kind v h
 made_word (equality {kind = kind}) v h = bit_word kind v h
 made_word (order {kind = kind} p) v h = bit_word kind v h
 made_word logic v h = bit_word Boolean v h
+made_word other v h = word_of_kind _ v h
 
 -- a divisor is public
 divisor_public : (operator : BinaryOperator) → divides operator ≡ true → {profile : Profile} {a b c : WordType}
@@ -208,9 +194,6 @@ module _ (declared : List FlatVariable) (types : Types) (bounds : Bounds) (m : V
     pub loose_fine : {profile : Profile} {e : TermTree} {v : ℕ} {p : Path} {w : WordType}
         → Comes (types_of profile declared) m e v p → HasType types e w → term_violations declared bounds e ≡ []
         → AreFine turns p
-    loose_fine to_number t none = tt
-    loose_fine to_truth t none = tt
-    loose_fine to_variable t none = tt
     loose_fine (to_prefix c) (of_prefix t takes width) none = loose_fine c t none
     loose_fine (to_binary {place = place} {operator = operator} {left = left} {right = right} {a = a} {b = b} {p =
         p} {q = q} c d) (of_binary t u makes width) none =
@@ -240,3 +223,4 @@ module _ (declared : List FlatVariable) (types : Types) (bounds : Bounds) (m : V
         fine_both turns path (indexed place size i ∷ []) (loose_fine c t parts.0)
         (loose_below place size c t parts.1, tt)
     loose_fine (to_anything c t secret within) u none = loose_fine c u none
+    loose_fine other t none = tt

@@ -13,7 +13,7 @@ use Rattle.inline.specs.FlatMeaning.{Values, ending_by, ending_of, given, outcom
 use Rattle.inline.specs.FlatTyping.{Types, types_of, IsResult, IsTypedProgram, end_types, parameter_types}
 use Rattle.inline.specs.Path.{Mark, decided, bounded, indexed, divided, multiplied, Path, fault_at, either}
 use Rattle.inline.specs.Path.{first_fault, IsFine, AreFine}
-use Rattle.intervals.proofs.Below.{element_fits, parameters_fit}
+use Rattle.intervals.proofs.Below.{element_fits, fine_both, parameters_fit}
 use Rattle.intervals.specs.declared.interval.Interval.{Interval}
 use Rattle.intervals.specs.Intervals.{Bounds, full_of, known}
 use Rattle.intervals.specs.Loose.{IsSafe, Returns, nothing_returned, returned}
@@ -22,7 +22,7 @@ use Rattle.intervals.specs.Ranges.{result_violations, turns_of, violations_all}
 use Rattle.intervals.proofs.Counting.{enough_all}
 use Rattle.intervals.proofs.LooseIntervals.{IsIn, kind_in}
 use Rattle.intervals.proofs.LooseStatements.{all_done}
-use Rattle.intervals.proofs.LooseTerms.{Holds, IsKept, fine_both, loose_fine, none_in}
+use Rattle.intervals.proofs.LooseTerms.{Holds, IsKept, loose_fine, none_in}
 use Rattle.intervals.proofs.StrictRuns.{strict_is_loose}
 use Rattle.language.specs.Meaning.{gives}
 use Rattle.language.specs.Typing.{is_mutable}
@@ -83,7 +83,7 @@ bound_parts SingleWord Secret kind length i h = absurd (none-some i h)
 bound_parts FixedArray label kind length i h = absurd (none-some i h)
 bound_parts MutableArray label kind length i h = absurd (none-some i h)
 
-get_before : {X : Type 0} (n : ℕ) (xs : List X) (x : ℕ) (y : X) → slice_get (take n xs) x ≡ Some y
+pub get_before : {X : Type 0} (n : ℕ) (xs : List X) (x : ℕ) (y : X) → slice_get (take n xs) x ≡ Some y
     → slice_get xs x ≡ Some y
 get_before zero [] x y h = h
 get_before zero (z ∷ xs) x y h = absurd (none-some y h)

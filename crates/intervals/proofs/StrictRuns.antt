@@ -71,7 +71,7 @@ module _ (types : Types) where
     lead_all nothing m = ends
     lead_all (first s rest) m = goes_on (leads s m) (lead_all rest (after m s))
 
-  result_comes : (m : Values) (value : Option TermTree) → Returns types m value (path_of_result m value)
+  pub result_comes : (m : Values) (value : Option TermTree) → Returns types m value (path_of_result m value)
   result_comes m None = nothing_returned
   result_comes m (Some value) = returned (comes m value)
 

@@ -1,15 +1,13 @@
 -- Changes that can be taken back: none, one, one after another.
 use Rattle.std.proofs.Common.{◌≡◌, ℕ, zero, suc, List, [], ◌∷◌, ◌++◌, length, take, drop, Option, Some, slice_get}
-use Rattle.std.proofs.Common.{slice_set, refl, sym, ap, ◌∙◌, ◌≤◌, arith}
+use Rattle.std.proofs.Common.{slice_set, refl, sym, ap, ◌∙◌, ◌≤◌, append_assoc}
+use Rattle.std.proofs.Math.Seq.{drop-append_seam}
+use Rattle.std.proofs.lemmas.List.{drop-append-le, take-append-le}
 use Rattle.intervals.specs.Intervals.{Bounds}
 use Rattle.intervals.specs.Undoing.{rewound, CameFrom}
 use Rattle.intervals.specs.declared.interval.Interval.{Interval}
 use Rattle.intervals.specs.declared.known.Change.{Change}
 use Rattle.intervals.specs.declared.known.Known.{Known}
-
-append_assoc : {X : Type 0} (xs ys zs : List X) → (xs ++ ys) ++ zs ≡ xs ++ (ys ++ zs)
-append_assoc [] ys zs = refl
-append_assoc (x ∷ xs) ys zs = ap (λ us. x ∷ us) (append_assoc xs ys zs)
 
 -- two rows of changes are taken back, the second first
 pub rewound_append : (one other : List Change) (bounds : Bounds)
@@ -31,41 +29,23 @@ from_before a b c p q = record {
   rewound = rewound_append p.changes q.changes c.bounds.items ∙ ap (rewound p.changes) q.rewound ∙ p.rewound;
 }
 
-drop_front : {X : Type 0} (xs ys : List X) → drop (length xs) (xs ++ ys) ≡ ys
-drop_front [] [] = refl
-drop_front [] (y ∷ ys) = refl
-drop_front (x ∷ xs) ys = drop_front xs ys
-
 -- taken back to a mark, all is as it was at the mark
 pub bounds_at_mark : (a b : Known) → CameFrom a b
     → rewound (drop (length a.changes.items) b.changes.items) b.bounds.items ≡ a.bounds.items
 bounds_at_mark a b p = ap (λ cs. rewound (drop (length a.changes.items) cs) b.bounds.items) p.kept
-    ∙ ap (λ cs. rewound cs b.bounds.items) (drop_front a.changes.items p.changes) ∙ p.rewound
-
-drop_last : {X : Type 0} (mark : ℕ) (xs : List X) (x : X) → mark ≤ length xs
-    → drop mark (xs ++ x ∷ []) ≡ drop mark xs ++ x ∷ []
-drop_last zero [] x few = refl
-drop_last zero (y ∷ ys) x few = refl
-drop_last (suc n) [] x few = absurd (omega arith)
-drop_last (suc n) (y ∷ ys) x few = drop_last n ys x (omega (arith, few))
-
-take_last : {X : Type 0} (mark : ℕ) (xs : List X) (x : X) → mark ≤ length xs → take mark (xs ++ x ∷ []) ≡ take mark xs
-take_last zero [] x few = refl
-take_last zero (y ∷ ys) x few = refl
-take_last (suc n) [] x few = absurd (omega arith)
-take_last (suc n) (y ∷ ys) x few = ap (λ us. y ∷ us) (take_last n ys x (omega (arith, few)))
+    ∙ ap (λ cs. rewound cs b.bounds.items) (drop-append_seam a.changes.items p.changes) ∙ p.rewound
 
 -- the last change is taken back first
 pub one_back : (mark : ℕ) (old rest : List Change) (c : Change) (bounds : Bounds) → old ≡ rest ++ c ∷ []
     → mark ≤ length rest
     → rewound (drop mark rest) (slice_set bounds c.variable c.before) ≡ rewound (drop mark old) bounds
 one_back mark old rest c bounds is few =
-    sym (ap (λ cs. rewound (drop mark cs) bounds) is ∙ ap (λ cs. rewound cs bounds) (drop_last mark rest c few)
+    sym (ap (λ cs. rewound (drop mark cs) bounds) is ∙ ap (λ cs. rewound cs bounds) (drop-append-le mark rest (c ∷ []) few)
     ∙ rewound_append (drop mark rest) (c ∷ []) bounds)
 
 pub front_kept : (mark : ℕ) (old rest : List Change) (c : Change) → old ≡ rest ++ c ∷ [] → mark ≤ length rest
     → take mark rest ≡ take mark old
-front_kept mark old rest c is few = sym (ap (take mark) is ∙ take_last mark rest c few)
+front_kept mark old rest c is few = sym (ap (take mark) is ∙ take-append-le mark rest (c ∷ []) few)
 
 -- what two steps came to, taken back to the mark before them
 pub bounds_back : (a b c : Known) (mark : ℕ) → mark ≡ length a.changes.items → CameFrom a b → CameFrom b c

@@ -11,7 +11,7 @@ use Rattle.intervals.specs.Intervals.{Bounds, interval, with_bound}
 use Rattle.intervals.specs.Narrowing.{met, met_all, where_true, where_false}
 use Rattle.intervals.specs.declared.said.Said.{Said}
 use Rattle.intervals.specs.Ranges.{counted, counted_all, counter_interval, in_loop, most_turns}
-use Rattle.intervals.proofs.TreeLemmas.{branch_tree, loop_tree}
+use Rattle.intervals.proofs.Below.{branch_tree, loop_tree}
 use Rattle.intervals.specs.Findings.{findings, findings_all, sooner_finding, term_findings}
 use Rattle.intervals.specs.declared.found.Finding.{Finding}
 use Rattle.language.specs.declared.signature.Label.{Label}

@@ -5,24 +5,11 @@ use Rattle.std.proofs.Math.Nat.{le-div_iff_mul-le, mul_comm}
 use Rattle.std.specs.Option.{SomeIff}
 use Rattle.inline.specs.declared.flat.FlatStatement.{FlatStatement, Branch, Loop}
 use Rattle.inline.specs.declared.flat.Term.{Term}
-use Rattle.inline.specs.Flat.{TermTree, number, truth, variable, prefix, binary, rotate, convert, select, element}
 use Rattle.inline.specs.Flat.{term_tree, flat_tree, flat_block}
 use Rattle.inline.specs.FlatSize.{term_nodes}
 use Rattle.intervals.specs.Work.{tree_work, body_work}
-use Rattle.intervals.proofs.TreeLemmas.{branch_tree, loop_tree}
+use Rattle.intervals.proofs.Below.{branch_tree, loop_tree}
 use Rattle.language.specs.declared.signature.Label.{Label}
-
--- an expression has a node
-pub nodes_some : (e : TermTree) → 1 ≤ term_nodes e
-nodes_some (number v k) = omega arith
-nodes_some (truth v) = omega arith
-nodes_some (variable x) = omega arith
-nodes_some (prefix o w e) = omega arith
-nodes_some (binary p o w l r) = omega arith
-nodes_some (rotate w e n) = omega arith
-nodes_some (convert k e) = omega arith
-nodes_some (select c a b) = omega arith
-nodes_some (element p x n e) = omega arith
 
 -- the work of a branch and of a loop, by the lists of their statements
 pub branch_work : (turns : List ℕ) (statement : FlatStatement) (label : Label) (condition : Term)

@@ -1,6 +1,6 @@
 -- How branches on secrets are removed: each condition is taken into control values, and both arms follow. Branches on
 -- what is public stay, and loops do: what they go by is public.
-use Rattle.std.specs.Prelude.{ℕ, ◌+◌, List, [], ◌∷◌, Option, None, Some, max}
+use Rattle.std.specs.Prelude.{ℕ, ◌+◌, Option, None, Some, max}
 use Rattle.branch_removal.specs.Straight.{StraightTree, set, take, repeats}
 use Rattle.branch_removal.specs.Straight.{StraightBlock, nothing, first, chain, StraightProgram}
 use Rattle.branch_removal.specs.Straight as straight
