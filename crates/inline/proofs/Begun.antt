@@ -60,8 +60,7 @@ pub own_word : (p : ParameterTree) (form : Form) → is_word form ≡ true
     → word_as (labelled p.kind p.label) false
     ≡ record { word = labelled p.kind p.label; mutable = is_mutable form; elements = elements_by form p.length }
 own_word p SingleWord is = refl
-own_word p FixedArray is = absurd cc
-own_word p MutableArray is = absurd cc
+own_word p form is = absurd cc
 
 module _ (scope : Scope) (names : Numbers) (types : Types) (n : ℕ) (linked : Linked scope names types n) where
   -- an array that is given for one of this form

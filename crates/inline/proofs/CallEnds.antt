@@ -1,9 +1,8 @@
 -- A call comes to the same where the called body stands in its place.
-use Rattle.std.proofs.Common.{◌≡◌, ℕ, ◌+◌, ◌<◌, true, false, List, [], ◌∷◌, length, Option, Some, None, ◌⊎◌, inl}
-use Rattle.std.proofs.Common.{inr, refl, sym, ap, ◌∙◌, subst, arith}
+use Rattle.std.proofs.Common.{◌≡◌, ℕ, ◌+◌, ◌<◌, true, false, List, [], length, Option, Some, None, inl}
+use Rattle.std.proofs.Common.{inr, ⊎_elim, refl, sym, ap, ◌∙◌, subst, arith}
 use Rattle.std.proofs.lemmas.Bool.{false_from_ne_true}
-use Rattle.inline.specs.declared.numbering.Numbered.{Numbered}
-use Rattle.inline.specs.Flat.{FlatBlock, chain}
+use Rattle.inline.specs.Flat.{FlatBlock}
 use Rattle.inline.specs.FlatMeaning.{Values, after_all, path_along, path_of_result}
 use Rattle.inline.specs.FlatTyping.{Types, types_after_all}
 use Rattle.inline.specs.Numbering.{Numbers, Callable, callable, callables, begun, passed, passed_variables, block}
@@ -20,7 +19,6 @@ use Rattle.language.specs.Tree.{ExprTree, CallTree, ParameterTree, ProcedureTree
 use Rattle.language.specs.Types.{Scope}
 use Rattle.language.specs.Typing.{is_mutable, result_value}
 use Rattle.language.specs.WellTyped.{ArePassed, none_passed, one_passed, IsCall, of_procedure}
-use Rattle.language.specs.names.Scope.{found}
 use Rattle.inline.proofs.Below.{known-named}
 use Rattle.inline.proofs.Begun.{Enters, array_passed, enters, distinct_none}
 use Rattle.inline.proofs.Called.{Agrees, Spares, IsKept, Ready}
@@ -40,15 +38,12 @@ mutable_is_array p free = false_from_ne_true (is_word p.form) (λ word. word_imm
 no_change : (scope : Scope) {ps : List ParameterTree} {es : List ExprTree} → ArePassed scope ps es
     → (names : Numbers) (types : Types) (n x : ℕ) → Linked scope names types n → Spares names n x
     → Changes names x ps es → ⊥
-no_change scope none_passed names types n x linked spares changes = changes
-no_change scope (one_passed {p = p} {ps = ps} {argument = e} {arguments = es} is shares are) names types n x linked
-    spares changes = by_first changes (no_change scope are names types n x linked spares)
-  where
-    by_first : Changes names x (p ∷ ps) (e ∷ es) → (Changes names x ps es → ⊥) → ⊥
-    by_first (inl here) rest =
-        let a = array_passed scope names types n linked is (mutable_is_array p here.0) in
-        spares.spared a.text _ a.found (a.enough here.0) here.1
-    by_first (inr later) rest = rest later
+no_change scope none_passed names types n x linked spares = λ none. none
+no_change scope (one_passed {p = p} is shares are) names types n x linked spares =
+    ⊎_elim (λ here.
+    let a = array_passed scope names types n linked is (mutable_is_array p here.0) in
+    spares.spared a.text _ a.found (a.enough here.0) here.1)
+    (no_change scope are names types n x linked spares)
 
 module _ (earlier : List ProcedureTree) (scope : Scope) (names : Numbers) (n : ℕ)
     (ready : Ready earlier scope names n) where
@@ -109,13 +104,11 @@ module _ (earlier : List ProcedureTree) (scope : Scope) (names : Numbers) (n : �
         let g = first_fault (path_along middle body_block) in
         let linked = entered.linked in
         let named = entered.named in
-        subst (λ (last : Values). Comes (Calls earlier s c) (Agrees names last p.result value)
-        (either (first_fault (path_along m (chain passed_block body_block)))
-        (first_fault (path_of_result last value))))
-        (sym (after_chain passed_block body_block m))
-        (subst (Comes (Calls earlier s c) (Agrees names end p.result value))
-        (sym (either-assoc f g (first_fault (path_of_result end value)))
-        ∙ ap (λ h. either h (first_fault (path_of_result end value))) (sym (fault_chain passed_block body_block m)))
+        rw (
+          after_chain passed_block body_block m,
+          fault_chain passed_block body_block m,
+          either-assoc f g (first_fault (path_of_result end value)),
+        )
         (then_comes (passed_comes scope names ready.types s passed_are small n ready.linked m shows)
         (λ vs are held.
         also (meant.good.comes own own_types start (meaning.begun s p.parameters c.arguments vs) middle linked
@@ -126,20 +119,13 @@ module _ (earlier : List ProcedureTree) (scope : Scope) (names : Numbers) (n : �
           record {
             word = agrees.word;
             shows = copied scope names ready.types n ready.linked r.state end own agrees.shows passed_are named s
-                (λ text x there. goes_back end text x there (changes_or_not names x.number p.parameters c.arguments));
+                (λ text x there. ⊎_elim (λ changes. inl changes) (λ none. inr (subst (Holds x.declaration (s text))
+                (sym (body_kept x.number (ready.linked.below text x there) none m)) (shows text x there)))
+                (changes_or_not names x.number p.parameters c.arguments));
           },
         ))
         (λ at body. body_faults meant.is are body))
-        (λ at are. argument_faults meant.is are)))
-      where
-        goes_back : (end : Values) (text : List ℕ) (x : Numbered) → found names text ≡ Some x
-            → Changes names x.number p.parameters c.arguments ⊎ (Changes names x.number p.parameters c.arguments → ⊥)
-            → Changes names x.number p.parameters c.arguments ⊎ Holds x.declaration (s text)
-            (after_all (after_all m passed_block) body_block x.number)
-        goes_back end text x there (inl changes) = inl changes
-        goes_back end text x there (inr none) = inr
-            (subst (Holds x.declaration (s text)) (sym (body_kept x.number (ready.linked.below text x there) none m))
-            (shows text x there))
+        (λ at are. argument_faults meant.is are))
 
     call_ends_here : (s : State) (m : Values) → Shows names s m → AreAllSmall c.arguments
         → CallEnds (callables earlier c.name) s m

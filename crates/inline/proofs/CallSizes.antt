@@ -1,7 +1,7 @@
 -- A call has as many nodes once its names are numbers, and what it declares besides takes no more words than a third
 -- of them.
 use Rattle.std.proofs.Common.{◌≡◌, ℕ, ◌+◌, ◌*◌, ◌≤◌, List, [], ◌∷◌, ◌++◌, length}
-use Rattle.std.proofs.Common.{map, Option, None, Some, inl, inr, refl, sym, ap, subst, arith}
+use Rattle.std.proofs.Common.{map, Option, None, Some, inl, inr, refl, ap, arith}
 use Rattle.std.proofs.lemmas.Bool.{cases_Bool}
 use Rattle.inline.specs.declared.flat.FlatVariable.{FlatVariable}
 use Rattle.inline.specs.Flat.{TermTree, elements_by}
@@ -66,9 +66,8 @@ GoTogether (Some a) (Some b) = Unit {0}
 value_together : (names : Numbers) (result : Option WordType) (returned : Option ReturnTree)
     → GoTogether result returned → GoTogether result (value_of names returned)
 value_together names None None is = tt
-value_together names None (Some r) is = absurd is
-value_together names (Some word) None is = absurd is
 value_together names (Some word) (Some r) is = tt
+value_together names result returned is = absurd is
 
 -- a value that is taken
 pub value_there : (result : Option WordType) (value : Option TermTree) (given : WordType)
@@ -82,16 +81,14 @@ value_there (Some word) (Some value) given is together = refl
 pub dropped_nodes : (n : ℕ) (result : Option WordType) (value : Option TermTree) → GoTogether result value
     → body_nodes (dropped_block n result value) ≡ value_nodes value
 dropped_nodes n None None together = refl
-dropped_nodes n None (Some value) together = absurd together
-dropped_nodes n (Some word) None together = absurd together
 dropped_nodes n (Some word) (Some value) together = omega arith
+dropped_nodes n result value together = absurd together
 
 pub dropped_words : (result : Option WordType) (value : Option TermTree) → GoTogether result value
     → 3 * declared_words (dropped_variables result) ≤ 1 + value_nodes value
 dropped_words None None together = omega arith
-dropped_words None (Some value) together = absurd together
-dropped_words (Some word) None together = absurd together
 dropped_words (Some word) (Some value) together = omega (arith, some_nodes value)
+dropped_words result value together = absurd together
 
 -- Words.
 
@@ -167,8 +164,5 @@ module _ (earlier : List ProcedureTree) (at : Scope) (stand : Stand SizedBody ea
       → CallSized names n c type (callables earlier c.name) (extents_of earlier c.name)
   call_sized {scope = scope} (of_procedure {c = c} {callee = own} {p = p} is get are quiet) within names n =
       let k = stand.callable c.name own p (within c.name own p is get).1 get in
-      subst (λ o. CallSized names n c (result_value p.result) o (extents_of earlier c.name))
-      (sym (known-named callable earlier k.before p c.name k.is))
-      (subst (CallSized names n c (result_value p.result) (Some (callable (callables k.before) p)))
-      (sym (known-named extent_of earlier k.before p c.name k.is))
-      (body_sized k.before k.at p k.good scope names n c are))
+      rw (known-named callable earlier k.before p c.name k.is, known-named extent_of earlier k.before p c.name k.is)
+      (body_sized k.before k.at p k.good scope names n c are)

@@ -122,8 +122,7 @@ module _ (earlier : List ProcedureTree) (at : Scope) (stand : Stand TypedBody ea
       let inside = within c.name own p is get in
       let k = stand.callable c.name own p inside.1 get in
       let same = known-named callable earlier k.before p c.name k.is in
-      subst (CallFits all types (joined outer control) names n c.arguments (result_value p.result)) (sym same)
-      (body_fits k.before k.at p k.good all (joined outer control) (λ e. sym k.quiet ∙ by_outer outer hush inside.1 e)
+      rw same (body_fits k.before k.at p k.good all (joined outer control) (λ e. sym k.quiet ∙ by_outer outer hush inside.1 e)
       scope (k.observed ∙ inside.0) names types n linked c.arguments are small
       (subst (λ o. Lists all n (call_variables o c.arguments)) same lists))
     where

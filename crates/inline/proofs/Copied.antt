@@ -1,5 +1,5 @@
 -- What the caller's names hold once a called body has ended.
-use Rattle.std.proofs.Common.{◌≡◌, ℕ, ◌+◌, ◌<◌, Bool, true, false, List, [], ◌∷◌, Some, None, ◌⊎◌, inl, inr}
+use Rattle.std.proofs.Common.{◌≡◌, ℕ, ◌+◌, ◌<◌, Bool, true, false, List, [], ◌∷◌, Some, ◌⊎◌, inl, inr}
 use Rattle.std.proofs.Common.{⊎_elim, refl, sym, ap, ◌∙◌, subst, true≢false}
 use Rattle.std.proofs.lemmas.Bool.{cases_Bool, cases_eq}
 use Rattle.std.proofs.lemmas.Option.{none-some, same_Some}
@@ -53,9 +53,8 @@ changes_or_not names y (p ∷ ps) (e ∷ es) =
 
 -- the mutable names of a called body are those of such arrays
 pub word_immutable : {A : Type 0} (form : Form) → is_word form ≡ true → is_mutable form ≡ true → A
-word_immutable SingleWord is free = absurd (true≢false (sym free))
-word_immutable FixedArray is free = absurd (true≢false (sym free))
 word_immutable MutableArray is free = absurd (true≢false (sym is))
+word_immutable form is free = absurd (true≢false (sym free))
 
 pub mutable_begun : (names : Numbers) (ps : List ParameterTree) (es : List ExprTree) (own : Numbers) (n : ℕ)
     (text : List ℕ) (z : Numbered) → found (begun names own n ps es) text ≡ Some z → z.declaration.mutable ≡ true
@@ -87,12 +86,10 @@ pub spares_begun : (names : Numbers) (n start x : ℕ) (ps : List ParameterTree)
     → (Changes names x ps es → ⊥) → Spares (begun names [] n ps es) start x
 spares_begun names n start x ps es low none = record {
   below = low;
-  spared = λ text y is free same. by_old text y same (mutable_begun names ps es [] n text y is free);
+  spared = λ text y is free same. ⊎_elim (λ old. none-some y old)
+      (λ changes. none (subst (λ k. Changes names k ps es) same changes))
+      (mutable_begun names ps es [] n text y is free);
 }
-  where
-    by_old : (text : List ℕ) (y : Numbered) → y.number ≡ x → (None ≡ Some y) ⊎ Changes names y.number ps es → ⊥
-    by_old text y same (inl old) = none-some y old
-    by_old text y same (inr changes) = none (subst (λ k. Changes names k ps es) same changes)
 
 -- an array goes back to where it came from
 module _ (scope : Scope) (names : Numbers) (types : Types) (n : ℕ) (linked : Linked scope names types n) (t : State)

@@ -33,8 +33,8 @@ use Rattle.language.specs.Meaning.{call_faults, condition_faults, accepts, decli
 use Rattle.language.specs.Meaning.{goes_on}
 use Rattle.language.specs.State.{State, single, with_value}
 use Rattle.language.specs.State as state
-use Rattle.language.specs.Tree.{ExprTree, element, called, computed, StatementTree, element_assignment, call}
-use Rattle.language.specs.Tree.{conditional, loop, BlockTree, first, ProcedureTree, written}
+use Rattle.language.specs.Tree.{ExprTree, element, StatementTree}
+use Rattle.language.specs.Tree.{conditional, loop, BlockTree, ProcedureTree, written}
 use Rattle.language.specs.Types.{Scope}
 use Rattle.language.specs.WellTyped as rules
 use Rattle.language.specs.WellTyped.{labelled, IsVariable}
@@ -124,8 +124,7 @@ module _ (ps : List ProcedureTree) (text : List ℕ) (body : BlockTree) (names :
   same_turns zero i n s m count shows = well s (no_turn (omega arith)) shows
   same_turns (suc k) i n s m count shows =
       let more : i < n = omega arith in
-      subst (Comes (Turns ps s text body i n) (λ t. Shows names t (flat.turns (suc k) i turn m)))
-      (sym (across (path i m) (path_of_turns k (i + 1) turn path (turn i m))))
+      rw (across (path i m) (path_of_turns k (i + 1) turn path (turn i m)))
       (then_comes (step i s m shows)
       (λ t is good. also (same_turns k (i + 1) n t (turn i m) (omega arith) good)
       (λ u are shows. (u, a_turn more is are, shows)) (λ at are. a_turn more is are))
@@ -154,17 +153,17 @@ at_end : {Is : Ending State → Type 0} (b : FlatBlock) (last : FlatTree) (m : V
     (either (first_fault (path_along m b)) (first_fault (path_at (after_all m b) last)))
     → Comes Is (λ t. Good t (after_all m (chain b (single_block last))))
     (first_fault (path_along m (chain b (single_block last))))
-at_end {Is = Is} b last m Good comes =
-    subst (λ (end : Values). Comes Is (λ t. Good t end) (first_fault (path_along m (chain b (single_block last)))))
-    (sym (after_chain b (single_block last) m))
-    (subst (Comes Is (λ t. Good t (after (after_all m b) last)))
-    (ap (either (first_fault (path_along m b))) (sym (fault_single last (after_all m b)))
-    ∙ sym (fault_chain b (single_block last) m)) comes)
+at_end b last m Good comes =
+    rw (
+      after_chain b (single_block last) m,
+      fault_chain b (single_block last) m,
+      fault_single last (after_all m b),
+    ) comes
 
 -- one statement
 alone : {Is : Ending State → Type 0} {Good : State → Type 0} (only : FlatTree) (m : Values)
     → Comes Is Good (first_fault (path_at m only)) → Comes Is Good (first_fault (path_along m (single_block only)))
-alone {Is = Is} {Good = Good} only m comes = subst (Comes Is Good) (sym (fault_single only m)) comes
+alone only m comes = rw (fault_single only m) comes
 
 -- a mark that is met twice
 met_twice : (a k c q : Option Place) → either (either a (either k None)) (either c (either k q))
@@ -235,8 +234,7 @@ module _ (ps : List ProcedureTree) where
         (first_fault (path_in_all m (map (term names) es)))
     values_come rules.none_wanted small = no_values s
     values_come (rules.one_suits {e = e} {es = es} has (rules.suits flow) all) small =
-        subst (Comes (EvaluatesAll s (e ∷ es)) (λ vs. vs ≡ _))
-        (sym (across (path_in m (term names e)) (path_in_all m (map (term names) es))))
+        rw (across (path_in m (term names e)) (path_in_all m (map (term names) es)))
         (more_values s ((means scope names types n linked has small.0).value s m shows) (values_come all small.1))
 
   mutual
@@ -310,9 +308,7 @@ module _ (ps : List ProcedureTree) where
         let p = path_in m (term names index) in
         let q = path_in m (term names value) in
         alone (flat_tree.put bracket y (size_of names text) (term names index) (term names value)) m
-        (subst (Comes (Runs ps s (element_assignment place bracket target text index (computed value)))
-        (λ t. Shows names t (flat.with_value m y (slice_set (m y) i v))))
-        (sym (across p (indexed bracket (size_of names text) i ∷ q)))
+        (rw (across p (indexed bracket (size_of names text) i ∷ q))
         (then_comes ((means scope names ready.types n ready.linked has plain.0).value s m shows)
         (λ u one same.
         then_comes (element_first scope names ready.types n ready.linked text own is s m shows bracket
@@ -369,11 +365,7 @@ module _ (ps : List ProcedureTree) where
         ∙ met_twice a k f q) in
         let over : after_all began (chain tree (single_block last)) ≡ flat.with_value end y (slice_set (end y) i v) =
         after_chain tree (single_block last) began ∙ ap (λ j. flat.with_value end y (slice_set (end y) j v)) here in
-        subst (λ (final : Values). Comes (Runs ps s (element_assignment place bracket target text index (called c)))
-        (λ t. Shows names t final) (first_fault
-        (path_along m (flat_tree.first held (chain tree (single_block last)))))) (sym over)
-        (subst (Comes (Runs ps s (element_assignment place bracket target text index (called c)))
-        (λ t. Shows names t (flat.with_value end y (slice_set (end y) i v)))) (sym fault)
+        rw (over, fault)
         (then_comes ((means scope names ready.types n ready.linked has plain.0).value s m shows)
         (λ u one same.
         then_comes (element_first scope names ready.types n ready.linked text own is s m shows bracket
@@ -390,7 +382,7 @@ module _ (ps : List ProcedureTree) where
         ))
         (λ at are. right_faults there are))
         (λ at there. target_faults there))
-        (λ at one. target_faults (operand_faults (this_faults one)))))
+        (λ at one. target_faults (operand_faults (this_faults one))))
     same_end (rules.calls {scope = scope} {c = c} is) names n ready plain s m shows =
         let known = call_means ps scope names n ready is in
         let tree = call_block (callables ps c.name) names n c.arguments in
@@ -399,11 +391,7 @@ module _ (ps : List ProcedureTree) where
         let value = call_value (callables ps c.name) names n c.arguments in
         let last = dropped_block k result value in
         let end = after_all m tree in
-        subst (λ (final : Values). Comes (Runs ps s (call c)) (λ t. Shows names t final)
-        (first_fault (path_along m (chain tree last)))) (sym (after_chain tree last m))
-        (subst (Comes (Runs ps s (call c)) (λ t. Shows names t (after_all end last)))
-        (ap (either (first_fault (path_along m tree))) (sym (dropped_fault k result value end known.nothing))
-        ∙ sym (fault_chain tree last m))
+        rw (after_chain tree last m, fault_chain tree last m, dropped_fault k result value end known.nothing)
         (also (known.comes s m shows plain)
         (λ r are agrees. (
           r.state,
@@ -412,7 +400,7 @@ module _ (ps : List ProcedureTree) where
               (λ name x there. let low = ready.linked.below name x there in dropped_keeps k x.number (omega arith)
               result value end),
         ))
-        (λ at are. call_faults are)))
+        (λ at are. call_faults are))
     same_end (rules.chooses {scope = scope} {place = place} {condition = condition} {accepted = accepted}
         {otherwise = otherwise} has one other) names n ready plain s m shows =
         let k = n + numbers_taken_all (callables ps) accepted in
@@ -428,9 +416,7 @@ module _ (ps : List ProcedureTree) where
         (λ t is good. (t, is, shows_before (callables ps) otherwise names k t if_false good)) (λ at is. is) in
         alone (flat_tree.branch (numbering.label_in names condition) (term names condition)
         (block (callables ps) names n accepted) (block (callables ps) names k otherwise)) m
-        (subst (Comes (Runs ps s (conditional place condition accepted otherwise))
-        (λ t. Shows names t (if v == 0 then if_false else if_true)))
-        (sym (across (path_in m (term names condition)) (if v == 0 then q else p)))
+        (rw (across (path_in m (term names condition)) (if v == 0 then q else p))
         (then_comes ((means scope names ready.types n ready.linked has plain.0).value s m shows)
         (λ c is same. one_arm ps s place condition accepted otherwise names if_true if_false p q c v is
         (ap (λ (w : state.Word). w.value) same) first_arm other_arm (v == 0) refl)
@@ -488,15 +474,10 @@ module _ (ps : List ProcedureTree) where
         let k = n + numbers_taken (callables ps) statement in
         let later_names = names_after (callables ps) names n statement in
         let more = block (callables ps) later_names k rest in
-        subst (λ (final : Values). Comes (RunsAll ps s (first statement rest))
-        (λ t. Shows (names_after_all (callables ps) later_names k rest) t final)
-        (first_fault (path_along m (chain tree more)))) (sym (after_chain tree more m))
-        (subst (Comes (RunsAll ps s (first statement rest))
-        (λ t. Shows (names_after_all (callables ps) later_names k rest) t (after_all (after_all m tree) more)))
-        (sym (fault_chain tree more m))
+        rw (after_chain tree more m, fault_chain tree more m)
         (then_comes (same_end here names n ready plain.0 s m shows)
         (λ t is good.
         also (same_ends there later_names k (ready_after ps here names n ready) plain.1 t
         (after_all m tree) good)
         (λ u are shows. (u, goes_on is are, shows)) (λ at are. goes_on is are))
-        (λ at is. stops is)))
+        (λ at is. stops is))

@@ -2,6 +2,7 @@
 use Rattle.std.proofs.Common.{◌≡◌, ℕ, ◌+◌, false, List, [], ◌∷◌, ◌++◌, length, map, take, Option, Some, refl, sym, ap}
 use Rattle.std.proofs.Common.{◌∙◌, subst, arith}
 use Rattle.std.proofs.Math.Seq.{take-append_seam}
+use Rattle.std.proofs.lemmas.Bool.{or_parts}
 use Rattle.std.proofs.lemmas.List.{length-map}
 use Rattle.std.specs.List.{AllByRecursion}
 use Rattle.word.specs.declared.profile.Profile.{Profile}
@@ -22,7 +23,7 @@ use Rattle.language.specs.Typing.{violations, scope_after_all}
 use Rattle.language.specs.WellTyped.{Returns, nothing_returned, value_returned, IsProcedure}
 use Rattle.inline.proofs.CallTypes.{TypedBody}
 use Rattle.inline.proofs.FlatTypes.{IsHushed, typed_block}
-use Rattle.inline.proofs.Hiding.{either_false, hides_none, hides_parameters}
+use Rattle.inline.proofs.Hiding.{hides_none, hides_parameters}
 use Rattle.inline.proofs.Linked.{Linked}
 use Rattle.inline.proofs.LinkedAfter.{linked_after_all}
 use Rattle.inline.proofs.Listed.{Lists, lists_end, block_takes, all_counted}
@@ -54,7 +55,7 @@ module _ (before : List ProcedureTree) (at : Scope) (p : ProcedureTree) (stand :
   hushed : (outer : Label) → (outer ≡ Secret → assigns_public at p ≡ false)
       → IsHushed outer inside (block_assigns at p.body)
   hushed outer quiet e =
-      let split = either_false (parameters_assign p.parameters) (block_assigns at p.body) (quiet e) in (
+      let split = or_parts (parameters_assign p.parameters) (block_assigns at p.body) (quiet e) in (
         hides_parameters typed.parameters
             (hides_none (with_procedure at (length before) p)
             (variables_within TypedBody before at stand p typed.is_new))

@@ -1,6 +1,7 @@
 -- The body of a procedure within the limits on size is within them too, with the bodies that it calls in it.
 use Rattle.std.proofs.Common.{◌≡◌, ℕ, ◌+◌, ◌*◌, ◌≤◌, ◌||◌, Bool, true, false, nat_lt, List, [], ◌∷◌, ◌++◌, length}
 use Rattle.std.proofs.Common.{map, Option, Some, refl, arith, length-append}
+use Rattle.std.proofs.lemmas.Bool.{or_parts}
 use Rattle.std.proofs.lemmas.Bool.Decides.{nat_tests}
 use Rattle.std.proofs.lemmas.List.{length-map}
 use Rattle.std.specs.List.{AllByRecursion}
@@ -17,7 +18,7 @@ use Rattle.language.specs.Limits.{most_nodes, most_bodies, most_declared_bytes}
 use Rattle.language.specs.declared.rule.Rule.{Rule}
 use Rattle.language.specs.declared.rule.Rule.TheVariants.{InlinedSize, DeclaredBytes}
 use Rattle.language.specs.declared.signature.Form.{Form}
-use Rattle.language.specs.declared.signature.Form.TheVariants.{SingleWord, FixedArray, MutableArray}
+use Rattle.language.specs.declared.signature.Form.TheVariants.{SingleWord}
 use Rattle.language.specs.declared.signature.Label.{Label}
 use Rattle.language.specs.declared.signature.Param.{Param}
 use Rattle.language.specs.declared.typing.ValueType.TheVariants.{Word}
@@ -50,10 +51,6 @@ not_passed : (b : Bool) (rule : Rule) → length (when b rule) ≡ 0 → b ≡ f
 not_passed true rule h = absurd (omega (arith, h))
 not_passed false rule h = refl
 
-first_not : (a b : Bool) → a || b ≡ false → a ≡ false
-first_not false b e = refl
-first_not true b e = e
-
 within : (most n : ℕ) → nat_lt most n ≡ false → n ≤ most
 within most n h = grind (arith, nat_tests)
 
@@ -68,7 +65,7 @@ limits before p h =
     let n = length-append a b in
     let one : length a ≡ 0 = omega (arith, h, m, n) in
     let other : length b ≡ 0 = omega (arith, h, m, n) in (
-      within most_nodes (nodes_of (extents_of before) p) (first_not many deep (not_passed _ InlinedSize one)),
+      within most_nodes (nodes_of (extents_of before) p) (or_parts many deep (not_passed _ InlinedSize one)).0,
       within
           most_declared_bytes (declared_bytes (extents_of before) p) (not_passed _ DeclaredBytes other),
     )
@@ -231,8 +228,7 @@ sized_one before at p stand typed =
 parameter_takes : (p : ParameterTree) (form : Form)
     → words_by (own p).word (elements_by form p.length) ≡ held_words form p.kind p.length
 parameter_takes p SingleWord = refl
-parameter_takes p FixedArray = refl
-parameter_takes p MutableArray = refl
+parameter_takes p form = refl
 
 parameters_take : (ps : List ParameterTree) → declared_words (all_own ps) ≡ parameter_words ps
 parameters_take [] = refl
@@ -240,8 +236,7 @@ parameters_take (p ∷ ps) = omega (arith, parameter_takes p p.form, parameters_
 
 has_length : (form : Form) (length : ℕ) → HasLength form length → flat.HasLength form length
 has_length SingleWord length is = is
-has_length FixedArray length is = (is.some, is.few)
-has_length MutableArray length is = (is.some, is.few)
+has_length form length is = (is.some, is.few)
 
 have_lengths : (ps : List ParameterTree) → AllByRecursion HasForm ps
     → AllByRecursion (λ (p : Param). flat.HasLength p.form p.length) (map param_of ps)

@@ -2,6 +2,7 @@
 -- secret control too where it assigns to nothing public.
 use Rattle.std.proofs.Common.{◌≡◌, ℕ, ◌+◌, Bool, false, true, List, [], ◌∷◌, length, map, Option, Some}
 use Rattle.std.proofs.Common.{None, refl, sym, ap, ◌∙◌, subst, arith}
+use Rattle.std.proofs.lemmas.Bool.{or_parts}
 use Rattle.std.proofs.lemmas.List.{length-map}
 use Rattle.inline.specs.declared.flat.FlatVariable.{FlatVariable}
 use Rattle.inline.specs.Flat.{chain, word_as, array_as, numbers_in}
@@ -31,7 +32,7 @@ use Rattle.language.specs.WellTyped.{chooses, repeats, AreWellTyped, no_statemen
 use Rattle.word.specs.declared.place.Place.{Place}
 use Rattle.inline.proofs.CallTypes.{TypedBody, call_fits, result_suits, dropped_typed}
 use Rattle.inline.proofs.ChainTypes.{chain-types, chain-typed, types_before}
-use Rattle.inline.proofs.Hiding.{Hides, hides_after, hides_counter, either_false}
+use Rattle.inline.proofs.Hiding.{Hides, hides_after, hides_counter}
 use Rattle.inline.proofs.KnownLemmas.{AllKnown}
 use Rattle.inline.proofs.Linked.{Linked, Serves, KnownAs, linked_beside, linked_declared, known_word, known_array}
 use Rattle.inline.proofs.Linked.{later, with_type-same}
@@ -133,8 +134,7 @@ module _ (earlier : List ProcedureTree) where
         f.gives suit in
         record {
           typed = (tt, chain-typed all types (joined outer control) body (single tree.skip) f.typed (tt, tt));
-          suits = subst (λ t. Suits t wanted (value_given value))
-              (sym (chain-types types body (single tree.skip))) suits;
+          suits = rw chain-types suits;
         }
 
     -- an assignment to an element
@@ -205,7 +205,7 @@ module _ (earlier : List ProcedureTree) where
           let front = right_block known names n r in
           let m = right_end known n r in
           let there = linked_right earlier scope names types n linked r in
-          let f = right_fits has suit within (λ e. (either_false _ (right_assigns at r) (hush e).1).1) names types n
+          let f = right_fits has suit within (λ e. (or_parts _ (right_assigns at r) (hush e).1).1) names types n
           linked plain (lists_left all n vars (own ∷ []) lists) in
           let listed = lists_first all m own [] (lists_right all n vars (own ∷ []) lists) in
           chain-typed all types (joined outer control) front
@@ -265,7 +265,7 @@ module _ (earlier : List ProcedureTree) where
           {otherwise = otherwise} {label = label} has one other) within hush names types n linked plain lists =
           let m = n + numbers_taken_all known accepted in
           let c = means scope names types n linked has plain.0 in
-          let quiet = λ (e : outer ≡ Secret). either_false (block_assigns at accepted) (block_assigns at otherwise)
+          let quiet = λ (e : outer ≡ Secret). or_parts (block_assigns at accepted) (block_assigns at otherwise)
           (hush e).1 in
           let a = typed_block one within (λ e. ((hush e).0, (quiet e).0)) names types n linked plain.1
           (lists_left all n (declared_in_all known accepted) (declared_in_all known otherwise) lists) in
@@ -311,7 +311,7 @@ module _ (earlier : List ProcedureTree) where
           let front = statement known names n s in
           let next = names_after known names n s in
           let m = n + numbers_taken known s in
-          let quiet = λ (e : outer ≡ Secret). either_false (statement_assigns at s) (block_assigns at rest)
+          let quiet = λ (e : outer ≡ Secret). or_parts (statement_assigns at s) (block_assigns at rest)
           (hush e).1 in
           chain-typed all types (joined outer control) front (block known next m rest)
           (typed_statement here within (λ e. ((hush e).0, (quiet e).0)) names types n linked plain.0

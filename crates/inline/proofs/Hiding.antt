@@ -1,7 +1,8 @@
 -- A scope in which nothing public may be assigned to.
-use Rattle.std.proofs.Common.{◌≡◌, ℕ, Bool, true, false, ◌||◌, List, Some, inl, inr, refl, sym, ap, ◌∙◌, subst, true≢false}
+use Rattle.std.proofs.Common.{◌≡◌, ℕ, Bool, true, false, List, Some, inl, inr, refl, sym, ap, ◌∙◌, subst, true≢false}
+use Rattle.std.proofs.lemmas.Bool.{or_parts}
 use Rattle.language.specs.declared.signature.Form.{Form}
-use Rattle.language.specs.declared.signature.Form.TheVariants.{SingleWord, FixedArray, MutableArray}
+use Rattle.language.specs.declared.signature.Form.TheVariants.{SingleWord}
 use Rattle.language.specs.declared.signature.Label.{Label}
 use Rattle.language.specs.declared.signature.Label.TheVariants.{Public, Secret}
 use Rattle.language.specs.declared.typing.Declared.TheVariants.{Variable}
@@ -15,10 +16,6 @@ use Rattle.language.specs.WellTyped.{AreNew, no_parameter, one_is_new}
 use Rattle.inline.proofs.Linked.{same_variable}
 use Rattle.inline.proofs.Below.{found-split}
 use Rattle.inline.proofs.Parameters.{NoVariables}
-
-pub either_false : (a b : Bool) → a || b ≡ false → (a ≡ false) × (b ≡ false)
-either_false false b e = (refl, e)
-either_false true b e = absurd (true≢false e)
 
 -- each name that may be assigned to is secret
 abbrev pub Hides : Scope → Type 0
@@ -48,7 +45,7 @@ module _ (at : Scope) where
   hides_after (declares {scope = scope} {label = label} {mutable = mutable} {text = text} {right = r} new has suit
       flow) hides none =
       hides_declared scope text _
-      (secret_one label mutable (either_false (is_public_mutable label mutable) (right_assigns at r) none).0) hides
+      (secret_one label mutable (or_parts (is_public_mutable label mutable) (right_assigns at r) none).0) hides
   hides_after (declares_array {scope = scope} {label = label} {mutable = mutable} {text = text} new suit count flow)
       hides none = hides_declared scope text _ (secret_one label mutable none) hides
   hides_after other hides none = hides
@@ -63,13 +60,12 @@ hides_none scope none text v is = absurd (none text v is)
 
 parameter_label : (p : ParameterTree) (form : Form) → label_of (parameter_value p form) ≡ p.label
 parameter_label p SingleWord = refl
-parameter_label p FixedArray = refl
-parameter_label p MutableArray = refl
+parameter_label p form = refl
 
 pub hides_parameters : {scope : Scope} {ps : List ParameterTree} → AreNew scope ps → Hides scope
     → parameters_assign ps ≡ false → Hides (with_parameters scope ps)
 hides_parameters no_parameter hides none = hides
 hides_parameters (one_is_new {scope = scope} {p = p} {ps = ps} here there) hides none =
-    let split = either_false (is_public_mutable p.label (is_mutable p.form)) (parameters_assign ps) none in
+    let split = or_parts (is_public_mutable p.label (is_mutable p.form)) (parameters_assign ps) none in
     hides_parameters there (hides_declared scope p.name _
     (λ e. parameter_label p p.form ∙ secret_one p.label (is_mutable p.form) split.0 e) hides) split.1

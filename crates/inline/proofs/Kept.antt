@@ -1,8 +1,7 @@
 -- A well-typed statement changes its own numbers and those of mutable names, and no others.
 use Rattle.std.proofs.Common.{◌≡◌, ℕ, ◌+◌, ◌<◌, ◌≤◌, ◌==◌, true, false, List, []}
-use Rattle.std.proofs.Common.{◌∷◌, length, map, Option, Some, None, ◌⊎◌, inl, inr, refl, sym, ap, ◌∙◌, arith}
+use Rattle.std.proofs.Common.{◌∷◌, length, map, Option, Some, None, inl, inr, refl, sym, ap, ◌∙◌, arith}
 use Rattle.std.proofs.lemmas.Bool.{cond_both}
-use Rattle.std.specs.Str.{bytes_eq}
 use Rattle.inline.specs.declared.flat.FlatVariable.{FlatVariable}
 use Rattle.inline.specs.declared.numbering.Numbered.{Numbered}
 use Rattle.inline.specs.Flat as flat
@@ -22,7 +21,6 @@ use Rattle.language.specs.Types.{Scope}
 use Rattle.language.specs.WellTyped.{labelled, IsVariable, of_value, of_call, IsWellTyped, declares, declares_array}
 use Rattle.language.specs.WellTyped.{assigns, assigns_element, calls, chooses, repeats, AreWellTyped, no_statement}
 use Rattle.language.specs.WellTyped.{one_more}
-use Rattle.language.specs.names.Scope.{found}
 use Rattle.inline.specs.Flat.{TermTree}
 use Rattle.inline.proofs.Called.{Spares, Ready, ready_later, ready_declared, ready_after}
 use Rattle.inline.proofs.CallEnds.{call_means}
@@ -38,16 +36,14 @@ pub spares_named : (names : Numbers) (n x : ℕ) → Spares names n x
     → n ≤ m → Spares (naming names text k d) m x
 spares_named names n x spares text k m d one other = record {
   below = let low = spares.below in omega arith;
-  spared = λ name y is free same. by_name name y free same (found-split names text (entry k d) name y is);
-}
-  where
-    by_name : (name : List ℕ) (y : Numbered) → y.declaration.mutable ≡ true → y.number ≡ x
-        → (found names name ≡ Some y) ⊎ ((bytes_eq name text ≡ true) × (entry k d ≡ y)) → ⊥
-    by_name name y free same (inl old) = spares.spared name y old free same
-    by_name name y free same (inr new) =
+  spared = λ name y is free same. elim (found-split names text (entry k d) name y is) [
+    | inl old ↦ spares.spared name y old free same
+    | inr new ↦ (
         let number = ap (λ (z : Numbered). z.number) new.1 in
         let low = spares.below in
-        omega arith
+        omega arith)
+  ];
+}
 
 pub spares_later : (names : Numbers) (n m x : ℕ) → n ≤ m → Spares names n x → Spares names m x
 spares_later names n m x more spares =

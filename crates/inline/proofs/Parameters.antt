@@ -16,7 +16,7 @@ use Rattle.inline.specs.Numbering as numbering
 use Rattle.inline.specs.Numbering.{Numbers, param_of, naming}
 use Rattle.language.specs.names.Scope.{found}
 use Rattle.language.specs.declared.signature.Form.{Form}
-use Rattle.language.specs.declared.signature.Form.TheVariants.{SingleWord, FixedArray, MutableArray}
+use Rattle.language.specs.declared.signature.Form.TheVariants.{SingleWord, MutableArray}
 use Rattle.language.specs.declared.signature.Kind.{Kind}
 use Rattle.language.specs.declared.typing.Declared.TheVariants.{Variable}
 use Rattle.language.specs.declared.typing.VariableType.{VariableType}
@@ -44,8 +44,7 @@ all_own ps = map declaration_of (map param_of ps)
 value_same : (p : ParameterTree) (form : Form)
     → parameter_value p form ≡ value_as (own p).word (elements_by form p.length)
 value_same p SingleWord = refl
-value_same p FixedArray = refl
-value_same p MutableArray = refl
+value_same p form = refl
 
 pub parameter_same : (p : ParameterTree) → Variable (variable_as (own p)) ≡ parameter_as p
 parameter_same p = ap (λ v. Variable (record { value = v; mutable = is_mutable p.form })) (sym (value_same p p.form))
@@ -191,19 +190,15 @@ argument_held : (kind : Kind) (form : Form) (size : ℕ) (arg : Arg) → HasShap
     → Some (argument_value kind arg) ≡ Some (held kind (elements_by form size) (words_of arg))
 argument_held kind SingleWord size (Word word) shape = refl
 argument_held kind SingleWord size (Array words) shape = absurd shape
-argument_held kind FixedArray size (Word word) shape = absurd shape
-argument_held kind FixedArray size (Array words) shape = refl
-argument_held kind MutableArray size (Word word) shape = absurd shape
-argument_held kind MutableArray size (Array words) shape = refl
+argument_held kind form size (Word word) shape = absurd shape
+argument_held kind form size (Array words) shape = refl
 
 pub argument_count : (form : Form) (size : ℕ) (arg : Arg) → HasShape form size arg
     → length (words_of arg) ≡ numbers_in (elements_by form size)
 argument_count SingleWord size (Word word) shape = refl
 argument_count SingleWord size (Array words) shape = absurd shape
-argument_count FixedArray size (Word word) shape = absurd shape
-argument_count FixedArray size (Array words) shape = shape
-argument_count MutableArray size (Word word) shape = absurd shape
-argument_count MutableArray size (Array words) shape = shape
+argument_count form size (Word word) shape = absurd shape
+argument_count form size (Array words) shape = shape
 
 -- a parameter's number, and that it holds its argument
 record Passed (n : ℕ) (ps : List ParameterTree) (rest : List FlatVariable) (text : List ℕ) (x : Numbered) :
@@ -273,9 +268,8 @@ shows_arguments ps rest args within text x is =
 
 array_same : (kind : Kind) (form : Form) (size : ℕ) (o : Option Value) (numbers : List ℕ)
     → o ≡ Some (held kind (elements_by form size) numbers) → final_array form o ≡ array_of form numbers
-array_same kind SingleWord size o numbers is = refl
-array_same kind FixedArray size o numbers is = refl
 array_same kind MutableArray size o numbers is = ap (final_array MutableArray) is
+array_same kind form size o numbers is = refl
 
 pub arrays_same : (ps : List ParameterTree) (names : Numbers) (n : ℕ) (t : State) (m : Values) → Named names n ps
     → Shows names t m → final_arrays t ps ≡ arrays_from n (map param_of ps) m

@@ -13,7 +13,7 @@ use Rattle.inline.specs.FlatTyping.{Types}
 use Rattle.inline.specs.Numbering.{Numbers, naming, begun, passed, number_given, own_variable, term}
 use Rattle.inline.specs.Path.{first_fault}
 use Rattle.language.specs.declared.signature.Form.{Form}
-use Rattle.language.specs.declared.signature.Form.TheVariants.{SingleWord, FixedArray, MutableArray}
+use Rattle.language.specs.declared.signature.Form.TheVariants.{SingleWord}
 use Rattle.language.specs.declared.typing.WordType.{WordType}
 use Rattle.language.specs.Grammatical.{AreAllSmall}
 use Rattle.language.specs.Meaning.{is_word, EvaluatesAll, none_left, one_more, this_faults, later_faults}
@@ -56,13 +56,11 @@ held_by_other s text other (Some w) e = ap (λ b. if b then Some w else s other)
 array_held : (s : State) (form : Form) (e : ExprTree) (vs : List Word) → is_word form ≡ false
     → argument_held s form e vs ≡ array_named s e
 array_held s SingleWord e vs off = absurd (true≢false off)
-array_held s FixedArray e vs off = refl
-array_held s MutableArray e vs off = refl
+array_held s form e vs off = refl
 
 no_word_left : (form : Form) (vs : List Word) → is_word form ≡ false → words_left form vs ≡ vs
 no_word_left SingleWord vs off = absurd (true≢false off)
-no_word_left FixedArray vs off = refl
-no_word_left MutableArray vs off = refl
+no_word_left form vs off = refl
 
 -- what is put where a type is wanted has its kind
 pub kind_suits : {given wanted : WordType} → rules.Suits given wanted → given.kind ≡ wanted.kind

@@ -1,5 +1,5 @@
 -- A right side comes to the same, and changes only what may be changed.
-use Rattle.std.proofs.Common.{◌≡◌, ℕ, List, Option, Some, None, refl, sym, ap, ◌∙◌, subst}
+use Rattle.std.proofs.Common.{◌≡◌, ℕ, List, Option, Some, None, refl, ap, ◌∙◌, subst}
 use Rattle.inline.specs.Flat as flat
 use Rattle.inline.specs.Flat.{TermTree, chain}
 use Rattle.inline.specs.FlatMeaning.{Values, value_in, path_in, after_all, path_along, path_of_result}
@@ -59,8 +59,7 @@ module _ (earlier : List ProcedureTree) (scope : Scope) (names : Numbers) (n : �
       let value = call_value (callables earlier c.name) names n c.arguments in
       let end = after_all m tree in
       let result = word_result (call_result (callables earlier c.name)) given k.result in
-      subst (λ p. Comes (Rights earlier s (called c)) (IsGiven names end given (value_given value))
-      (either (first_fault (path_along m tree)) (first_fault p))) (path_given end value)
+      rw (← path_given end value)
       (also (k.comes s m shows small)
       (λ r is agrees. (
         r,
@@ -97,13 +96,11 @@ module _ (earlier : List ProcedureTree) (scope : Scope) (names : Numbers) (n : �
       let value = value_given (call_value (callables earlier c.name) names n c.arguments) in
       record {
         comes = λ s m shows small.
-            subst (λ (end : Values). Comes (Rights earlier s (called c)) (IsGiven names end given value)
-            (either (first_fault (path_along m (chain tree (single flat.skip)))) (first_fault (path_in end value))))
-            (sym (after_chain tree (single flat.skip) m))
-            (subst (λ f. Comes (Rights earlier s (called c)) (IsGiven names (after_all m tree) given value)
-            (either f (first_fault (path_in (after_all m tree) value))))
-            (sym (either-none (first_fault (path_along m tree))) ∙ sym (fault_chain tree (single flat.skip) m))
-            (call_gives is s m shows small));
+            rw (
+              after_chain tree (single flat.skip) m,
+              fault_chain tree (single flat.skip) m,
+              either-none (first_fault (path_along m tree)),
+            ) (call_gives is s m shows small);
         keeps = λ x spares m. ap (λ (end : Values). end x) (after_chain tree (single flat.skip) m)
             ∙ (call_means earlier scope names n ready is).keeps x spares m;
       }
