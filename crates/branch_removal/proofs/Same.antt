@@ -1,7 +1,7 @@
 -- Under a true control value, or none, straight code does what the body does.
-use Rattle.std.proofs.Common.{◌≡◌, ℕ, ◌+◌, ◌-◌, ◌<◌, Bool, true, false, ◌&&◌, ◌==◌, cond, List, [], ◌∷◌, Option, None}
+use Rattle.std.proofs.Common.{◌≡◌, ℕ, ◌+◌, ◌-◌, ◌<◌, true, false, ◌&&◌, ◌==◌, cond, List, [], ◌∷◌, Option, None}
 use Rattle.std.proofs.Common.{Some, slice_set, refl, sym, ap, ap₂, ◌∙◌, subst, arith}
-use Rattle.std.proofs.lemmas.Bool.{cond-true, and_from, and_right, not_from_true, not_from_false}
+use Rattle.std.proofs.lemmas.Bool.{cond-true, cond_both, and_from, and_right, not_from_true, not_from_false}
 use Rattle.inline.specs.declared.flat.FlatVariable.{FlatVariable}
 use Rattle.inline.specs.Flat.{TermTree, FlatTree, declare, array, assign, put, hold, skip, branch, loop, FlatBlock}
 use Rattle.inline.specs.Flat.{nothing, first, word_as, array_as}
@@ -34,11 +34,6 @@ pub still_holds : (within : Option ℕ) (control : ℕ) (s t : StraightState) �
     → ((c : ℕ) → c < control → t.controls c ≡ s.controls c) → holds s within ≡ true → holds t within ≡ true
 still_holds None control s t below same on = refl
 still_holds (Some c) control s t below same on = same c below ∙ on
-
--- one of two arms
-pub chosen : (P : Bool → Type 0) (b : Bool) → (b ≡ true → P true) → (b ≡ false → P false) → P b
-chosen P true accepted otherwise = accepted refl
-chosen P false accepted otherwise = otherwise refl
 
 module _ (declared : List FlatVariable) where
   -- what agrees after an arm agrees on what was in scope before it
@@ -116,9 +111,8 @@ module _ (declared : List FlatVariable) where
         ∙ second_control s control _ _ in
         subst (λ (t : StraightState). Agree everything types t.variables
         (flat.after m (branch Secret condition accepted otherwise))) (sym (after-chain taken code other))
-        (chosen (λ b. Agree everything types (after_all between other).variables
-        (cond b (flat.after_all m otherwise) (flat.after_all m accepted)))
-        (value_in m condition == 0)
+        (cond_both (value_in m condition == 0) (flat.after_all m otherwise) (flat.after_all m accepted)
+        (Agree everything types (after_all between other).variables)
         (λ zero. narrowed everything types Secret otherwise _ _ typed.2
         (same_all types Secret otherwise typed.2 (Some (control + 1)) (control + 2) (omega arith) between m
         (other_control ∙ and_from (holds s within) _ on (ap (λ v. v == 0) value ∙ zero))
@@ -141,15 +135,15 @@ module _ (declared : List FlatVariable) where
         (after_all s (removed within control (branch Public condition accepted otherwise))).variables
         (cond (v == 0) (flat.after_all m otherwise) (flat.after_all m accepted)))
         (one_value types s.variables m agree typed.0)
-        (chosen (λ b. Agree everything types
+        (elim (value_at s condition == 0) as (λ b. Agree everything types
         (cond b (after_all s (removed_all within control otherwise))
         (after_all s (removed_all within control accepted))).variables
-        (cond b (flat.after_all m otherwise) (flat.after_all m accepted)))
-        (value_at s condition == 0)
-        (λ zero. narrowed everything types label otherwise _ _ typed.2
-        (same_all types label otherwise typed.2 within control below s m on agree))
-        (λ nonzero. narrowed everything types label accepted _ _ typed.1
-        (same_all types label accepted typed.1 within control below s m on agree)))
+        (cond b (flat.after_all m otherwise) (flat.after_all m accepted))) [
+          | true ↦ narrowed everything types label otherwise _ _ typed.2
+              (same_all types label otherwise typed.2 within control below s m on agree)
+          | false ↦ narrowed everything types label accepted _ _ typed.1
+              (same_all types label accepted typed.1 within control below s m on agree)
+        ])
     same types label (loop x low high body) typed within control below s m on agree =
         let low_value = one_value types s.variables m agree typed.0 in
         let high_value = one_value types s.variables m agree typed.1 in

@@ -1,7 +1,7 @@
 -- What is in scope stays in scope, as it is declared, and is declared so in the list of all variables.
 use Rattle.std.proofs.Common.{◌≡◌, ℕ, ◌==◌, false, List, [], ◌∷◌, Option, None, Some, slice_get}
-use Rattle.std.proofs.Common.{inl, inr, refl, ap, ◌∙◌, subst}
-use Rattle.std.proofs.lemmas.Bool.{cases_Bool, eqb-true, ne_eqb, cond-false}
+use Rattle.std.proofs.Common.{inl, inr, refl, ◌∙◌, subst}
+use Rattle.std.proofs.lemmas.Bool.{cases_Bool, ne_eqb, cond-false}
 use Rattle.std.proofs.lemmas.Option.{none-some}
 use Rattle.inline.specs.declared.flat.FlatVariable.{FlatVariable}
 use Rattle.inline.specs.Flat.{TermTree, FlatTree, declare, array, hold, FlatBlock}
@@ -10,6 +10,7 @@ use Rattle.inline.specs.FlatTyping.{Types, with_type, types_of, HasType, of_numb
 use Rattle.inline.specs.FlatTyping.{of_binary, of_rotation, of_conversion, of_selection, of_element, Suits, AllSuit}
 use Rattle.inline.specs.FlatTyping.{IsResult, IsTyped, AreTyped, types_after, types_after_all}
 use Rattle.inline.proofs.Face.{new_number, with_type-other}
+use Rattle.intervals.proofs.LooseTypes.{listed_beside}
 use Rattle.branch_removal.specs.StraightTyping.{types_but}
 use Rattle.language.specs.declared.signature.Label.{Label}
 use Rattle.language.specs.declared.typing.WordType.{WordType}
@@ -71,13 +72,8 @@ module _ (types all : Types) (among : AreAmong types all) where
 pub among_beside : (profile : Profile) (declared : List FlatVariable) (types : Types) (x : ℕ) (new : FlatVariable)
     → slice_get declared x ≡ Some new
     → AreAmong types (types_of profile declared) → AreAmong (with_type types x new) (types_of profile declared)
-among_beside profile declared types x new listed among = record {
-  profile = among.profile;
-  at = λ y d known. elim (cases_Bool (y == x)) [
-    | inl same ↦ ap (slice_get declared) (eqb-true y x same) ∙ (listed ∙ rw same at known)
-    | inr other ↦ among.at y d (rw other at known)
-  ];
-}
+among_beside profile declared types x new listed among =
+    record { profile = among.profile; at = listed_beside declared types x new listed among.at }
 
 module _ (profile : Profile) (declared : List FlatVariable) where
   mutual

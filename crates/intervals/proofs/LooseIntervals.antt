@@ -1,8 +1,9 @@
 -- What an operator makes of numbers within intervals is within what it makes of the intervals.
 use Rattle.std.proofs.Common.{◌≡◌, ℕ, ◌+◌, ◌-◌, ◌*◌, ◌/◌, ◌%◌, ◌^◌, ◌<◌, ◌≤◌, ◌==◌, ◌&&◌, ◌||◌, min, Bool, true}
-use Rattle.std.proofs.Common.{false, not, nat_lt, nat_le, if◌then◌else◌, bit_and, refl, ap, ◌∙◌, arith, eqb-true}
+use Rattle.std.proofs.Common.{false, not, nat_lt, nat_le, if◌then◌else◌, ap, ◌∙◌, arith, eqb-true}
 use Rattle.std.proofs.Math.Nat.{div-le_self, div-mul-le_self, mod-le, mod-lt, mod-eq_of_lt, mul-le-mul_left}
 use Rattle.std.proofs.Math.Nat.{le-max_left, le-max_right, le-min, min-le_left, min-le_right}
+use Rattle.std.proofs.lemmas.Bool.{and_parts, cond_both}
 use Rattle.std.proofs.lemmas.Bool.Decides.{nat_tests}
 use Rattle.std.proofs.lemmas.Nat.{and_le_l, and_le_r, le-div, mul-le, pow_pos}
 use Rattle.intervals.specs.declared.interval.Interval.{Interval}
@@ -36,27 +37,19 @@ truth_in false = (omega arith, omega arith)
 
 pub word_in : (w : Width) (v : ℕ) → IsWord w v → IsIn (full w) v
 word_in W8 v h = (omega arith, omega (arith, h))
-word_in W16 v h = (omega arith, omega (arith, h))
-word_in W32 v h = (omega arith, omega (arith, h))
+word_in w v h = (omega arith, omega (arith, h))
 
 word_below : (w : Width) (v : ℕ) → v ≤ greatest w → v < 2 ^ bits w
 word_below W8 v h = omega (arith, h)
-word_below W16 v h = omega (arith, h)
-word_below W32 v h = omega (arith, h)
+word_below w v h = omega (arith, h)
 
 -- one of two intervals, by a test that is met
 by_test : (b : Bool) (one other : Interval) (v : ℕ) → (b ≡ true → IsIn one v) → IsIn other v
     → IsIn (if b then one else other) v
-by_test true one other v h g = h refl
-by_test false one other v h g = g
+by_test b one other v h g = cond_both b one other (λ i. IsIn i v) h (λ off. g)
 
 at_most : (a b : ℕ) → nat_le a b ≡ true → a ≤ b
 at_most a b h = grind (arith, nat_tests)
-
-both : (a b : Bool) → (a && b) ≡ true → (a ≡ true) × (b ≡ true)
-both true true h = (refl, refl)
-both true false h = absurd cc
-both false b h = absurd cc
 
 -- what fits is not cut
 fits_in : (w : Width) (low high v : ℕ) → low ≤ v → v ≤ high → IsWord w (v % 2 ^ bits w)
@@ -71,14 +64,10 @@ fits_in w low high v l h word =
       arith,
       h,
       at_most high (greatest w)
-          (both (nat_le low (greatest w)) (nat_le high (greatest w)) e).1,
+          (and_parts (nat_le low (greatest w)) (nat_le high (greatest w)) e).1,
     ))) in
     (omega (arith, same, l), omega (arith, same, h)))
     (word_in w (v % 2 ^ bits w) word)
-
--- what is below both is below the lesser, and what is above either below the greater
-below_both : (v a b : ℕ) → v ≤ a → v ≤ b → v ≤ min a b
-below_both v a b h g = le-min h g
 
 quotients_keep_order : (a x b y : ℕ) → a ≤ x → y ≤ b → 0 < y → a / b ≤ x / y
 quotients_keep_order a x b y h g some =
@@ -108,7 +97,7 @@ module _ (w : Width) (a b : Interval) (x y : ℕ) (one : IsIn a x) (other : IsIn
   quotient_in =
       by_test (nat_le 1 b.low && nat_le 1 b.high) (between (a.low / b.high) (a.high / b.low)) (full w) (x / y)
       (λ e.
-      let some = at_most 1 b.low (both (nat_le 1 b.low) (nat_le 1 b.high) e).0 in (
+      let some = at_most 1 b.low (and_parts (nat_le 1 b.low) (nat_le 1 b.high) e).0 in (
         quotients_keep_order a.low x b.high y one.0 other.1 (omega (arith, some, other)),
         quotients_keep_order x a.high y b.low one.1 other.0 (omega (arith, some)),
       ))
@@ -121,7 +110,7 @@ module _ (w : Width) (a b : Interval) (x y : ℕ) (one : IsIn a x) (other : IsIn
       let some = at_most 1 b.low e in
       let less = mod-le x y in
       let under : x % y < y = mod-lt x (omega (arith, some, other)) in
-      (omega arith, below_both (x % y) a.high (b.high - 1) (omega (arith, less, one)) (omega (arith, under, other))))
+      (omega arith, le-min (omega (arith, less, one)) (omega (arith, under, other))))
       (word_in w (x % y) (let less = mod-le x y in omega (arith, word, less)))
 
   shift_in : IsIn (shifted_interval a b) (shifted_right w x y)
@@ -150,7 +139,7 @@ module _ (w : Width) (a b : Interval) (x y : ℕ) (one : IsIn a x) (other : IsIn
   operated_in GreaterOrEqual fits = truth_in (nat_le y x)
   operated_in BitAnd fits = (
     omega arith,
-    below_both (bit_and x y) a.high b.high (let l = and_le_l x y in
+    le-min (let l = and_le_l x y in
         omega (arith, l, one)) (let r = and_le_r x y in omega (arith, r, other)),
   )
   operated_in ShiftRight fits = shift_in

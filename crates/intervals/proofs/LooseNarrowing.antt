@@ -1,9 +1,10 @@
 -- What a public condition tells holds in a loose run.
-use Rattle.std.proofs.Common.{◌≡◌, ◌≢◌, ◌⊎◌, inl, inr, ℕ, zero, suc, ◌+◌, ◌-◌, ◌<◌, ◌≤◌, ◌==◌, ◌&&◌, min, max, nat_lt}
+use Rattle.std.proofs.Common.{◌≡◌, ◌≢◌, ◌⊎◌, ⊎_elim, inl, inr, ℕ, zero, suc, ◌+◌, ◌-◌, ◌<◌, ◌≤◌, ◌==◌, ◌&&◌, min, max, nat_lt}
 use Rattle.std.proofs.Common.{nat_le, Bool, true, false, if◌then◌else◌, List, [], ◌∷◌, ◌++◌, Option, Some, None}
 use Rattle.std.proofs.Common.{slice_index, refl, sym, ap, subst, arith}
 use Rattle.std.specs.Option.{option_to_list}
 use Rattle.std.proofs.Math.Nat.{le-min, max-le}
+use Rattle.std.proofs.lemmas.Bool.{and_parts, cases_Bool}
 use Rattle.std.proofs.lemmas.Bool.Decides.{nat_tests}
 use Rattle.std.proofs.lemmas.Option.{none-some, same_Some}
 use Rattle.inline.specs.declared.flat.FlatVariable.{FlatVariable}
@@ -42,11 +43,8 @@ at_number [] x i y j h = inr h
 at_number (b ∷ bs) zero i zero j h = inl (refl, same_Some i j h)
 at_number (b ∷ bs) zero i (suc y) j h = inr h
 at_number (b ∷ bs) (suc x) i zero j h = inr h
-at_number (b ∷ bs) (suc x) i (suc y) j h = by (at_number bs x i y j h)
-  where
-    by : ((y ≡ x) × (i ≡ j)) ⊎ (known bs y ≡ Some j) → ((suc y ≡ suc x) × (i ≡ j)) ⊎ (known bs y ≡ Some j)
-    by (inl (same, is)) = inl (ap suc same, is)
-    by (inr there) = inr there
+at_number (b ∷ bs) (suc x) i (suc y) j h =
+    ⊎_elim (λ here. inl (ap suc here.0, here.1)) (λ there. inr there) (at_number bs x i y j h)
 
 -- all that is said of variables is so
 abbrev pub AreSo : Values → List Said → Type 0
@@ -80,11 +78,8 @@ module _ (types : Types) (m : Values) where
           }
 
       learned : Kept types m (with_bound bounds x both)
-      learned y j h = at (at_number bounds x both y j h)
-        where
-          at : ((y ≡ x) × (both ≡ j)) ⊎ (known bounds y ≡ Some j) → IsKept types m y j
-          at (inl (same, is)) = subst (λ z. IsKept types m z j) (sym same) (subst (λ k. IsKept types m x k) is here)
-          at (inr old) = kept y j old
+      learned y j h = ⊎_elim (λ new. subst (λ z. IsKept types m z j) (sym new.0)
+          (subst (λ k. IsKept types m x k) new.1 here)) (λ old. kept y j old) (at_number bounds x both y j h)
 
       by : (b : Bool) → Kept types m (with_meet bounds x (if b then Some both else None))
       by true = learned
@@ -113,11 +108,6 @@ is_true false h = absurd (h refl)
 is_false : (b : Bool) → word_of b ≡ 0 → b ≡ false
 is_false true h = absurd (omega (arith, h))
 is_false false h = refl
-
-both_true : (a b : Bool) → (a && b) ≡ true → (a ≡ true) × (b ≡ true)
-both_true true true h = (refl, refl)
-both_true true false h = absurd cc
-both_true false b h = absurd cc
 
 not_zero : (v : ℕ) → truth_of v ≡ true → v ≢ 0
 not_zero v h is = grind (arith, nat_tests)
@@ -215,22 +205,15 @@ module _ (declared : List FlatVariable) (types : Types) (bounds : Bounds) (m : V
   condition_true (to_binary {operator = operator} {width = width} {left = left} {right = right} {a = a} {b = b} c d)
       (of_binary t u makes same) public h =
       let labels = both_public makes public in
-      by (is_both operator) refl (λ some. condition_true c t labels.0 some) (λ some. condition_true d u labels.1 some)
-      (named_value c t labels.0) (loose_in declared types bounds m holds d u labels.1)
-    where
-      by : (k : Bool) → is_both operator ≡ k → (a ≢ 0 → AreSo m (told_true declared bounds left))
-          → (b ≢ 0 → AreSo m (told_true declared bounds right))
-          → ((x : ℕ) → named left ≡ Some x → a ≡ slice_index (m x) 0) → IsIn (interval declared bounds right) b
-          → AreSo m (if k then told_true declared bounds left ++ told_true declared bounds right
-          else option_to_list (told_where_true operator (named left) (interval declared bounds right)))
-      by true is one other value inside =
-          let truths = both_true (truth_of a) (truth_of b)
-          (is_true (truth_of a && truth_of b)
-          (subst (λ f. operated f width a b ≢ 0) (is_both_alone operator is) h)) in
-          so_both m (told_true declared bounds left) (told_true declared bounds right) (one (not_zero a truths.0))
-          (other (not_zero b truths.1))
-      by false is one other value inside =
-          comparison_true operator width (named left) (interval declared bounds right) a b value inside h
+      elim (cases_Bool (is_both operator)) [
+        | inl is ↦ (
+            let truths = and_parts (truth_of a) (truth_of b) (is_true (truth_of a && truth_of b)
+            (subst (λ f. operated f width a b ≢ 0) (is_both_alone operator is) h)) in
+            rw is (so_both m (told_true declared bounds left) (told_true declared bounds right)
+            (condition_true c t labels.0 (not_zero a truths.0)) (condition_true d u labels.1 (not_zero b truths.1))))
+        | inr other ↦ rw other (comparison_true operator width (named left) (interval declared bounds right) a b
+            (named_value c t labels.0) (loose_in declared types bounds m holds d u labels.1) h)
+      ]
   condition_true {w = w} (to_anything {word = word} c t secret within) u public h =
       absurd (secret_is_not w word (one_type declared types holds.listed u t) public secret)
   condition_true other t public h = tt

@@ -1,8 +1,8 @@
 -- What is known after a statement holds there in a loose run, variables that are not `mut` keep their values, and the
 -- path has no fault where the statement has no violation.
 use Rattle.std.proofs.Common.{◌≡◌, ◌≢◌, ◌⊎◌, inl, inr, ℕ, suc, ◌+◌, ◌-◌, ◌<◌, ◌≤◌, ◌==◌, ◌||◌, nat_lt, Bool, true}
-use Rattle.std.proofs.Common.{false, not, if◌then◌else◌, List, [], ◌∷◌, ◌++◌, length, All, Some, slice_get, slice_set}
-use Rattle.std.proofs.Common.{slice_index, refl, sym, ap, ◌∙◌, subst, arith, eqb-true, ◌^◌}
+use Rattle.std.proofs.Common.{false, not, if◌then◌else◌, List, [], ◌∷◌, ◌++◌, length, All, Some, slice_set}
+use Rattle.std.proofs.Common.{slice_index, refl, sym, ap, ◌∙◌, subst, arith, ◌^◌}
 use Rattle.std.proofs.lemmas.Bool.{cases_Bool}
 use Rattle.std.proofs.lemmas.Bool.Decides.{nat_tests}
 use Rattle.std.proofs.lemmas.List.{length-set, length-replicate}
@@ -32,7 +32,7 @@ use Rattle.intervals.proofs.LooseIntervals.{IsIn}
 use Rattle.intervals.proofs.LooseNarrowing.{at_number, holds_where_false, holds_where_true}
 use Rattle.intervals.proofs.LooseTerms.{Holds, IsKept, loose_below, loose_fine, loose_fits, loose_in}
 use Rattle.intervals.proofs.LooseTerms.{none_in}
-use Rattle.intervals.proofs.LooseTypes.{IsListed}
+use Rattle.intervals.proofs.LooseTypes.{IsListed, listed_beside}
 use Rattle.language.specs.Types.{is_secret, joined}
 use Rattle.language.specs.declared.signature.Label.{Label}
 use Rattle.language.specs.declared.signature.Label.TheVariants.{Public, Secret}
@@ -143,11 +143,7 @@ module _ (declared : List FlatVariable) (turns : List ℕ) where
           }
 
       listed_too : IsListed declared (with_type types x d)
-      listed_too y e is = by (y == x) refl is
-        where
-          by : (b : Bool) → (y == x) ≡ b → (if b then Some d else types.at y) ≡ Some e → slice_get declared y ≡ Some e
-          by true same there = ap (slice_get declared) (eqb-true y x same) ∙ (new.listed ∙ there)
-          by false same there = holds.listed y e there
+      listed_too = listed_beside declared types x d new.listed holds.listed
 
       new_holds : Holds declared (with_type types x d) bounds (with_value m x numbers)
       new_holds = record {
@@ -333,7 +329,7 @@ module _ (declared : List FlatVariable) (turns : List ℕ) where
           let under = joined label control in
           let block : FlatBlock = if z == 0 then otherwise else accepted in
           let inside : Bounds = if z == 0 then other else one in
-          let known : AreTyped declared types under block × Holds declared types inside m
+          let facts : AreTyped declared types under block × Holds declared types inside m
           × (violations_all declared inside block ≡ []) × AllCounted inside block =
           elim (cases_Bool (z == 0)) [
             | inl zero ↦ rw zero (
@@ -351,8 +347,8 @@ module _ (declared : List FlatVariable) (turns : List ℕ) where
           ] in
           after_both p q (loose_fine declared types bounds m holds turns c typed.0 firsts.0)
           (back types (types_after_all types block) holds
-          (all_done {types = types} {bounds = inside} under arm known.0 known.1 known.2 known.3)
-          (types_kept declared types under block known.0))
+          (all_done {types = types} {bounds = inside} under arm facts.0 facts.1 facts.2 facts.3)
+          (types_kept declared types under block facts.0))
       loose_done {types = types} {bounds = bounds} control {m = m} {t =
           t} (repeats {x = x} {low = low} {high = high} {body = body} {a = a} {b = b} {p = p} {q = q} {r =
           r} c d run) typed holds none counted =

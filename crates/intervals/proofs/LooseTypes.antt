@@ -1,9 +1,10 @@
 -- An expression has one type, whoever the observer is.
-use Rattle.std.proofs.Common.{◌≡◌, ℕ, List, Some, slice_get, refl, sym, ap, ap₂, ◌∙◌}
+use Rattle.std.proofs.Common.{◌≡◌, ℕ, ◌==◌, List, Some, inl, inr, slice_get, refl, sym, ap, ap₂, ◌∙◌}
+use Rattle.std.proofs.lemmas.Bool.{cases_Bool, eqb-true}
 use Rattle.std.proofs.lemmas.Option.{same_Some}
 use Rattle.inline.specs.declared.flat.FlatVariable.{FlatVariable}
 use Rattle.inline.specs.Flat.{TermTree, word_as, array_as}
-use Rattle.inline.specs.FlatTyping.{Types, types_of, HasType, of_number, of_truth, of_variable, of_prefix, of_binary}
+use Rattle.inline.specs.FlatTyping.{Types, types_of, with_type, HasType, of_number, of_truth, of_variable, of_prefix, of_binary}
 use Rattle.inline.specs.FlatTyping.{of_rotation, of_conversion, of_selection, of_element}
 use Rattle.language.specs.Types.{joined}
 use Rattle.language.specs.declared.signature.Label.{Label}
@@ -30,6 +31,14 @@ one_made logic logic s t = ap₂ (λ (x y : WordType). labelled Boolean (joined 
 -- all that is in scope is listed
 abbrev pub IsListed : List FlatVariable → Types → Type 0
 IsListed declared types = (x : ℕ) (d : FlatVariable) → types.at x ≡ Some d → slice_get declared x ≡ Some d
+
+-- also a variable that is listed as it is declared
+pub listed_beside : (declared : List FlatVariable) (types : Types) (x : ℕ) (d : FlatVariable)
+    → slice_get declared x ≡ Some d → IsListed declared types → IsListed declared (with_type types x d)
+listed_beside declared types x d there listed y e is = elim (cases_Bool (y == x)) [
+  | inl same ↦ ap (slice_get declared) (eqb-true y x same) ∙ (there ∙ rw same at is)
+  | inr other ↦ listed y e (rw other at is)
+]
 
 module _ (declared : List FlatVariable) (types : Types) (listed : IsListed declared types) where
   pub one_type : {profile : Profile} {e : TermTree} {a b : WordType} → HasType types e a

@@ -1,5 +1,5 @@
 -- Work that is above the limit is the first of what is violated.
-use Rattle.std.proofs.Common.{◌≡◌, ℕ, ◌<◌, ◌≤◌, inr, Bool, true, false, nat_lt, [], refl, sym, subst, arith, Result}
+use Rattle.std.proofs.Common.{◌≡◌, ℕ, ◌<◌, ◌≤◌, inr, Bool, true, nat_lt, [], refl, sym, subst, arith, Result}
 use Rattle.std.proofs.Common.{Ok, Err, OnOk, IfErr}
 use Rattle.std.proofs.lemmas.Bool.Decides.{nat_tests}
 use Rattle.std.proofs.lemmas.List.Elements.{All-cons, All-nil}
@@ -23,9 +23,6 @@ alone place =
 
 above : (a b : ℕ) → a < b → nat_lt a b ≡ true
 above a b h = grind (arith, nat_tests)
-
-not_above : (a b : ℕ) → b ≤ a → nat_lt a b ≡ false
-not_above a b h = grind (arith, nat_tests)
 
 pub above_limit : (p : FlatProgram) → (work_of p ≤ most_work → ⊥)
     → IsFirst (work_violations p) (record { place = p.place; rule = TooMuchWork })
