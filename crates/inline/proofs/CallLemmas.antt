@@ -29,26 +29,6 @@ pub not_called : (earlier : List Procedure) (text : List ℕ) → None ≡ named
 not_called earlier text is = known_by_name callable (map procedure_tree earlier) text
     ∙ ap (option_map (made callable)) (sym is)
 
-pub none_block : (earlier : List Procedure) (text : List ℕ) (names : Numbers) (n : ℕ) (es : List ExprTree)
-    (done : FlatBlock) → None ≡ named [] (map procedure_tree earlier) text
-    → done ≡ chain done (call_block (called_by earlier text) names n es)
-none_block earlier text names n es done is = sym (chain_nothing done)
-    ∙ ap (λ (o : Option Callable). chain done (call_block o names n es)) (sym (not_called earlier text is))
-
-pub none_declared : (earlier : List Procedure) (text : List ℕ) (es : List ExprTree) (old : List FlatVariable)
-    → None ≡ named [] (map procedure_tree earlier) text → old ≡ old ++ call_variables (called_by earlier text) es
-none_declared earlier text es old is = sym (append-nil old) ∙ ap (λ (o : Option Callable). old ++ call_variables o es)
-    (sym (not_called earlier text is))
-
-pub none_value : (earlier : List Procedure) (text : List ℕ) (names : Numbers) (n : ℕ) (es : List ExprTree)
-    → None ≡ named [] (map procedure_tree earlier) text → None ≡ call_value (called_by earlier text) names n es
-none_value earlier text names n es is =
-    ap (λ (o : Option Callable). call_value o names n es) (sym (not_called earlier text is))
-
-pub none_result : (earlier : List Procedure) (text : List ℕ) → None ≡ named [] (map procedure_tree earlier) text
-    → None ≡ call_result (called_by earlier text)
-none_result earlier text is = ap call_result (sym (not_called earlier text is))
-
 module _ (earlier before : List Procedure) (callee : Procedure) (text : List ℕ)
     (is : Some (map procedure_tree before, procedure_tree callee) ≡ named [] (map procedure_tree earlier) text) where
   -- the procedure that the name stands for

@@ -19,7 +19,7 @@ pub use Rattle.inline.proofs.Fitting.{
   wrapped_fits,
 }
 pub use Rattle.inline.proofs.FinePaths.{fine_back, fine_both, fine_front}
-pub use Rattle.inline.proofs.FittingBodies.{fits_assigned, fits_declared, one_held, parameters_fit}
+pub use Rattle.inline.proofs.FittingBodies.{fits_assigned, fits_declared, one_held, parameters_fit, still_counted}
 pub use Rattle.inline.proofs.FlatEnds.{same_end, same_ends}
 pub use Rattle.inline.proofs.FlatMeanings.{begins, behaves, flat_keeps_meaning}
 pub use Rattle.inline.proofs.FlatPrograms.{flat_is_typed}

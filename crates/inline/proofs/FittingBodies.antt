@@ -50,6 +50,12 @@ fits_assigned types m y v own there here fits x d is = cond_both (x == y) v (m x
     (λ same. subst (λ (t : FlatVariable). IsHeld t v)
     (same_Some own d (sym there ∙ (ap types.at (sym (eqb-true x y same)) ∙ is))) here) (λ other. fits x d is)
 
+-- where each of an array's first values is replaced, they are as many as before
+pub still_counted : (change : TermTree → TermTree) (size : ℕ) (values : List TermTree) → HasCount size values
+    → HasCount size (map change values)
+still_counted change size [] count = tt
+still_counted change size (e ∷ es) count = length-map (e ∷ es) change ∙ count
+
 -- the elements of a new array
 module _ (types : Types) (m : Values) (fits : Fits types m) (word : WordType) where
   all_fit : (es : List TermTree) → AllSuit types word es → All (IsWithinKind word.kind) (map (value_in m) es)

@@ -1,5 +1,5 @@
 -- The arguments of a call, passed one by one.
-use Rattle.std.proofs.Common.{◌≡◌, ℕ, ◌+◌, false, inl, inr, List, [], ◌∷◌, ◌++◌, length, get_or}
+use Rattle.std.proofs.Common.{◌≡◌, ℕ, ◌+◌, false, ◌⊎◌, inl, inr, List, [], ◌∷◌, ◌++◌, length, get_or}
 use Rattle.std.proofs.Common.{drop, map, nat_lt, ◌<◌, ◌≤◌, arith, refl, sym, ap, ap₂, subst, ◌∙◌, length-append}
 use Rattle.std.proofs.lemmas.List.{append_assoc, append-nil, drop_all, drop_more}
 use Rattle.std.proofs.lemmas.Bool.{cases_Bool}
@@ -50,17 +50,12 @@ below i n h = grind (arith, nat_tests)
 none_after : {A : Type 0} (xs : List A) (i : ℕ) → false ≡ nat_lt i (length xs) → drop i xs ≡ []
 none_after xs i h = drop_all i xs (below i (length xs) h)
 
-passed_without : (names : Numbers) (n : ℕ) (ps : List ParameterTree) → passed names n ps [] ≡ nothing
-passed_without names n [] = refl
-passed_without names n (p ∷ ps) = refl
-
-begun_without : (names own : Numbers) (n : ℕ) (ps : List ParameterTree) → begun names own n ps [] ≡ own
-begun_without names own n [] = refl
-begun_without names own n (p ∷ ps) = refl
-
-variables_without : (ps : List ParameterTree) → passed_variables ps [] ≡ []
-variables_without [] = refl
-variables_without (p ∷ ps) = refl
+nothing_passed : (names own : Numbers) (n : ℕ) (ps : List ParameterTree) (es : List ExprTree) → (ps ≡ []) ⊎ (es ≡ [])
+    → (passed names n ps es ≡ nothing) × (begun names own n ps es ≡ own) × (passed_variables ps es ≡ [])
+nothing_passed names own n [] es none = (refl, refl, refl)
+nothing_passed names own n (p ∷ ps) [] none = (refl, refl, refl)
+nothing_passed names own n (p ∷ ps) (e ∷ es) (inl none) = absurd cc
+nothing_passed names own n (p ∷ ps) (e ∷ es) (inr none) = absurd cc
 
 -- what is done and what is left come to all of it
 pub record Passes (names : Numbers) (done : FlatBlock) (own : Numbers) (now : List FlatVariable)
@@ -94,20 +89,15 @@ module _ {names : Numbers} {whole : FlatBlock} {names_begun : Numbers} {variable
       }
 
   -- no argument is left, or no parameter
-  passes_all : (done : FlatBlock) (own : Numbers) (now : List FlatVariable) (es : List ExprTree)
-      → Passes names done own now [] es whole names_begun variables
+  passes_end : (done : FlatBlock) (own : Numbers) (now : List FlatVariable) (ps : List ParameterTree)
+      (es : List ExprTree) → (ps ≡ []) ⊎ (es ≡ []) → Passes names done own now ps es whole names_begun variables
       → (done ≡ whole) × (own ≡ names_begun) × (now ≡ variables)
-  passes_all done own now es all =
-      (sym (chain_nothing done) ∙ all.block, all.begins, sym (append-nil now) ∙ all.declared)
-
-  passes_early : (done : FlatBlock) (own : Numbers) (now : List FlatVariable) (ps : List ParameterTree)
-      → Passes names done own now ps [] whole names_begun variables
-      → (done ≡ whole) × (own ≡ names_begun) × (now ≡ variables)
-  passes_early done own now ps all = (
-    sym (chain_nothing done) ∙ ap (chain done) (sym (passed_without names (length now) ps)) ∙ all.block,
-    sym (begun_without names own (length now) ps) ∙ all.begins,
-    sym (append-nil now) ∙ ap (λ ds. now ++ ds) (sym (variables_without ps)) ∙ all.declared,
-  )
+  passes_end done own now ps es none all =
+      let left = nothing_passed names own (length now) ps es none in (
+        sym (chain_nothing done) ∙ ap (chain done) (sym left.0) ∙ all.block,
+        sym left.1 ∙ all.begins,
+        sym (append-nil now) ∙ ap (λ ds. now ++ ds) (sym left.2) ∙ all.declared,
+      )
 
   -- so it is for lists and an index into them
   pub passes_next : (done between : FlatBlock) (own next : Numbers) (old new : List FlatVariable)
@@ -135,15 +125,11 @@ module _ {names : Numbers} {whole : FlatBlock} {names_begun : Numbers} {variable
       → Passes names done own now (map parameter_tree (drop i ps)) (map expr_tree (drop i es)) whole names_begun
       variables → (done ≡ whole) × (own ≡ names_begun) × (now ≡ variables)
   passes_parameters done own now ps es i most all =
-      passes_all done own now (map expr_tree (drop i es))
-      (subst (λ xs. Passes names done own now (map parameter_tree xs) (map expr_tree (drop i es)) whole names_begun
-      variables) (drop_all i ps most) all)
+      passes_end done own now _ _ (inl (ap (map parameter_tree) (drop_all i ps most))) all
 
   pub passes_arguments : (done : FlatBlock) (own : Numbers) (now : List FlatVariable) (ps : List Parameter)
       (es : List Expr) (i : ℕ) → false ≡ nat_lt i (length es)
       → Passes names done own now (map parameter_tree (drop i ps)) (map expr_tree (drop i es)) whole names_begun
       variables → (done ≡ whole) × (own ≡ names_begun) × (now ≡ variables)
   passes_arguments done own now ps es i past all =
-      passes_early done own now (map parameter_tree (drop i ps))
-      (subst (λ xs. Passes names done own now (map parameter_tree (drop i ps)) (map expr_tree xs) whole names_begun
-      variables) (none_after es i past) all)
+      passes_end done own now _ _ (inr (ap (map expr_tree) (none_after es i past))) all

@@ -1,22 +1,20 @@
 -- The code with words is well typed where the code is, and what is set under a control value is secret.
-use Rattle.std.proofs.Common.{◌≡◌, ℕ, zero, suc, ◌+◌, ◌<◌, ◌==◌, ◌^◌, Bool, true, false, if◌then◌else◌, List, []}
+use Rattle.std.proofs.Common.{◌≡◌, ℕ, zero, suc, ◌+◌, ◌<◌, ◌==◌, Bool, true, false, if◌then◌else◌, List, []}
 use Rattle.std.proofs.Common.{◌∷◌, map, drop, Option, None, Some, option_map, slice_get, refl, sym, ap, ◌∙◌}
 use Rattle.std.proofs.Common.{subst, arith}
 use Rattle.std.proofs.lemmas.Bool.{cond-false, ne_eqb}
-use Rattle.std.proofs.lemmas.List.{length-map}
 use Rattle.std.proofs.lemmas.Option.{none-some, same_Some, slice_get_within}
 use Rattle.inline.specs.declared.flat.FlatVariable.{FlatVariable}
 use Rattle.inline.specs.Flat.{TermTree, word_as, array_as}
-use Rattle.inline.specs.FlatTyping.{types_of, HasType, of_number, Suits, AllSuit, HasCount}
+use Rattle.inline.specs.FlatTyping.{types_of, HasType, of_number, Suits, AllSuit}
+use Rattle.inline.proofs.Face.{some_bit, still_counted}
 use Rattle.branch_removal.specs.Straight.{StraightTree, set, array, put, take, branch, repeats, StraightBlock, nothing}
 use Rattle.branch_removal.specs.Straight.{first, chain}
 use Rattle.branch_removal.specs.StraightTyping.{IsSet, IsFilled, IsPut, IsAmong, IsTyped, AreTyped, IsSecretWithin}
 use Rattle.branch_removal.specs.StraightTyping.{IsHidden, AreHidden}
 use Rattle.language.specs.declared.signature.Kind.{Kind}
-use Rattle.language.specs.declared.signature.Kind.TheVariants.{Boolean, Uint8, Uint16, Uint32}
 use Rattle.language.specs.declared.signature.Label.TheVariants.{Public}
 use Rattle.language.specs.declared.typing.WordType.{WordType}
-use Rattle.language.specs.Types.{bits_of}
 use Rattle.language.specs.WellTyped.{labelled}
 use Rattle.word.specs.declared.place.Place.{Place}
 use Rattle.word.specs.declared.profile.Profile.{Profile}
@@ -29,13 +27,6 @@ use Rattle.optimisation.proofs.element_words_lemmas.Known.{IsKnown, HasKnown, Al
 use Rattle.optimisation.proofs.element_words_lemmas.Known.{BlockHasKnown}
 use Rattle.optimisation.proofs.element_words_lemmas.Values.{part_word, still_typed, still_suits, all_still_suit}
 use Rattle.optimisation.proofs.element_words_lemmas.Given.{but, but_within}
-
--- 0 is within each kind
-zero_within : (kind : Kind) → 0 < 2 ^ bits_of kind
-zero_within Boolean = omega arith
-zero_within Uint8 = omega arith
-zero_within Uint16 = omega arith
-zero_within Uint32 = omega arith
 
 module _ (declared new : List FlatVariable) (parts : Parts) (is_splitting : IsSplitting declared new parts)
     (profile : Profile) (controls : ℕ) where
@@ -109,7 +100,7 @@ module _ (declared new : List FlatVariable) (parts : Parts) (is_splitting : IsSp
       → Suits (types_of profile new) word (first_value word.kind values)
   first_suits word [] suit = record {
     word = labelled word.kind Public;
-    has_type = of_number (zero_within word.kind);
+    has_type = of_number (some_bit word.kind);
     kind = refl;
     label = λ public. refl;
   }
@@ -159,11 +150,6 @@ module _ (declared new : List FlatVariable) (parts : Parts) (is_splitting : IsSp
       cond-false (part.base + i == x) None (slice_get new (part.base + i)) (ne_eqb (part.base + i) x apart)
       ∙ is_splitting.words y part i is below
 
-  still_counted : (size : ℕ) (values : List TermTree) → HasCount size values
-      → HasCount size (map (split parts) values)
-  still_counted size [] count = tt
-  still_counted size (e ∷ es) count = length-map (e ∷ es) (split parts) ∙ count
-
   array_typed : (x size : ℕ) (values : List TermTree) → IsFilled profile declared x size values
       → AllHaveKnown parts values → (o : Option Part) → part_of parts x ≡ o
       → AreTyped profile new controls (new_array o x size (map (split parts) values))
@@ -175,7 +161,7 @@ module _ (declared new : List FlatVariable) (parts : Parts) (is_splitting : IsSp
       suit = all_still_suit declared new parts is_splitting profile (but declared x) (but_within declared x)
           (but new x) (but_kept x) (but_words x (array_as is.word is.mutable size) is.known) is.word values is.suit
           known;
-      count = still_counted size values is.count;
+      count = still_counted (split parts) size values is.count;
     },
     tt,
   )

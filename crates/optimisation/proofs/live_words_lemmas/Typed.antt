@@ -3,15 +3,15 @@
 use Rattle.std.proofs.Common.{◌≡◌, ℕ, ◌==◌, Bool, true, false, if◌then◌else◌, List, [], ◌∷◌, map, Option}
 use Rattle.std.proofs.Common.{None, Some, option_map, slice_get, ◌⊎◌, inl, inr, refl, sym, ap, ◌∙◌, subst}
 use Rattle.std.proofs.lemmas.Bool.{ne_eqb}
-use Rattle.std.proofs.lemmas.List.{length-map}
 use Rattle.std.proofs.lemmas.Option.{none-some, same_Some}
 use Rattle.inline.specs.declared.flat.FlatVariable.{FlatVariable}
 use Rattle.inline.specs.Flat.{TermTree, word_as, array_as}
 use Rattle.inline.specs.FlatTyping.{Types, types_of, HasType, of_number, of_truth, of_variable, of_prefix, of_binary}
-use Rattle.inline.specs.FlatTyping.{of_rotation, of_conversion, of_selection, of_element, Suits, AllSuit, HasCount}
+use Rattle.inline.specs.FlatTyping.{of_rotation, of_conversion, of_selection, of_element, Suits, AllSuit}
 use Rattle.inline.specs.FlatTyping.{IsResult}
 use Rattle.language.specs.declared.typing.WordType.{WordType}
 use Rattle.word.specs.declared.profile.Profile.{Profile}
+use Rattle.inline.proofs.Face.{still_counted}
 use Rattle.branch_removal.specs.Straight.{StraightTree, set, array, put, take, branch, repeats, StraightBlock, nothing}
 use Rattle.branch_removal.specs.Straight.{first}
 use Rattle.branch_removal.specs.StraightTyping.{IsSet, IsFilled, IsPut, types_but, IsTyped, AreTyped, IsHidden}
@@ -169,11 +169,6 @@ module _ (table : Table) where
       suits = still_suits types are_kept is.suits;
     }
 
-    still_counted : (size : ℕ) (values : List TermTree) → HasCount size values
-        → HasCount size (map (renamed table) values)
-    still_counted size [] count = tt
-    still_counted size (e ∷ es) count = length-map (e ∷ es) (renamed table) ∙ count
-
     still_filled : (x size : ℕ) (values : List TermTree) → IsFilled profile declared x size values
         → IsFilled profile declared (share table x) size (map (renamed table) values)
     still_filled x size values is =
@@ -185,7 +180,7 @@ module _ (table : Table) where
           known = is.known;
           suit = all_still_suit (types_but profile declared x) (but_kept x is.word is.mutable size is.known)
               is.word values is.suit;
-          count = still_counted size values is.count;
+          count = still_counted (renamed table) size values is.count;
         })
 
     -- a statement in front of some, where there is one

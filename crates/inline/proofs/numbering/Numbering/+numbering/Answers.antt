@@ -1,11 +1,11 @@
 use Rattle.std.proofs.Common.{rules, arith, IfOk, Some, ◌≡◌, ◌<◌, ◌+◌, ◌*◌, ◌++◌, ◌∷◌, ap, ap₂, drop, length, map, refl}
 use Rattle.std.proofs.Common.{subst, sym, take, ◌∙◌}
-use Rattle.std.proofs.lemmas.List.{at_drop_all, drop_more}
+use Rattle.std.proofs.lemmas.List.{append-nil, at_drop_all, drop_more}
 use Rattle.std.specs.Option.{option_map}
 use Rattle.std.specs.Result.{OnOk}
 use Rattle.inline.proofs.BlockLemmas.{behind_both, chain_nothing, ok_along, ok_any, ok_behind}
-use Rattle.inline.proofs.CallLemmas.{called_block, called_declared, called_result, called_value, none_block}
-use Rattle.inline.proofs.CallLemmas.{none_declared, none_result, none_value, numbered_element}
+use Rattle.inline.proofs.CallLemmas.{not_called, called_block, called_declared, called_result, called_value}
+use Rattle.inline.proofs.CallLemmas.{numbered_element}
 use Rattle.inline.proofs.Measures.{body_smaller, conditional_smaller, loop_smaller, nodes_of_block}
 use Rattle.inline.proofs.Measures.{rest_smaller}
 use Rattle.inline.proofs.NumberingLemmas.{conditional_whole, loop_whole, more_declared, more_names, names_before}
@@ -163,22 +163,22 @@ word-returns-clause-block t c =
     c.push.ensures
 
 pub call-returns-in_default-clause-word : goal.call-returns-in_default-clause-word
-call-returns-in_default-clause-word t c = none_result c.args.earlier.now c.args.call.now.name.now c.in_default.ensures
+call-returns-in_default-clause-word t c =
+    rw (not_called c.args.earlier.now c.args.call.now.name.now c.in_default.ensures) refl
 
 pub call-returns-in_default-clause-value : goal.call-returns-in_default-clause-value
 call-returns-in_default-clause-value t c =
-    none_value c.args.earlier.now c.args.call.now.name.now c.args.self.now.names (length c.args.declared.now.items)
-    (map expr_tree c.args.call.now.arguments.items) c.in_default.ensures
+    rw (not_called c.args.earlier.now c.args.call.now.name.now c.in_default.ensures) refl
 
 pub call-returns-in_default-clause-block : goal.call-returns-in_default-clause-block
 call-returns-in_default-clause-block t c =
-    none_block c.args.earlier.now c.args.call.now.name.now c.args.self.now.names (length c.args.declared.now.items)
-    (map expr_tree c.args.call.now.arguments.items) (flat_block c.args.flat.now.items) c.in_default.ensures
+    rw (not_called c.args.earlier.now c.args.call.now.name.now c.in_default.ensures)
+    (sym (chain_nothing (flat_block c.args.flat.now.items)))
 
 pub call-returns-in_default-clause-declared : goal.call-returns-in_default-clause-declared
 call-returns-in_default-clause-declared t c =
-    none_declared c.args.earlier.now c.args.call.now.name.now (map expr_tree c.args.call.now.arguments.items)
-    c.args.declared.now.items c.in_default.ensures
+    rw (not_called c.args.earlier.now c.args.call.now.name.now c.in_default.ensures)
+    (sym (append-nil c.args.declared.now.items))
 
 pub call-inside-requires : goal.call-inside-requires
 call-inside-requires t c =
