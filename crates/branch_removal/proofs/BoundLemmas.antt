@@ -1,110 +1,33 @@
 -- Straight code keeps the bounds of the body that it is made for.
 use Rattle.std.proofs.Common.{◌≡◌, ℕ, ◌+◌, ◌*◌, ◌≤◌, List, [], ◌∷◌, Option, None, Some, max, slice_index, arith}
 use Rattle.std.proofs.Math.Nat.{max-le, mul-le-mul_left}
-use Rattle.inline.proofs.Face.{some_nodes}
-use Rattle.inline.specs.declared.flat.FlatVariable.{FlatVariable}
 use Rattle.inline.specs.Flat.{TermTree, FlatTree, declare, array, assign, put, hold, skip, branch, loop, FlatBlock}
 use Rattle.inline.specs.Flat.{nothing, first, FlatProgram}
 use Rattle.inline.specs.Flat as flat
 use Rattle.inline.specs.FlatSize.{IsSized, term_nodes, terms_nodes, value_nodes, tree_nodes, body_nodes}
-use Rattle.inline.specs.FlatTyping.{Types, types_after, with_type, IsTyped, AreTyped, IsTypedProgram}
 use Rattle.intervals.specs.Limits.{most_work}
 use Rattle.language.specs.Limits.{most_nodes}
 use Rattle.intervals.specs.Work.{tree_work, body_work, ranged}
-use Rattle.language.specs.declared.signature.Label.{Label}
 use Rattle.language.specs.declared.signature.Label.TheVariants.{Public, Secret}
 use Rattle.branch_removal.specs.Bounds.{statement_nodes, block_nodes, block_work, set_work}
 use Rattle.branch_removal.specs.Bounds.{IsBounded, IsCounted}
 use Rattle.branch_removal.specs.Heights.{height_of, height_of_all, height_in, height_in_all, depth_in, depth_in_all}
 use Rattle.branch_removal.specs.Heights.{result_height}
-use Rattle.branch_removal.specs.private.Removal.{removed, removed_all, own_controls, controls_in, controls_in_all}
+use Rattle.branch_removal.specs.private.Removal.{removed, removed_all, controls_in, controls_in_all}
 use Rattle.branch_removal.specs.private.Removal.{straightened}
 use Rattle.branch_removal.specs.Straight.{StraightTree, StraightBlock, chain}
 use Rattle.branch_removal.specs.Straight as straight
 
--- Nodes.
+-- Code of two parts.
 
 nodes-chain : (these those : StraightBlock) → block_nodes (chain these those) ≡ block_nodes these + block_nodes those
 nodes-chain straight.nothing those = omega arith
 nodes-chain (straight.first statement these) those = omega (arith, nodes-chain these those)
 
--- a held index is set, and what does nothing is gone
-mutual
-  few_nodes : (within : Option ℕ) (control : ℕ) (s : FlatTree) → block_nodes (removed within control s) ≤ tree_nodes s
-  few_nodes within control (branch Secret condition accepted otherwise) =
-      let xs = removed_all (Some control) (control + 2) accepted in
-      let ys = removed_all (Some (control + 1)) (control + 2) otherwise in
-      omega (
-        arith,
-        nodes-chain xs ys,
-        few_nodes_all (Some control) (control + 2) accepted,
-        few_nodes_all (Some (control + 1)) (control + 2) otherwise,
-      )
-  few_nodes within control (branch Public condition accepted otherwise) =
-      omega (arith, few_nodes_all within control accepted, few_nodes_all within control otherwise)
-  few_nodes within control (loop x low high body) = omega (arith, few_nodes_all within control body)
-  few_nodes within control other = omega arith
-
-  few_nodes_all : (within : Option ℕ) (control : ℕ) (b : FlatBlock)
-      → block_nodes (removed_all within control b) ≤ body_nodes b
-  few_nodes_all within control nothing = omega arith
-  few_nodes_all within control (first s rest) =
-      omega (
-        arith,
-        nodes-chain (removed within control s) (removed_all within control rest),
-        few_nodes within control s,
-        few_nodes_all within control rest,
-      )
-
--- Work.
-
-module _ (most : List ℕ) where
-  work-chain : (these those : StraightBlock)
-      → block_work most (chain these those) ≡ block_work most these + block_work most those
-  work-chain straight.nothing those = omega arith
-  work-chain (straight.first statement these) those = omega (arith, work-chain these those)
-
-  set_little : (within : Option ℕ) (value : TermTree) → set_work within value ≤ 1 + term_nodes value
-  set_little None (flat.number value kind) = omega arith
-  set_little within value = omega arith
-
-  module _ (declared : List FlatVariable) where
-    mutual
-      no_more_work : (types : Types) (label : Label) (s : FlatTree) → IsTyped declared types label s
-          → (within : Option ℕ) (control : ℕ)
-          → block_work most (removed within control s) ≤ tree_work most s
-      no_more_work types label (declare x word mutable value) typed within control =
-          omega (arith, set_little None value)
-      no_more_work types label (assign x value) typed within control = omega (arith, set_little within value)
-      no_more_work types label (hold x place size index) typed within control = omega (arith, set_little None index)
-      no_more_work types label (branch Secret condition accepted otherwise) typed within control =
-          let xs = removed_all (Some control) (control + 2) accepted in
-          let ys = removed_all (Some (control + 1)) (control + 2) otherwise in
-          let one = no_more_work_all types Secret accepted typed.1 (Some control) (control + 2) in
-          let other = no_more_work_all types Secret otherwise typed.2 (Some (control + 1)) (control + 2) in
-          omega (arith, work-chain xs ys, one, other)
-      no_more_work types label (branch Public condition accepted otherwise) typed within control =
-          let one = no_more_work_all types label accepted typed.1 within control in
-          let other = no_more_work_all types label otherwise typed.2 within control in
-          omega (arith, one, other)
-      no_more_work types label (loop x low high body) typed within control =
-          let inner = no_more_work_all (with_type types x _) label body typed.3 within control in
-          let turns : (slice_index most x + 1) * (1 + block_work most (removed_all within control body))
-          ≤ (slice_index most x + 1) * (1 + body_work most body) =
-          mul-le-mul_left (slice_index most x + 1) (omega (arith, inner)) in
-          omega (arith, turns)
-      no_more_work types label other typed within control = omega arith
-
-      pub no_more_work_all : (types : Types) (label : Label) (b : FlatBlock) → AreTyped declared types label b
-          → (within : Option ℕ) (control : ℕ)
-          → block_work most (removed_all within control b) ≤ body_work most b
-      no_more_work_all types label nothing typed within control = omega arith
-      no_more_work_all types label (first s rest) typed within control =
-          let one = no_more_work types label s typed.0 within control in
-          let more = no_more_work_all (types_after types s) label rest typed.1 within control in
-          omega (arith, work-chain (removed within control s) (removed_all within control rest), one, more)
-
--- Control values.
+work-chain : (most : List ℕ) (these those : StraightBlock)
+    → block_work most (chain these those) ≡ block_work most these + block_work most those
+work-chain most straight.nothing those = omega arith
+work-chain most (straight.first statement these) those = omega (arith, work-chain most these those)
 
 abbrev mutual
   -- how many conditions are taken in a statement
@@ -123,57 +46,84 @@ taken-chain : (these those : StraightBlock)
 taken-chain straight.nothing those = omega arith
 taken-chain (straight.first statement these) those = omega (arith, taken-chain these those)
 
--- what two arms take at most
+-- What is removed adds nothing.
+
+set_little : (within : Option ℕ) (value : TermTree) → set_work within value ≤ 1 + term_nodes value
+set_little None (flat.number value kind) = omega arith
+set_little within value = omega arith
+
+-- what two parts take at most
 most_of_two : (a b m n : ℕ) → a ≤ 2 * m → b ≤ 2 * n → max a b ≤ 2 * (m + n)
 most_of_two a b m n p q = max-le (omega (arith, p)) (omega (arith, q))
 
-mutual
-  controls_taken : (within : Option ℕ) (control : ℕ) (s : FlatTree)
-      → controls_in s ≤ 2 * taken_in_all (removed within control s)
-  controls_taken within control (branch Secret condition accepted otherwise) =
-      let xs = removed_all (Some control) (control + 2) accepted in
-      let ys = removed_all (Some (control + 1)) (control + 2) otherwise in
-      let most = most_of_two (controls_in_all accepted) (controls_in_all otherwise) (taken_in_all xs)
-      (taken_in_all ys)
-      (controls_taken_all (Some control) (control + 2) accepted)
-      (controls_taken_all (Some (control + 1)) (control + 2) otherwise) in
-      omega (arith, most, taken-chain xs ys)
-  controls_taken within control (branch Public condition accepted otherwise) =
-      let xs = removed_all within control accepted in
-      let ys = removed_all within control otherwise in
-      let most = most_of_two (controls_in_all accepted) (controls_in_all otherwise) (taken_in_all xs)
-      (taken_in_all ys)
-      (controls_taken_all within control accepted) (controls_taken_all within control otherwise) in
-      omega (arith, most)
-  controls_taken within control (loop x low high body) = omega (arith, controls_taken_all within control body)
-  controls_taken within control other = omega arith
+-- straight code has no more nodes and no more work than what it is made for, and takes the conditions that its control
+-- values are for
+record Fits (most : List ℕ) (nodes work controls : ℕ) (code : StraightBlock) : Type 0 where
+  few_nodes : block_nodes code ≤ nodes
+  few_work : block_work most code ≤ work
+  taken : controls ≤ 2 * taken_in_all code
 
-  controls_taken_all : (within : Option ℕ) (control : ℕ) (b : FlatBlock)
-      → controls_in_all b ≤ 2 * taken_in_all (removed_all within control b)
-  controls_taken_all within control nothing = omega arith
-  controls_taken_all within control (first s rest) =
-      let xs = removed within control s in
-      let ys = removed_all within control rest in
-      let most = most_of_two (controls_in s) (controls_in_all rest) (taken_in_all xs) (taken_in_all ys)
-      (controls_taken within control s) (controls_taken_all within control rest) in
-      omega (arith, most, taken-chain xs ys)
+module _ (most : List ℕ) where
+  -- of two parts one behind the other, of which the control values may be the same
+  fits_chain : {n w c m v d : ℕ} (xs ys : StraightBlock) → Fits most n w c xs → Fits most m v d ys
+      → Fits most (n + m) (w + v) (max c d) (chain xs ys)
+  fits_chain {c = c} {d = d} xs ys one other =
+      let few = one.few_nodes in
+      let more = other.few_nodes in
+      let some = one.few_work in
+      let others = other.few_work in
+      let both = most_of_two c d (taken_in_all xs) (taken_in_all ys) one.taken other.taken in
+      record {
+        few_nodes = omega (arith, nodes-chain xs ys, few, more);
+        few_work = omega (arith, work-chain most xs ys, some, others);
+        taken = omega (arith, taken-chain xs ys, both);
+      }
 
-few_own : (label : Label) → own_controls label ≤ 2
-few_own Public = omega arith
-few_own Secret = omega arith
+  mutual
+    fits : (within : Option ℕ) (control : ℕ) (s : FlatTree)
+        → Fits most (tree_nodes s) (tree_work most s) (controls_in s) (removed within control s)
+    fits within control (declare x word mutable value) =
+        record { few_nodes = omega arith; few_work = omega (arith, set_little None value); taken = omega arith }
+    fits within control (assign x value) =
+        record { few_nodes = omega arith; few_work = omega (arith, set_little within value); taken = omega arith }
+    fits within control (hold x place size index) =
+        record { few_nodes = omega arith; few_work = omega (arith, set_little None index); taken = omega arith }
+    fits within control (branch Secret condition accepted otherwise) =
+        let arms = fits_chain (removed_all (Some control) (control + 2) accepted)
+        (removed_all (Some (control + 1)) (control + 2) otherwise)
+        (fits_all (Some control) (control + 2) accepted) (fits_all (Some (control + 1)) (control + 2) otherwise) in
+        let few = arms.few_nodes in
+        let some = arms.few_work in
+        let taken = arms.taken in
+        record { few_nodes = omega (arith, few); few_work = omega (arith, some); taken = omega (arith, taken) }
+    fits within control (branch Public condition accepted otherwise) =
+        let xs = removed_all within control accepted in
+        let ys = removed_all within control otherwise in
+        let arms = fits_chain xs ys (fits_all within control accepted) (fits_all within control otherwise) in
+        let few = arms.few_nodes in
+        let some = arms.few_work in
+        let taken = arms.taken in
+        record {
+          few_nodes = omega (arith, nodes-chain xs ys, few);
+          few_work = omega (arith, work-chain most xs ys, some);
+          taken = omega (arith, taken-chain xs ys, taken);
+        }
+    fits within control (loop x low high body) =
+        let inner = fits_all within control body in
+        let few = inner.few_nodes in
+        let some = inner.few_work in
+        let turns : (slice_index most x + 1) * (1 + block_work most (removed_all within control body))
+        ≤ (slice_index most x + 1) * (1 + body_work most body) =
+        mul-le-mul_left (slice_index most x + 1) (omega (arith, some)) in
+        let taken = inner.taken in
+        record { few_nodes = omega (arith, few); few_work = omega (arith, turns); taken = omega (arith, taken) }
+    fits within control other = record { few_nodes = omega arith; few_work = omega arith; taken = omega arith }
 
-mutual
-  few : (s : FlatTree) → controls_in s ≤ tree_nodes s
-  few (branch label condition accepted otherwise) =
-      let most : max (controls_in_all accepted) (controls_in_all otherwise) ≤ body_nodes accepted
-      + body_nodes otherwise = max-le (omega (arith, few_all accepted)) (omega (arith, few_all otherwise)) in
-      omega (arith, most, some_nodes condition, few_own label)
-  few (loop x low high body) = omega (arith, few_all body)
-  few other = omega arith
-
-  few_all : (b : FlatBlock) → controls_in_all b ≤ body_nodes b
-  few_all nothing = omega arith
-  few_all (first s rest) = max-le (omega (arith, few s)) (omega (arith, few_all rest))
+    fits_all : (within : Option ℕ) (control : ℕ) (b : FlatBlock)
+        → Fits most (body_nodes b) (body_work most b) (controls_in_all b) (removed_all within control b)
+    fits_all within control nothing = record { few_nodes = omega arith; few_work = omega arith; taken = omega arith }
+    fits_all within control (first s rest) = fits_chain (removed within control s) (removed_all within control rest)
+        (fits within control s) (fits_all within control rest)
 
 -- Room.
 
@@ -212,26 +162,27 @@ result_room (Some value) = omega (arith, height value)
 
 -- there are no more control values than nodes
 pub few_controls : (p : FlatProgram) → IsSized p → controls_in_all p.body ≤ most_nodes
-few_controls p sized = omega (arith, few_all p.body, sized.counted, sized.nodes)
+few_controls p sized =
+    let body = fits_all [] None 0 p.body in
+    let taken = body.taken in
+    let few = body.few_nodes in
+    omega (arith, taken, few, block_room (removed_all None 0 p.body), sized.counted, sized.nodes)
 
 -- the code has no more nodes than the source
 pub counted : (p : FlatProgram) → IsSized p → IsCounted (straightened (ranged p))
-counted p sized = omega (arith, few_nodes_all None 0 p.body, sized.counted)
+counted p sized = let few = (fits_all [] None 0 p.body).few_nodes in omega (arith, few, sized.counted)
 
-pub bounded : (p : FlatProgram) → IsTypedProgram p → IsSized p → (ranged p).work ≤ most_work
-    → IsBounded (straightened (ranged p))
-bounded p typed sized fits = record {
-  lengths = sized.lengths;
-  parameters = sized.parameters;
-  declared = sized.declared;
-  nodes = sized.nodes;
-  worked = omega (arith, no_more_work_all (ranged p).turns p.declared _ Public p.body typed.body None 0);
-  work_fits = fits;
-  framed = omega (
-    arith,
-    controls_taken_all None 0 p.body,
-    block_room (removed_all None 0 p.body),
-    result_room p.value,
-    counted p sized,
-  );
-}
+pub bounded : (p : FlatProgram) → IsSized p → (ranged p).work ≤ most_work → IsBounded (straightened (ranged p))
+bounded p sized fits =
+    let body = fits_all (ranged p).turns None 0 p.body in
+    let work = body.few_work in
+    let taken = body.taken in
+    record {
+      lengths = sized.lengths;
+      parameters = sized.parameters;
+      declared = sized.declared;
+      nodes = sized.nodes;
+      worked = omega (arith, work);
+      work_fits = fits;
+      framed = omega (arith, taken, block_room (removed_all None 0 p.body), result_room p.value, counted p sized);
+    }

@@ -196,7 +196,7 @@ module _ (profile : Profile) (declared : List FlatVariable) (most : List ℕ) wh
 
   mutual
     pub follow : (types : Types) (label : Label) (statement : FlatTree) → IsTyped declared types label statement
-        → AreAmong types all → (within : Option ℕ) (control : ℕ) → IsUnder declared within label
+        → AreAmong types all → (within : Option ℕ) (control : ℕ) → IsUnder within label
         → (s : StraightState) (m : Values) → Agree what_is_public types s.variables m
         → Beside (Leads all m statement) (types_after types statement)
         (after_all s (removed within control statement)) (path_along s (removed within control statement))
@@ -326,7 +326,7 @@ module _ (profile : Profile) (declared : List FlatVariable) (most : List ℕ) wh
         }
 
     pub follow_all : (types : Types) (label : Label) (body : FlatBlock) → AreTyped declared types label body
-        → AreAmong types all → (within : Option ℕ) (control : ℕ) → IsUnder declared within label
+        → AreAmong types all → (within : Option ℕ) (control : ℕ) → IsUnder within label
         → (s : StraightState) (m : Values) → Agree what_is_public types s.variables m
         → Beside (LeadAll all m body) (types_after_all types body)
         (after_all s (removed_all within control body)) (path_along s (removed_all within control body))

@@ -33,7 +33,7 @@ use Rattle.branch_removal.proofs.Results.{parameters_among, parameter_at, all_ar
 use Rattle.branch_removal.proofs.Same.{same_all}
 use Rattle.branch_removal.proofs.Scopes.{AreAmong, among_after_all, result_among}
 use Rattle.inline.proofs.Face.{types_kept}
-use Rattle.branch_removal.proofs.Typed.{hidden_all, typed_all}
+use Rattle.branch_removal.proofs.Typed.{AreStraight, all_straight}
 use Rattle.branch_removal.proofs.SeenLemmas.{fine_alike}
 use Rattle.branch_removal.proofs.Shown.{same_paths, same_public}
 use Rattle.branch_removal.proofs.Values.{one_result, result_seen}
@@ -46,13 +46,15 @@ module _ (p : FlatProgram) (typed : IsTypedProgram p) where
   end_among = among_after_all p.profile p.declared (parameter_types p.profile p.parameters) Public p.body typed.body
       first_among
 
+  body : AreStraight p.profile p.declared (controls_in_all p.body) (removed_all None 0 p.body)
+  body = all_straight p.profile p.declared (controls_in_all p.body) (parameter_types p.profile p.parameters) Public
+      p.body typed.body first_among None 0 tt tt (omega arith)
+
   typed_straight : IsTypedStraight (straightened (ranged p))
   typed_straight = record {
     parameters = typed.parameters;
-    body = typed_all p.profile p.declared (controls_in_all p.body) (parameter_types p.profile p.parameters) Public
-        p.body typed.body first_among None 0 tt (omega arith);
-    hidden = hidden_all p.profile p.declared (parameter_types p.profile p.parameters) Public p.body typed.body
-        first_among None 0 tt;
+    body = body.typed;
+    hidden = body.hidden;
     result = result_among (end_types p) (types_of p.profile p.declared) end_among p.returned p.value typed.result;
   }
 
@@ -116,7 +118,7 @@ is_removed p typed sized safe fits = record {
   nodes = refl;
   work = refl;
   turns = refl;
-  bounded = bounded p typed sized fits;
+  bounded = bounded p sized fits;
   typed = typed_straight p typed;
   outcome = λ args within. same_outcome p typed args;
   fine = λ args within. fine_path p typed args (ranged p).turns safe within;
