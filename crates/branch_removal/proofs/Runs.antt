@@ -5,15 +5,12 @@ use Rattle.std.proofs.lemmas.Bool.{cond-false, cond-true, cond_both, ne_eqb, eq-
 use Rattle.inline.proofs.Face.{turns_keep}
 use Rattle.inline.specs.Flat.{FlatTree, assign, put, branch, loop, FlatBlock, nothing}
 use Rattle.inline.specs.Flat.{first}
-use Rattle.inline.specs.FlatMeaning.{turns, path_of_turns}
-use Rattle.inline.specs.Path.{Path, seen}
+use Rattle.inline.specs.FlatMeaning.{turns}
 use Rattle.language.specs.declared.signature.Label.TheVariants.{Public, Secret}
-use Rattle.word.specs.declared.profile.Profile.{Profile}
 use Rattle.branch_removal.specs.private.Removal.{take_within, removed, removed_all}
 use Rattle.branch_removal.specs.Straight.{StraightBlock}
 use Rattle.branch_removal.specs.StraightMeaning.{StraightState, holds, with_variable, with_controls, value_at, counted}
 use Rattle.branch_removal.specs.StraightMeaning.{after, after_all}
-use Rattle.branch_removal.proofs.SeenLemmas.{both_seen}
 use Rattle.branch_removal.proofs.Sequences.{after-chain}
 
 -- Turns.
@@ -32,18 +29,6 @@ pub turns_relate_from : {S T : Type 0} (R : S → T → Type 0) (f : ℕ → S �
 turns_relate_from R f g keep n k i j many from s t r =
     subst (λ l. R (turns n i f s) (turns l j g t)) many
     (subst (λ l. R (turns n i f s) (turns n l g t)) from (turns_relate R f g keep n i s t r))
-
--- where the same is seen of the turns of two loops, it is of the loops
-pub turns_seen : (profile : Profile) {S : Type 0} (R : S → S → Type 0) (turn : ℕ → S → S) (path : ℕ → S → Path)
-    → ((i : ℕ) (s t : S) → R s t → R (turn i s) (turn i t))
-    → ((i : ℕ) (s t : S) → R s t → seen profile (path i s) ≡ seen profile (path i t))
-    → (n i : ℕ) (s t : S) → R s t → seen profile (path_of_turns n i turn path s)
-    ≡ seen profile (path_of_turns n i turn path t)
-turns_seen profile R turn path keep one zero i s t r = refl
-turns_seen profile R turn path keep one (suc n) i s t r =
-    both_seen profile (path i s) (path_of_turns n (i + 1) turn path (turn i s)) (path i t)
-    (path_of_turns n (i + 1) turn path (turn i t))
-    (one i s t r) (turns_seen profile R turn path keep one n (i + 1) (turn i s) (turn i t) (keep i s t r))
 
 -- Control values.
 

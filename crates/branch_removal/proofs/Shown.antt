@@ -13,10 +13,10 @@ use Rattle.language.specs.declared.values.Arg.{Arg}
 use Rattle.branch_removal.specs.Removed.{IsRemoved}
 use Rattle.branch_removal.specs.Replaced.{IsReplaced}
 use Rattle.branch_removal.specs.Straight.{StraightProgram}
-use Rattle.branch_removal.specs.StraightMeaning.{start, end_of, path_along, outcome_of, path_of}
+use Rattle.branch_removal.specs.StraightMeaning.{start, end_of, after_all, path_along, outcome_of, path_of}
 use Rattle.branch_removal.specs.StraightTyping.{IsTypedStraight}
 use Rattle.branch_removal.proofs.Agreement.{Agree, what_is_public}
-use Rattle.branch_removal.proofs.Public.{in_step_all, same_seen_all}
+use Rattle.branch_removal.proofs.Public.{Alike, in_step_all}
 use Rattle.branch_removal.proofs.Results.{parameters_among, parameter_at, given_in_step, all_public_arrays}
 use Rattle.branch_removal.proofs.Results.{same_return}
 use Rattle.branch_removal.proofs.Scopes.{AreAmong}
@@ -32,9 +32,13 @@ module _ (p : StraightProgram) (typed : IsTypedStraight p) where
     first_agree = given_in_step p.profile p.parameters p.declared one other typed.parameters agree.one_within
         agree.other_within agree.equal
 
-    end_agree : Agree what_is_public (types_of p.profile p.declared) (end_of p one) (end_of p other)
-    end_agree = in_step_all p.profile p.declared p.controls p.body typed.body typed.hidden (start p one)
+    both_runs : Alike p.profile p.declared p.controls (after_all (start p one) p.body) (after_all (start p other) p.body)
+        (path_along (start p one) p.body) (path_along (start p other) p.body)
+    both_runs = in_step_all p.profile p.declared p.controls p.body typed.body typed.hidden (start p one)
         (start p other) first_agree
+
+    end_agree : Agree what_is_public (types_of p.profile p.declared) (end_of p one) (end_of p other)
+    end_agree = both_runs.state
 
     pub same_paths : seen p.profile (path_of p one) ≡ seen p.profile (path_of p other)
     same_paths =
@@ -43,7 +47,7 @@ module _ (p : StraightProgram) (typed : IsTypedStraight p) where
         both_seen p.profile
         (path_along s p.body) (path_of_result (end_of p one) p.value)
         (path_along t p.body) (path_of_result (end_of p other) p.value)
-        (same_seen_all p.profile p.declared p.controls p.body typed.body typed.hidden s t first_agree)
+        both_runs.shown
         (result_seen (types_of p.profile p.declared) _ _ end_agree p.returned p.value typed.result)
 
     pub same_public : AgreeInPublic p.parameters p.returned (outcome_of p one) (outcome_of p other)

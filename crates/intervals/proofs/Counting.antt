@@ -22,48 +22,38 @@ set_here turns x n h = get_or-set_same turns x n 0 h
 set_other : (turns : List ℕ) (x n y : ℕ) → (y ≡ x → ⊥) → slice_index (slice_set turns x n) y ≡ slice_index turns y
 set_other turns x n y h = get_or-set_other turns x y n 0 h
 
+-- there are as many as before, and those of the numbers before n stay
+record Stays (n : ℕ) (turns after : List ℕ) : Type 0 where
+  long : length after ≡ length turns
+  below : (y : ℕ) → y < n → slice_index after y ≡ slice_index turns y
+
+stays_twice : {n m : ℕ} {turns middle after : List ℕ} → n ≤ m → Stays n turns middle → Stays m middle after
+    → Stays n turns after
+stays_twice more one other = record {
+  long = other.long ∙ one.long;
+  below = λ y less. other.below y (omega (arith, less, more)) ∙ one.below y less;
+}
+
 module _ (declared : List FlatVariable) where
   mutual
-    -- there are as many as before
-    long : (s : FlatTree) (bounds : Bounds) (turns : List ℕ) → length (counted declared bounds turns s) ≡ length turns
-    long (branch label condition accepted otherwise) bounds turns =
-        long_all otherwise (where_false declared bounds label condition)
-        (counted_all declared (where_true declared bounds label condition) turns accepted)
-        ∙ long_all accepted (where_true declared bounds label condition) turns
-    long (loop x low high body) bounds turns =
+    stays : (s : FlatTree) (n : ℕ) (bounds : Bounds) (turns : List ℕ) → IsNumbered n s
+        → Stays n turns (counted declared bounds turns s)
+    stays (branch label condition accepted otherwise) n bounds turns numbered =
+        stays_twice (omega arith) (stay accepted n (where_true declared bounds label condition) turns numbered.0)
+        (stay otherwise (n + declarations_in_all accepted) (where_false declared bounds label condition) _ numbered.1)
+    stays (loop x low high body) n bounds turns numbered =
         let most = most_turns (interval declared bounds low) (interval declared bounds high) in
-        long_all body (in_loop declared bounds x low high) (slice_set turns x most) ∙ length-set turns x most
-    long other bounds turns = refl
+        stays_twice {m = n + 1} (omega arith) (record {
+          long = length-set turns x most;
+          below = λ y less. set_other turns x most y (λ same. omega (arith, same, numbered.0, less));
+        }) (stay body (n + 1) (in_loop declared bounds x low high) (slice_set turns x most) numbered.1)
+    stays other n bounds turns numbered = record { long = refl; below = λ y less. refl }
 
-    long_all : (b : FlatBlock) (bounds : Bounds) (turns : List ℕ)
-        → length (counted_all declared bounds turns b) ≡ length turns
-    long_all nothing bounds turns = refl
-    long_all (first s rest) bounds turns =
-        long_all rest (bounds_after declared bounds s) (counted declared bounds turns s) ∙ long s bounds turns
-
-  mutual
-    -- and those of the numbers before its own stay
-    stays : (s : FlatTree) (n : ℕ) (bounds : Bounds) (turns : List ℕ) → IsNumbered n s → (y : ℕ) → y < n
-        → slice_index (counted declared bounds turns s) y ≡ slice_index turns y
-    stays (branch label condition accepted otherwise) n bounds turns numbered y less =
-        stay otherwise (n + declarations_in_all accepted) (where_false declared bounds label condition)
-        (counted_all declared (where_true declared bounds label condition) turns accepted) numbered.1 y
-        (omega (arith, less))
-        ∙ stay accepted n (where_true declared bounds label condition) turns numbered.0 y less
-    stays (loop x low high body) n bounds turns numbered y less =
-        let most = most_turns (interval declared bounds low) (interval declared bounds high) in
-        stay body (n + 1) (in_loop declared bounds x low high) (slice_set turns x most) numbered.1 y
-        (omega (arith, less))
-        ∙ set_other turns x most y (λ same. omega (arith, same, numbered.0, less))
-    stays other n bounds turns numbered y less = refl
-
-    stay : (b : FlatBlock) (n : ℕ) (bounds : Bounds) (turns : List ℕ) → AreNumbered n b → (y : ℕ) → y < n
-        → slice_index (counted_all declared bounds turns b) y ≡ slice_index turns y
-    stay nothing n bounds turns numbered y less = refl
-    stay (first s rest) n bounds turns numbered y less =
-        stay rest (n + declarations_in s) (bounds_after declared bounds s) (counted declared bounds turns s)
-        numbered.1 y (omega (arith, less))
-        ∙ stays s n bounds turns numbered.0 y less
+    stay : (b : FlatBlock) (n : ℕ) (bounds : Bounds) (turns : List ℕ) → AreNumbered n b
+        → Stays n turns (counted_all declared bounds turns b)
+    stay nothing n bounds turns numbered = record { long = refl; below = λ y less. refl }
+    stay (first s rest) n bounds turns numbered = stays_twice (omega arith) (stays s n bounds turns numbered.0)
+        (stay rest (n + declarations_in s) (bounds_after declared bounds s) _ numbered.1)
 
   -- a list that has what was counted at the numbers of a statement has enough for its loops
   abbrev HasOwn : List ℕ → ℕ → ℕ → List ℕ → Type 0
@@ -80,9 +70,9 @@ module _ (declared : List FlatVariable) where
           let middle = counted_all declared one turns accepted in (
             enough_all accepted types (joined label control) n one turns typed.1 numbered.0 count
                 (λ y low high. own y low (omega (arith, high))
-                ∙ stay otherwise (n + declarations_in_all accepted) other middle numbered.1 y high),
+                ∙ (stay otherwise (n + declarations_in_all accepted) other middle numbered.1).below y high),
             enough_all otherwise types (joined label control) (n + declarations_in_all accepted) other middle typed.2
-                numbered.1 (long_all accepted one turns ∙ count)
+                numbered.1 ((stay accepted n one turns numbered.0).long ∙ count)
                 (λ y low high. own y (omega (arith, low)) (omega (arith, high))),
           )
       enough (loop x low high body) types control n bounds turns typed numbered count own =
@@ -92,7 +82,7 @@ module _ (declared : List FlatVariable) where
           let listed = slice_get_within declared x (word_as counter_type false) typed.2.listed in
           let here : slice_index all x ≡ most =
           own x (omega (arith, numbered.0)) (omega (arith, numbered.0))
-          ∙ (stay body (n + 1) inside set numbered.1 x (omega (arith, numbered.0))
+          ∙ ((stay body (n + 1) inside set numbered.1).below x (omega (arith, numbered.0))
           ∙ set_here turns x most (omega (arith, listed, count))) in (
             sym here,
             enough_all body (with_type types x (word_as counter_type false)) control (n + 1) inside set typed.3
@@ -110,8 +100,8 @@ module _ (declared : List FlatVariable) where
           let after = counted declared bounds turns s in (
             enough s types control n bounds turns typed.0 numbered.0 count
                 (λ y low high. own y low (omega (arith, high))
-                ∙ stay rest (n + declarations_in s) (bounds_after declared bounds s) after numbered.1 y high),
+                ∙ (stay rest (n + declarations_in s) (bounds_after declared bounds s) after numbered.1).below y high),
             enough_all rest (types_after types s) control (n + declarations_in s) (bounds_after declared bounds s)
-                after typed.1 numbered.1 (long s bounds turns ∙ count)
+                after typed.1 numbered.1 ((stays s n bounds turns numbered.0).long ∙ count)
                 (λ y low high. own y (omega (arith, low)) (omega (arith, high))),
           )
