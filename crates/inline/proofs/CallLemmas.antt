@@ -2,9 +2,9 @@
 use Rattle.std.proofs.Common.{◌≡◌, ℕ, ◌+◌, List, [], ◌∷◌, ◌++◌, Option, Some, None, Result, length, map, refl, sym}
 use Rattle.std.proofs.Common.{ap, ap₂, subst, ◌∙◌}
 use Rattle.std.specs.Result.{OnOk}
-use Rattle.std.proofs.lemmas.List.{append_assoc, append-nil}
+use Rattle.std.proofs.lemmas.List.{append_assoc}
 use Rattle.std.specs.Option.{option_map}
-use Rattle.inline.proofs.BlockLemmas.{behind, behind_both, chain_nothing}
+use Rattle.inline.proofs.BlockLemmas.{behind, behind_both}
 use Rattle.inline.proofs.Below.{known_by_name, made}
 use Rattle.inline.proofs.NumberingLemmas.{next_number}
 use Rattle.inline.specs.declared.flat.FlatVariable.{FlatVariable}

@@ -1,4 +1,5 @@
 mod Below
+pub mod ListLemmas
 pub mod Linked
 pub mod Comes
 pub mod Chains

@@ -1,8 +1,9 @@
 -- Where a body begins: the parameters have the first numbers, and hold the arguments.
-use Rattle.std.proofs.Common.{◌≡◌, ◌≢◌, ℕ, zero, suc, ◌+◌, ◌<◌, ◌≤◌, true, false, inl, inr, cond, List, [], ◌∷◌, ◌++◌}
+use Rattle.std.proofs.Common.{◌≡◌, ◌≢◌, ℕ, suc, ◌+◌, ◌<◌, ◌≤◌, true, false, inl, inr, cond, List, [], ◌∷◌, ◌++◌}
 use Rattle.std.proofs.Common.{length, map, Option, Some, None, slice_get, refl, sym, ap, ◌∙◌, subst, arith}
 use Rattle.std.proofs.lemmas.Bool.{cases_Bool}
-use Rattle.std.proofs.lemmas.Option.{none-some, same_Some}
+use Rattle.std.proofs.Common.{append_assoc, append-nil, length-append}
+use Rattle.std.proofs.lemmas.Option.{none-some, same_Some, slice_get_past}
 use Rattle.std.specs.Str.{bytes_eq}
 use Rattle.word.specs.declared.profile.Profile.{Profile}
 use lib.Pointwise.{bytes_decides}
@@ -30,7 +31,8 @@ use Rattle.language.specs.Typing.{with_parameters, parameter_as, parameter_value
 use Rattle.language.specs.WellTyped.{AreNew, one_is_new}
 use Rattle.inline.proofs.Below.{found-new, found-other, found-kept}
 use Rattle.inline.proofs.Linked.{Linked, Serves, serves_itself, widened, later, entry, value_as, variable_as}
-use Rattle.inline.proofs.Linked.{linked_beside, linked_named, with_type-same, with_type-other}
+use Rattle.inline.proofs.Linked.{linked_beside, linked_named, with_type-same}
+use Rattle.inline.proofs.ListLemmas.{get_front, get_last}
 use Rattle.inline.proofs.Terms.{held, Holds, Shows}
 
 -- what a parameter is declared as
@@ -70,11 +72,6 @@ linked_own scope names types n linked p new d same =
 
 -- Numbers.
 
--- types once more variables are declared
-abbrev pub typed_with : Types → ℕ → List FlatVariable → Types
-typed_with types n [] = types
-typed_with types n (d ∷ ds) = typed_with (with_type types n d) (n + 1) ds
-
 -- names of the one list keep what they stand for in a longer one
 pub kept_parameters : (ps : List ParameterTree) (names : Numbers) (n : ℕ) (text : List ℕ) (x : Numbered)
     → found names text ≡ Some x → found (numbering.with_parameters names n ps) text ≡ Some x
@@ -87,68 +84,51 @@ abbrev pub Named : Numbers → ℕ → List ParameterTree → Type 0
 Named names n [] = Unit {0}
 Named names n (p ∷ ps) = (found names p.name ≡ Some (entry n (own p))) × Named names (n + 1) ps
 
-pub record Begins (scope : Scope) (names : Numbers) (types : Types) (n : ℕ) (ps : List ParameterTree) : Type 0 where
-  pub linked : Linked (with_parameters scope ps) (numbering.with_parameters names n ps)
-      (typed_with types n (all_own ps)) (n + length ps)
-  pub named : Named (numbering.with_parameters names n ps) n ps
-
 pub itself : (text : List ℕ) → bytes_eq text text ≡ true
 itself text = (bytes_decides text text).1 refl
 
-begins : (ps : List ParameterTree) (scope : Scope) (names : Numbers) (types : Types) (n : ℕ) → AreNew scope ps
-    → Linked scope names types n → Begins scope names types n ps
-begins [] scope names types n new linked =
-    record { linked = later scope names types n (n + 0) (omega arith) linked; named = tt }
-begins (p ∷ ps) scope names types n (one_is_new here there) linked =
-    let rest = begins ps _ (naming names p.name n (own p)) (with_type types n (own p)) (n + 1) there
-    (linked_own scope names types n linked p here (own p) refl) in
-    record {
-      linked = later _ _ _ ((n + 1) + length ps) (n + length (p ∷ ps)) (omega arith) rest.linked;
-      named = (
-        kept_parameters ps (naming names p.name n (own p)) (n + 1) p.name (entry n (own p))
-            (found-new names p.name (entry n (own p)) p.name (itself p.name) (linked.none p.name here)),
-        rest.named,
-      );
-    }
+module _ (profile : Profile) where
+  -- a parameter behind the variables of a list
+  linked_behind : (scope : Scope) (names : Numbers) (ds : List FlatVariable) (n : ℕ) → n ≡ length ds
+      → Linked scope names (types_of profile ds) n → (p : ParameterTree) → found scope.names p.name ≡ None
+      → Linked (declared scope p.name (parameter_as p)) (naming names p.name n (own p))
+      (types_of profile (ds ++ own p ∷ [])) (n + 1)
+  linked_behind scope names ds n many linked p new =
+      let types = types_of profile (ds ++ own p ∷ []) in
+      let count = length-append ds (own p ∷ []) in
+      linked_parameter scope names types (n + 1)
+      (widened scope names (types_of profile ds) types n (n + 1) (omega arith) refl
+      (λ x low. get_front ds (own p) x (omega arith))
+      (λ x high. slice_get_past (ds ++ own p ∷ []) x (omega arith)) linked) p new n (omega arith)
+      (serves_itself _ (own p) (ap (slice_get (ds ++ own p ∷ [])) many ∙ get_last ds (own p)))
+      (λ other x is equal. let low = linked.below other x is in absurd (omega (arith, low, equal)))
 
--- the types by number
-before_all : (ds : List FlatVariable) (types : Types) (n x : ℕ) → x < n → (typed_with types n ds).at x ≡ types.at x
-before_all [] types n x low = refl
-before_all (d ∷ ds) types n x low = before_all ds (with_type types n d) (n + 1) x (omega arith)
-    ∙ with_type-other types n x d (λ q. omega arith)
+  pub record Begins (scope : Scope) (names : Numbers) (ds : List FlatVariable) (n : ℕ) (ps : List ParameterTree) :
+      Type 0 where
+    pub linked : Linked (with_parameters scope ps) (numbering.with_parameters names n ps)
+        (types_of profile (ds ++ all_own ps)) (n + length ps)
+    pub named : Named (numbering.with_parameters names n ps) n ps
 
-from_all : (ds : List FlatVariable) (types : Types) (n i : ℕ) → ((x : ℕ) → n ≤ x → types.at x ≡ None)
-    → (typed_with types n ds).at (n + i) ≡ slice_get ds i
-from_all [] types n i fresh = fresh (n + i) (omega arith)
-from_all (d ∷ ds) types n zero fresh =
-    let same : n + 0 ≡ n = omega arith in
-    ap (typed_with types n (d ∷ ds)).at same
-    ∙ (before_all ds (with_type types n d) (n + 1) n (omega arith) ∙ with_type-same types n d)
-from_all (d ∷ ds) types n (suc i) fresh =
-    let same : n + suc i ≡ (n + 1) + i = omega arith in
-    ap (typed_with types n (d ∷ ds)).at same ∙ from_all ds (with_type types n d) (n + 1) i
-    (λ x high. with_type-other types n x d (λ q. omega arith) ∙ fresh x (omega arith))
-
--- and the observer
-observed_all : (ds : List FlatVariable) (types : Types) (n : ℕ) → (typed_with types n ds).profile ≡ types.profile
-observed_all [] types n = refl
-observed_all (d ∷ ds) types n = observed_all ds (with_type types n d) (n + 1)
-
-abbrev pub no_types : Profile → Types
-no_types profile = record { profile = profile; at = λ x. None }
-
-types_same : (profile : Profile) (ds : List FlatVariable) (x : ℕ)
-    → (typed_with (no_types profile) 0 ds).at x ≡ (types_of profile ds).at x
-types_same profile ds x =
-    let same : x ≡ 0 + x = omega arith in
-    ap (typed_with (no_types profile) 0 ds).at same ∙ from_all ds (no_types profile) 0 x (λ y high. refl)
-
--- types that are equal everywhere serve as well
-retyped : (scope : Scope) (names : Numbers) (types others : Types) (n : ℕ) → types.profile ≡ others.profile
-    → ((x : ℕ) → types.at x ≡ others.at x) → Linked scope names types n → Linked scope names others n
-retyped scope names types others n one same linked =
-    widened scope names types others n n (omega arith) (sym one) (λ x low. sym (same x))
-    (λ x high. sym (same x) ∙ linked.fresh x high) linked
+  begins : (ps : List ParameterTree) (scope : Scope) (names : Numbers) (ds : List FlatVariable) (n : ℕ)
+      → n ≡ length ds → AreNew scope ps → Linked scope names (types_of profile ds) n → Begins scope names ds n ps
+  begins [] scope names ds n many new linked = record {
+    linked = rw append-nil (later scope names (types_of profile ds) n (n + 0) (omega arith) linked);
+    named = tt;
+  }
+  begins (p ∷ ps) scope names ds n many (one_is_new here there) linked =
+      let count = length-append ds (own p ∷ []) in
+      let rest = begins ps _ (naming names p.name n (own p)) (ds ++ own p ∷ []) (n + 1) (omega arith) there
+      (linked_behind scope names ds n many linked p here) in
+      record {
+        linked = subst (λ es. Linked (with_parameters scope (p ∷ ps)) (numbering.with_parameters names n (p ∷ ps))
+            (types_of profile es) (n + length (p ∷ ps))) (append_assoc ds (own p ∷ []) (all_own ps))
+            (later _ _ _ ((n + 1) + length ps) (n + length (p ∷ ps)) (omega arith) rest.linked);
+        named = (
+          kept_parameters ps (naming names p.name n (own p)) (n + 1) p.name (entry n (own p))
+              (found-new names p.name (entry n (own p)) p.name (itself p.name) (linked.none p.name here)),
+          rest.named,
+        );
+      }
 
 -- no variable stands in a scope of procedures
 abbrev pub NoVariables : Scope → Type 0
@@ -166,22 +146,18 @@ no_names scope none types n observed fresh = record {
   fresh = fresh;
 }
 
+-- where a body begins
 pub where_begun : (profile : Profile) (scope : Scope) → scope.profile ≡ profile → NoVariables scope
-    → (ps : List ParameterTree) → AreNew scope ps → Begins scope [] (no_types profile) 0 ps
-where_begun profile scope observed none ps new = begins ps scope [] (no_types profile) 0 new
-    (no_names scope none (no_types profile) 0 (sym observed) (λ x high. refl))
+    → (ps : List ParameterTree) → AreNew scope ps → Begins profile scope [] [] 0 ps
+where_begun profile scope observed none ps new = begins profile ps scope [] [] 0 refl new
+    (no_names scope none (types_of profile []) 0 (sym observed) (λ x high. refl))
 
 pub linked_parameters : (profile : Profile) (scope : Scope) → scope.profile ≡ profile → NoVariables scope
     → (ps : List ParameterTree) → AreNew scope ps
     → Linked (with_parameters scope ps) (numbering.with_parameters [] 0 ps) (types_of profile (all_own ps))
     (length ps)
 linked_parameters profile scope observed none ps new =
-    let same : 0 + length ps ≡ length ps = omega arith in
-    let types = typed_with (no_types profile) 0 (all_own ps) in
-    retyped (with_parameters scope ps) (numbering.with_parameters [] 0 ps) types (types_of profile (all_own ps))
-    (length ps) (observed_all (all_own ps) (no_types profile) 0) (types_same profile (all_own ps))
-    (subst (Linked (with_parameters scope ps) (numbering.with_parameters [] 0 ps) types) same
-    (where_begun profile scope observed none ps new).linked)
+    later _ _ _ (0 + length ps) (length ps) (omega arith) (where_begun profile scope observed none ps new).linked
 
 -- Arguments.
 

@@ -1,10 +1,10 @@
 -- A statement about each procedure that may be called, by induction over the text.
-use Rattle.std.proofs.Common.{◌≡◌, ◌≢◌, ℕ, zero, suc, ◌<◌, Bool, true, false, List, [], ◌∷◌, ◌++◌}
+use Rattle.std.proofs.Common.{◌≡◌, ◌≢◌, ℕ, ◌<◌, Bool, true, false, List, [], ◌∷◌, ◌++◌}
 use Rattle.std.proofs.Common.{length, Some, None, is_some, refl, sym, ap, ◌∙◌, subst, arith, slice_get, length-append}
 use Rattle.std.proofs.Common.{inl, inr}
 use Rattle.std.proofs.lemmas.Bool.{cases_Bool}
 use Rattle.std.proofs.lemmas.List.{nil_from_length}
-use Rattle.std.proofs.lemmas.Option.{none-some, same_Some}
+use Rattle.std.proofs.lemmas.Option.{none-some, same_Some, slice_get_past}
 use Rattle.std.specs.List.{AllByRecursion}
 use Rattle.std.specs.Str.{bytes_eq}
 use lib.Pointwise.{bytes_decides}
@@ -22,6 +22,7 @@ use Rattle.language.specs.WellTyped.{IsWellTyped, declares, declares_array}
 use Rattle.language.specs.WellTyped.{IsProcedure, AreProcedures, no_procedure, one_procedure}
 use Rattle.inline.proofs.KnownLemmas.{named-kept, named-missed, named-new}
 use Rattle.inline.proofs.Below.{found-new, found-other, found-split}
+use Rattle.inline.proofs.ListLemmas.{get_front, get_last}
 use Rattle.inline.proofs.Parameters.{NoVariables}
 use Rattle.language.proofs.typing_laws_lemmas.Programs.{programs}
 
@@ -36,20 +37,6 @@ no_callee : (c : Callee) (v : VariableType) → Some (Procedure c) ≢ Some (Var
 no_callee c v e = cc
 
 -- Lists.
-
-get_front : (ps : List ProcedureTree) (p : ProcedureTree) (i : ℕ) → i < length ps
-    → slice_get (ps ++ p ∷ []) i ≡ slice_get ps i
-get_front [] p i low = absurd (omega (arith, low))
-get_front (q ∷ ps) p zero low = refl
-get_front (q ∷ ps) p (suc i) low = get_front ps p i (omega (arith, low))
-
-get_last : (ps : List ProcedureTree) (p : ProcedureTree) → slice_get (ps ++ p ∷ []) (length ps) ≡ Some p
-get_last [] p = refl
-get_last (q ∷ ps) p = get_last ps p
-
-get_none : (ps : List ProcedureTree) → slice_get ps (length ps) ≡ None
-get_none [] = refl
-get_none (q ∷ ps) = get_none ps
 
 module _ (Extra : ProcedureTree → Type 0) where
   all_front : (ps : List ProcedureTree) (p : ProcedureTree) → AllByRecursion Extra (ps ++ p ∷ [])
@@ -149,7 +136,7 @@ module _ (Good : List ProcedureTree → Scope → ProcedureTree → Type 0) wher
       elim (cases_Bool (bytes_eq text p.name)) [
         | inl e ↦ (
             let same = same_callee own c (sym (here text e) ∙ is) in
-            absurd (none-some q (sym (get_none earlier)
+            absurd (none-some q (sym (slice_get_past earlier (length earlier) (omega arith))
             ∙ (ap (λ (d : Callee). slice_get earlier d.number) same ∙ get))))
         | inr e ↦ sym (there text e) ∙ is
       ],
