@@ -35,9 +35,9 @@ module _ (declared : List FlatVariable) (bounds : Bounds) (statement : FlatState
       (is : statement ≡ Branch label condition accepted otherwise)
       (ones others : List FlatStatement) (one : ones ≡ accepted.items) (other : others ≡ otherwise.items)
       (between : Bounds) (same : between ≡ bounds) where
-    tree : flat_tree statement ≡ branch label (term_tree condition) (flat_block accepted.items)
-        (flat_block otherwise.items)
-    tree = ap flat_tree is ∙ branch_tree label condition accepted otherwise
+    tree : flat_tree statement ≡ branch label (term_tree condition) (flat_block ones) (flat_block others)
+    tree = ap flat_tree is ∙ (branch_tree label condition accepted otherwise
+        ∙ ap₂ (λ xs ys. branch label (term_tree condition) (flat_block xs) (flat_block ys)) (sym one) (sym other))
 
     pub branch_turns : (turns middle last : List ℕ)
         → middle ≡ counted_all declared (where_true declared bounds label (term_tree condition)) turns
@@ -45,15 +45,9 @@ module _ (declared : List FlatVariable) (bounds : Bounds) (statement : FlatState
         → last ≡ counted_all declared (where_false declared between label (term_tree condition)) middle
         (flat_block others)
         → last ≡ counted declared bounds turns (flat_tree statement)
-    branch_turns turns middle last a o =
-        let first_arm = a
-        ∙ ap (λ xs. counted_all declared (where_true declared bounds label (term_tree condition)) turns
-        (flat_block xs)) one in
-        o ∙ (ap₂ (λ b xs. counted_all declared (where_false declared b label (term_tree condition)) middle
-        (flat_block xs)) same other
-        ∙ (ap (λ ts. counted_all declared (where_false declared bounds label (term_tree condition)) ts
-        (flat_block otherwise.items)) first_arm
-        ∙ sym (ap (counted declared bounds turns) tree)))
+    branch_turns turns middle last a o = rw tree
+        (o ∙ ap₂ (λ b ts. counted_all declared (where_false declared b label (term_tree condition)) ts
+        (flat_block others)) same a)
 
     pub branch_seen : (seen of_condition of_accepted last : Option Finding)
         → of_condition ≡ fold sooner_finding seen (term_findings declared bounds (term_tree condition))
@@ -62,28 +56,21 @@ module _ (declared : List FlatVariable) (bounds : Bounds) (statement : FlatState
         → last ≡ fold sooner_finding of_accepted
         (findings_all declared (where_false declared between label (term_tree condition)) (flat_block others))
         → last ≡ fold sooner_finding seen (findings declared bounds (flat_tree statement))
-    branch_seen seen of_condition of_accepted last c a o =
-        three_parts seen of_condition of_accepted last (term_findings declared bounds (term_tree condition))
-        (findings_all declared (where_true declared bounds label (term_tree condition)) (flat_block accepted.items))
-        (findings_all declared (where_false declared bounds label (term_tree condition)) (flat_block otherwise.items))
-        c
-        (a
-        ∙ ap (λ xs. fold sooner_finding of_condition
-        (findings_all declared (where_true declared bounds label (term_tree condition)) (flat_block xs)))
-        one)
-        (o
-        ∙ ap₂ (λ b xs. fold sooner_finding of_accepted
-        (findings_all declared (where_false declared b label (term_tree condition)) (flat_block xs)))
-        same other)
-        ∙ sym (ap (λ s. fold sooner_finding seen (findings declared bounds s)) tree)
+    branch_seen seen of_condition of_accepted last c a o = rw tree
+        (three_parts seen of_condition of_accepted last (term_findings declared bounds (term_tree condition))
+        (findings_all declared (where_true declared bounds label (term_tree condition)) (flat_block ones))
+        (findings_all declared (where_false declared bounds label (term_tree condition)) (flat_block others)) c a
+        (o ∙ ap (λ b. fold sooner_finding of_accepted
+        (findings_all declared (where_false declared b label (term_tree condition)) (flat_block others))) same))
 
   module _ (counter : ℕ) (low high : Term) (body : Vec FlatStatement Global)
       (is : statement ≡ Loop counter low high body)
       (ones : List FlatStatement) (one : ones ≡ body.items) (a b numbers : Interval)
       (at_low : a ≡ interval declared bounds (term_tree low))
       (at_high : b ≡ interval declared bounds (term_tree high)) (within : numbers ≡ counter_interval a b) where
-    whole : flat_tree statement ≡ loop counter (term_tree low) (term_tree high) (flat_block body.items)
-    whole = ap flat_tree is ∙ loop_tree counter low high body
+    whole : flat_tree statement ≡ loop counter (term_tree low) (term_tree high) (flat_block ones)
+    whole = ap flat_tree is ∙ (loop_tree counter low high body
+        ∙ ap (λ xs. loop counter (term_tree low) (term_tree high) (flat_block xs)) (sym one))
 
     inside : with_bound bounds counter numbers ≡ in_loop declared bounds counter (term_tree low) (term_tree high)
     inside = ap (with_bound bounds counter) (within ∙ ap₂ counter_interval at_low at_high)
@@ -95,10 +82,7 @@ module _ (declared : List FlatVariable) (bounds : Bounds) (statement : FlatState
         → last ≡ counted declared bounds turns (flat_tree statement)
     loop_turns turns counting last most m c l =
         let counted_here = c ∙ ap (slice_set turns counter) (m ∙ ap₂ most_turns at_low at_high) in
-        l ∙ (ap₂ (λ bs xs. counted_all declared bs counting (flat_block xs)) inside one
-        ∙ (ap (λ ts. counted_all declared (in_loop declared bounds counter (term_tree low) (term_tree high)) ts
-        (flat_block body.items)) counted_here
-        ∙ sym (ap (counted declared bounds turns) whole)))
+        rw whole (l ∙ ap₂ (λ bs ts. counted_all declared bs ts (flat_block ones)) inside counted_here)
 
     pub loop_seen : (seen of_low of_high last : Option Finding)
         → of_low ≡ fold sooner_finding seen (term_findings declared bounds (term_tree low))
@@ -106,13 +90,11 @@ module _ (declared : List FlatVariable) (bounds : Bounds) (statement : FlatState
         → last ≡ fold sooner_finding of_high
         (findings_all declared (with_bound bounds counter numbers) (flat_block ones))
         → last ≡ fold sooner_finding seen (findings declared bounds (flat_tree statement))
-    loop_seen seen of_low of_high last l h t =
-        three_parts seen of_low of_high last (term_findings declared bounds (term_tree low))
+    loop_seen seen of_low of_high last l h t = rw whole
+        (three_parts seen of_low of_high last (term_findings declared bounds (term_tree low))
         (term_findings declared bounds (term_tree high))
-        (findings_all declared (in_loop declared bounds counter (term_tree low) (term_tree high))
-        (flat_block body.items)) l h
-        (t ∙ ap₂ (λ bs xs. fold sooner_finding of_high (findings_all declared bs (flat_block xs))) inside one)
-        ∙ sym (ap (λ s. fold sooner_finding seen (findings declared bounds s)) whole)
+        (findings_all declared (in_loop declared bounds counter (term_tree low) (term_tree high)) (flat_block ones)) l h
+        (t ∙ ap (λ bs. fold sooner_finding of_high (findings_all declared bs (flat_block ones))) inside))
 
 -- what is left of the statements, the next one apart
 pub next_statement : (body : List FlatStatement) (i : ℕ) (d : FlatStatement) → i < length body
