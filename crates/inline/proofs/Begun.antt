@@ -55,7 +55,7 @@ word_given (as_word {given = given} form has suit) is = record { given = given; 
 word_given (as_array form known) is = absurd (true≢false (sym is ∙ ap is_word form))
 word_given (as_mutable_array form known) is = absurd (true≢false (sym is ∙ ap is_word form))
 
--- which is declared so
+-- a word parameter is a word that is not `mut`
 pub own_word : (p : ParameterTree) (form : Form) → is_word form ≡ true
     → word_as (labelled p.kind p.label) false
     ≡ record { word = labelled p.kind p.label; mutable = is_mutable form; elements = elements_by form p.length }

@@ -62,6 +62,7 @@ linked_parameter scope names types n linked p new number low serves clear =
     subst (λ v. Linked (declared scope p.name v) (naming names p.name number (own p)) types n) (parameter_same p)
     (linked_named scope names types n linked p.name new number (own p) low serves clear)
 
+-- the next number, where the parameter is declared so
 pub linked_own : (scope : Scope) (names : Numbers) (types : Types) (n : ℕ) → Linked scope names types n
     → (p : ParameterTree) → found scope.names p.name ≡ None → (d : FlatVariable) → d ≡ own p
     → Linked (declared scope p.name (parameter_as p)) (naming names p.name n (own p)) (with_type types n d) (n + 1)
