@@ -3,14 +3,11 @@
 pub use Rattle.branch_removal.proofs.SeenLemmas.{seen-append}
 pub use Rattle.branch_removal.specs.StraightMeaning.{StraightState}
 pub use Rattle.codegen.specs.expression_code.Allocation.{Allocation, at_home, home_of, IsAllocation, register_of}
-pub use Rattle.codegen.specs.expression_code.Allocation.{slot_of}
-pub use Rattle.codegen.specs.expression_code.Allocation.{is_unread}
-pub use Rattle.codegen.specs.expression_code.Allocation.{slots_to, temporary, working_register}
+pub use Rattle.codegen.specs.expression_code.Allocation.{slot_of, is_unread, slots_to, temporary, working_register}
 pub use Rattle.codegen.specs.expression_code.Computed.{IsComputed, IsSiteOf, Site, word_in}
 pub use Rattle.codegen.specs.expression_code.Inside.{IsInside}
 pub use Rattle.codegen.specs.expression_code.Layout.{control_location, control_offset, next_offset, result_offset}
-pub use Rattle.codegen.specs.expression_code.Layout.{temporaries_offset}
-pub use Rattle.codegen.specs.expression_code.Layout.{variable_location, variable_offset}
+pub use Rattle.codegen.specs.expression_code.Layout.{temporaries_offset, variable_location, variable_offset}
 pub use Rattle.codegen.specs.expression_code.Layout.{offsets_from, slots_from}
 pub use Rattle.codegen.specs.expression_code.NumberRows.{held, is_short, known_row, left_row, number_of, number_row}
 pub use Rattle.codegen.specs.expression_code.NumberRows.{chooses_zero, is_known_zero, right_row}
@@ -20,15 +17,14 @@ pub use Rattle.codegen.specs.declared.expression_code.numbers.NumberStep.{Number
 pub use Rattle.codegen.specs.expression_code.TermCode.{address_code, around_code, between, choice_code, code_by}
 pub use Rattle.codegen.specs.expression_code.TermCode.{constant_code, convert_code, copy_code, cut_code, element_code}
 pub use Rattle.codegen.specs.expression_code.TermCode.{expr_code, fetch_code, finish_code, into_code, IsAmong}
-pub use Rattle.branch_removal.specs.Heights.{height_of}
 pub use Rattle.codegen.specs.expression_code.TermCode.{home_of_term, is_at_home, keep_code, keeps_words, load_by}
-pub use Rattle.codegen.specs.expression_code.TermCode.{load_code}
-pub use Rattle.codegen.specs.expression_code.TermCode.{narrow_code, narrowed_in, near_code, near_element, near_offset}
-pub use Rattle.codegen.specs.expression_code.TermCode.{number_code, of_truths, operand, operator_code, placed_code}
-pub use Rattle.codegen.specs.expression_code.TermCode.{prefix_code, raise_code, rotate_code, row_of, scale_code, Step}
-pub use Rattle.codegen.specs.expression_code.TermCode.{lower_part, move_code, step_code, store_code, turned, upper_part}
-pub use Rattle.codegen.specs.expression_code.TermCode.{choice_or_zero_code, emitted_operator, kind_at, number_step_code}
-pub use Rattle.codegen.specs.expression_code.TermCode.{of_bits}
+pub use Rattle.codegen.specs.expression_code.TermCode.{load_code, narrow_code, narrowed_in, near_code, near_element}
+pub use Rattle.codegen.specs.expression_code.TermCode.{near_offset, number_code, of_truths, operand, operator_code}
+pub use Rattle.codegen.specs.expression_code.TermCode.{placed_code, prefix_code, raise_code, rotate_code, row_of}
+pub use Rattle.codegen.specs.expression_code.TermCode.{scale_code, Step, lower_part, move_code, step_code, store_code}
+pub use Rattle.codegen.specs.expression_code.TermCode.{turned, upper_part, choice_or_zero_code, emitted_operator}
+pub use Rattle.codegen.specs.expression_code.TermCode.{kind_at, number_step_code, of_bits}
+pub use Rattle.branch_removal.specs.Heights.{height_of}
 pub use Rattle.codegen.specs.declared.expression_code.locations.Location.{Location}
 pub use Rattle.codegen.specs.declared.expression_code.locations.Location.TheVariants.{InRegister, InSlot}
 pub use Rattle.inline.proofs.Fitting.{value_fits}
@@ -53,16 +49,12 @@ pub use Rattle.language.specs.declared.operators.PrefixOperator.{PrefixOperator}
 pub use Rattle.language.specs.declared.typing.WordType.{WordType}
 pub use Rattle.codegen.proofs.program_logic_lemmas.Computing.{after_append, all_straight, no_access_fit, no_access_met}
 pub use Rattle.codegen.proofs.program_logic_lemmas.Computing.{only_computes, plain_append, register_left}
-pub use Rattle.codegen.proofs.program_logic_lemmas.Computing.{registers_after}
-pub use Rattle.codegen.proofs.program_logic_lemmas.Computing.{registers_of}
+pub use Rattle.codegen.proofs.program_logic_lemmas.Computing.{registers_after, registers_of}
 pub use Rattle.codegen.proofs.program_logic_lemmas.Face.{All-one, along, along_fit, always, as_code, beside, both_left}
-pub use Rattle.codegen.proofs.program_logic_lemmas.Face.{both_right}
-pub use Rattle.codegen.proofs.program_logic_lemmas.Face.{branching_at, by_mark, cheaper, Contents, contents_of, ends_on}
-pub use Rattle.codegen.proofs.program_logic_lemmas.Face.{gives, idle}
-pub use Rattle.codegen.proofs.program_logic_lemmas.Face.{Known, looping, never, none, number_or_zero, Placed}
-pub use Rattle.codegen.proofs.program_logic_lemmas.Face.{Placed-left}
-pub use Rattle.codegen.proofs.program_logic_lemmas.Face.{Placed-right, quiet, quietly, seq, stands, Still, Straight}
-pub use Rattle.codegen.proofs.program_logic_lemmas.Face.{Then, turn_ends}
+pub use Rattle.codegen.proofs.program_logic_lemmas.Face.{both_right, branching_at, by_mark, cheaper, Contents}
+pub use Rattle.codegen.proofs.program_logic_lemmas.Face.{contents_of, ends_on, by_test, gives, idle, Known, looping}
+pub use Rattle.codegen.proofs.program_logic_lemmas.Face.{never, none, number_or_zero, Placed, Placed-left, Placed-right}
+pub use Rattle.codegen.proofs.program_logic_lemmas.Face.{quiet, quietly, seq, stands, Still, Straight, Then, turn_ends}
 pub use Rattle.codegen.proofs.program_logic_lemmas.Face.{weaken, with_result}
 pub use Rattle.rv_code.specs.Words.{IsInstr}
 pub use Rattle.rv_code.specs.declared.instructions.Instr.{Instr}
@@ -76,8 +68,7 @@ pub use Rattle.rv_machine.proofs.TurnLaws.{divide_leads, multiply_leads, with_va
 pub use Rattle.rv_machine.proofs.TurnLaws.{with_value-regs}
 pub use Rattle.rv_machine.specs.Bytes.{ByteMap, joined, number_at, with_number}
 pub use Rattle.rv_machine.specs.Effects.{address_of, divide_value, immediate_value, load_size, loaded_value}
-pub use Rattle.rv_machine.specs.Effects.{multiply_value, register_value, shift_value, sign_extended, store_size}
-pub use Rattle.rv_machine.specs.Effects.{sum_of}
+pub use Rattle.rv_machine.specs.Effects.{multiply_value, register_value, shift_value, sign_extended, store_size, sum_of}
 pub use Rattle.rv_machine.specs.Effects.{difference_of}
 pub use Rattle.rv_machine.specs.Leakage.{Leads}
 pub use Rattle.rv_machine.specs.Machine.{Code, IsAt, product_shown, State, with_value}

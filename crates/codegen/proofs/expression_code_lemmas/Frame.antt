@@ -1,13 +1,12 @@
 -- Where code and frame lie: the setting of all pieces of code here. They are run beside a state of straight code, the
 -- marks of a path are those of the inlined program, and all accesses stay inside the frame.
-use Rattle.std.proofs.Common.{◌≡◌, ◌⊎◌, inl, inr, ℕ, zero, suc, ◌+◌, ◌%◌, ◌^◌, ◌<◌, ◌≤◌, Bool, true, false, ◌&&◌}
-use Rattle.std.proofs.Common.{List, [], ◌∷◌, ◌++◌, length, Option, Some, is_some, refl, sym, ap, ap₂, ◌∙◌, arith}
+use Rattle.std.proofs.Common.{◌≡◌, ◌⊎◌, inl, inr, ℕ, zero, suc, ◌+◌, ◌%◌, ◌^◌, ◌<◌, ◌≤◌, Bool, true, false, ◌&&◌, List}
+use Rattle.std.proofs.Common.{[], ◌∷◌, ◌++◌, length, Option, Some, None, is_some, refl, sym, ap, ap₂, ◌∙◌, arith}
 use Rattle.codegen.proofs.expression_code_lemmas.Below.{Allocation, AreFine, byte_count, ByteMap, Code, FlatVariable}
-use Rattle.codegen.proofs.expression_code_lemmas.Below.{Instr}
-use Rattle.codegen.proofs.expression_code_lemmas.Below.{IsAllocation, IsInside, joined, Mark, number_at, number_at-suc}
-use Rattle.codegen.proofs.expression_code_lemmas.Below.{number_at-zero, Path, seen-append, Size, State, StraightState}
-use Rattle.codegen.proofs.expression_code_lemmas.Below.{temporaries_offset, with_number, with_number_above}
-use Rattle.codegen.proofs.expression_code_lemmas.Below.{with_number_below}
+use Rattle.codegen.proofs.expression_code_lemmas.Below.{Instr, code_by, IsAllocation, IsInside, joined, Mark, number_at}
+use Rattle.codegen.proofs.expression_code_lemmas.Below.{number_at-suc, number_at-zero, Path, seen-append, Size, State}
+use Rattle.codegen.proofs.expression_code_lemmas.Below.{StraightState, temporaries_offset, with_number}
+use Rattle.codegen.proofs.expression_code_lemmas.Below.{with_number_above, with_number_below}
 use Rattle.inline.specs.Path.{seen as seen_of}
 use Rattle.codegen.proofs.program_logic_lemmas.Face as logic
 use Rattle.rv_machine.specs.declared.observation.Event.TheVariants as event
@@ -92,6 +91,14 @@ Steps = StraightState → Path
 abbrev pub Runs : Setting → ℕ → Steps → List Instr → Before → After → Type 0
 Runs z cost steps is P Q = logic.Runs (setting z) cost steps is P Q
 
+-- the code for what there is, and else other code
+pub by_option : {z : Setting} {T : Type 0} {n : ℕ} {steps : Steps} {code : T → List Instr} {other : List Instr}
+    {P : Before} {Q : After} (o : Option T)
+    → ((x : T) → o ≡ Some x → Runs z n steps (code x) P Q) → (o ≡ None → Runs z n steps other P Q)
+    → Runs z n steps (code_by o code other) P Q
+by_option (Some x) some none = some x refl
+by_option None some none = none refl
+
 -- States of code that keeps to its frame.
 
 -- x2 has the frame's base, and the frame's bytes are data
@@ -153,7 +160,7 @@ frame_runs z works is places plain none_low fit met =
       regs = λ r low. ap (λ (regs : ℕ → ℕ). regs r) became.regs
           ∙ logic.register_kept works is places (logic.contents_of s) r plain (none_low r low);
       beside = λ a apart. ap (λ (b : ByteMap). b a) became.bytes
-          ∙ logic.byte_kept works _ a (store_beside z a apart) is places (logic.contents_of s) plain fit;
+          ∙ logic.byte_kept _ a (store_beside z a apart) is places (logic.contents_of s) fit;
     } in
     logic.gives
     (λ env s t fine given became.
@@ -162,7 +169,7 @@ frame_runs z works is places plain none_low fit met =
         base = (kept s t became).regs 2 (omega arith) ∙ held.base;
         data_there = λ o below.
             ap (λ (b : ByteMap). is_some (b (z.frame + o))) became.bytes
-            ∙ (logic.data_kept works is places (logic.contents_of s) (z.frame + o) plain (met env s given).1
+            ∙ (logic.data_kept is places (logic.contents_of s) (z.frame + o) (met env s given).1
             ∙ held.data_there o below);
       },
       became,

@@ -1,12 +1,12 @@
 -- Code that only computes: straight-line code without accesses. What it makes of the registers is a function of them.
-use Rattle.std.proofs.Common.{◌≡◌, ℕ, ◌*◌, ◌^◌, Bool, true, false, ◌&&◌, cond, List, [], ◌∷◌, ◌++◌, Option, None}
-use Rattle.std.proofs.Common.{refl, sym, ap, ap₂, ◌∙◌, subst}
+use Rattle.std.proofs.Common.{◌≡◌, ℕ, ◌*◌, ◌^◌, Bool, true, false, ◌&&◌, cond, List, [], ◌∷◌, ◌++◌, Option, None, refl}
+use Rattle.std.proofs.Common.{sym, ap, ◌∙◌}
 use Rattle.std.proofs.lemmas.Bool.{false≢true}
+use Rattle.std.specs.Cmp.Derive.{both_true}
 use Rattle.codegen.proofs.program_logic_lemmas.StraightRuns.{both_left, both_right}
 use Rattle.codegen.proofs.program_logic_lemmas.Symbols.{register_kept}
-use Rattle.codegen.specs.program_logic.StraightCode.{Contents, is_straight, are_straight, left_by, after, after_all}
-use Rattle.codegen.specs.program_logic.StraightCode.{fit_and}
-use Rattle.codegen.specs.program_logic.StraightCode.{AreFit, met_and, AreMet}
+use Rattle.codegen.specs.program_logic.StraightCode.{Contents, is_straight, are_straight, after, after_all, AreFit}
+use Rattle.codegen.specs.program_logic.StraightCode.{AreMet}
 use Rattle.rv_code.specs.declared.instructions.Instr.{Instr}
 use Rattle.rv_code.specs.declared.instructions.Instr.TheVariants.{Upper, Immediate, Shift, Register, Load, Store}
 use Rattle.rv_code.specs.declared.operations.UpperOperation.TheVariants.{Lui}
@@ -57,66 +57,32 @@ computing_straight works i h = h
 pub all_straight : (works : ℕ → Bool) (is : List Instr) → only_computes works is ≡ true → are_straight works is ≡ true
 all_straight works [] h = refl
 all_straight works (i ∷ is) h =
-    ap₂ (λ a b. a && b) (computing_straight works i (both_left (computes works i) (only_computes works is) h))
-    (all_straight works is (both_right (computes works i) (only_computes works is) h))
+    both_true (computing_straight works i (both_left _ _ h)) (all_straight works is (both_right _ _ h))
 
 -- Instructions that compute have no access, and their results are those that are written.
 
 module _ (works : ℕ → Bool) where
-  unread : (i : Instr) → computes works i ≡ true → left_by i [] ≡ []
-  unread (Load operation rd rs1 offset) h = refl
-  unread (Store operation rs2 rs1 offset) h = refl
-  unread i h = refl
-
-  after_one : (i : Instr) (c : Contents) → computes works i ≡ true
-      → after i 0 c ≡ record {
-        regs = with_register c.regs (written_register i) (computed_value i c.regs);
-        bytes = c.bytes;
-      }
-  after_one (Upper Lui rd immediate) c h = refl
-  after_one (Immediate operation rd rs1 immediate) c h = refl
-  after_one (Shift operation rd rs1 amount) c h = refl
-  after_one (Register operation rd rs1 rs2) c h = refl
-  after_one i c h = absurd (false≢true h)
-
-  fit_one : (Allows : Option Event → Type 0) (i : Instr) (F : Type 0) → computes works i ≡ true → F
-      → fit_and Allows i 0 F
-  fit_one Allows (Load operation rd rs1 offset) F h rest = absurd (false≢true h)
-  fit_one Allows (Store operation rs2 rs1 offset) F h rest = absurd (false≢true h)
-  fit_one Allows i F h rest = rest
-
-  met_one : (i : Instr) (c : Contents) (M : Type 0) → computes works i ≡ true → M → met_and i 0 c M
-  met_one (Load operation rd rs1 offset) c M h rest = absurd (false≢true h)
-  met_one (Store operation rs2 rs1 offset) c M h rest = absurd (false≢true h)
-  met_one i c M h rest = rest
-
   pub registers_of : (is : List Instr) (c : Contents) → only_computes works is ≡ true
       → after_all is [] c ≡ record { regs = registers_after is c.regs; bytes = c.bytes }
   registers_of [] c h = refl
-  registers_of (i ∷ is) c h =
-      let ok = both_left (computes works i) (only_computes works is) h in
-      ap₂ (λ (places : List ℕ) (d : Contents). after_all is places d) (unread i ok) (after_one i c ok)
-      ∙ registers_of is (record {
-        regs = with_register c.regs (written_register i) (computed_value i c.regs);
-        bytes = c.bytes;
-      }) (both_right (computes works i) (only_computes works is) h)
+  registers_of (Upper Lui rd immediate ∷ is) c h = registers_of is _ (both_right _ _ h)
+  registers_of (Immediate operation rd rs1 immediate ∷ is) c h = registers_of is _ (both_right _ _ h)
+  registers_of (Shift operation rd rs1 amount ∷ is) c h = registers_of is _ (both_right _ _ h)
+  registers_of (Register operation rd rs1 rs2 ∷ is) c h = registers_of is _ (both_right _ _ h)
+  registers_of (i ∷ is) c h = absurd (false≢true h)
 
   pub no_access_fit : (Allows : Option Event → Type 0) (is : List Instr) → only_computes works is ≡ true
       → AreFit Allows is []
   no_access_fit Allows [] h = tt
-  no_access_fit Allows (i ∷ is) h =
-      let ok = both_left (computes works i) (only_computes works is) h in
-      fit_one Allows i (AreFit Allows is (left_by i [])) ok
-      (subst (λ (places : List ℕ). AreFit Allows is places) (sym (unread i ok))
-      (no_access_fit Allows is (both_right (computes works i) (only_computes works is) h)))
+  no_access_fit Allows (Load operation rd rs1 offset ∷ is) h = absurd (false≢true h)
+  no_access_fit Allows (Store operation rs2 rs1 offset ∷ is) h = absurd (false≢true h)
+  no_access_fit Allows (i ∷ is) h = no_access_fit Allows is (both_right (computes works i) (only_computes works is) h)
 
   pub no_access_met : (is : List Instr) (c : Contents) → only_computes works is ≡ true → AreMet is [] c
   no_access_met [] c h = tt
-  no_access_met (i ∷ is) c h =
-      let ok = both_left (computes works i) (only_computes works is) h in
-      met_one i c (AreMet is (left_by i []) (after i 0 c)) ok
-      (subst (λ (places : List ℕ). AreMet is places (after i 0 c)) (sym (unread i ok))
-      (no_access_met is (after i 0 c) (both_right (computes works i) (only_computes works is) h)))
+  no_access_met (Load operation rd rs1 offset ∷ is) c h = absurd (false≢true h)
+  no_access_met (Store operation rs2 rs1 offset ∷ is) c h = absurd (false≢true h)
+  no_access_met (i ∷ is) c h = no_access_met is (after i 0 c) (both_right (computes works i) (only_computes works is) h)
 
 -- a register that none of them may write is as it was
 pub register_left : (works : ℕ → Bool) (is : List Instr) (regs : ℕ → ℕ) (q : ℕ) → only_computes works is ≡ true
@@ -132,8 +98,7 @@ pub plain_append : (works : ℕ → Bool) (xs ys : List Instr) → only_computes
     → only_computes works ys ≡ true → only_computes works (xs ++ ys) ≡ true
 plain_append works [] ys one two = two
 plain_append works (x ∷ xs) ys one two =
-    ap₂ (λ a b. a && b) (both_left (computes works x) (only_computes works xs) one)
-    (plain_append works xs ys (both_right (computes works x) (only_computes works xs) one) two)
+    both_true (both_left _ _ one) (plain_append works xs ys (both_right _ _ one) two)
 
 pub after_append : (xs ys : List Instr) (regs : ℕ → ℕ)
     → registers_after (xs ++ ys) regs ≡ registers_after ys (registers_after xs regs)

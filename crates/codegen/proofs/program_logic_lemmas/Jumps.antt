@@ -1,35 +1,31 @@
 -- Jumps: over instructions and back, and of two pieces one.
-use Rattle.std.proofs.Common.{◌≡◌, ◌≢◌, ℕ, ◌+◌, ◌-◌, ◌*◌, ◌%◌, ◌^◌, ◌<◌, ◌≤◌, ◌==◌, Bool, true, false, not, cond}
-use Rattle.std.proofs.Common.{if◌then◌else◌, List, [], ◌∷◌, ◌++◌, length, None, refl, sym, ap, ◌∙◌, arith}
+use Rattle.std.proofs.Common.{◌≡◌, ◌≢◌, ℕ, ◌+◌, ◌-◌, ◌*◌, ◌%◌, ◌^◌, ◌<◌, ◌≤◌, ◌==◌, Bool, true, false, not}
+use Rattle.std.proofs.Common.{if◌then◌else◌, List, [], ◌∷◌, ◌++◌, length, None, refl, sym, ap, ◌∙◌, subst, arith}
 use Rattle.std.proofs.Common.{length-append, eq-eqb, ne_eqb}
 use Rattle.std.proofs.Math.Path.{fun_ext}
 use Rattle.std.proofs.lemmas.Bool.{eqb-true, eqb-false}
 use Rattle.std.proofs.lemmas.Bool.Decides.{nat_tests}
-use Rattle.codegen.proofs.program_logic_lemmas.Pieces.{turn_ends, then_ends, ends_as, ends_to, along_fit}
+use Rattle.codegen.proofs.program_logic_lemmas.Pieces.{turn_ends, then_ends, ends_as, ends_to, along_fit, stop_here}
 use Rattle.codegen.proofs.program_logic_lemmas.PlacedLaws.{Placed-left, Placed-right, Placed-below, stands}
 use Rattle.codegen.specs.program_logic.Jumps.{skip, over, back, branch_code}
-use Rattle.codegen.specs.program_logic.Pieces.{Setting, Before, After, Steps, always, both, Ends, Straight, Runs, Still}
+use Rattle.codegen.specs.program_logic.Pieces.{Setting, Before, After, Steps, Leak, always, both, Ends, Straight, Runs}
+use Rattle.codegen.specs.program_logic.Pieces.{Still}
 use Rattle.codegen.specs.program_logic.Placed.{Placed}
 use Rattle.rv_code.specs.declared.instructions.Instr.{Instr}
 use Rattle.rv_code.specs.declared.instructions.Instr.TheVariants as instr
+use Rattle.rv_code.specs.Words.{IsInstr}
+use Rattle.rv_code.specs.declared.operations.BranchTest.{BranchTest}
 use Rattle.rv_code.specs.declared.operations.BranchTest.TheVariants.{Bne}
 use Rattle.codegen.proofs.program_logic_lemmas.Below.{with_link-pc, with_link-regs, with_link-bytes, moved_to-pc}
-use Rattle.codegen.proofs.program_logic_lemmas.Below.{moved_to-regs}
-use Rattle.codegen.proofs.program_logic_lemmas.Below.{moved_to-bytes, jump_leads, branch_leads, branch_passes}
-use Rattle.rv_machine.specs.Effects.{jump_target, branch_target, sign_extended, sum_of}
+use Rattle.codegen.proofs.program_logic_lemmas.Below.{moved_to-regs, moved_to-bytes, jump_leads, branch_leads}
+use Rattle.codegen.proofs.program_logic_lemmas.Below.{branch_passes}
+use Rattle.rv_machine.specs.Effects.{holds, jump_target, branch_target, sign_extended, sum_of}
 use Rattle.rv_machine.specs.Machine.{State, with_link, moved_to, next}
 use Rattle.rv_machine.specs.Registers.{register, with_register}
 use Rattle.rv_machine.specs.declared.observation.Observation.{Observation}
 
 dropped : (regs : ℕ → ℕ) (v : ℕ) → with_register regs 0 v ≡ regs
-dropped regs v = fun_ext (λ r. by_register r (r == 0))
-  where
-    by_register : (r : ℕ) (b : Bool) → cond b (regs r) (cond b v (regs r)) ≡ regs r
-    by_register r true = refl
-    by_register r false = refl
-
-multiple : (t q : ℕ) → t ≡ q + 8 → q % 4 ≡ 0 → t % 4 ≡ 0
-multiple t q to even = omega (arith, to, even)
+dropped regs v = fun_ext (λ r. grind (arith, nat_tests))
 
 -- what a jump shows
 abbrev pub shown_at : ℕ → List Observation
@@ -53,14 +49,15 @@ backward p n some near low below =
     grind (arith, nat_tests) in
     ap (λ x. sum_of p x) same ∙ (omega (arith, some, near, low, below))
 
+-- what a branch makes of a state
+pub moved_still : (s : State) (target : ℕ) → Still s (moved_to s target)
+moved_still s target = record { regs = moved_to-regs s target; bytes = moved_to-bytes s target }
+
+-- a piece has been run
 record Between (z : Setting) (Q : After z) (env : z.Beside) (s u : State) : Type 0 where
   start : State
   still : Still s start
   done : Q env start u
-
--- what a branch makes of a state
-pub moved_still : (s : State) (target : ℕ) → Still s (moved_to s target)
-moved_still s target = record { regs = moved_to-regs s target; bytes = moved_to-bytes s target }
 
 module _ {z : Setting} where
   jump_ends : (p halves target : ℕ) (rest : List z.Mark) → Placed z.code p (instr.Jump 0 halves ∷ [])
@@ -97,32 +94,79 @@ module _ {z : Setting} where
       jump_ends q (2 ^ 20 - 2 * n) p rest placed (omega (arith, some))
       (backward q n some near (omega (arith, is)) (omega (arith, below)) ∙ to) (omega (arith, even, is)) s at
 
+  -- A branch, whose registers pass its test or do not.
+  module _ (test : BranchTest) (l r halves p : ℕ) (fields : IsInstr (instr.Branch test l r halves))
+      (placed : Placed z.code p (instr.Branch test l r halves ∷ [])) (rest : List z.Mark) (s : State) (at : s.pc ≡ p)
+    where
+      pub taken_ends : (target : ℕ) → branch_target p halves ≡ target → target % 4 ≡ 0
+          → holds test (register s.regs l) (register s.regs r) ≡ true
+          → Ends z 1 target (always (shown_at p)) rest rest (λ t. Still s t) s
+      taken_ends target to even passed =
+          let there : branch_target s.pc halves ≡ target = ap (λ q. branch_target q halves) at ∙ to in
+          turn_ends None None (moved_to s (branch_target s.pc halves)) at
+          (branch_leads z.code s test l r halves (stands z.code p _ [] placed fields s at) passed
+          (ap (λ q. q % 4) there ∙ even)) refl z.silence (z.keeps_still s _ (moved_still s _)) refl
+          (moved_to-pc s (branch_target s.pc halves) ∙ there) (moved_still s _)
+
+      pub untaken_ends : holds test (register s.regs l) (register s.regs r) ≡ false
+          → Ends z 1 (p + 4) (always (shown_at p)) rest rest (λ t. Still s t) s
+      untaken_ends failed =
+          let below = placed.1 in
+          let to : next s ≡ p + 4 = omega (arith, at, below) in
+          turn_ends None None (moved_to s (next s)) at
+          (branch_passes z.code s test l r halves (stands z.code p _ [] placed fields s at) failed) refl z.silence
+          (z.keeps_still s _ (moved_still s _)) refl (moved_to-pc s (next s) ∙ to) (moved_still s _)
+
+  -- One arm of a choice: turns to a piece, the piece, and turns from behind it to the end.
+  pub arm_ends : {k m l start q : ℕ} {into out : Leak z} {a : Steps z} {xs : List Instr} {P : Before z} {Q : After z}
+      {Back : State → State → Type 0} {R : State → Type 0} {env : z.Beside} {s : State} {rest : List z.Mark}
+      (piece : Straight z start m a xs P Q) → z.Fine (a env)
+      → Ends z k start into (z.seen (a env) ++ rest) (z.seen (a env) ++ rest) (λ t. Still s t) s
+      → ((t : State) → Still s t → P env t)
+      → ((u : State) → u.pc ≡ start + 4 * length xs → Ends z l q out rest rest (Back u) u)
+      → ((t u v : State) → Still s t → Q env t u → Back u v → R v)
+      → Ends z (k + m + l) q (both (both into piece.leak) out) (z.seen (a env) ++ rest) rest R s
+  arm_ends {Q = Q} {R = R} {env = env} {s = s} {rest = rest} piece fine enters before leaves after =
+      then_ends
+      (then_ends enters
+      (λ t there still.
+      ends_to {R = Between z Q env s} (piece.runs env t rest there fine (before t still)) refl
+      (λ u done. record { start = t; still = still; done = done })))
+      (λ u there done.
+      ends_to {R = R} (leaves u there) refl (λ v back. after done.start u v done.still done.done back))
+
+  -- where a value is known, the steps of one arm or those of the other
+  pub by_known : {n : ℕ} {a b : Steps z} {is : List Instr} {P : Before z} {S : After z} (value : z.Beside → ℕ) (v : ℕ)
+      → ((env : z.Beside) (s : State) → P env s → value env ≡ v)
+      → (((env : z.Beside) (s : State) → P env s → value env ≢ 0) → Runs z n a is P S)
+      → (((env : z.Beside) (s : State) → P env s → value env ≡ 0) → Runs z n b is P S)
+      → Runs z n (λ env. if value env == 0 then b env else a env) is P S
+  by_known {n = n} {a = a} {b = b} {is = is} {P = P} {S = S} value v known some none' = by_case (v == 0) refl
+    where
+      by_case : (c : Bool) → (v == 0) ≡ c → Runs z n (λ env. if value env == 0 then b env else a env) is P S
+      by_case true e =
+          along_fit (λ env s fit. let at = known env s fit in rw (at, e))
+          (none' (λ env s fit. known env s fit ∙ eqb-true v 0 e))
+      by_case false e =
+          along_fit (λ env s fit. let at = known env s fit in rw (at, e))
+          (some (λ env s fit same. eqb-false v 0 e (sym (known env s fit) ∙ same)))
+
   module _ (r : ℕ) (small : r < 32) (nonzero : r ≢ 0) where
     -- the register is not 0, so the next instruction is not run
     pub skip_ends : (p : ℕ) (rest : List z.Mark) → Placed z.code p (skip r ∷ []) → p + 8 < 2 ^ 32 → (s : State)
         → s.pc ≡ p → s.regs r ≢ 0
-        → Ends z 1 (p + 8) (always (shown_at p)) rest rest (λ t. Still s t) s
+        → Ends z 1 (p + 4 + 4) (always (shown_at p)) rest rest (λ t. Still s t) s
     skip_ends p rest placed below s at some =
         let even = placed.0 in
-        let to : branch_target p 4 ≡ p + 8 = omega (arith, below) in
-        let there : branch_target s.pc 4 ≡ p + 8 = ap (λ q. branch_target q 4) at ∙ to in
-        turn_ends None None (moved_to s (branch_target s.pc 4)) at
-        (branch_leads z.code s Bne r 0 4 (stands z.code p _ [] placed (small, omega arith, omega arith) s at)
-        (some_in s.regs r nonzero some) (multiple _ p there even)) refl z.silence
-        (z.keeps_still s _ (moved_still s _)) refl
-        (moved_to-pc s (branch_target s.pc 4) ∙ there) (moved_still s _)
+        taken_ends Bne r 0 4 p (small, omega arith, omega arith) placed rest s at (p + 4 + 4) (omega (arith, below))
+        (omega (arith, even)) (some_in s.regs r nonzero some)
 
     -- the register is 0
     pub pass_ends : (p : ℕ) (rest : List z.Mark) → Placed z.code p (skip r ∷ []) → (s : State) → s.pc ≡ p
         → s.regs r ≡ 0
         → Ends z 1 (p + 4) (always (shown_at p)) rest rest (λ t. Still s t) s
     pass_ends p rest placed s at zero' =
-        let below = placed.1 in
-        let to : next s ≡ p + 4 = omega (arith, at, below) in
-        turn_ends None None (moved_to s (next s)) at
-        (branch_passes z.code s Bne r 0 4 (stands z.code p _ [] placed (small, omega arith, omega arith) s at)
-        (none_in s.regs r nonzero zero')) refl z.silence (z.keeps_still s _ (moved_still s _)) refl
-        (moved_to-pc s (next s) ∙ to) (moved_still s _)
+        untaken_ends Bne r 0 4 p (small, omega arith, omega arith) placed rest s at (none_in s.regs r nonzero zero')
 
     -- Of two pieces one.
 
@@ -159,14 +203,14 @@ module _ {z : Setting} where
         rejects_ends : (env : z.Beside) (s : State) (rest : List z.Mark) → value env ≡ 0 → s.pc ≡ p
             → z.Fine (b env) → P env s
             → Ends z (2 + m + n) (p + 4 * length (branch_code r xs ys))
-            (both (both (always (shown_at p)) (always (shown_at (p + 4)))) second_arm.leak)
+            (both (both (both (always (shown_at p)) (always (shown_at (p + 4)))) second_arm.leak) (always []))
             (z.seen (b env) ++ rest) rest (S env s) s
         rejects_ends env s rest none' at fine fit =
             let arm = after_arm.1 in
             let e = last in
             let past : p + 4 + 4 + 4 * (length xs + 1) ≡ middle + 4 = omega arith in
             ends_as
-            (then_ends
+            (arm_ends {l = 0} {Back = λ u v. v ≡ u} second_arm fine
             (then_ends
             (pass_ends p (z.seen (b env) ++ rest) (placed.0, placed.1, placed.2, tt) s at (tested env s fit ∙ none'))
             (λ t there still.
@@ -174,9 +218,9 @@ module _ {z : Setting} where
             (placed.3.0, placed.3.1, placed.3.2, tt) (omega (arith, near)) (omega (arith, arm, past)) t there)
             past
             (λ u again. record { regs = again.regs ∙ still.regs; bytes = again.bytes ∙ still.bytes })))
-            (λ u there still. ends_to {R = λ v. S env s v}
-            (second_arm.runs env u rest there fine (rejects env s u none' fit still)) refl
-            (λ v done. rejected env s u v none' fit still done)))
+            (λ t still. rejects env s t none' fit still)
+            (λ u there. stop_here u there refl)
+            (λ t u v still done same. subst (S env s) (sym same) (rejected env s t u none' fit still done)))
             (omega arith) (omega (arith, e)) (λ v done. done)
 
         accepts_ends : (env : z.Beside) (s : State) (rest : List z.Mark) → value env ≢ 0 → s.pc ≡ p
@@ -189,18 +233,12 @@ module _ {z : Setting} where
             let e = last in
             let below = Placed-below z.code (middle + 4) ys after_arm.3 arm in
             ends_as
-            (then_ends
-            (then_ends
-            (ends_to (skip_ends p (z.seen (a env) ++ rest) (placed.0, placed.1, placed.2, tt) (omega (arith, arm)) s
-            at (λ e. some (sym (tested env s fit) ∙ e))) (omega arith) (λ t still. still))
-            (λ t there still. ends_to {R = λ u. Between z Q env s u}
-            (first_arm.runs env t rest there fine (accepts env s t some fit still)) refl
-            (λ u done. record { start = t; still = still; done = done })))
-            (λ u there done.
-            ends_to {R = λ v. S env s v}
-            (over_ends middle (length ys) rest (after_arm.0, after_arm.1, after_arm.2, tt) (omega (arith, near))
-            below u there) refl
-            (λ v still. accepted env s done.start u v some fit done.still done.done still)))
+            (arm_ends first_arm fine
+            (skip_ends p (z.seen (a env) ++ rest) (placed.0, placed.1, placed.2, tt) (omega (arith, arm)) s at
+            (λ e. some (sym (tested env s fit) ∙ e)))
+            (λ t still. accepts env s t some fit still)
+            (over_ends middle (length ys) rest (after_arm.0, after_arm.1, after_arm.2, tt) (omega (arith, near)) below)
+            (λ t u v still done back. accepted env s t u v some fit still done back))
             (omega arith) (omega (arith, e)) (λ v done. done)
 
       -- where the value is known to be 0
@@ -208,7 +246,7 @@ module _ {z : Setting} where
           → Runs z (2 + m + n) b (branch_code r xs ys) P S
       second_runs none' = record {
         placed_at = λ p placed. record {
-          leak = both (both (always (shown_at p)) (always (shown_at (p + 4)))) (second_arm p placed).leak;
+          leak = both (both (both (always (shown_at p)) (always (shown_at (p + 4)))) (second_arm p placed).leak) (always []);
           runs = λ env s rest at fine fit. rejects_ends p placed env s rest (none' env s fit) at fine fit;
         };
       }
@@ -226,15 +264,4 @@ module _ {z : Setting} where
       -- where the value is known, the first piece where it is not 0, and else the second
       pub branching_at : (v : ℕ) → ((env : z.Beside) (s : State) → P env s → value env ≡ v)
           → Runs z (2 + m + n) (λ env. if value env == 0 then b env else a env) (branch_code r xs ys) P S
-      branching_at v is = by_case (v == 0) refl
-        where
-          by_case : (c : Bool) → (v == 0) ≡ c
-              → Runs z (2 + m + n) (λ env. if value env == 0 then b env else a env) (branch_code r xs ys) P S
-          by_case true e =
-              along_fit (λ env s fit. ap (λ (x : ℕ). if x == 0 then b env else a env) (is env s fit)
-              ∙ ap (λ (c : Bool). cond c (b env) (a env)) e)
-              (second_runs (λ env s fit. is env s fit ∙ eqb-true v 0 e))
-          by_case false e =
-              along_fit (λ env s fit. ap (λ (x : ℕ). if x == 0 then b env else a env) (is env s fit)
-              ∙ ap (λ (c : Bool). cond c (b env) (a env)) e)
-              (first_runs (λ env s fit same. eqb-false v 0 e (sym (is env s fit) ∙ same)))
+      branching_at v is = by_known value v is first_runs second_runs

@@ -1,24 +1,22 @@
 -- A piece that is run again and again. What holds before each turn is said of how many are left, of the number that
 -- the turn is for, and of the states at the loop's begin and now, beside what the piece is run beside now.
-use Rattle.std.proofs.Common.{◌≡◌, ◌≢◌, ℕ, zero, suc, ◌+◌, ◌-◌, ◌*◌, ◌^◌, ◌<◌, ◌≤◌, ◌==◌, true, false, not, List, []}
-use Rattle.std.proofs.Common.{◌∷◌, ◌++◌, length, None, refl, sym, ap, ◌∙◌, arith, length-append, append-nil, eq-eqb}
-use Rattle.std.proofs.Common.{ne_eqb}
+use Rattle.std.proofs.Common.{◌≡◌, ◌≢◌, ℕ, zero, suc, ◌+◌, ◌-◌, ◌*◌, ◌^◌, ◌<◌, ◌≤◌, not, List, [], ◌∷◌, ◌++◌, length}
+use Rattle.std.proofs.Common.{refl, sym, ap, ◌∙◌, arith, length-append, append-nil, eq-eqb, ne_eqb}
 use Rattle.std.proofs.lemmas.Bool.Decides.{nat_tests}
-use Rattle.codegen.proofs.program_logic_lemmas.Jumps.{shown_at, moved_still, over_ends, back_ends, skip_ends, pass_ends}
-use Rattle.codegen.proofs.program_logic_lemmas.Pieces.{seen_then, seen_nothing, turn_ends, then_ends, ends_as, ends_to}
-use Rattle.codegen.proofs.program_logic_lemmas.Pieces.{ends_on}
-use Rattle.codegen.proofs.program_logic_lemmas.PlacedLaws.{Placed-left, Placed-right, stands}
+use Rattle.codegen.proofs.program_logic_lemmas.Jumps.{shown_at, over_ends, back_ends, skip_ends, pass_ends, taken_ends}
+use Rattle.codegen.proofs.program_logic_lemmas.Jumps.{untaken_ends}
+use Rattle.codegen.proofs.program_logic_lemmas.Pieces.{seen_then, seen_nothing, then_ends, ends_as, ends_to, ends_on}
+use Rattle.codegen.proofs.program_logic_lemmas.PlacedLaws.{Placed-left, Placed-right}
 use Rattle.codegen.specs.program_logic.Jumps.{skip, over, back, loop_code, again_code}
 use Rattle.codegen.specs.program_logic.Pieces.{Setting, Before, After, Steps, none, Leak, always, both, Ends, Straight}
-use Rattle.codegen.specs.program_logic.Pieces.{Runs}
-use Rattle.codegen.specs.program_logic.Pieces.{Still, turns_after, turns_path}
+use Rattle.codegen.specs.program_logic.Pieces.{Runs, Still, turns_after, turns_path}
 use Rattle.codegen.specs.program_logic.Placed.{Placed}
+use Rattle.rv_code.specs.Words.{IsInstr}
 use Rattle.rv_code.specs.declared.instructions.Instr.{Instr}
 use Rattle.rv_code.specs.declared.instructions.Instr.TheVariants as instr
 use Rattle.rv_code.specs.declared.operations.BranchTest.TheVariants.{Bne}
-use Rattle.codegen.proofs.program_logic_lemmas.Below.{moved_to-pc, branch_leads, branch_passes}
 use Rattle.rv_machine.specs.Effects.{branch_target, sign_extended, sum_of}
-use Rattle.rv_machine.specs.Machine.{State, moved_to, next}
+use Rattle.rv_machine.specs.Machine.{State}
 use Rattle.rv_machine.specs.Registers.{register}
 
 -- A loop that tests first, and goes on as long as a register is not 0.
@@ -49,30 +47,31 @@ module _ {z : Setting} (r : ℕ) (small : r < 32) (nonzero : r ≢ 0) {m n : ℕ
     abbrev back_at : ℕ
     back_at = tested_at + 4 + 4 + 4 * length body
 
-    from_skip : Placed z.code tested_at (skip r ∷ over (length body + 1)
-        ∷ (body ++ back (length test + 2 + length body) ∷ []))
-    from_skip = Placed-right z.code p test (skip r ∷ over (length body + 1)
-        ∷ (body ++ back (length test + 2 + length body) ∷ [])) placed
+    -- the jump back, and all behind the test
+    abbrev jump : List Instr
+    jump = back (length test + 2 + length body) ∷ []
 
-    from_back : Placed z.code back_at (back (length test + 2 + length body) ∷ [])
-    from_back = Placed-right z.code (tested_at + 4 + 4) body (back (length test + 2 + length body) ∷ []) from_skip.3.3
+    abbrev behind_test : List Instr
+    behind_test = skip r ∷ over (length body + 1) ∷ (body ++ jump)
+
+    from_skip : Placed z.code tested_at behind_test
+    from_skip = Placed-right z.code p test behind_test placed
+
+    from_back : Placed z.code back_at jump
+    from_back = Placed-right z.code (tested_at + 4 + 4) body jump from_skip.3.3
 
     ended : back_at + 4 ≡ p + 4 * length (loop_code r test body)
     ended =
-        let e = length-append test (skip r ∷ over (length body + 1)
-        ∷ (body ++ back (length test + 2 + length body) ∷ [])) in
-        let f = length-append body (back (length test + 2 + length body) ∷ []) in
+        let e = length-append test behind_test in
+        let f = length-append body jump in
         omega (arith, e, f)
 
     test_at : (left i : ℕ) → Straight z p m none test (A left i) (B left i)
-    test_at left i =
-        (tests left i).placed_at p
-        (Placed-left z.code p test (skip r ∷ over (length body + 1)
-        ∷ (body ++ back (length test + 2 + length body) ∷ [])) placed)
+    test_at left i = (tests left i).placed_at p (Placed-left z.code p test behind_test placed)
 
     body_at : (left i : ℕ) → Straight z (tested_at + 4 + 4) n (path i) body (C left i) (D left i)
-    body_at left i = (bodies left i).placed_at (tested_at + 4 + 4)
-        (Placed-left z.code (tested_at + 4 + 4) body (back (length test + 2 + length body) ∷ []) from_skip.3.3)
+    body_at left i =
+        (bodies left i).placed_at (tested_at + 4 + 4) (Placed-left z.code (tested_at + 4 + 4) body jump from_skip.3.3)
 
     leak_at : ℕ → ℕ → Leak z
     leak_at zero i = both (both (test_at 0 i).leak (always (shown_at tested_at))) (always (shown_at (tested_at + 4)))
@@ -144,7 +143,7 @@ module _ {z : Setting} (r : ℕ) (small : r < 32) (nonzero : r ≢ 0) {m n : ℕ
         ends_to {R = Tested (suc left) i env s}
         (skip_ends r small nonzero tested_at (z.seen (path i env) ++ more)
         (from_skip.0, from_skip.1, from_skip.2, tt) (omega (arith, b)) t there
-        (goes left i env o s t inv done)) (omega arith)
+        (goes left i env o s t inv done)) refl
         (λ u still. record { between = t; done = done; still = still })))
         (λ u there tested.
         ends_to {R = Turned left i env s}
@@ -215,36 +214,13 @@ module _ {z : Setting} (r q : ℕ) (small : r < 32) (small' : q < 32) {n : ℕ} 
     round_at : (left i : ℕ) → Straight z p n (path i) body (C left i) (D left i)
     round_at left i = (bodies left i).placed_at p (Placed-left z.code p body (branch ∷ []) placed)
 
-    -- back to the first instruction
-    returns_ends : (rest : List z.Mark) (s : State) → s.pc ≡ branch_at → register s.regs r ≢ register s.regs q
-        → Ends z 1 p (always (shown_at branch_at)) rest rest (λ t. Still s t) s
-    returns_ends rest s at differ =
-        let even = from_branch.0 in
-        let below = from_branch.1 in
-        let target : branch_target s.pc (2 ^ 12 - 2 * length body) ≡ p =
-        ap (λ x. branch_target x (2 ^ 12 - 2 * length body)) at
-        ∙ (back_target branch_at (length body) some near (omega arith) (omega (arith, below)) ∙ omega arith) in
-        let taken : not (register s.regs r == register s.regs q) ≡ true =
-        ap not (ne_eqb (register s.regs r) (register s.regs q) differ) in
-        turn_ends None None (moved_to s (branch_target s.pc (2 ^ 12 - 2 * length body))) at
-        (branch_leads z.code s Bne r q (2 ^ 12 - 2 * length body)
-        (stands z.code branch_at _ [] from_branch (small, small', omega (arith, some)) s at) taken
-        (omega (arith, target, even))) refl z.silence (z.keeps_still s _ (moved_still s _)) refl
-        (moved_to-pc s (branch_target s.pc (2 ^ 12 - 2 * length body)) ∙ target) (moved_still s _)
+    fields : IsInstr branch
+    fields = (small, small', omega (arith, some))
 
-    -- or on to what follows
-    falls_ends : (rest : List z.Mark) (s : State) → s.pc ≡ branch_at → register s.regs r ≡ register s.regs q
-        → Ends z 1 (branch_at + 4) (always (shown_at branch_at)) rest rest (λ t. Still s t) s
-    falls_ends rest s at alike =
+    target : branch_target branch_at (2 ^ 12 - 2 * length body) ≡ p
+    target =
         let below = from_branch.1 in
-        let to : next s ≡ branch_at + 4 = omega (arith, at, below) in
-        let untaken : not (register s.regs r == register s.regs q) ≡ false =
-        ap not (eq-eqb (register s.regs r) (register s.regs q) alike) in
-        turn_ends None None (moved_to s (next s)) at
-        (branch_passes z.code s Bne r q (2 ^ 12 - 2 * length body)
-        (stands z.code branch_at _ [] from_branch (small, small', omega (arith, some)) s at) untaken) refl
-        z.silence (z.keeps_still s _ (moved_still s _)) refl
-        (moved_to-pc s (next s) ∙ to) (moved_still s _)
+        back_target branch_at (length body) some near (omega arith) (omega (arith, below)) ∙ omega arith
 
     again_leak : ℕ → ℕ → Leak z
     again_leak zero i = both (round_at 0 i).leak (always (shown_at branch_at))
@@ -262,13 +238,16 @@ module _ {z : Setting} (r q : ℕ) (small : r < 32) (small' : q < 32) {n : ℕ} 
         (ends_on
         (then_ends ((round_at 0 i).runs env s rest at (z.fine_left (path i env) [] fine) (enters 0 i env o s inv))
         (λ t there done.
-        ends_to {R = Over (turn i env) o} (falls_ends rest t there (ends' i env o s t inv done)) behind
+        ends_to {R = Over (turn i env) o}
+        (untaken_ends Bne r q _ branch_at fields from_branch rest t there (ap not (eq-eqb _ _ (ends' i env o s t inv done))))
+        behind
         (λ u still. leaves i env o s t u inv done still)))
         (ap (λ (marks : List z.Mark). z.seen marks ++ rest) (append-nil (path i env))))
         (omega arith) refl (λ t done. done)
     again_at (suc left) i env o s rest at fine inv =
         let tail = turns_path (suc left) (i + 1) turn path (turn i env) in
         let more = z.seen tail ++ rest in
+        let even = from_branch.0 in
         ends_as
         (ends_on
         (then_ends
@@ -276,7 +255,8 @@ module _ {z : Setting} (r q : ℕ) (small : r < 32) (small' : q < 32) {n : ℕ} 
         (enters (suc left) i env o s inv))
         (λ t there done.
         ends_to {R = Inv left (i + 1) (turn i env) o}
-        (returns_ends more t there (goes left i env o s t inv done)) refl
+        (taken_ends Bne r q _ branch_at fields from_branch more t there p target (omega (arith, even))
+        (ap not (ne_eqb _ _ (goes left i env o s t inv done)))) refl
         (λ u still. turned left i env o s t u inv done still)))
         (λ w there again. again_at left (i + 1) (turn i env) o w rest there
         (z.fine_right (path i env) tail fine) again))

@@ -1,7 +1,8 @@
 -- Pieces of code, put together.
-use Rattle.std.proofs.Common.{◌≡◌, ℕ, zero, suc, ◌+◌, ◌*◌, ◌≤◌, List, [], ◌∷◌, ◌++◌, length, All, Option, refl, sym}
-use Rattle.std.proofs.Common.{ap, ◌∙◌, subst, arith, length-append, append_assoc, append-nil}
-use Rattle.std.proofs.lemmas.List.Elements.{All-append}
+use Rattle.std.proofs.Common.{◌≡◌, ℕ, ◌+◌, ◌*◌, ◌≤◌, Bool, true, false, cond, List, [], ◌∷◌, ◌++◌, length, All, Option}
+use Rattle.std.proofs.Common.{refl, sym, ap, ◌∙◌, subst, arith, length-append, append_assoc, append-nil}
+use Rattle.std.proofs.lemmas.Bool.{cond_both}
+use Rattle.std.proofs.lemmas.List.Elements.{All-append, All-cons, All-nil}
 use Rattle.codegen.proofs.program_logic_lemmas.PlacedLaws.{Placed-left, Placed-right}
 use Rattle.codegen.specs.program_logic.Pieces.{Setting, Before, After, Steps, none, Leak, always, both, Ends, Runs}
 use Rattle.codegen.specs.program_logic.Pieces.{Then}
@@ -29,12 +30,8 @@ both_seen {M = M} one two path middle rest seen more a b =
     ap (λ (r : List Observation × List M). (r.0 ++ (two r.1).0, (two r.1).1)) a
     ∙ ap (λ (r : List Observation × List M). (seen ++ r.0, r.1)) b
 
-all_none : (P : Observation → Type 0) → All P []
-all_none P k d below = absurd (omega (arith, below))
-
 pub All-one : (P : Observation → Type 0) (x : Observation) → P x → All P (x ∷ [])
-All-one P x h zero d below = h
-All-one P x h (suc k) d below = absurd (omega arith)
+All-one P x h = All-cons P x [] h (All-nil P)
 
 module _ {z : Setting} where
   -- Turns from one state.
@@ -49,7 +46,7 @@ module _ {z : Setting} where
     leads = stays;
     within = omega arith;
     shown = refl;
-    inside = all_none (λ (o : Observation). z.Allows o.event);
+    inside = All-nil (λ (o : Observation). z.Allows o.event);
     keeps = z.keeps_still s s (record { regs = refl; bytes = refl });
     at = at;
     done = done;
@@ -246,6 +243,12 @@ module _ {z : Setting} where
       → js ≡ is → Runs z n steps is P Q → Runs z n steps js P Q
   as_code {n = n} {steps = steps} {P = P} {Q = Q} same one =
       subst (λ (is : List Instr). Runs z n steps is P Q) (sym same) one
+
+  -- code by a test
+  pub by_test : {n : ℕ} {steps : Steps z} {xs ys : List Instr} {P : Before z} {Q : After z} (c : Bool)
+      → (c ≡ true → Runs z n steps xs P Q) → (c ≡ false → Runs z n steps ys P Q) → Runs z n steps (cond c xs ys) P Q
+  by_test {n = n} {steps = steps} {xs = xs} {ys = ys} {P = P} {Q = Q} c one other =
+      cond_both c xs ys (λ (is : List Instr). Runs z n steps is P Q) one other
 
   -- and then code that puts nothing on the path
   pub quiet : {m n : ℕ} {a : Steps z} {xs ys : List Instr} {P P' : Before z} {Q R : After z}

@@ -1,9 +1,11 @@
 -- The machine leads from any state through placed straight-line code to the state that the code is run to by symbols,
 -- and shows the list that is read off the code and the addresses of its accesses.
 use Rattle.std.specs.Prelude.{is_some}
-use Rattle.std.proofs.Common.{◌≡◌, ℕ, zero, suc, ◌+◌, ◌*◌, ◌%◌, ◌^◌, ◌<◌, Bool, true, false, ◌&&◌, nat_lt, List, []}
-use Rattle.std.proofs.Common.{◌∷◌, length, All, Option, Some, None, refl, ap, ◌∙◌, subst, arith}
-use Rattle.std.proofs.lemmas.Bool.{false≢true, ltb-true}
+use Rattle.std.proofs.Common.{◌≡◌, ℕ, suc, ◌+◌, ◌*◌, ◌%◌, ◌^◌, ◌<◌, Bool, true, ◌&&◌, List, [], ◌∷◌, length, All}
+use Rattle.std.proofs.Common.{Option, Some, None, refl, ap, ◌∙◌, subst, arith}
+use Rattle.std.proofs.lemmas.Bool.{and_parts, false≢true}
+use Rattle.std.proofs.lemmas.Bool.Decides.{nat_tests}
+use Rattle.std.proofs.lemmas.List.Elements.{All-cons, All-nil}
 use Rattle.codegen.specs.program_logic.Placed.{Placed}
 use Rattle.codegen.specs.program_logic.StraightCode.{Contents, state_at, is_straight, are_straight, next_of, left_by}
 use Rattle.codegen.specs.program_logic.StraightCode.{with_result, number_or_zero, after, after_all, event_of, shown_by}
@@ -15,8 +17,7 @@ use Rattle.rv_code.specs.declared.operations.LoadOperation.{LoadOperation}
 use Rattle.rv_code.specs.declared.operations.StoreOperation.{StoreOperation}
 use Rattle.rv_code.specs.declared.operations.UpperOperation.TheVariants.{Lui}
 use Rattle.codegen.proofs.program_logic_lemmas.Below.{Leads-append, upper_leads, immediate_leads, shift_leads}
-use Rattle.codegen.proofs.program_logic_lemmas.Below.{register_leads}
-use Rattle.codegen.proofs.program_logic_lemmas.Below.{load_leads, store_leads}
+use Rattle.codegen.proofs.program_logic_lemmas.Below.{register_leads, load_leads, store_leads}
 use Rattle.rv_machine.specs.Bytes.{number_at, with_number}
 use Rattle.rv_machine.specs.Effects.{load_size, loaded_value, store_size, address_of}
 use Rattle.rv_machine.specs.Leakage.{Leads, stays}
@@ -28,55 +29,19 @@ use Rattle.rv_machine.specs.declared.observation.Event.TheVariants as event
 use Rattle.rv_machine.specs.declared.observation.Observation.{Observation}
 
 pub both_left : (a b : Bool) → (a && b) ≡ true → a ≡ true
-both_left true b h = refl
-both_left false b h = absurd (false≢true h)
+both_left a b h = (and_parts a b h).0
 
 pub both_right : (a b : Bool) → (a && b) ≡ true → b ≡ true
-both_right true b h = h
-both_right false b h = absurd (false≢true h)
+both_right a b h = (and_parts a b h).1
 
 -- the number that is found
 pub found : (o : Option ℕ) → is_some o ≡ true → o ≡ Some (number_or_zero o)
 found (Some v) h = refl
 found None h = absurd (false≢true h)
 
-three : (n : ℕ) (a b c : Bool) → (a && (b && c)) ≡ true → (a ≡ true) × (b ≡ true) × (c ≡ true)
-three n a b c h =
-    let rest = both_right a (b && c) h in
-    (both_left a (b && c) h, both_left b c rest, both_right b c rest)
-
 range : (works : ℕ → Bool) (i : Instr) → is_straight works i ≡ true → IsInstr i
-range works (Upper Lui rd immediate) h =
-    let t = three 0 (works rd) (nat_lt rd 32) (nat_lt immediate 1048576) h in
-    (ltb-true rd 32 t.1, ltb-true immediate 1048576 t.2)
-range works (Immediate operation rd rs1 immediate) h =
-    let t = three 0 (works rd) (nat_lt rd 32) (nat_lt rs1 32 && nat_lt immediate 4096) h in (
-      ltb-true rd 32 t.1,
-      ltb-true rs1 32 (both_left (nat_lt rs1 32) (nat_lt immediate 4096) t.2),
-      ltb-true immediate 4096 (both_right (nat_lt rs1 32) (nat_lt immediate 4096) t.2),
-    )
-range works (Shift operation rd rs1 amount) h =
-    let t = three 0 (works rd) (nat_lt rd 32) (nat_lt rs1 32 && nat_lt amount 32) h in (
-      ltb-true rd 32 t.1,
-      ltb-true rs1 32 (both_left (nat_lt rs1 32) (nat_lt amount 32) t.2),
-      ltb-true amount 32 (both_right (nat_lt rs1 32) (nat_lt amount 32) t.2),
-    )
-range works (Register operation rd rs1 rs2) h =
-    let t = three 0 (works rd) (nat_lt rd 32) (nat_lt rs1 32 && nat_lt rs2 32) h in (
-      ltb-true rd 32 t.1,
-      ltb-true rs1 32 (both_left (nat_lt rs1 32) (nat_lt rs2 32) t.2),
-      ltb-true rs2 32 (both_right (nat_lt rs1 32) (nat_lt rs2 32) t.2),
-    )
-range works (Load operation rd rs1 offset) h =
-    let t = three 0 (works rd) (nat_lt rd 32) (nat_lt rs1 32 && nat_lt offset 4096) h in (
-      ltb-true rd 32 t.1,
-      ltb-true rs1 32 (both_left (nat_lt rs1 32) (nat_lt offset 4096) t.2),
-      ltb-true offset 4096 (both_right (nat_lt rs1 32) (nat_lt offset 4096) t.2),
-    )
-range works (Store operation rs2 rs1 offset) h =
-    let t = three 0 (nat_lt rs2 32) (nat_lt rs1 32) (nat_lt offset 4096) h in
-    (ltb-true rs2 32 t.0, ltb-true rs1 32 t.1, ltb-true offset 4096 t.2)
-range works i h = absurd (false≢true h)
+range works (Upper Lui rd immediate) h = search (arith, nat_tests)
+range works i h = search (arith, nat_tests)
 
 module _ (code : Code) (p : ℕ) (below : p + 4 < 2 ^ 32) (c : Contents) where
   -- at the next instruction
@@ -154,17 +119,15 @@ module _ (code : Code) (p : ℕ) (below : p + 4 < 2 ^ 32) (c : Contents) where
 
 -- what is asked of the rest
 
-pub rest_fit : (works : ℕ → Bool) (Allows : Option Event → Type 0) (i : Instr) (a : ℕ) (F : Type 0)
-    → is_straight works i ≡ true → fit_and Allows i a F → F
-rest_fit works Allows (Load operation rd rs1 offset) a F ok fit = fit.1
-rest_fit works Allows (Store operation rs2 rs1 offset) a F ok fit = fit.1
-rest_fit works Allows i a F ok fit = fit
+pub rest_fit : (Allows : Option Event → Type 0) (i : Instr) (a : ℕ) (F : Type 0) → fit_and Allows i a F → F
+rest_fit Allows (Load operation rd rs1 offset) a F fit = fit.1
+rest_fit Allows (Store operation rs2 rs1 offset) a F fit = fit.1
+rest_fit Allows i a F fit = fit
 
-pub rest_met : (works : ℕ → Bool) (i : Instr) (a : ℕ) (c : Contents) (M : Type 0) → is_straight works i ≡ true
-    → met_and i a c M → M
-rest_met works (Load operation rd rs1 offset) a c M ok met = met.1
-rest_met works (Store operation rs2 rs1 offset) a c M ok met = met.1
-rest_met works i a c M ok met = met
+pub rest_met : (i : Instr) (a : ℕ) (c : Contents) (M : Type 0) → met_and i a c M → M
+rest_met (Load operation rd rs1 offset) a c M met = met.1
+rest_met (Store operation rs2 rs1 offset) a c M met = met.1
+rest_met i a c M met = met
 
 -- The machine on straight-line code.
 pub straight_code_leads : (works : ℕ → Bool) (Allows : Option Event
@@ -176,13 +139,13 @@ straight_code_leads works Allows code p [] places c plain placed fit met =
     let e : p ≡ p + 4 * 0 = omega arith in
     subst (λ q. Leads code 0 (state_at p c) [] (state_at q c)) e stays
 straight_code_leads works Allows code p (i ∷ is) places c plain placed fit met =
-    let ok = both_left (is_straight works i) (are_straight works is) plain in
+    let ok = both_left _ _ plain in
     let a = next_of places in
     let one = one_leads code p placed.1 c works Allows i a _ _ ok
     (record { aligned = placed.0; word = placed.2; in_range = range works i ok }) fit met in
     let more = straight_code_leads works Allows code (p + 4) is (left_by i places) (after i a c)
-    (both_right (is_straight works i) (are_straight works is) plain) placed.3
-    (rest_fit works Allows i a _ ok fit) (rest_met works i a c _ ok met) in
+    (both_right (is_straight works i) (are_straight works is) plain) placed.3 (rest_fit Allows i a _ fit)
+    (rest_met i a c _ met) in
     let behind : p + 4 + 4 * length is ≡ p + 4 * suc (length is) = omega arith in
     let count : 1 + length is ≡ suc (length is) = omega arith in
     let to = after_all is (left_by i places) (after i a c) in
@@ -192,27 +155,17 @@ straight_code_leads works Allows code p (i ∷ is) places c plain placed fit met
 
 -- What it shows is allowed.
 
-all_none : (P : Observation → Type 0) → All P []
-all_none P k d below = absurd (omega (arith, below))
-
-all_more : (P : Observation → Type 0) (o : Observation) (rest : List Observation) → P o → All P rest
-    → All P (o ∷ rest)
-all_more P o rest h more zero d below = h
-all_more P o rest h more (suc k) d below = more k d (omega (arith, below))
-
-one_allowed : (works : ℕ → Bool) (Allows : Option Event → Type 0) → Allows None → (i : Instr) (a : ℕ) (F : Type 0)
-    → is_straight works i ≡ true → fit_and Allows i a F → Allows (event_of i a)
-one_allowed works Allows silence (Load operation rd rs1 offset) a F ok fit = fit.0.allowed
-one_allowed works Allows silence (Store operation rs2 rs1 offset) a F ok fit = fit.0.allowed
-one_allowed works Allows silence i a F ok fit = silence
+one_allowed : (Allows : Option Event → Type 0) → Allows None → (i : Instr) (a : ℕ) (F : Type 0)
+    → fit_and Allows i a F → Allows (event_of i a)
+one_allowed Allows silence (Load operation rd rs1 offset) a F fit = fit.0.allowed
+one_allowed Allows silence (Store operation rs2 rs1 offset) a F fit = fit.0.allowed
+one_allowed Allows silence i a F fit = silence
 
 pub shown_allowed : (works : ℕ → Bool) (Allows : Option Event → Type 0) → Allows None
     → (p : ℕ) (is : List Instr) (places : List ℕ) → are_straight works is ≡ true → AreFit Allows is places
     → All (λ (o : Observation). Allows o.event) (shown_by p is places)
-shown_allowed works Allows silence p [] places plain fit = all_none (λ (o : Observation). Allows o.event)
+shown_allowed works Allows silence p [] places plain fit = All-nil (λ (o : Observation). Allows o.event)
 shown_allowed works Allows silence p (i ∷ is) places plain fit =
-    let ok = both_left (is_straight works i) (are_straight works is) plain in
-    all_more (λ (o : Observation). Allows o.event) _ _ (one_allowed works Allows silence i (next_of places) _ ok fit)
-    (shown_allowed works Allows silence (p + 4) is (left_by i places)
-    (both_right (is_straight works i) (are_straight works is) plain)
-    (rest_fit works Allows i (next_of places) _ ok fit))
+    let a = next_of places in
+    All-cons (λ (o : Observation). Allows o.event) _ _ (one_allowed Allows silence i a _ fit)
+    (shown_allowed works Allows silence (p + 4) is (left_by i places) (both_right _ _ plain) (rest_fit Allows i a _ fit))
