@@ -13,10 +13,9 @@ pub mod Operands
 pub mod TermLengths
 pub mod NumberCode
 pub mod BoolCode
-pub mod Elements
 pub mod WorkedCode
 pub mod OperandRuns
-pub mod ElementValues
+pub mod Elements
 pub mod ExpressionRuns
 pub mod SiteRuns
 pub mod Logic

@@ -2,8 +2,7 @@
 use Rattle.std.proofs.Common.{◌≡◌, ℕ, ◌+◌, ◌*◌, ◌%◌, ◌^◌, ◌<◌, ◌==◌, Bool, true, false, not, ◌&&◌, if◌then◌else◌}
 use Rattle.std.proofs.Common.{bit_and, bit_xor, ap, ◌∙◌, arith}
 use Rattle.codegen.proofs.expression_code_lemmas.Below.{lower_part, nat_tests, upper_part, and_mask, xor_of_32, sum_of}
-use Rattle.codegen.proofs.expression_code_lemmas.Below.{difference_of}
-use Rattle.codegen.proofs.expression_code_lemmas.Below.{sign_extended}
+use Rattle.codegen.proofs.expression_code_lemmas.Below.{difference_of, sign_extended}
 use Rattle.std.specs.Int.{bit_at}
 use Rattle.std.specs.Int.Bits.{and_zero_r, xor_zero_r}
 use Rattle.std.proofs.lemmas.Nat.Bits.{bit_at_xor, bit_at-lt, same_from_bits}

@@ -1,23 +1,34 @@
--- The address of an element, from its index in a register.
+-- Elements of arrays: the address of one, from its index in a register, and its value in a register, at an index that is
+-- a number or in a register.
 use Rattle.std.proofs.Common.{◌≡◌, ◌≢◌, ℕ, ◌+◌, ◌*◌, ◌^◌, ◌<◌, Bool, true, false, cond, nat_lt, List, [], ◌∷◌, ◌++◌}
-use Rattle.std.proofs.Common.{refl, ap, ap₂, ◌∙◌, arith, ◌==◌, ne_eqb}
+use Rattle.std.proofs.Common.{refl, ap, ap₂, ◌∙◌, arith, ◌==◌, ne_eqb, ◌%◌, Some, slice_get, slice_index, sym, eq-eqb}
 use Rattle.rv_code.specs.declared.instructions.Instr.TheVariants as instr
 use Rattle.rv_code.specs.declared.operations.UpperOperation.TheVariants.{Lui}
 use Rattle.rv_code.specs.declared.operations.RegisterOperation.TheVariants.{Add}
 use Rattle.codegen.proofs.expression_code_lemmas.Below.{address_code, address_of, after_append, byte_count, cheaper}
-use Rattle.codegen.proofs.expression_code_lemmas.Below.{element_bytes}
-use Rattle.codegen.proofs.expression_code_lemmas.Below.{Instr, Kind, load_by, load_size, loaded_value, lower_part}
-use Rattle.codegen.proofs.expression_code_lemmas.Below.{lt-ltb, nat_tests}
-use Rattle.codegen.proofs.expression_code_lemmas.Below.{none, only_computes, plain_append, registers_after, scale_code}
-use Rattle.codegen.proofs.expression_code_lemmas.Below.{sign_extended, State, StraightState, sum_of, upper_part, weaken}
+use Rattle.codegen.proofs.expression_code_lemmas.Below.{element_bytes, Instr, Kind, load_by, load_size, loaded_value}
+use Rattle.codegen.proofs.expression_code_lemmas.Below.{lower_part, lt-ltb, nat_tests, none, only_computes}
+use Rattle.codegen.proofs.expression_code_lemmas.Below.{plain_append, registers_after, scale_code, sign_extended, State}
+use Rattle.codegen.proofs.expression_code_lemmas.Below.{StraightState, sum_of, upper_part, weaken, along, array_as}
+use Rattle.codegen.proofs.expression_code_lemmas.Below.{as_code, ByteMap, element, element_code, eqb-true, gives}
+use Rattle.codegen.proofs.expression_code_lemmas.Below.{indexed, kind_at, Known, near_code, near_element, never}
+use Rattle.codegen.proofs.expression_code_lemmas.Below.{number_at, number_or_zero, Path, Place, quiet, TermTree}
+use Rattle.codegen.proofs.expression_code_lemmas.Below.{true≢false, value_in, variable_offset, WordType}
 use Rattle.language.specs.declared.signature.Kind.TheVariants.{Boolean, Uint16, Uint32}
-use Rattle.codegen.proofs.expression_code_lemmas.Arithmetic.{upper_fits}
+use Rattle.codegen.proofs.expression_code_lemmas.Arithmetic.{upper_fits, lower_fits, near_address}
 use Rattle.codegen.proofs.expression_code_lemmas.OperatorCode.{either_of, dd, td, d0, d32, q0, q32, low_beside}
 use Rattle.codegen.proofs.expression_code_lemmas.OperatorCode.{kept_beside}
 use Rattle.codegen.proofs.expression_code_lemmas.TermLengths.{address_length}
-use Rattle.codegen.proofs.expression_code_lemmas.Frame.{Setting, Runs, HeldAt, Held}
-use Rattle.codegen.proofs.expression_code_lemmas.WorkRegisters.{IsFree, ArePair, free_from}
-use Rattle.codegen.proofs.expression_code_lemmas.Moves.{register-at, computing_within}
+use Rattle.codegen.proofs.expression_code_lemmas.Frame.{Setting, Runs, HeldAt, Held, setting}
+use Rattle.codegen.proofs.expression_code_lemmas.WorkRegisters.{IsFree, ArePair, free_from, IsTarget, works_at}
+use Rattle.codegen.proofs.expression_code_lemmas.WorkRegisters.{target_works, spare_works, not_written}
+use Rattle.codegen.proofs.expression_code_lemmas.Moves.{register-at, computing_within, written, unwritten, loading}
+use Rattle.codegen.proofs.expression_code_lemmas.Events.{by_index}
+use Rattle.codegen.proofs.expression_code_lemmas.NumberCode.{known, NearElement, near_known}
+use Rattle.codegen.proofs.expression_code_lemmas.Operands.{Outcome}
+use Rattle.codegen.proofs.expression_code_lemmas.Places.{place_of, place_even, kind_known}
+use Rattle.codegen.proofs.expression_code_lemmas.Values.{Ready, ValuedIn, place_ends}
+use Rattle.codegen.proofs.expression_code_lemmas.OperandRuns.{made, none_yet, Slots, still_ready, steps_of}
 
 -- with the lower part of the offset it is the address of an element
 pub record Addressed (z : Setting) (r o a : ℕ) (env : StraightState) (s t : State) : Type 0 where
@@ -111,3 +122,139 @@ module _ (z : Setting) (d r : ℕ) (target : IsFree d) (source : IsFree r) (apar
         same = done.same;
       })
       (computing_within z (either_of d 28) (scale ++ raise_by near o) plain (low_beside pair)))
+
+-- Into a register comes an element's value.
+
+module _ (slots : Slots) (place d : ℕ) (target : IsTarget slots.z.allocation.count place d) where
+  open slots use {z, free}
+
+  abbrev works : ℕ → Bool
+  works = works_at z.allocation.count place d
+
+  own : works d ≡ true
+  own = target_works z.allocation.count place d
+
+  -- The element at an index that is a number, where its access holds its offset.
+  near_picked : (source : Place) (x size : ℕ) (word : WordType) (mutable : Bool) (i o : ℕ) (index : TermTree)
+      → slice_get z.declared x ≡ Some (array_as word mutable size) → i < size
+      → place_of z.declared x (array_as word mutable size) i ≡ o → o < 2048
+      → Runs z 1 none (near_code d word.kind o)
+      (Known (setting z) ℕ (λ j. j < size) (λ env s. Ready z env s) (λ env. value_in env.variables index) i)
+      (λ env s t. Outcome z works d (value_in env.variables (element source x size index)) s t)
+  near_picked source x size word mutable i o index known below at near =
+      let array = array_as word mutable size in
+      let load = load_by word.kind in
+      let bytes = load_bytes word.kind in
+      let h = place_ends z x array i known below in
+      let ends = z.ends in
+      let away = z.allocated.words x array size known refl in
+      gives
+      (λ env s t fine given two.
+      let ready = given.given in
+      record {
+        held = two.0;
+        there =
+            ap (λ (regs : ℕ → ℕ). regs d) two.1
+            ∙ (written s.regs d _ target.free.nonzero
+            ∙ (load_plain word.kind _
+            ∙ (ap₂ (λ (n a : ℕ). number_or_zero (number_at s.bytes n (z.frame + a))) bytes (sym at)
+            ∙ (ap number_or_zero (ready.variables_there x array i known away below)
+            ∙ ap (slice_index (env.variables x)) (sym given.is)))));
+        others = λ q other. ap (λ (regs : ℕ → ℕ). regs q) two.1
+            ∙ unwritten s.regs d _ q (not_written works q d other own);
+        same = two.2;
+      })
+      (weaken
+      (λ env s fine given. (
+        given.given.held,
+        ap (λ b. sum_of b (sign_extended 12 o)) given.given.held.base
+            ∙ near_address z.frame o near (omega (arith, h, ends, at)),
+      ))
+      (λ env s t fine given done. done)
+      (loading z 2 o o (omega arith) (omega (arith, near)) load d target.free.low target.free.small
+      (ap₂ (λ a n. a % n) (sym at) bytes ∙ place_even z.declared x array i) (omega (arith, h, bytes, at))))
+
+  -- The element at an index that is in a register.
+  pub picked : (r : ℕ) → IsFree r
+      → (source : Place) (x size : ℕ) (word : WordType) (mutable : Bool) (i : ℕ) (index : TermTree)
+      → slice_get z.declared x ≡ Some (array_as word mutable size) → i < size
+      → Runs z 5 none (element_code d r word.kind (variable_offset z.declared x))
+      (Known (setting z) ℕ (λ j. j < size) (λ env s. Ready z env s × (s.regs r ≡ value_in env.variables index))
+      (λ env. value_in env.variables index) i)
+      (λ env s t. Outcome z works d (value_in env.variables (element source x size index)) s t)
+  picked r at source x size word mutable i index known below =
+      let o = variable_offset z.declared x in
+      let array = array_as word mutable size in
+      let a = place_of z.declared x array i in
+      let load = load_by word.kind in
+      let bytes = load_bytes word.kind in
+      let h = place_ends z x array i known below in
+      let away = z.allocated.words x array size known refl in
+      gives
+      (λ env s t fine given done.
+      let one = done.first in
+      let two = done.second in
+      let ready = given.given.0 in
+      record {
+        held = two.0;
+        there =
+            ap (λ (regs : ℕ → ℕ). regs d) two.1
+            ∙ (written done.middle.regs d _ target.free.nonzero
+            ∙ (load_plain word.kind _
+            ∙ (ap (λ (b : ByteMap). number_or_zero (number_at b (byte_count (load_size load)) (z.frame + a)))
+            one.same
+            ∙ (ap (λ n. number_or_zero (number_at s.bytes n (z.frame + a))) bytes
+            ∙ (ap number_or_zero (ready.variables_there x array i known away below)
+            ∙ ap (slice_index (env.variables x)) (sym given.is))))));
+        others = λ q other.
+            let apart = not_written works q d other own in
+            ap (λ (regs : ℕ → ℕ). regs q) two.1
+            ∙ (unwritten done.middle.regs d _ q apart
+            ∙ one.others q apart (not_written works q 28 other
+            (spare_works z.allocation.count place d 28 (omega arith))));
+        same = two.2 ∙ one.same;
+      })
+      (quiet
+      (weaken
+      (λ env s fine given. (given.given.0.held, given.given.1 ∙ given.is, omega (arith, h, z.ends)))
+      (λ env s t fine given done. done)
+      (address_runs z d r target.free at target.no_address word.kind o (λ env. i)))
+      (loading z d (lower_part o) a target.free.small (lower_fits o) load d target.free.low target.free.small
+      (ap (λ n. a % n) bytes ∙ place_even z.declared x array i) (omega (arith, h, bytes)))
+      (λ env s t given done. (done.held, done.address)))
+
+  -- so the element at an index that is known to be one whose access holds its offset
+  pub near_runs : (source : Place) {x size : ℕ} {index : TermTree} {word : WordType} {mutable : Bool}
+      → slice_get z.declared x ≡ Some (array_as word mutable size)
+      → (o : ℕ) → near_element z.declared z.allocation x index ≡ Some o
+      → Runs z 1 (steps_of (element source x size index)) (near_code d (kind_at z.declared x) o) (Ready z)
+      (ValuedIn z (element source x size index) free d place)
+  near_runs source {x = x} {size = size} {index = index} {word = word} {mutable = mutable} is o e =
+      let array = array_as word mutable size in
+      let near = near_known z.declared z.allocation x index o e in
+      let kind = kind_known z.declared x array is in
+      let at : place_of z.declared x array near.i ≡ o =
+      ap (λ k. variable_offset z.declared x + element_bytes k * near.i) (sym kind) ∙ near.at in
+      as_code (ap (λ k. near_code d k o) kind)
+      (along (λ env. ap (λ (p : Path). p ++ indexed source size (value_in env.variables index) ∷ [])
+      (known index near.i near.is env.variables).1)
+      (made slots place (λ j. index) d (none_yet slots place (λ j. index))
+      (by_index z source size (λ env. value_in env.variables index)
+      (λ i below. at_number near at i below (i == near.i) refl))
+      (λ env s t ready done. still_ready slots place env s t ready done.held done.kept done.lower)))
+    where
+      -- of the indices that there might be, the number is one
+      at_number : (near : NearElement z.declared x index o)
+          → place_of z.declared x (array_as word mutable size) near.i ≡ o → (i : ℕ) → i < size → (b : Bool)
+          → (i == near.i) ≡ b
+          → Runs z 1 none (near_code d word.kind o)
+          (Known (setting z) ℕ (λ j. j < size) (λ env s. Ready z env s)
+          (λ env. value_in env.variables index) i)
+          (λ env s t. Outcome z works d (value_in env.variables (element source x size index)) s t)
+      at_number near at i below true same =
+          near_picked source x size word mutable i o index is below
+          (ap (place_of z.declared x (array_as word mutable size)) (eqb-true i near.i same) ∙ at) near.near
+      at_number near at i below false other =
+          never (λ env s given.
+          true≢false (sym (eq-eqb i near.i (sym given.is ∙ (known index near.i near.is env.variables).0))
+          ∙ other))

@@ -3,17 +3,12 @@
 use Rattle.std.proofs.Common.{◌≡◌, ◌≢◌, ℕ, ◌-◌, ◌<◌, ◌≤◌, Bool, true, false, nat_lt, nat_le, List, [], ◌∷◌, ◌++◌}
 use Rattle.std.proofs.Common.{Option, Some, None, slice_index, refl, sym, ap, ap₂, ◌∙◌, arith}
 use Rattle.codegen.proofs.expression_code_lemmas.Below.{always, bounded, by_mark, ByteMap, decided, divide_leads}
-use Rattle.codegen.proofs.expression_code_lemmas.Below.{divide_value}
-use Rattle.codegen.proofs.expression_code_lemmas.Below.{divided, DivideOperation, Event, indexed, Instr, IsAt, IsInside}
-use Rattle.codegen.proofs.expression_code_lemmas.Below.{IsInstr}
-use Rattle.codegen.proofs.expression_code_lemmas.Below.{Known, Leads, lt-ltb, ltb-true, Mark, multiplied}
-use Rattle.codegen.proofs.expression_code_lemmas.Below.{multiply_leads}
-use Rattle.codegen.proofs.expression_code_lemmas.Below.{multiply_value, MultiplyOperation, nat_tests, never}
-use Rattle.codegen.proofs.expression_code_lemmas.Below.{Observation, Path}
-use Rattle.codegen.proofs.expression_code_lemmas.Below.{Place, product_shown, Profile, register, stands, State}
-use Rattle.codegen.proofs.expression_code_lemmas.Below.{StraightState}
-use Rattle.codegen.proofs.expression_code_lemmas.Below.{true≢false, turn_ends, with_value, with_value-bytes}
-use Rattle.codegen.proofs.expression_code_lemmas.Below.{with_value-pc}
+use Rattle.codegen.proofs.expression_code_lemmas.Below.{divide_value, divided, DivideOperation, Event, indexed, Instr}
+use Rattle.codegen.proofs.expression_code_lemmas.Below.{IsAt, IsInside, IsInstr, Known, Leads, lt-ltb, ltb-true, Mark}
+use Rattle.codegen.proofs.expression_code_lemmas.Below.{multiplied, multiply_leads, multiply_value, MultiplyOperation}
+use Rattle.codegen.proofs.expression_code_lemmas.Below.{nat_tests, never, Observation, Path, Place, product_shown}
+use Rattle.codegen.proofs.expression_code_lemmas.Below.{Profile, register, stands, State, StraightState, true≢false}
+use Rattle.codegen.proofs.expression_code_lemmas.Below.{turn_ends, with_value, with_value-bytes, with_value-pc}
 use Rattle.codegen.proofs.expression_code_lemmas.Below.{with_value-regs}
 use Rattle.codegen.proofs.expression_code_lemmas.Frame.{Setting, Before, After, Steps, Runs, setting}
 use Rattle.codegen.proofs.expression_code_lemmas.Moves.{register-at, written, unwritten}

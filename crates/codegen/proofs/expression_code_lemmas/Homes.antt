@@ -2,10 +2,9 @@
 use Rattle.std.proofs.Common.{◌≡◌, ℕ, ◌^◌, ◌<◌, true, [], length, Some, refl, sym, ◌∙◌, arith}
 use Rattle.std.proofs.lemmas.Option.{none-some, slice_get_within}
 use Rattle.codegen.proofs.expression_code_lemmas.Below.{Allocation, convert, converted, HasType, home_of, home_of_term}
-use Rattle.codegen.proofs.expression_code_lemmas.Below.{keeps_words}
-use Rattle.codegen.proofs.expression_code_lemmas.Below.{Kind, of_conversion, of_variable, path_in, State, StraightState}
-use Rattle.codegen.proofs.expression_code_lemmas.Below.{TermTree}
-use Rattle.codegen.proofs.expression_code_lemmas.Below.{types_of, value_in, Values, width_of, word_as, WordType}
+use Rattle.codegen.proofs.expression_code_lemmas.Below.{keeps_words, Kind, of_conversion, of_variable, path_in, State}
+use Rattle.codegen.proofs.expression_code_lemmas.Below.{StraightState, TermTree, types_of, value_in, Values, width_of}
+use Rattle.codegen.proofs.expression_code_lemmas.Below.{word_as, WordType}
 use Rattle.codegen.proofs.expression_code_lemmas.Frame.{Setting}
 use Rattle.codegen.proofs.expression_code_lemmas.Values.{Ready, value_word}
 use Rattle.codegen.proofs.expression_code_lemmas.WorkRegisters.{converted_home}

@@ -4,23 +4,18 @@
 use Rattle.std.proofs.Common.{◌≡◌, ◌≢◌, ℕ, ◌+◌, ◌*◌, ◌%◌, ◌^◌, ◌<◌, ◌≤◌, ◌==◌, Bool, true, false, not, ◌&&◌, cond}
 use Rattle.std.proofs.Common.{nat_lt, List, [], ◌∷◌, ◌++◌, length, refl, ap, ap₂, ◌∙◌, arith, eq-eqb, ne_eqb}
 use Rattle.codegen.proofs.expression_code_lemmas.Below.{address_of, all_straight, as_code, both_left, both_right}
-use Rattle.codegen.proofs.expression_code_lemmas.Below.{byte_count}
-use Rattle.codegen.proofs.expression_code_lemmas.Below.{ByteMap, cheaper, Contents, contents_of, fun_ext, gives, idle}
-use Rattle.codegen.proofs.expression_code_lemmas.Below.{Instr}
-use Rattle.codegen.proofs.expression_code_lemmas.Below.{load_code, load_size, loaded_value, LoadOperation, lower_part}
-use Rattle.codegen.proofs.expression_code_lemmas.Below.{lt-ltb}
-use Rattle.codegen.proofs.expression_code_lemmas.Below.{ltb-true, nat_tests, no_access_fit, no_access_met, none}
-use Rattle.codegen.proofs.expression_code_lemmas.Below.{number_at}
-use Rattle.codegen.proofs.expression_code_lemmas.Below.{number_or_zero, only_computes, quiet, register, registers_after}
-use Rattle.codegen.proofs.expression_code_lemmas.Below.{registers_of, sign_extended, Size, State, store_size}
-use Rattle.codegen.proofs.expression_code_lemmas.Below.{StoreOperation}
+use Rattle.codegen.proofs.expression_code_lemmas.Below.{byte_count, ByteMap, cheaper, Contents, contents_of, fun_ext}
+use Rattle.codegen.proofs.expression_code_lemmas.Below.{gives, idle, Instr, load_code, load_size, loaded_value}
+use Rattle.codegen.proofs.expression_code_lemmas.Below.{LoadOperation, lower_part, lt-ltb, ltb-true, nat_tests}
+use Rattle.codegen.proofs.expression_code_lemmas.Below.{no_access_fit, no_access_met, none, number_at, number_or_zero}
+use Rattle.codegen.proofs.expression_code_lemmas.Below.{only_computes, quiet, register, registers_after, registers_of}
+use Rattle.codegen.proofs.expression_code_lemmas.Below.{sign_extended, Size, State, store_size, StoreOperation}
 use Rattle.codegen.proofs.expression_code_lemmas.Below.{StraightState, sum_of, Then, upper_part, with_number}
-use Rattle.codegen.proofs.expression_code_lemmas.Below.{with_register}
-use Rattle.codegen.proofs.expression_code_lemmas.Below.{with_result}
+use Rattle.codegen.proofs.expression_code_lemmas.Below.{with_register, with_result}
 use Rattle.codegen.proofs.expression_code_lemmas.Arithmetic.{far_address, near_address, upper_fits}
 use Rattle.codegen.proofs.expression_code_lemmas.Frame.{Setting, Before, After, Steps, Runs, setting, HeldAt, Held}
-use Rattle.codegen.proofs.expression_code_lemmas.Frame.{frame_there}
-use Rattle.codegen.proofs.expression_code_lemmas.Frame.{frame_runs}
+use Rattle.codegen.proofs.expression_code_lemmas.Frame.{frame_there, frame_runs}
+use Rattle.codegen.proofs.program_logic_lemmas.Face.{IsMet}
 use Rattle.rv_code.specs.declared.instructions.Instr.TheVariants as instr
 use Rattle.rv_code.specs.declared.operations.LoadOperation.TheVariants.{Lw}
 use Rattle.rv_code.specs.declared.operations.RegisterOperation.TheVariants.{Add}
@@ -153,6 +148,10 @@ Addresses z rs offset a env s = HeldAt z s × (address_of s.regs rs offset ≡ z
 -- An access of so many bytes at an address that a register has.
 
 module _ (z : Setting) (rs offset a : ℕ) (rs_small : rs < 32) (offset_small : offset < 4096) where
+  met : (n : ℕ) → a + n ≤ z.size → (s : State) → HeldAt z s → address_of s.regs rs offset ≡ z.frame + a
+      → IsMet n rs offset (z.frame + a) (contents_of s)
+  met n inside s held address = record { address = address; data_there = frame_there z s held n a inside }
+
   pub loading : (operation : LoadOperation) (rd : ℕ) → 4 < rd → rd < 32 → a % byte_count (load_size operation) ≡ 0
       → a + byte_count (load_size operation) ≤ z.size
       → Runs z 1 none (instr.Load operation rd rs offset ∷ []) (Addresses z rs offset a)
@@ -166,25 +165,14 @@ module _ (z : Setting) (rs offset a : ℕ) (rs_small : rs < 32) (offset_small : 
       (λ env s t fine given done. (done.0, done.1.regs, done.1.bytes))
       (frame_runs z {P = Addresses z rs offset a} is_free (instr.Load operation rd rs offset ∷ [])
       ((z.frame + a) ∷ [])
-      (simp (lt-ltb 4 rd low, lt-ltb rd 32 small, lt-ltb rs 32 rs_small, lt-ltb offset 4096 offset_small))
-      none_low (
+      (simp (lt-ltb 4 rd low, lt-ltb rd 32 small, lt-ltb rs 32 rs_small, lt-ltb offset 4096 offset_small)) none_low (
         record {
           even = even_at (load_size operation) z.frame a z.even even;
           allowed = (omega arith, omega (arith, inside));
         },
         tt,
       )
-      (λ env s given. (
-        given.0,
-        (
-          record {
-            address = given.1;
-            data_there =
-                frame_there z s given.0 (byte_count (load_size operation)) a inside;
-          },
-          tt,
-        ),
-      )))
+      (λ env s given. (given.0, (met _ inside s given.0 given.1, tt))))
 
   pub storing : (operation : StoreOperation) (rs2 : ℕ) → rs2 < 32 → a % byte_count (store_size operation) ≡ 0
       → a + byte_count (store_size operation) ≤ z.size
@@ -203,17 +191,7 @@ module _ (z : Setting) (rs offset a : ℕ) (rs_small : rs < 32) (offset_small : 
         },
         tt,
       )
-      (λ env s given. (
-        given.0,
-        (
-          record {
-            address = given.1;
-            data_there =
-                frame_there z s given.0 (byte_count (store_size operation)) a inside;
-          },
-          tt,
-        ),
-      )))
+      (λ env s given. (given.0, (met _ inside s given.0 given.1, tt))))
 
 -- An access of a slot: the address of a far one is first made in a register.
 
@@ -238,9 +216,9 @@ anew : (regs : ℕ → ℕ) (r u v : ℕ) (near : Bool)
     → with_register (cond near regs (with_register regs r u)) r v ≡ with_register regs r v
 anew regs r u v near = fun_ext (λ q. grind (arith, nat_tests))
 
-source : (regs : ℕ → ℕ) (r v : ℕ) (near : Bool) → 4 < r → r ≢ 28
-    → register (cond near regs (with_register regs 28 v)) r ≡ regs r
-source regs r v near low other = grind (arith, nat_tests)
+source : (regs : ℕ → ℕ) (r v : ℕ) (near : Bool) → r ≢ 28
+    → register (cond near regs (with_register regs 28 v)) r ≡ register regs r
+source regs r v near other = grind (arith, nat_tests)
 
 module _ (z : Setting) where
   reached : (r o : ℕ) → 4 < r → r < 32 → o < z.size → (near : Bool) → nat_lt o 2048 ≡ near
@@ -277,6 +255,30 @@ module _ (z : Setting) where
       (computing_within z is_free (far_code r o)
       (simp (lt-ltb 4 r low, lt-ltb r 32 small, lt-ltb (upper_part o) 1048576 (upper_fits o))) none_low)
 
+  -- so many low bytes of a register into the frame
+  putting : (operation : StoreOperation) (r o : ℕ) → r < 32 → r ≢ 28 → o % byte_count (store_size operation) ≡ 0
+      → o + byte_count (store_size operation) ≤ z.size
+      → Runs z 3 none (put_code operation r o) (Held z)
+      (λ env s t. HeldAt z t
+      × (t.regs ≡ with_register s.regs 28 (cond (nat_lt o 2048) (s.regs 28) (sum_of (upper_part o * 2 ^ 12) z.frame)))
+      × (t.bytes ≡ with_number s.bytes (byte_count (store_size operation)) (z.frame + o) (register s.regs r)))
+  putting operation r o small other even inside =
+      let near = nat_lt o 2048 in
+      as_code (slot_code (λ rs offset. instr.Store operation r rs offset) 28 o near)
+      (gives
+      (λ env s t fine held done. (
+        done.second.0,
+        done.second.1 ∙ (done.first.1 ∙ near_or_far s.regs 28 _ near),
+        done.second.2
+            ∙ ap₂ (λ (b : ByteMap) (w : ℕ). with_number b (byte_count (store_size operation)) (z.frame + o) w)
+            done.first.2 (ap (λ (regs : ℕ → ℕ). register regs r) done.first.1 ∙ source s.regs r _ near other),
+      ))
+      (quiet
+      (reached 28 o (omega arith) (omega arith) (omega (arith, inside)) near refl)
+      (storing z (cond near 2 28) (cond near o (lower_part o)) o (grind (arith, nat_tests)) (grind (arith, nat_tests))
+      operation r small even inside)
+      (λ env s t held done. done.0)))
+
   -- one move
   pub move_runs : (m : Move) → is_move m ≡ true → IsSlot z m
       → Runs z (move_cost m) none (move_code m) (Held z) (Moved z (m ∷ []))
@@ -301,27 +303,17 @@ module _ (z : Setting) where
       Lw r low small slot.0 slot.1)
       (λ env s t held done. done.0)))
   move_runs (put operation r o) ok slot =
-      let low : 4 < r = grind (arith, nat_tests, ok) in
-      let small : r < 32 = grind (arith, nat_tests, ok) in
-      let other : r ≢ 28 = λ e. absurd (grind (arith, nat_tests, ok, e)) in
-      let near = nat_lt o 2048 in
-      let v = sum_of (upper_part o * 2 ^ 12) z.frame in
-      as_code (slot_code (λ rs offset. instr.Store operation r rs offset) 28 o near)
-      (gives
+      let nonzero : r ≢ 0 = λ e. absurd (grind (arith, nat_tests, ok, e)) in
+      gives
       (λ env s t fine held done. record {
-        held = done.second.0;
-        regs = done.second.1 ∙ (done.first.1 ∙ near_or_far s.regs 28 v near);
-        bytes =
-            done.second.2
-            ∙ ap₂ (λ (b : ByteMap) (w : ℕ). with_number b (byte_count (store_size operation)) (z.frame + o) w)
-            done.first.2 (ap (λ (regs : ℕ → ℕ). register regs r) done.first.1
-            ∙ source s.regs r v near low other);
+        held = done.0;
+        regs = done.1;
+        bytes = done.2
+            ∙ ap (λ w. with_number s.bytes (byte_count (store_size operation)) (z.frame + o) w)
+            (register-at s.regs r nonzero);
       })
-      (quiet
-      (reached 28 o (omega arith) (omega arith) (omega (arith, slot.1)) near refl)
-      (storing z (cond near 2 28) (cond near o (lower_part o)) o (grind (arith, nat_tests)) (grind (arith, nat_tests))
-      operation r small slot.0 slot.1)
-      (λ env s t held done. done.0)))
+      (putting operation r o (grind (arith, nat_tests, ok)) (λ e. absurd (grind (arith, nat_tests, ok, e))) slot.0
+      slot.1)
   move_runs (does is) ok slot =
       gives (λ env s t fine held done. record { held = done.held; regs = done.registers; bytes = done.same })
       (computing_within z is_free is ok none_low)
@@ -334,23 +326,13 @@ module _ (z : Setting) where
       × (t.bytes ≡ with_number s.bytes (byte_count (store_size operation)) (z.frame + o) 0)
       × ((q : ℕ) → q ≢ 28 → t.regs q ≡ s.regs q))
   emptied operation o even inside =
-      let near = nat_lt o 2048 in
-      let v = sum_of (upper_part o * 2 ^ 12) z.frame in
-      as_code (slot_code (λ rs offset. instr.Store operation 0 rs offset) 28 o near)
-      (gives
+      gives
       (λ env s t fine held done. (
-        done.second.0,
-        done.second.2
-            ∙ ap (λ (b : ByteMap). with_number b (byte_count (store_size operation)) (z.frame + o) 0) done.first.2,
-        λ q other.
-            ap (λ (regs : ℕ → ℕ). regs q) (done.second.1 ∙ (done.first.1 ∙ near_or_far s.regs 28 v near))
-            ∙ unwritten s.regs 28 _ q other,
+        done.0,
+        done.2,
+        λ q other. ap (λ (regs : ℕ → ℕ). regs q) done.1 ∙ unwritten s.regs 28 _ q other,
       ))
-      (quiet
-      (reached 28 o (omega arith) (omega arith) (omega (arith, inside)) near refl)
-      (storing z (cond near 2 28) (cond near o (lower_part o)) o (grind (arith, nat_tests)) (grind (arith, nat_tests))
-      operation 0 (omega arith) even inside)
-      (λ env s t held done. done.0)))
+      (putting operation 0 o (omega arith) (λ e. omega (arith, e)) even inside)
 
   one_more : (m : Move) (ms : List Move) (env : StraightState) (s u t : State) → Moved z (m ∷ []) env s u
       → Moved z ms env u t → Moved z (m ∷ ms) env s t
@@ -384,8 +366,8 @@ module _ (z : Setting) where
         first = done.first.first;
         second = one_more m ms env done.first.middle done.middle t done.first.second done.second;
       })
-      (then_moves ms (both_right (is_move m) (are_moves ms) ok) slots.1
-      (quiet runs (move_runs m (both_left (is_move m) (are_moves ms) ok) slots.0) held)
+      (then_moves ms (both_right _ _ ok) slots.1
+      (quiet runs (move_runs m (both_left _ _ ok) slots.0) held)
       (λ env s t given done. done.second.held)))
 
   -- moves alone
@@ -394,6 +376,6 @@ module _ (z : Setting) where
   moves_run m ms ok slots =
       gives
       (λ env s t fine held done. one_more m ms env s done.middle t done.first done.second)
-      (then_moves ms (both_right (is_move m) (are_moves ms) ok) slots.1
-      (move_runs m (both_left (is_move m) (are_moves ms) ok) slots.0)
+      (then_moves ms (both_right _ _ ok) slots.1
+      (move_runs m (both_left _ _ ok) slots.0)
       (λ env s t held done. done.held))

@@ -1,41 +1,36 @@
 -- Of the code of an operator with a number in its instruction: that it only computes, and what it makes in its
 -- target, which is what the operator means.
-use Rattle.std.proofs.Common.{◌≡◌, ℕ, ◌+◌, ◌-◌, ◌*◌, ◌/◌, ◌%◌, ◌^◌, ◌<◌, ◌==◌, Bool, true, false, cond, not, nat_lt}
-use Rattle.std.proofs.Common.{nat_le, List, [], Option, None, Some, bit_and, bit_or, bit_xor, refl, sym, ap, ◌∙◌}
-use Rattle.std.proofs.Common.{ap₂, arith, subst, ◌&&◌}
+use Rattle.std.proofs.Common.{◌≡◌, ℕ, ◌+◌, ◌-◌, ◌*◌, ◌/◌, ◌%◌, ◌^◌, ◌<◌, ◌==◌, Bool, true, cond, not, nat_lt, nat_le}
+use Rattle.std.proofs.Common.{List, [], Option, None, Some, bit_and, bit_or, bit_xor, refl, sym, ap, ◌∙◌, ap₂, arith}
+use Rattle.std.proofs.Common.{subst}
 use Rattle.std.proofs.Math.Nat.{mod-le, mul-div_cancel, mul-mod_left}
 use Rattle.std.proofs.lemmas.Nat.{and_comm, or_comm, xor_comm, mod_below, mod-pow-add, leading_top, pow_pos}
 use Rattle.std.specs.Int.Count.{count_leading_zeros}
+use Rattle.std.proofs.lemmas.Bool.{cond_both}
 use Rattle.std.proofs.lemmas.Option.{cond_some, none-some, same_Some}
 use Rattle.codegen.proofs.expression_code_lemmas.Arithmetic.{lower_fits}
 use Rattle.codegen.proofs.expression_code_lemmas.Below.{Allocation, BinaryOperator, bits, element_bytes, eqb-true}
-use Rattle.codegen.proofs.expression_code_lemmas.Below.{Finish}
-use Rattle.codegen.proofs.expression_code_lemmas.Below.{finish_code, FlatVariable, held, HasType, is_short, kind_at}
-use Rattle.codegen.proofs.expression_code_lemmas.Below.{known_row}
-use Rattle.codegen.proofs.expression_code_lemmas.Below.{left_row, lt-ltb, ltb-true, marks_of, nat_tests, near_element}
-use Rattle.codegen.proofs.expression_code_lemmas.Below.{near_offset}
-use Rattle.codegen.proofs.expression_code_lemmas.Below.{number_code, number_of, number_row, NumberRow, of_number}
-use Rattle.codegen.proofs.expression_code_lemmas.Below.{of_truth}
-use Rattle.codegen.proofs.expression_code_lemmas.Below.{and_mask, only_computes, operated, path_in, Place}
-use Rattle.codegen.proofs.expression_code_lemmas.Below.{registers_after}
-use Rattle.codegen.proofs.expression_code_lemmas.Below.{chooses_zero, false≢true, is_known_zero, right_row, shift_value}
-use Rattle.codegen.proofs.expression_code_lemmas.Below.{sign_extended, sum_of, TermTree, turned_of, Types, value_in}
-use Rattle.codegen.proofs.expression_code_lemmas.Below.{Values}
-use Rattle.codegen.proofs.expression_code_lemmas.Below.{variable_offset, Width, word_of}
+use Rattle.codegen.proofs.expression_code_lemmas.Below.{Finish, finish_code, FlatVariable, held, HasType, is_short}
+use Rattle.codegen.proofs.expression_code_lemmas.Below.{kind_at, known_row, left_row, lt-ltb, ltb-true, marks_of}
+use Rattle.codegen.proofs.expression_code_lemmas.Below.{nat_tests, near_element, near_offset, number_code, number_of}
+use Rattle.codegen.proofs.expression_code_lemmas.Below.{number_row, NumberRow, of_number, of_truth, and_mask}
+use Rattle.codegen.proofs.expression_code_lemmas.Below.{both_right, only_computes, operated, path_in, Place}
+use Rattle.codegen.proofs.expression_code_lemmas.Below.{registers_after, chooses_zero, false≢true, is_known_zero}
+use Rattle.codegen.proofs.expression_code_lemmas.Below.{right_row, shift_value, sign_extended, sum_of, TermTree}
+use Rattle.codegen.proofs.expression_code_lemmas.Below.{turned_of, Types, value_in, Values, variable_offset, Width}
+use Rattle.codegen.proofs.expression_code_lemmas.Below.{word_of}
 use Rattle.codegen.proofs.expression_code_lemmas.OperatorCode.{cut_composed, cut_plain, cut_value, cut_whole, d0, d32}
-use Rattle.codegen.proofs.expression_code_lemmas.OperatorCode.{dd, q0, q32}
-use Rattle.codegen.proofs.expression_code_lemmas.OperatorCode.{truth_fits}
+use Rattle.codegen.proofs.expression_code_lemmas.OperatorCode.{dd, q0, q32, truth_fits}
 use Rattle.codegen.proofs.expression_code_lemmas.Values.{kind_fits}
-use Rattle.codegen.proofs.expression_code_lemmas.WorkRegisters.{ArePair, IsFree}
+use Rattle.codegen.proofs.expression_code_lemmas.WorkRegisters.{ArePair, IsFree, when_some}
 use Rattle.codegen.specs.declared.expression_code.numbers.Finish.TheVariants.{Alone, GivesZero, GivesMore, Narrowed}
 use Rattle.codegen.specs.declared.expression_code.numbers.NumberStep.TheVariants.{WithImmediate}
 use Rattle.codegen.specs.expression_code.NumberRows.{above_zero, low_bits, masked, shifted}
 use Rattle.inline.specs.Flat.{number, truth}
 use Rattle.language.specs.declared.operators.BinaryOperator.TheVariants.{Equal, Unequal, Less, LessOrEqual, Greater}
 use Rattle.language.specs.declared.operators.BinaryOperator.TheVariants.{GreaterOrEqual, BitOr, BitXor, BitAnd}
-use Rattle.language.specs.declared.operators.BinaryOperator.TheVariants.{ShiftLeft}
-use Rattle.language.specs.declared.operators.BinaryOperator.TheVariants.{ShiftRight, Add, Subtract, Multiply, Divide}
-use Rattle.language.specs.declared.operators.BinaryOperator.TheVariants.{Remainder}
+use Rattle.language.specs.declared.operators.BinaryOperator.TheVariants.{ShiftLeft, ShiftRight, Add, Subtract, Multiply}
+use Rattle.language.specs.declared.operators.BinaryOperator.TheVariants.{Divide, Remainder}
 use Rattle.rv_code.specs.declared.operations.ImmediateOperation.{ImmediateOperation}
 use Rattle.rv_code.specs.declared.operations.ImmediateOperation.TheVariants.{Addi, Sltiu, Xori, Ori, Andi}
 use Rattle.rv_code.specs.declared.operations.ShiftOperation.TheVariants.{Slli, Srli}
@@ -62,11 +57,8 @@ of_row P one row is there = subst P (same_Some one row is) there
 of_zero : (P : NumberRow → Type 0) (n : ℕ) (one other : Option NumberRow) (row : NumberRow)
     → cond (n == 0) one other ≡ Some row
     → ((n == 0) ≡ true → one ≡ Some row → P row) → (other ≡ Some row → P row) → P row
-of_zero P n one other row is zero more = by_test (n == 0) refl is
-  where
-    by_test : (b : Bool) → (n == 0) ≡ b → cond b one other ≡ Some row → P row
-    by_test true e same = zero e same
-    by_test false e same = more same
+of_zero P n one other row is zero more =
+    cond_both (n == 0) one other (λ (o : Option NumberRow). o ≡ Some row → P row) zero (λ e. more) is
 
 is_equal : (a n : ℕ) → a < 2 ^ 32 → n < 2 ^ 32 → word_of (nat_lt (sum_of a (negated W32 n)) 1) ≡ word_of (a == n)
 is_equal a n p q = grind (arith, nat_tests)
@@ -149,30 +141,26 @@ numbered_by operator e row (Some n) f is = record { n = n; is = f; row_is = is }
 
 pub right_known : (a : Allocation) (operator : BinaryOperator) (e : TermTree) (row : NumberRow)
     → right_row a operator e ≡ Some row → Numbered operator e row
-right_known a operator e row is = by_test a.immediates is
-  where
-    by_test : (b : Bool) → cond b (known_row (Some operator) (number_of e)) None ≡ Some row → Numbered operator e row
-    by_test true same = numbered_by operator e row (number_of e) refl same
-    by_test false same = absurd (none-some row same)
+right_known a operator e row is =
+    numbered_by operator e row (number_of e) refl (when_some a.immediates _ row is).1
 
 pub left_known : (a : Allocation) (operator : BinaryOperator) (e : TermTree) (row : NumberRow)
     → left_row a operator e ≡ Some row → Turned operator e row
-left_known a operator e row is = by_test a.immediates (turned_of operator) refl is
+left_known a operator e row is = by_turned (turned_of operator) refl (when_some a.immediates _ row is).1
   where
-    by_test : (b : Bool) (p : Option BinaryOperator) → turned_of operator ≡ p
-        → cond b (known_row p (number_of e)) None ≡ Some row → Turned operator e row
-    by_test true (Some other) f same =
+    by_turned : (p : Option BinaryOperator) → turned_of operator ≡ p → known_row p (number_of e) ≡ Some row
+        → Turned operator e row
+    by_turned (Some other) f same =
         record { other = other; is = f; numbered = numbered_by other e row (number_of e) refl same }
-    by_test true None f same = absurd (none-some row same)
-    by_test false p f same = absurd (none-some row same)
+    by_turned None f same = absurd (none-some row same)
 
 -- what the third operand is of a choice between a value and 0
 pub zero_known : (a : Allocation) (e : TermTree) → chooses_zero a e ≡ true → number_of e ≡ Some 0
-zero_known a e is = by_test a.immediates (number_of e) is
+zero_known a e is = by_number (number_of e) (both_right a.immediates _ is)
   where
-    by_test : (b : Bool) (m : Option ℕ) → (b && is_known_zero m) ≡ true → m ≡ Some 0
-    by_test true (Some n) same = ap Some (eqb-true n 0 same)
-    by_test b m same = absurd (false≢true same)
+    by_number : (m : Option ℕ) → is_known_zero m ≡ true → m ≡ Some 0
+    by_number (Some n) same = ap Some (eqb-true n 0 same)
+    by_number None same = absurd (false≢true same)
 
 -- the index that an expression is, whose element lies at an offset that its access holds
 pub record NearElement (declared : List FlatVariable) (x : ℕ) (index : TermTree) (o : ℕ) : Type 0 where
@@ -183,16 +171,14 @@ pub record NearElement (declared : List FlatVariable) (x : ℕ) (index : TermTre
 
 pub near_known : (declared : List FlatVariable) (a : Allocation) (x : ℕ) (index : TermTree) (o : ℕ)
     → near_element declared a x index ≡ Some o → NearElement declared x index o
-near_known declared a x index o is = by_test a.immediates (number_of index) refl is
+near_known declared a x index o is = by_number (number_of index) refl (when_some a.immediates _ o is).1
   where
-    by_test : (b : Bool) (m : Option ℕ) → number_of index ≡ m
-        → cond b (near_offset (variable_offset declared x) (kind_at declared x) m) None ≡ Some o
-        → NearElement declared x index o
-    by_test true (Some i) f same =
+    by_number : (m : Option ℕ) → number_of index ≡ m
+        → near_offset (variable_offset declared x) (kind_at declared x) m ≡ Some o → NearElement declared x index o
+    by_number (Some i) f same =
         let both = cond_some _ _ o same in
         record { i = i; is = f; at = both.1; near = subst (λ n. n < 2048) both.1 (ltb-true _ 2048 both.0) }
-    by_test true None f same = absurd (none-some o same)
-    by_test false m f same = absurd (none-some o same)
+    by_number None f same = absurd (none-some o same)
 
 -- Operators that are turned round.
 
@@ -304,13 +290,11 @@ module _ {d t : ℕ} (pair : ArePair d t) (works : ℕ → Bool) (wd : works d �
       })
 
   bits_mean : (n : ℕ) → n < 2 ^ 32 → (row : NumberRow) → masked n ≡ Some row → Means BitAnd n row
-  bits_mean n fits row is = by_test (is_short n) refl is
-    where
-      by_test : (b : Bool) → is_short n ≡ b → cond b (held Andi Alone n) (low_bits n) ≡ Some row → Means BitAnd n row
-      by_test true short same =
-          immediate BitAnd n Andi Alone n row same (λ w regs short below.
-          simp (dd pair, d0 pair, q0 pair source) (ap (bit_and (regs r)) short))
-      by_test false long same = low_means n fits (grind (arith, nat_tests, long)) row same
+  bits_mean n fits row is =
+      cond_both (is_short n) (held Andi Alone n) (low_bits n) (λ (o : Option NumberRow). o ≡ Some row → Means BitAnd n row)
+      (λ short same. immediate BitAnd n Andi Alone n row same (λ w regs short below.
+      simp (dd pair, d0 pair, q0 pair source) (ap (bit_and (regs r)) short)))
+      (λ long same. low_means n fits (grind (arith, nat_tests, long)) row same) is
 
   pub number_means : (operator : BinaryOperator) (n : ℕ) → n < 2 ^ 32 → (row : NumberRow)
       → number_row operator n ≡ Some row → Means operator n row

@@ -1,27 +1,22 @@
 -- Operands of an expression: each is computed into its place, unless it is at home, and is then fetched into its
 -- register.
-use Rattle.std.proofs.Common.{◌≡◌, ℕ, zero, suc, ◌+◌, ◌-◌, ◌*◌, ◌%◌, ◌<◌, ◌≤◌, List, [], ◌++◌, Option, None, Some}
+use Rattle.std.proofs.Common.{◌≡◌, ◌≢◌, ℕ, zero, suc, ◌+◌, ◌-◌, ◌*◌, ◌%◌, ◌<◌, ◌≤◌, List, [], ◌++◌, Option, None, Some}
 use Rattle.std.proofs.Common.{below_more, is_some, refl, ◌∙◌, arith, cond}
 use Rattle.codegen.proofs.expression_code_lemmas.Below.{along, at_home, cheaper, home_of_term, expr_code, fetch_code}
-use Rattle.codegen.proofs.expression_code_lemmas.Below.{gives, HasType}
-use Rattle.codegen.proofs.expression_code_lemmas.Below.{height_of, idle, Instr, into_code, keep_code, Location, none}
-use Rattle.codegen.proofs.expression_code_lemmas.Below.{operand, path_in}
-use Rattle.codegen.proofs.expression_code_lemmas.Below.{quiet, register_of, seq, slot_of, slots_to, State}
-use Rattle.codegen.proofs.expression_code_lemmas.Below.{StraightState, temporary}
-use Rattle.codegen.proofs.expression_code_lemmas.Below.{term_nodes, TermTree, types_of, value_in, WordType}
-use Rattle.codegen.proofs.expression_code_lemmas.Below.{working_register}
+use Rattle.codegen.proofs.expression_code_lemmas.Below.{gives, HasType, height_of, idle, Instr, into_code, keep_code}
+use Rattle.codegen.proofs.expression_code_lemmas.Below.{Location, none, operand, path_in, quiet, register_of, seq}
+use Rattle.codegen.proofs.expression_code_lemmas.Below.{slot_of, slots_to, State, StraightState, temporary, term_nodes}
+use Rattle.codegen.proofs.expression_code_lemmas.Below.{TermTree, types_of, value_in, WordType, working_register}
 use Rattle.codegen.proofs.expression_code_lemmas.Frame.{Setting, base_of, Steps, Before, Runs, HeldAt}
-use Rattle.codegen.proofs.expression_code_lemmas.WorkRegisters.{IsFree, IsOperand, operand_free, operand_not}
-use Rattle.codegen.proofs.expression_code_lemmas.WorkRegisters.{is_operand, works_in}
-use Rattle.codegen.proofs.expression_code_lemmas.WorkRegisters.{works_at, higher_stays, beside_stays, own_stays}
+use Rattle.codegen.proofs.expression_code_lemmas.WorkRegisters.{IsFree, IsOperand, operand_apart, operand_free}
+use Rattle.codegen.proofs.expression_code_lemmas.WorkRegisters.{operand_not, is_operand, works_in, works_at}
+use Rattle.codegen.proofs.expression_code_lemmas.WorkRegisters.{higher_stays, beside_stays, own_stays}
 use Rattle.codegen.proofs.expression_code_lemmas.Operands.{Outcome, fetch_runs, operand_room, keep_runs}
 use Rattle.codegen.proofs.expression_code_lemmas.Homes.{home_there}
 use Rattle.codegen.proofs.expression_code_lemmas.TermLengths.{height}
 use Rattle.codegen.proofs.expression_code_lemmas.Values.{Ready, Valued, ValuedIn, Kept, Leaves, Holds, value_word}
-use Rattle.codegen.proofs.expression_code_lemmas.Values.{kept_less, kept_by}
-use Rattle.codegen.proofs.expression_code_lemmas.Values.{kept_then, leaves_then, leaves_spare, holds_lower, holds_still}
-use Rattle.codegen.proofs.expression_code_lemmas.Values.{homes_left}
-use Rattle.codegen.proofs.expression_code_lemmas.Values.{ready_after}
+use Rattle.codegen.proofs.expression_code_lemmas.Values.{kept_less, kept_by, kept_then, leaves_then, leaves_spare}
+use Rattle.codegen.proofs.expression_code_lemmas.Values.{holds_lower, holds_still, homes_left, ready_after}
 
 -- what an expression puts on the path
 abbrev pub steps_of : TermTree → Steps
@@ -76,9 +71,23 @@ module _ (slots : Slots) where
   pub found_is : (place : ℕ) (e : TermTree) (spare : ℕ) → IsOperand count place spare (found place e spare)
   found_is place e spare = is_operand z.declared z.allocation z.allocated free place spare e
 
-  pub found_free : (place : ℕ) (e : TermTree) (spare : ℕ) → 28 < spare → spare < 32 → IsFree (found place e spare)
-  found_free place e spare low high =
-      operand_free count place spare (found place e spare) few low high (found_is place e spare)
+  -- that of the operand of a number is a free one, and not the one that another place works in
+  pub found_free : (place j : ℕ) (e : TermTree) → j < 3 → IsFree (found (place_by place j) e (29 + j))
+  found_free place j e small =
+      operand_free count (place_by place j) (29 + j) _ few (omega arith) (omega (arith, small))
+      (found_is (place_by place j) e (29 + j))
+
+  pub found_apart : (place j k : ℕ) (e : TermTree) → j ≢ k
+      → found (place_by place j) e (29 + j) ≢ working_register count (place_by place k) (29 + k)
+  found_apart place j k e other =
+      operand_apart count (place_by place j) (place_by place k) (29 + j) (29 + k) _ few
+      (λ f. other (omega (arith, f, place_is place j, place_is place k))) (omega arith) (omega arith)
+      (λ f. other (omega (arith, f))) (found_is (place_by place j) e (29 + j))
+
+  -- the code of an expression brings its value to where it is found
+  abbrev pub Lies : TermTree → ℕ → Type 0
+  Lies e place = Runs z (16 * term_nodes e) (steps_of e) (expr_code z.declared z.allocation free place e) (Ready z)
+      (Valued z e free place)
 
   -- what is shown stays shown where temporaries change
   pub still_ready : (place : ℕ) (env : StraightState) (s t : State) → Ready z env s → HeldAt z t
@@ -190,12 +199,19 @@ module _ (slots : Slots) where
 
   -- A value in the register of a place is kept there, where the expression is not at home.
 
+  abbrev own_code : ℕ → TermTree → List Instr
+  own_code place e = into_code z.declared z.allocation free (working_register count place 29) place e
+
+  -- what is so of where an expression's value is, behind its code
+  abbrev Found : TermTree → ℕ → Location → StraightState → State → State → Type 0
+  Found e place l env s t = HeldAt z t × Holds z l t (value_in env.variables e) × Kept z (slot place) s t
+      × Leaves (works_in count place) s t
+
   kept_there : {e : TermTree} {word : WordType} {n : ℕ} {steps : Steps} {is : List Instr} → Typed e word → (place : ℕ)
       → HasSlot place
       → Runs z n steps is (Ready z) (ValuedIn z e free (working_register count place 29) place)
       → Runs z (n + 3) steps (is ++ keep_code (temporary count free place)) (Ready z)
-      (λ env s t. HeldAt z t × Holds z (temporary count free place) t (value_in env.variables e)
-      × Kept z (slot place) s t × Leaves (works_in count place) s t)
+      (Found e place (temporary count free place))
   kept_there {e = e} {word = word} has place room runs =
       let k = slot place in
       gives
@@ -216,14 +232,6 @@ module _ (slots : Slots) where
         done.there,
         value_word z.code.profile z.declared e word env.variables ready.fits has,
       )))
-
-  abbrev own_code : ℕ → TermTree → List Instr
-  own_code place e = into_code z.declared z.allocation free (working_register count place 29) place e
-
-  -- what is so of where an expression's value is, behind its code
-  abbrev Found : TermTree → ℕ → Location → StraightState → State → State → Type 0
-  Found e place l env s t = HeldAt z t × Holds z l t (value_in env.variables e) × Kept z (slot place) s t
-      × Leaves (works_in count place) s t
 
   -- an expression is in its home, or comes into a place
   found_there : {e : TermTree} {word : WordType} → Typed e word → (place : ℕ) → HasSlot place → {n : ℕ}
@@ -248,8 +256,7 @@ module _ (slots : Slots) where
       → free + 4 * slots_to count (height_of e + place) ≤ z.size
       → Runs z (16 * term_nodes e - 3) (steps_of e) (own_code place e) (Ready z)
       (ValuedIn z e free (working_register count place 29) place)
-      → Runs z (16 * term_nodes e) (steps_of e) (expr_code z.declared z.allocation free place e) (Ready z)
-      (Valued z e free place)
+      → Lies e place
   placed {e = e} has place room runs =
       cheaper (omega (arith, height e))
       (gives (λ env s t fine ready done. record { held = done.0; there = done.1; kept = done.2; lower = done.3 })

@@ -2,18 +2,14 @@
 use Rattle.std.proofs.Common.{◌≡◌, ◌≢◌, ℕ, ◌+◌, ◌-◌, ◌*◌, ◌/◌, ◌%◌, ◌^◌, ◌<◌, ◌≤◌, ◌==◌, Bool, true, false, cond}
 use Rattle.std.proofs.Common.{nat_lt, List, [], ◌∷◌, length, Some, refl, sym, ap, ap₂, ◌∙◌, subst, arith, ne_eqb}
 use Rattle.codegen.proofs.expression_code_lemmas.Below.{Allocation, along, BinaryOperator, cheaper, cut_code}
-use Rattle.codegen.proofs.expression_code_lemmas.Below.{divide_value, divided}
-use Rattle.codegen.proofs.expression_code_lemmas.Below.{DivideOperation, emitted_operator, IsWithinKind, Profile}
-use Rattle.codegen.proofs.expression_code_lemmas.Below.{WordType}
-use Rattle.codegen.proofs.expression_code_lemmas.Below.{fetch_code, gives, idle, InRegister, InSlot, Instr, keep_code}
-use Rattle.codegen.proofs.expression_code_lemmas.Below.{Location}
-use Rattle.codegen.proofs.expression_code_lemmas.Below.{lt-ltb, ltb-false, marks_of, multiply_value, none, number_at}
-use Rattle.codegen.proofs.expression_code_lemmas.Below.{number_or_zero}
-use Rattle.codegen.proofs.expression_code_lemmas.Below.{only_computes, operand, operated, operator_code, Place, quiet}
-use Rattle.codegen.proofs.expression_code_lemmas.Below.{register_left}
-use Rattle.codegen.proofs.expression_code_lemmas.Below.{register_of, registers_after, row_of, slot_of, slots_to, State}
-use Rattle.codegen.proofs.expression_code_lemmas.Below.{StraightState, temporary, TermTree, weaken, Width, with_number}
-use Rattle.codegen.proofs.expression_code_lemmas.Below.{working_register}
+use Rattle.codegen.proofs.expression_code_lemmas.Below.{divide_value, divided, DivideOperation, emitted_operator}
+use Rattle.codegen.proofs.expression_code_lemmas.Below.{IsWithinKind, Profile, WordType, fetch_code, gives, idle}
+use Rattle.codegen.proofs.expression_code_lemmas.Below.{InRegister, InSlot, Instr, keep_code, Location, lt-ltb}
+use Rattle.codegen.proofs.expression_code_lemmas.Below.{ltb-false, marks_of, multiply_value, none, number_at}
+use Rattle.codegen.proofs.expression_code_lemmas.Below.{number_or_zero, only_computes, operand, operated, operator_code}
+use Rattle.codegen.proofs.expression_code_lemmas.Below.{Place, quiet, register_left, register_of, registers_after}
+use Rattle.codegen.proofs.expression_code_lemmas.Below.{row_of, slot_of, slots_to, State, StraightState, temporary}
+use Rattle.codegen.proofs.expression_code_lemmas.Below.{TermTree, weaken, Width, with_number, working_register}
 use Rattle.language.specs.declared.operators.BinaryOperator.TheVariants.{Multiply, Divide, Remainder}
 use Rattle.rv_code.specs.declared.instructions.Instr.TheVariants as instr
 use Rattle.rv_code.specs.declared.operations.DivideOperation.TheVariants.{Divu, Remu}
@@ -29,6 +25,7 @@ use Rattle.codegen.proofs.expression_code_lemmas.OperatorCode.{product_made}
 use Rattle.codegen.proofs.expression_code_lemmas.TermLengths.{cut_length, operator_length}
 use Rattle.codegen.proofs.expression_code_lemmas.BoolCode.{emitted_marks, emitted_same}
 use Rattle.codegen.proofs.expression_code_lemmas.Values.{Kept, Leaves, Holds, kept_by, Wrote, wrote_kept, wrote_there}
+use Rattle.std.proofs.lemmas.Bool.{cond_both}
 use Rattle.language.specs.Operators.{operation_of}
 use Rattle.language.specs.WellTyped.{Makes}
 
@@ -83,13 +80,12 @@ module _ (z : Setting) (free : ℕ) (aligned : free % 4 ≡ 0) (place : ℕ)
   abbrev located : Bool → Location
   located b = cond b (InRegister (5 + place)) (InSlot (slot_of count free place))
 
-  temporary_room : (b : Bool) → nat_lt place count ≡ b → HasRoom z (located b)
-  temporary_room true h = tt
-  temporary_room false h = (omega (arith, aligned), omega (arith, room, ltb-false _ _ h))
-
   pub operand_room : (e : TermTree) → HasRoom z (operand z.allocation free place e)
-  operand_room = at_operand z.declared z.allocation z.allocated free place (HasRoom z)
-      (temporary_room (nat_lt place count) refl) (λ home is. tt)
+  operand_room =
+      at_operand z.declared z.allocation z.allocated free place (HasRoom z)
+      (cond_both (nat_lt place count) (InRegister (5 + place)) (InSlot (slot_of count free place)) (HasRoom z) (λ h. tt)
+      (λ h. (omega (arith, aligned), omega (arith, room, ltb-false _ _ h))))
+      (λ home is. tt)
 
   -- what is in the register of a place is kept there
   module _ (v : StraightState → ℕ) where
@@ -198,24 +194,24 @@ module _ (z : Setting) (works : ℕ → Bool) (none_low : (q : ℕ) → q < 5 �
       divided_by : (n : ℕ) (some : 0 < n) (x y : ℕ) → cond (n == 0) x y ≡ y
       divided_by n some x y = rw (ne_eqb n 0 (λ e. omega (arith, some, e)))
 
-      quotient : (operation : DivideOperation)
-          → Runs z 1 (λ env. divided source (a env) (b env) ∷ []) (instr.Divide operation d l r ∷ []) (Operands a b)
-          (λ env s u. Outcome z works d (divide_value operation (a env) (b env)) s u)
-      quotient operation =
+      -- a division by what the path says is not 0
+      quotient : (operator : BinaryOperator) (operation : DivideOperation)
+          → ((env : StraightState) → 0 < b env
+          → divide_value operation (a env) (b env) ≡ operated operator width (a env) (b env))
+          → Runs z 4 (λ env. divided source (a env) (b env) ∷ []) (instr.Divide operation d l r ∷ []) (Operands a b)
+          (Operated operator)
+      quotient operator operation same =
           let v = λ (env : StraightState). divide_value operation (a env) (b env) in
-          shown v v [] refl (dividing z pair.one first second source a b operation) (λ env regs left right is. is)
+          cheaper (omega arith)
+          (gives (λ env s u fine given done. subst (λ w. Outcome z works d w s u) (same env fine.0) done)
+          (shown v v [] refl (dividing z pair.one first second source a b operation) (λ env regs left right is. is)))
 
       pub operator_runs : (operator : BinaryOperator)
           → Runs z 4 (λ env. marks_of source operator (a env) (b env)) (operator_code d t l r operator width)
           (Operands a b) (Operated operator)
       operator_runs Divide =
-          cheaper (omega arith)
-          (gives (λ env s u fine given done. subst (λ v. Outcome z works d v s u)
-          (divided_by (b env) fine.0 (2 ^ 32 - 1) (a env / b env)) done) (quotient Divu))
-      operator_runs Remainder =
-          cheaper (omega arith)
-          (gives (λ env s u fine given done. subst (λ v. Outcome z works d v s u)
-          (divided_by (b env) fine.0 (a env) (a env % b env)) done) (quotient Remu))
+          quotient Divide Divu (λ env some. divided_by (b env) some (2 ^ 32 - 1) (a env / b env))
+      operator_runs Remainder = quotient Remainder Remu (λ env some. divided_by (b env) some (a env) (a env % b env))
       operator_runs Multiply =
           cheaper (omega (arith, cut_length d width))
           (shown (λ env. multiply_value Mul (a env) (b env)) (λ env. operated Multiply width (a env) (b env))

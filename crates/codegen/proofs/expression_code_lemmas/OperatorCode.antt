@@ -2,27 +2,23 @@
 -- makes in its target, which is what its node means (`made`).
 use Rattle.std.proofs.Common.{◌≡◌, ◌≢◌, ℕ, ◌+◌, ◌-◌, ◌*◌, ◌/◌, ◌%◌, ◌^◌, ◌<◌, ◌≤◌, ◌==◌, ◌||◌, nat_lt, Bool, true}
 use Rattle.std.proofs.Common.{false, cond, List, [], ◌∷◌, ◌++◌, refl, sym, ap, ap₂, ◌∙◌, arith, subst, eq-eqb, ne_eqb}
+use Rattle.std.proofs.lemmas.Bool.{cond_both}
 use Rattle.std.proofs.lemmas.Nat.{and_mask, mod_below, pow_pos}
 use Rattle.codegen.proofs.expression_code_lemmas.Below.{after_append, between, BinaryOperator, bits, choice_code}
-use Rattle.codegen.proofs.expression_code_lemmas.Below.{choice_or_zero_code}
-use Rattle.codegen.proofs.expression_code_lemmas.Below.{constant_code, convert_code, converted, cut_code, eqb-true}
-use Rattle.codegen.proofs.expression_code_lemmas.Below.{false≢true, fun_ext}
-use Rattle.codegen.proofs.expression_code_lemmas.Below.{immediate_value, Instr, lt-ltb, move_code, multiply_value}
-use Rattle.codegen.proofs.expression_code_lemmas.Below.{narrow_code}
-use Rattle.codegen.proofs.expression_code_lemmas.Below.{narrowed_in, nat_tests, of_truths, only_computes, operated}
-use Rattle.codegen.proofs.expression_code_lemmas.Below.{operator_code}
+use Rattle.codegen.proofs.expression_code_lemmas.Below.{choice_or_zero_code, constant_code, convert_code, converted}
+use Rattle.codegen.proofs.expression_code_lemmas.Below.{cut_code, eqb-true, false≢true, fun_ext, immediate_value, Instr}
+use Rattle.codegen.proofs.expression_code_lemmas.Below.{lt-ltb, move_code, multiply_value, narrow_code, narrowed_in}
+use Rattle.codegen.proofs.expression_code_lemmas.Below.{nat_tests, of_truths, only_computes, operated, operator_code}
 use Rattle.codegen.proofs.expression_code_lemmas.Below.{plain_append, prefix_code, prefix_value, PrefixOperator}
-use Rattle.codegen.proofs.expression_code_lemmas.Below.{register_left}
-use Rattle.codegen.proofs.expression_code_lemmas.Below.{register_value, registers_after, rotated_left, row_of}
-use Rattle.codegen.proofs.expression_code_lemmas.Below.{shift_value}
-use Rattle.codegen.proofs.expression_code_lemmas.Below.{sign_extended, Step, turned, Width, with_register, word_of}
+use Rattle.codegen.proofs.expression_code_lemmas.Below.{register_left, register_value, registers_after, rotated_left}
+use Rattle.codegen.proofs.expression_code_lemmas.Below.{row_of, shift_value, sign_extended, Step, turned, Width}
+use Rattle.codegen.proofs.expression_code_lemmas.Below.{with_register, word_of}
 use Rattle.rv_code.specs.declared.instructions.Instr.TheVariants as instr
 use Rattle.rv_code.specs.declared.operations.ImmediateOperation.TheVariants.{Addi, Andi}
 use Rattle.rv_code.specs.declared.operations.ShiftOperation.TheVariants.{Slli, Srli}
 use Rattle.rv_code.specs.declared.operations.RegisterOperation.TheVariants as register
 use Rattle.rv_code.specs.declared.operations.MultiplyOperation.TheVariants.{Mul}
-use Rattle.language.specs.declared.operators.BinaryOperator.TheVariants.{Either, Both, Equal, Unequal, LessOrEqual}
-use Rattle.language.specs.declared.operators.BinaryOperator.TheVariants.{GreaterOrEqual, ShiftLeft, ShiftRight, Add}
+use Rattle.language.specs.declared.operators.BinaryOperator.TheVariants.{Either, Both, ShiftLeft, ShiftRight, Add}
 use Rattle.language.specs.declared.operators.BinaryOperator.TheVariants.{Subtract, Multiply, Divide, Remainder}
 use Rattle.language.specs.declared.operators.PrefixOperator.TheVariants.{Not, Complement, Negate}
 use Rattle.word.specs.declared.width.Width.TheVariants.{W8, W16, W32}
@@ -166,16 +162,10 @@ module _ {d t : ℕ} (pair : ArePair d t) where
 
     -- Moves.
 
-    abbrev move_by : Bool → List Instr
-    move_by same = cond same [] (instr.Immediate Addi d q 0 ∷ [])
-
-    move_when : (same : Bool) (regs : ℕ → ℕ) → (d == q) ≡ same → regs q < 2 ^ 32
-        → registers_after (move_by same) regs d ≡ regs q
-    move_when true regs e fits = ap regs (eqb-true d q e)
-    move_when false regs e fits = simp (dd, d0, q0) (omega (arith, fits))
-
     pub move_made : (regs : ℕ → ℕ) → regs q < 2 ^ 32 → registers_after (move_code d q) regs d ≡ regs q
-    move_made regs fits = move_when (d == q) regs refl fits
+    move_made regs fits =
+        cond_both (d == q) [] (instr.Immediate Addi d q 0 ∷ []) (λ (is : List Instr). registers_after is regs d ≡ regs q)
+        (λ e. ap regs (eqb-true d q e)) (λ e. simp (dd, d0, q0) (omega (arith, fits)))
 
     -- Cuts.
 
@@ -206,22 +196,25 @@ module _ {d t : ℕ} (pair : ArePair d t) where
 
     -- Rotations, with what is moved up in t.
 
-    abbrev around_by : Width → ℕ → Bool → List Instr
-    around_by w amount none =
-        cond none (move_code d q) (instr.Shift Slli t q amount ∷ instr.Shift Srli d q (bits w - amount)
-        ∷ instr.Register register.Add d t d ∷ cut_code d w)
+    abbrev moved_around : Width → ℕ → List Instr
+    moved_around w amount = instr.Shift Slli t q amount ∷ instr.Shift Srli d q (bits w - amount)
+        ∷ instr.Register register.Add d t d ∷ cut_code d w
+
+    abbrev around_by : Width → ℕ → List Instr
+    around_by w amount = cond (amount == 0) (move_code d q) (moved_around w amount)
 
     around_made : q ≢ t → (w : Width) (amount : ℕ) (regs : ℕ → ℕ) → amount < bits w → regs q < 2 ^ bits w
-        → (none : Bool) → (amount == 0) ≡ none
-        → registers_after (around_by w amount none) regs d
+        → registers_after (around_by w amount) regs d
         ≡ (regs q * 2 ^ amount + regs q / 2 ^ (bits w - amount)) % 2 ^ bits w
-    around_made apart w amount regs within fits true h =
-        move_made regs (word_fits w (regs q) fits)
+    around_made apart w amount regs within fits =
+        cond_both (amount == 0) (move_code d q) (moved_around w amount)
+        (λ (is : List Instr). registers_after is regs d
+        ≡ (regs q * 2 ^ amount + regs q / 2 ^ (bits w - amount)) % 2 ^ bits w)
+        (λ h. move_made regs (word_fits w (regs q) fits)
         ∙ (unmoved w (regs q) fits
-        ∙ ap (λ n. (regs q * 2 ^ n + regs q / 2 ^ (bits w - n)) % 2 ^ bits w) (sym (eqb-true amount 0 h)))
-    around_made apart w amount regs within fits false h =
-        cut_composed w _ ∙ simp (dd, tt', td, d0, t0, q0, ne_eqb q t apart)
-        (around w (regs q) amount (grind (arith, nat_tests)) within)
+        ∙ ap (λ n. (regs q * 2 ^ n + regs q / 2 ^ (bits w - n)) % 2 ^ bits w) (sym (eqb-true amount 0 h))))
+        (λ h. cut_composed w _ ∙ simp (dd, tt', td, d0, t0, q0, ne_eqb q t apart)
+        (around w (regs q) amount (grind (arith, nat_tests)) within))
 
   -- Of code that writes registers that work.
   module _ (works : ℕ → Bool) (wd : works d ≡ true) (wt : works t ≡ true) where
@@ -230,12 +223,10 @@ module _ {d t : ℕ} (pair : ArePair d t) where
     cut_plain width = simp (d32, wd)
 
     module _ {q : ℕ} (source : IsFree q) where
-      move_when_plain : (same : Bool) → only_computes works (move_by source same) ≡ true
-      move_when_plain true = refl
-      move_when_plain false = simp (d32, q32 source, wd)
-
       pub move_plain : only_computes works (move_code d q) ≡ true
-      move_plain = move_when_plain (d == q)
+      move_plain =
+          cond_both (d == q) [] (instr.Immediate Addi d q 0 ∷ []) (λ (is : List Instr). only_computes works is ≡ true)
+          (λ e. refl) (λ e. simp (d32, q32 source, wd))
 
       narrow_plain : (w : Width) → only_computes works (narrow_code d q w) ≡ true
       narrow_plain W32 = refl
@@ -246,11 +237,12 @@ module _ {d t : ℕ} (pair : ArePair d t) where
       prefix_plain Not w = simp (d32, q32 source, wd)
       prefix_plain operator w = simp (d32, q32 source, wd, cut_plain w)
 
-      around_plain : (w : Width) (amount : ℕ) → amount < bits w → (none : Bool) → (amount == 0) ≡ none
-          → only_computes works (around_by source w amount none) ≡ true
-      around_plain w amount within true h = move_plain
-      around_plain w amount within false h =
-          let some : 0 < amount = grind (arith, nat_tests) in
+      around_plain : (w : Width) (amount : ℕ) → amount < bits w → only_computes works (around_by source w amount) ≡ true
+      around_plain w amount within =
+          cond_both (amount == 0) (move_code d q) (moved_around source w amount)
+          (λ (is : List Instr). only_computes works is ≡ true) (λ h. move_plain)
+          (λ h.
+          let some : 0 < amount = grind (arith, nat_tests, h) in
           simp (
             wd,
             wt,
@@ -260,7 +252,7 @@ module _ {d t : ℕ} (pair : ArePair d t) where
             lt-ltb amount 32 (omega (arith, (narrow w).1)),
             lt-ltb (bits w - amount) 32 (omega (arith, (narrow w).1)),
             cut_plain w,
-          )
+          ))
 
     module _ {r : ℕ} (source : IsFree r) where
       pub convert_plain : (w : Width) → only_computes works (convert_code d r w) ≡ true
@@ -268,13 +260,11 @@ module _ {d t : ℕ} (pair : ArePair d t) where
           (narrow_plain source w) (move_plain (narrowed_free source w))
 
       pub rotate_plain : (w : Width) (amount : ℕ)
-          → only_computes works (narrow_code d r w
-          ++ around_by (narrowed_free source w) w (amount % bits w) (amount % bits w == 0)) ≡ true
+          → only_computes works (narrow_code d r w ++ around_by (narrowed_free source w) w (amount % bits w)) ≡ true
       rotate_plain w amount =
           let n = amount % bits w in
-          plain_append works (narrow_code d r w) (around_by (narrowed_free source w) w n (n == 0))
-          (narrow_plain source w)
-          (around_plain (narrowed_free source w) w n (mod_below amount (bits w) (narrow w).0) (n == 0) refl)
+          plain_append works (narrow_code d r w) (around_by (narrowed_free source w) w n) (narrow_plain source w)
+          (around_plain (narrowed_free source w) w n (mod_below amount (bits w) (narrow w).0))
 
       -- Operators.
       pub operator_plain : {l : ℕ} → IsFree l → (operator : BinaryOperator) (w : Width)
@@ -310,17 +300,16 @@ module _ {d t : ℕ} (pair : ArePair d t) where
     narrowed_apart apart width = pair.apart
 
     pub rotate_made : r ≢ t → (w : Width) (amount : ℕ) (regs : ℕ → ℕ) → regs r < 2 ^ 32
-        → registers_after (narrow_code d r w
-        ++ around_by (narrowed_free source w) w (amount % bits w) (amount % bits w == 0)) regs d
+        → registers_after (narrow_code d r w ++ around_by (narrowed_free source w) w (amount % bits w)) regs d
         ≡ rotated_left w (regs r) amount
     rotate_made apart w amount regs fits =
         let n = amount % bits w in
         let cut = narrow_made source w regs fits in
         ap (λ (after : ℕ → ℕ). after d)
-        (after_append (narrow_code d r w) (around_by (narrowed_free source w) w n (n == 0)) regs)
+        (after_append (narrow_code d r w) (around_by (narrowed_free source w) w n) regs)
         ∙ (around_made (narrowed_free source w) (narrowed_apart apart w) w n
         (registers_after (narrow_code d r w) regs) (mod_below amount (bits w) (narrow w).0)
-        (subst (λ v. v < 2 ^ bits w) (sym cut) (mod_below (regs r) (2 ^ bits w) (pow_pos (bits w)))) (n == 0) refl
+        (subst (λ v. v < 2 ^ bits w) (sym cut) (mod_below (regs r) (2 ^ bits w) (pow_pos (bits w))))
         ∙ ap (λ v. (v * 2 ^ n + v / 2 ^ (bits w - n)) % 2 ^ bits w) cut)
 
     -- A choice between a value and 0, with the mask in m.
@@ -337,14 +326,6 @@ module _ {d t : ℕ} (pair : ArePair d t) where
           simp (dd, tt', td, d0, t0, q0 first, q0 source, ne_eqb l t apart) (grind (arith, nat_tests))
       operator_made apart Both w plain regs left right =
           simp (dd, tt', td, d0, t0, q0 first, q0 source, ne_eqb l t apart) (grind (arith, nat_tests))
-      operator_made apart Equal w plain regs left right =
-          simp (dd, d0, q0 first, q0 source) (grind (arith, nat_tests))
-      operator_made apart Unequal w plain regs left right =
-          simp (dd, d0, q0 first, q0 source) (grind (arith, nat_tests))
-      operator_made apart LessOrEqual w plain regs left right =
-          simp (dd, d0, q0 first, q0 source) (grind (arith, nat_tests))
-      operator_made apart GreaterOrEqual w plain regs left right =
-          simp (dd, d0, q0 first, q0 source) (grind (arith, nat_tests))
       operator_made apart ShiftLeft w plain regs left right = cut_composed w _
           ∙ simp (dd, d0, q0 first, q0 source) (cut_whole w (regs l * 2 ^ (regs r % 32)))
       operator_made apart ShiftRight w plain regs left right = cut_composed w _
@@ -357,7 +338,8 @@ module _ {d t : ℕ} (pair : ArePair d t) where
       operator_made apart Multiply w plain regs left right = absurd (false≢true plain)
       operator_made apart Divide w plain regs left right = absurd (false≢true plain)
       operator_made apart Remainder w plain regs left right = absurd (false≢true plain)
-      operator_made apart operator w plain regs left right = simp (dd, d0, q0 first, q0 source)
+      operator_made apart operator w plain regs left right =
+          simp (dd, d0, q0 first, q0 source) (grind (arith, nat_tests))
 
       -- Choices, with the mask in m.
       pub choice_made : {m c : ℕ} → IsFree m → IsFree c → m ≢ t → l ≢ m → r ≢ m → r ≢ t → (regs : ℕ → ℕ)

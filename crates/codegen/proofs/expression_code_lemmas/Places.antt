@@ -1,20 +1,15 @@
 -- Where variables and their elements lie: no two of them overlap, and the offsets that are listed are those that are
 -- defined.
-use Rattle.std.proofs.Common.{◌≡◌, ℕ, zero, suc, ◌+◌, ◌*◌, ◌/◌, ◌%◌, ◌<◌, ◌≤◌, ◌==◌, ◌⊎◌, ⊎_elim, inl, inr, false}
-use Rattle.std.proofs.Common.{List, [], ◌∷◌, length, get_or, take, Option, Some, None, slice_get, unwrap_or, refl}
-use Rattle.std.proofs.Common.{sym, ap, ◌∙◌, arith}
+use Rattle.std.proofs.Common.{◌≡◌, ℕ, zero, suc, ◌+◌, ◌*◌, ◌/◌, ◌%◌, ◌<◌, ◌≤◌, ◌==◌, ◌⊎◌, ⊎_elim, inl, inr, false, List}
+use Rattle.std.proofs.Common.{[], ◌∷◌, length, get_or, take, Option, Some, None, slice_get, unwrap_or, refl, sym, ap}
+use Rattle.std.proofs.Common.{◌∙◌, arith}
 use Rattle.std.proofs.Math.Seq.{take-length}
 use Rattle.codegen.proofs.expression_code_lemmas.Below.{nat_tests, cases_lt, mul-le, variable_offset, result_offset}
-use Rattle.codegen.proofs.expression_code_lemmas.Below.{offsets_from}
-use Rattle.codegen.proofs.expression_code_lemmas.Below.{kind_at}
-use Rattle.codegen.proofs.expression_code_lemmas.Below.{Boolean}
+use Rattle.codegen.proofs.expression_code_lemmas.Below.{offsets_from, kind_at, Boolean, declaration_of, declared_words}
+use Rattle.codegen.proofs.expression_code_lemmas.Below.{element_bytes, elements_by, FlatVariable, Form, held_words}
+use Rattle.codegen.proofs.expression_code_lemmas.Below.{Kind, Label, numbers_in, Param, words_by, words_of, WordType}
 use Rattle.std.proofs.lemmas.Option.{same_Some, slice_get_within, slice_get-get_or}
 pub use Rattle.codegen.specs.expression_code.Layout.{bytes_by, bytes_of, place_of}
-use Rattle.codegen.proofs.expression_code_lemmas.Below.{declaration_of, declared_words, element_bytes, elements_by}
-use Rattle.codegen.proofs.expression_code_lemmas.Below.{FlatVariable}
-use Rattle.codegen.proofs.expression_code_lemmas.Below.{Form, held_words, Kind, Label, numbers_in, Param, words_by}
-use Rattle.codegen.proofs.expression_code_lemmas.Below.{words_of}
-use Rattle.codegen.proofs.expression_code_lemmas.Below.{WordType}
 use Rattle.language.specs.declared.signature.Form.TheVariants.{SingleWord}
 
 -- A variable's numbers lie in its words.

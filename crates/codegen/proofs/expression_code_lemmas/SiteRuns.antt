@@ -1,13 +1,11 @@
 -- The law of expressions: the code of one, at a site.
-use Rattle.std.proofs.Common.{◌≡◌, ℕ, ◌+◌, ◌<◌, true, List, [], Some, refl, sym, ap, arith, Bool, append-nil}
-use Rattle.std.proofs.Common.{false, cond, nat_lt, subst, All}
+use Rattle.std.proofs.Common.{◌≡◌, ℕ, ◌+◌, ◌<◌, List, [], Some, sym, ap, arith, append-nil, false, nat_lt, subst, All}
 use Rattle.codegen.proofs.expression_code_lemmas.Below.{HasType, InRegister, InSlot, IsComputed, IsInside, IsSiteOf}
-use Rattle.codegen.proofs.expression_code_lemmas.Below.{Leads, Location}
-use Rattle.codegen.proofs.expression_code_lemmas.Below.{ltb-false, ltb-true, Observation, operand, Path, path_in, Site}
-use Rattle.codegen.proofs.expression_code_lemmas.Below.{slot_of}
-use Rattle.codegen.proofs.expression_code_lemmas.Below.{State, StraightState, TermTree, types_of, value_in, Values}
-use Rattle.codegen.proofs.expression_code_lemmas.Below.{word_in}
-use Rattle.codegen.proofs.expression_code_lemmas.Below.{WordType, ends_on}
+use Rattle.codegen.proofs.expression_code_lemmas.Below.{Leads, Location, ltb-false, ltb-true, Observation, operand}
+use Rattle.codegen.proofs.expression_code_lemmas.Below.{Path, path_in, Site, slot_of, State, StraightState, TermTree}
+use Rattle.codegen.proofs.expression_code_lemmas.Below.{types_of, value_in, Values, word_in, WordType, ends_on}
+use Rattle.codegen.specs.expression_code.Computed.{temporary_in}
+use Rattle.std.proofs.lemmas.Bool.{cond_both}
 use Rattle.codegen.proofs.expression_code_lemmas.Frame.{Setting, seen_by}
 use Rattle.codegen.proofs.expression_code_lemmas.WorkRegisters.{works_in, lower_stays}
 use Rattle.codegen.proofs.expression_code_lemmas.Values.{Ready, Kept, Leaves, Holds, homes_left, kept_number}
@@ -42,17 +40,17 @@ module _ (e : TermTree) (site : Site) (fit : IsSiteOf e site) where
   -- and that it is the same where lower places are kept
   stays : (place top : ℕ) (s t : State) → place < top
       → Kept (setting_of e site fit) (slot_of site.allocation.count site.free top) s t
-      → Leaves (works_in site.allocation.count top) s t → (b : Bool) → nat_lt place site.allocation.count ≡ b
-      → word_in site t (cond b (InRegister (5 + place)) (InSlot (slot_of site.allocation.count site.free place)))
-      ≡ word_in site s (cond b (InRegister (5 + place)) (InSlot (slot_of site.allocation.count site.free place)))
-  stays place top s t less kept lower true h =
-      ap Some
+      → Leaves (works_in site.allocation.count top) s t
+      → temporary_in site t place ≡ temporary_in site s place
+  stays place top s t less kept lower =
+      cond_both (nat_lt place site.allocation.count) (InRegister (5 + place))
+      (InSlot (slot_of site.allocation.count site.free place)) (λ l. word_in site t l ≡ word_in site s l)
+      (λ h. ap Some
       (lower (5 + place) (lower_stays site.allocation.count top place less (ltb-true place site.allocation.count h)
-      fit.allocated.few))
-  stays place top s t less kept lower false h =
-      kept_number (setting_of e site fit) (slot_of site.allocation.count site.free top) s t kept 4
+      fit.allocated.few)))
+      (λ h. kept_number (setting_of e site fit) (slot_of site.allocation.count site.free top) s t kept 4
       (slot_of site.allocation.count site.free place)
-      (omega (arith, less, ltb-false place site.allocation.count h))
+      (omega (arith, less, ltb-false place site.allocation.count h)))
 
 pub expressions_are_computed : (e : TermTree) (word : WordType) (site : Site)
     → HasType (types_of site.code.profile site.declared) e word → IsSiteOf e site → IsComputed e site
@@ -86,8 +84,7 @@ expressions_are_computed e word site has fit =
                 run.done.there;
             homes = λ x home is. homes_left z site.place s run.end run.done.lower home
                 (fit.allocated.allowed x home is);
-            lower = λ place less. stays e site fit place site.place s run.end less run.done.kept run.done.lower
-                (nat_lt place site.allocation.count) refl;
+            lower = λ place less. stays e site fit place site.place s run.end less run.done.kept run.done.lower;
             base = run.done.held.base;
             kept = λ o below. run.done.kept o (omega (arith, below));
           };

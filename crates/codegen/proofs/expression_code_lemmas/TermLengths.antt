@@ -1,34 +1,23 @@
 -- What is known of a term: how many temporaries it has at once, how many instructions it is, and which variables it
 -- names.
-use Rattle.std.proofs.Common.{◌≡◌, ℕ, ◌+◌, ◌*◌, ◌%◌, ◌<◌, ◌≤◌, ◌==◌, Bool, true, false, cond, nat_lt, List, ◌++◌}
-use Rattle.std.proofs.Common.{length, Option, None, Some, ◌-◌, arith, length-append}
+use Rattle.std.proofs.Common.{◌≡◌, ℕ, ◌+◌, ◌*◌, ◌%◌, ◌<◌, ◌≤◌, ◌==◌, Bool, true, false, cond, nat_lt, List, length}
+use Rattle.std.proofs.Common.{Option, None, Some, ◌-◌, arith, length-append}
 use Rattle.std.proofs.lemmas.Option.{slice_get_within}
-use Rattle.codegen.proofs.expression_code_lemmas.Below.{address_code, Allocation, around_code, binary, BinaryOperator}
-use Rattle.codegen.proofs.expression_code_lemmas.Below.{bits, code_by}
-use Rattle.codegen.proofs.expression_code_lemmas.Below.{choice_code, choice_or_zero_code, chooses_zero}
-use Rattle.codegen.proofs.expression_code_lemmas.Below.{constant_code, convert, convert_code, copy_code, cut_code}
-use Rattle.codegen.proofs.expression_code_lemmas.Below.{element}
-use Rattle.codegen.proofs.expression_code_lemmas.Below.{element_code, emitted_operator, expr_code, fetch_code, Finish}
-use Rattle.codegen.proofs.expression_code_lemmas.Below.{finish_code}
-use Rattle.codegen.proofs.expression_code_lemmas.Below.{FlatVariable, HasType, height_of, InRegister, InSlot, Instr}
-use Rattle.codegen.proofs.expression_code_lemmas.Below.{into_code}
-use Rattle.codegen.proofs.expression_code_lemmas.Below.{IsAmong, is_at_home, keep_code, keeps_words, Kind, kind_at}
-use Rattle.codegen.proofs.expression_code_lemmas.Below.{left_row}
-use Rattle.codegen.proofs.expression_code_lemmas.Below.{load_code, Location, move_code, narrow_code, narrowed_in}
-use Rattle.codegen.proofs.expression_code_lemmas.Below.{near_code}
-use Rattle.codegen.proofs.expression_code_lemmas.Below.{near_element, number_code, NumberRow, NumberStep}
-use Rattle.codegen.proofs.expression_code_lemmas.Below.{number_step_code, of_binary}
+use Rattle.codegen.proofs.expression_code_lemmas.Below.{expr_code, address_code, Allocation, around_code, binary}
+use Rattle.codegen.proofs.expression_code_lemmas.Below.{BinaryOperator, bits, code_by, chooses_zero, constant_code}
+use Rattle.codegen.proofs.expression_code_lemmas.Below.{convert, convert_code, copy_code, cut_code, element, fetch_code}
+use Rattle.codegen.proofs.expression_code_lemmas.Below.{Finish, finish_code, FlatVariable, HasType, height_of}
+use Rattle.codegen.proofs.expression_code_lemmas.Below.{InRegister, InSlot, Instr, into_code, IsAmong, is_at_home}
+use Rattle.codegen.proofs.expression_code_lemmas.Below.{keep_code, keeps_words, Kind, left_row, load_code, Location}
+use Rattle.codegen.proofs.expression_code_lemmas.Below.{move_code, narrow_code, narrowed_in, near_element, number_code}
+use Rattle.codegen.proofs.expression_code_lemmas.Below.{NumberRow, NumberStep, number_step_code, of_binary}
 use Rattle.codegen.proofs.expression_code_lemmas.Below.{of_conversion, of_element, of_number, of_prefix, of_rotation}
-use Rattle.codegen.proofs.expression_code_lemmas.Below.{of_selection}
-use Rattle.codegen.proofs.expression_code_lemmas.Below.{of_truth, of_truths, of_variable, operand, operator_code}
-use Rattle.codegen.proofs.expression_code_lemmas.Below.{placed_code, prefix}
-use Rattle.codegen.proofs.expression_code_lemmas.Below.{prefix_code, PrefixOperator, Profile, raise_code, register_of}
-use Rattle.codegen.proofs.expression_code_lemmas.Below.{right_row}
-use Rattle.codegen.proofs.expression_code_lemmas.Below.{rotate, rotate_code, row_of, scale_code, select, Step}
-use Rattle.codegen.proofs.expression_code_lemmas.Below.{step_code, store_code}
-use Rattle.codegen.proofs.expression_code_lemmas.Below.{temporary, term_nodes, TermTree, Types, types_of, variable}
-use Rattle.codegen.proofs.expression_code_lemmas.Below.{variable_location}
-use Rattle.codegen.proofs.expression_code_lemmas.Below.{variable_offset, Width, width_of, WordType, working_register}
+use Rattle.codegen.proofs.expression_code_lemmas.Below.{of_selection, of_truth, of_variable, operand, operator_code}
+use Rattle.codegen.proofs.expression_code_lemmas.Below.{prefix, prefix_code, PrefixOperator, Profile}
+use Rattle.codegen.proofs.expression_code_lemmas.Below.{raise_code, register_of, right_row, rotate, rotate_code, row_of}
+use Rattle.codegen.proofs.expression_code_lemmas.Below.{scale_code, select, step_code, store_code, temporary}
+use Rattle.codegen.proofs.expression_code_lemmas.Below.{term_nodes, TermTree, Types, types_of, variable}
+use Rattle.codegen.proofs.expression_code_lemmas.Below.{variable_location, Width, WordType, working_register}
 use Rattle.language.specs.declared.signature.Kind.TheVariants.{Boolean}
 use Rattle.codegen.specs.declared.expression_code.numbers.Finish.TheVariants.{Narrowed}
 use Rattle.codegen.specs.declared.expression_code.numbers.NumberStep.TheVariants.{KeepsLow}
@@ -115,10 +104,6 @@ cut_length r w = narrow_length r r w
 pub convert_length : (d r : ℕ) (w : Width) → length (convert_code d r w) ≤ 3
 convert_length d r w = simp length-append (omega (arith, narrow_length d r w, move_length d (narrowed_in d r w)))
 
-step_length : (d t l r : ℕ) (step : Step) → length (step_code d t l r step) ≤ 3
-step_length d t l r (of_truths operation) = omega arith
-step_length d t l r step = omega arith
-
 pub finish_length : (d : ℕ) (w : Width) (finish : Finish) → length (finish_code d w finish) ≤ 2
 finish_length d w Narrowed = omega (arith, cut_length d w)
 finish_length d w finish = omega arith
@@ -170,84 +155,23 @@ module _ (declared : List FlatVariable) (a : Allocation) (free : ℕ) where
   abbrev own : ℕ → ℕ
   own place = working_register a.count place 29
 
-  placed_length : (place : ℕ) (e : TermTree) (is : List Instr) (n : ℕ) → length is + 3 ≤ n
-      → length (placed_code declared a free place e is) ≤ n
-  placed_length place e is n few =
-      one_of (is_at_home a e) _ _ n (omega arith)
-      (simp length-append (omega (arith, few, keep_length (temporary a.count free place))))
+  placed_length : (place : ℕ) (e : TermTree)
+      → length (into_code declared a free (own place) place e) ≤ 16 * term_nodes e - 3
+      → length (expr_code declared a free place e) ≤ 16 * term_nodes e
+  placed_length place e few =
+      one_of (is_at_home a e) _ _ _ (omega arith)
+      (simp length-append (omega (arith, few, height e, keep_length (temporary a.count free place))))
 
-  -- the code of an operator of one operand and of two, of a conversion, of a choice, of one between a value and 0, and
-  -- of an element at an index in a register
-
-  abbrev pub one_code : ℕ → ℕ → TermTree → Width → NumberRow → List Instr
-  one_code d place e width row =
-      placed_code declared a free place e (into_code declared a free (own place) place e)
-      ++ fetch_code (operand a free place e) 29
-      ++ number_code d (register_of (operand a free place e) 29) width row
-
-  abbrev pub both_code : ℕ → ℕ → TermTree → TermTree → BinaryOperator → Width → List Instr
-  both_code d place one other operator width =
-      placed_code declared a free place one (into_code declared a free (own place) place one)
-      ++ placed_code declared a free (place + 1) other (into_code declared a free (own (place + 1)) (place + 1) other)
-      ++ fetch_code (operand a free place one) 29 ++ fetch_code (operand a free (place + 1) other) 30
-      ++ operator_code d (working_register a.count (place + 1) 30) (register_of (operand a free place one) 29)
-      (register_of (operand a free (place + 1) other) 30) (emitted_operator a operator) width
-
-  abbrev pub converted_code : ℕ → ℕ → Kind → TermTree → List Instr
-  converted_code d place kind e =
-      placed_code declared a free place e (into_code declared a free (own place) place e)
-      ++ fetch_code (operand a free place e) 29
-      ++ convert_code d (register_of (operand a free place e) 29) (width_of kind)
-
-  abbrev pub chosen_code : ℕ → ℕ → TermTree → TermTree → TermTree → List Instr
-  chosen_code d place condition accepted otherwise =
-      placed_code declared a free place condition (into_code declared a free (own place) place condition)
-      ++ placed_code declared a free (place + 1) accepted
-      (into_code declared a free (own (place + 1)) (place + 1) accepted)
-      ++ placed_code declared a free (place + 2) otherwise
-      (into_code declared a free (own (place + 2)) (place + 2) otherwise)
-      ++ fetch_code (operand a free place condition) 29 ++ fetch_code (operand a free (place + 1) accepted) 30
-      ++ fetch_code (operand a free (place + 2) otherwise) 31
-      ++ choice_code d (own place) (working_register a.count (place + 1) 30)
-      (register_of (operand a free place condition) 29) (register_of (operand a free (place + 1) accepted) 30)
-      (register_of (operand a free (place + 2) otherwise) 31)
-
-  abbrev pub masked_code : ℕ → ℕ → TermTree → TermTree → List Instr
-  masked_code d place condition accepted =
-      placed_code declared a free place condition (into_code declared a free (own place) place condition)
-      ++ placed_code declared a free (place + 1) accepted
-      (into_code declared a free (own (place + 1)) (place + 1) accepted)
-      ++ fetch_code (operand a free place condition) 29 ++ fetch_code (operand a free (place + 1) accepted) 30
-      ++ choice_or_zero_code d (own place) (register_of (operand a free place condition) 29)
-      (register_of (operand a free (place + 1) accepted) 30)
-
-  abbrev pub picked_code : ℕ → ℕ → ℕ → TermTree → List Instr
-  picked_code d place x index =
-      placed_code declared a free place index (into_code declared a free (own place) place index)
-      ++ fetch_code (operand a free place index) 29
-      ++ element_code d (register_of (operand a free place index) 29) (kind_at declared x)
-      (variable_offset declared x)
-
-  pub into_length : (d place : ℕ) (e : TermTree)
-      → length (into_code declared a free d place e) + 3 ≤ 16 * term_nodes e
-  into_length d place (variable x) = omega (arith, copy_length d (variable_location declared a x))
-  into_length d place (prefix operator width e) =
-      omega (
-        arith,
-        length-append {A = Instr},
-        placed_length place e _ _ (into_length (own place) place e),
-        fetch_length,
-        prefix_length,
-      )
-  into_length d place (binary source operator width one other) =
-      let n = 16 * (1 + term_nodes one + term_nodes other) - 3 in
-      let left = placed_length place one _ _ (into_length (own place) place one) in
-      let right = placed_length place other _ _ (into_length (own place) place other) in
-      let next = placed_length (place + 1) other _ _ (into_length (own (place + 1)) (place + 1) other) in
-      let few : length (code_by (right_row a operator other) (one_code d place one width)
-      (code_by (left_row a operator one) (one_code d place other width)
-      (both_code d place one other operator width))) ≤ n =
-      code_length (right_row a operator other) (one_code d place one width) _ n
+  into_short : (d place : ℕ) (e : TermTree) → length (into_code declared a free d place e) ≤ 16 * term_nodes e - 3
+  into_short d place (variable x) = omega (arith, copy_length d (variable_location declared a x))
+  into_short d place (prefix operator width e) =
+      let placed = placed_length place e (into_short (own place) place e) in
+      omega (arith, length-append {A = Instr}, placed, fetch_length, prefix_length)
+  into_short d place (binary source operator width one other) =
+      let left = placed_length place one (into_short (own place) place one) in
+      let right = placed_length place other (into_short (own place) place other) in
+      let next = placed_length (place + 1) other (into_short (own (place + 1)) (place + 1) other) in
+      code_length (right_row a operator other) _ _ _
       (λ row. omega (
         arith,
         length-append {A = Instr},
@@ -255,8 +179,7 @@ module _ (declared : List FlatVariable) (a : Allocation) (free : ℕ) where
         fetch_length,
         number_length d (register_of (operand a free place one) 29) width row,
       ))
-      (code_length (left_row a operator one) (one_code d place other width)
-      (both_code d place one other operator width) n
+      (code_length (left_row a operator one) _ _ _
       (λ row. omega (
         arith,
         length-append {A = Instr},
@@ -264,45 +187,27 @@ module _ (declared : List FlatVariable) (a : Allocation) (free : ℕ) where
         fetch_length,
         number_length d (register_of (operand a free place other) 29) width row,
       ))
-      (omega (arith, length-append {A = Instr}, left, next, fetch_length, operator_length))) in
-      omega (arith, few)
-  into_length d place (rotate width e amount) =
-      omega (
-        arith,
-        length-append {A = Instr},
-        placed_length place e _ _ (into_length (own place) place e),
-        fetch_length,
-        rotate_length,
-      )
-  into_length d place (convert kind e) =
-      let n = 16 * (1 + term_nodes e) - 3 in
-      let placed = placed_length place e _ _ (into_length (own place) place e) in
-      let few : length (cond (keeps_words a kind) (into_code declared a free d place e)
-      (converted_code d place kind e)) ≤ n =
-      one_of (keeps_words a kind) _ _ n (omega (arith, into_length d place e))
-      (omega (arith, length-append {A = Instr}, placed, fetch_length, convert_length)) in
-      omega (arith, few)
-  into_length d place (select condition accepted otherwise) =
-      let n = 16 * (1 + term_nodes condition + term_nodes accepted + term_nodes otherwise) - 3 in
-      let first = placed_length place condition _ _ (into_length (own place) place condition) in
-      let second = placed_length (place + 1) accepted _ _ (into_length (own (place + 1)) (place + 1) accepted) in
-      let third = placed_length (place + 2) otherwise _ _ (into_length (own (place + 2)) (place + 2) otherwise) in
-      let few : length (cond (chooses_zero a otherwise) (masked_code d place condition accepted)
-      (chosen_code d place condition accepted otherwise)) ≤ n =
-      one_of (chooses_zero a otherwise) _ _ n
+      (omega (arith, length-append {A = Instr}, left, next, fetch_length, operator_length)))
+  into_short d place (rotate width e amount) =
+      let placed = placed_length place e (into_short (own place) place e) in
+      omega (arith, length-append {A = Instr}, placed, fetch_length, rotate_length)
+  into_short d place (convert kind e) =
+      let placed = placed_length place e (into_short (own place) place e) in
+      one_of (keeps_words a kind) _ _ _ (omega (arith, into_short d place e))
+      (omega (arith, length-append {A = Instr}, placed, fetch_length, convert_length))
+  into_short d place (select condition accepted otherwise) =
+      let first = placed_length place condition (into_short (own place) place condition) in
+      let second = placed_length (place + 1) accepted (into_short (own (place + 1)) (place + 1) accepted) in
+      let third = placed_length (place + 2) otherwise (into_short (own (place + 2)) (place + 2) otherwise) in
+      one_of (chooses_zero a otherwise) _ _ _
       (omega (arith, length-append {A = Instr}, first, second, fetch_length))
-      (omega (arith, length-append {A = Instr}, first, second, third, fetch_length)) in
-      omega (arith, few)
-  into_length d place (element source x size index) =
-      let n = 16 * (1 + term_nodes index) - 3 in
-      let placed = placed_length place index _ _ (into_length (own place) place index) in
-      let few : length (code_by (near_element declared a x index) (near_code d (kind_at declared x))
-      (picked_code d place x index)) ≤ n =
-      code_length (near_element declared a x index) (near_code d (kind_at declared x)) (picked_code d place x index) n
-      (λ o. omega arith)
-      (omega (arith, length-append {A = Instr}, placed, fetch_length, address_length)) in
-      omega (arith, few)
-  into_length d place e = omega (arith, constant_length)
+      (omega (arith, length-append {A = Instr}, first, second, third, fetch_length))
+  into_short d place (element source x size index) =
+      let placed = placed_length place index (into_short (own place) place index) in
+      code_length (near_element declared a x index) _ _ _ (λ o. omega arith)
+      (omega (arith, length-append {A = Instr}, placed, fetch_length, address_length))
+  into_short d place e = omega (arith, constant_length)
 
-  pub expr_length : (place : ℕ) (e : TermTree) → length (expr_code declared a free place e) ≤ 16 * term_nodes e
-  expr_length place e = placed_length place e _ _ (into_length (own place) place e)
+  pub into_length : (d place : ℕ) (e : TermTree)
+      → length (into_code declared a free d place e) + 3 ≤ 16 * term_nodes e
+  into_length d place e = omega (arith, into_short d place e, height e)

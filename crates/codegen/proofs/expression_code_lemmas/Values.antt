@@ -1,23 +1,19 @@
 -- What is shown of the state of straight code, and what the code of an expression leaves.
-use Rattle.std.proofs.Common.{◌≡◌, ◌≢◌, ℕ, ◌+◌, ◌-◌, ◌%◌, ◌^◌, ◌<◌, ◌≤◌, Bool, true, false, cond, nat_lt, List, None}
-use Rattle.std.proofs.Common.{Option}
-use Rattle.std.proofs.Common.{Some, length, slice_get, slice_index, refl, ap, ◌∙◌, arith, sym}
+use Rattle.std.proofs.Common.{◌≡◌, ◌≢◌, ℕ, ◌+◌, ◌-◌, ◌%◌, ◌^◌, ◌<◌, ◌≤◌, Bool, false, nat_lt, List, None, Option, Some}
+use Rattle.std.proofs.Common.{length, slice_get, slice_index, refl, ap, ◌∙◌, arith, sym}
 use Rattle.codegen.proofs.expression_code_lemmas.Below.{at_home, ByteMap, control_location, control_offset, is_unread}
-use Rattle.codegen.proofs.expression_code_lemmas.Below.{Fits, FlatVariable, HasType, home_of, InRegister}
-use Rattle.codegen.proofs.expression_code_lemmas.Below.{InSlot, IsWithinKind, Kind, Location, ltb-false, ltb-true}
-use Rattle.codegen.proofs.expression_code_lemmas.Below.{next_offset}
+use Rattle.codegen.proofs.expression_code_lemmas.Below.{Fits, FlatVariable, HasType, home_of, InRegister, InSlot}
+use Rattle.codegen.proofs.expression_code_lemmas.Below.{IsWithinKind, Kind, Location, ltb-false, ltb-true, next_offset}
 use Rattle.codegen.proofs.expression_code_lemmas.Below.{number_at, number_at-with_number, number_at_same, numbers_in}
-use Rattle.codegen.proofs.expression_code_lemmas.Below.{operand}
-use Rattle.codegen.proofs.expression_code_lemmas.Below.{Profile, result_offset, slot_of, State, StraightState, TermTree}
-use Rattle.codegen.proofs.expression_code_lemmas.Below.{types_of}
-use Rattle.codegen.proofs.expression_code_lemmas.Below.{value_fits, value_in, Values, with_number, with_number_below}
-use Rattle.codegen.proofs.expression_code_lemmas.Below.{WordType}
+use Rattle.codegen.proofs.expression_code_lemmas.Below.{operand, Profile, result_offset, slot_of, State, StraightState}
+use Rattle.codegen.proofs.expression_code_lemmas.Below.{TermTree, types_of, value_fits, value_in, Values, with_number}
+use Rattle.codegen.proofs.expression_code_lemmas.Below.{with_number_below, WordType}
+use Rattle.std.proofs.lemmas.Bool.{cond_both}
 use Rattle.language.specs.declared.signature.Kind.TheVariants.{Uint32}
 use Rattle.codegen.proofs.expression_code_lemmas.Frame.{Setting, base_of, HeldAt, Held}
 use Rattle.codegen.proofs.expression_code_lemmas.Arithmetic.{mask_of}
 use Rattle.codegen.proofs.expression_code_lemmas.WorkRegisters.{IsHome, works_in, works_at, home_stays, lower_stays}
-use Rattle.codegen.proofs.expression_code_lemmas.WorkRegisters.{stays_spare}
-use Rattle.codegen.proofs.expression_code_lemmas.WorkRegisters.{at_operand}
+use Rattle.codegen.proofs.expression_code_lemmas.WorkRegisters.{stays_spare, at_operand}
 use Rattle.codegen.proofs.expression_code_lemmas.Places.{bytes_of, place_of, place_within, ends_before_result}
 
 -- bytes below an offset are as they were
@@ -215,8 +211,8 @@ pub leaves_spare : (count place spare : ℕ) (s t : State) → 27 < spare → ((
     → Leaves (works_in count place) s t
 leaves_spare count place spare s t low others q h = others q (λ e. omega (arith, stays_spare count place q h, low, e))
 
--- What is at the operand of a lower place, where the code of a higher one has run, and where only a spare register
--- has changed.
+-- What is at the operand of a place stays where its register, its slot and the homes do: where the code of a higher
+-- place has run, and where only a spare register has changed.
 module _ (z : Setting) (free less place v : ℕ) (s t : State) where
   abbrev count : ℕ
   count = z.allocation.count
@@ -224,33 +220,26 @@ module _ (z : Setting) (free less place v : ℕ) (s t : State) where
   abbrev Stays : Location → Type 0
   Stays l = Holds z l s v → Holds z l t v
 
-  module _ (below : less < place) (kept : Kept z (slot_of count free place) s t)
-      (lower : Leaves (works_in count place) s t) where
-    temporary_stays : (b : Bool) → nat_lt less count ≡ b
-        → Stays (cond b (InRegister (5 + less)) (InSlot (slot_of count free less)))
-    temporary_stays true h there =
-        lower (5 + less) (lower_stays count place less below (ltb-true less count h) z.allocated.few) ∙ there
-    temporary_stays false h there =
-        kept_number z (slot_of count free place) s t kept 4 (slot_of count free less)
-        (omega (arith, below, ltb-false less count h)) ∙ there
+  operand_stays : (less < count → t.regs (5 + less) ≡ s.regs (5 + less))
+      → (count ≤ less → number_at t.bytes 4 (z.frame + slot_of count free less)
+      ≡ number_at s.bytes 4 (z.frame + slot_of count free less))
+      → HomesKept z s t → (e : TermTree) → Stays (operand z.allocation free less e)
+  operand_stays register slot homes =
+      at_operand z.declared z.allocation z.allocated free less Stays
+      (cond_both (nat_lt less count) (InRegister (5 + less)) (InSlot (slot_of count free less)) Stays
+      (λ h there. register (ltb-true less count h) ∙ there) (λ h there. slot (ltb-false less count h) ∙ there))
+      (λ home is there. homes home is ∙ there)
 
-    pub holds_lower : (e : TermTree) → Holds z (operand z.allocation free less e) s v
-        → Holds z (operand z.allocation free less e) t v
-    holds_lower = at_operand z.declared z.allocation z.allocated free less Stays
-        (temporary_stays (nat_lt less count) refl)
-        (λ home is there. lower home (home_stays count place home is.0 is.1) ∙ there)
+  pub holds_lower : less < place → Kept z (slot_of count free place) s t → Leaves (works_in count place) s t
+      → (e : TermTree) → Stays (operand z.allocation free less e)
+  holds_lower below kept lower =
+      operand_stays (λ small. lower (5 + less) (lower_stays count place less below small z.allocated.few))
+      (λ high. kept_number z (slot_of count free place) s t kept 4 (slot_of count free less) (omega (arith, below, high)))
+      (homes_left z place s t lower)
 
-  module _ (spare : ℕ) (low : 27 < spare) (others : (q : ℕ) → q ≢ spare
-      → t.regs q ≡ s.regs q) (same : t.bytes ≡ s.bytes) where
-    temporary_still : (b : Bool) → nat_lt less count ≡ b
-        → Stays (cond b (InRegister (5 + less)) (InSlot (slot_of count free less)))
-    temporary_still true h there =
-        others (5 + less) (λ e. omega (arith, ltb-true less count h, z.allocated.few, low, e)) ∙ there
-    temporary_still false h there = ap (λ (b : ByteMap). number_at b 4 (z.frame + slot_of count free less)) same
-        ∙ there
-
-    pub holds_still : (e : TermTree) → Holds z (operand z.allocation free less e) s v
-        → Holds z (operand z.allocation free less e) t v
-    holds_still = at_operand z.declared z.allocation z.allocated free less Stays
-        (temporary_still (nat_lt less count) refl) (λ home is there. others home (λ e. omega (arith, is.1, low, e))
-        ∙ there)
+  pub holds_still : (spare : ℕ) → 27 < spare → ((q : ℕ) → q ≢ spare → t.regs q ≡ s.regs q) → t.bytes ≡ s.bytes
+      → (e : TermTree) → Stays (operand z.allocation free less e)
+  holds_still spare low others same =
+      operand_stays (λ small. others (5 + less) (λ e. omega (arith, small, z.allocated.few, low, e)))
+      (λ high. ap (λ (b : ByteMap). number_at b 4 (z.frame + slot_of count free less)) same)
+      (λ home is. others home (λ e. omega (arith, is.1, low, e)))

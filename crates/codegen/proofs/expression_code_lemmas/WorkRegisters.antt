@@ -1,14 +1,13 @@
 -- The registers that operators work on: those of temporaries, the homes of variables, and the spare ones; and which
 -- of them the code for a place may write.
 use Rattle.std.proofs.Common.{◌≡◌, ◌≢◌, ◌⊎◌, inl, inr, ℕ, ◌+◌, ◌<◌, ◌≤◌, ◌==◌, ◌&&◌, ◌||◌, not, cond, nat_lt, nat_le}
-use Rattle.std.proofs.Common.{Bool, true, false, List, Option, None, Some, if◌then◌else◌, refl, sym, ap, ◌∙◌, arith}
+use Rattle.std.proofs.Common.{Bool, true, false, List, Option, None, Some, refl, sym, ap, ◌∙◌, arith}
 use Rattle.std.proofs.lemmas.Option.{none-some}
 use Rattle.codegen.proofs.expression_code_lemmas.Below.{Allocation, at_home as at_home_of, convert, FlatVariable}
-use Rattle.codegen.proofs.expression_code_lemmas.Below.{home_of_term}
-use Rattle.codegen.proofs.expression_code_lemmas.Below.{InRegister, InSlot, keeps_words, Kind}
-use Rattle.codegen.proofs.expression_code_lemmas.Below.{IsAllocation, Location, nat_tests, operand, register_of}
-use Rattle.codegen.proofs.expression_code_lemmas.Below.{slot_of, temporary}
-use Rattle.codegen.proofs.expression_code_lemmas.Below.{TermTree, true≢false, variable, working_register}
+use Rattle.codegen.proofs.expression_code_lemmas.Below.{home_of_term, InRegister, InSlot, keeps_words, Kind}
+use Rattle.codegen.proofs.expression_code_lemmas.Below.{IsAllocation, Location, lt-ltb, nat_tests, operand, register_of}
+use Rattle.codegen.proofs.expression_code_lemmas.Below.{slot_of, temporary, TermTree, true≢false, variable}
+use Rattle.codegen.proofs.expression_code_lemmas.Below.{working_register}
 
 -- a register that code may work on
 pub record IsFree (r : ℕ) : Type 0 where
@@ -34,9 +33,6 @@ works_in count place q = not (nat_lt q 28 && (nat_lt q (5 + place) || nat_le (5 
 -- and by such code whose value comes into a register
 abbrev pub works_at : ℕ → ℕ → ℕ → ℕ → Bool
 works_at count place d q = (q == d) || works_in count place q
-
-pub low_in : (count place q : ℕ) → q < 5 → works_in count place q ≡ false
-low_in count place q low = grind (arith, nat_tests)
 
 pub low_at : (count place d q : ℕ) → 4 < d → q < 5 → works_at count place d q ≡ false
 low_at count place d q free low = grind (arith, nat_tests)
@@ -91,14 +87,6 @@ pub working_free : (count place spare : ℕ) → count ≤ 16 → 28 < spare →
 working_free count place spare few low high =
     free_from (working_register count place spare) (grind (arith, nat_tests)) (grind (arith, nat_tests))
 
-pub working_apart : (count p q s t : ℕ) → count ≤ 16 → p < q → 28 < s → s < t
-    → working_register count p s ≢ working_register count q t
-working_apart count p q s t few less low more e = absurd (grind (arith, nat_tests, e))
-
-pub working_not : (count place spare other : ℕ) → count ≤ 16 → 27 < other → spare ≢ other
-    → working_register count place spare ≢ other
-working_not count place spare other few low apart e = absurd (grind (arith, nat_tests, e, apart))
-
 -- Operands: in a home, or in the register of a place, or in a spare one.
 
 abbrev pub IsHome : ℕ → ℕ → Type 0
@@ -134,41 +122,37 @@ pub record IsTarget (count place d : ℕ) : Type 0 where
   pub no_spare : d ≢ 30
   pub no_next : d ≢ working_register count (place + 1) 30
 
-pub own_target : (count place : ℕ) → count ≤ 16 → IsTarget count place (working_register count place 29)
-own_target count place few = record {
-  free = working_free count place 29 few (omega arith) (omega arith);
-  no_address = working_not count place 29 28 few (omega arith) (λ e. omega (arith, e));
-  no_spare = working_not count place 29 30 few (omega arith) (λ e. omega (arith, e));
-  no_next = working_apart count place (place + 1) 29 30 few (omega arith) (omega arith) (omega arith);
+pub operand_target : (count place d : ℕ) → count ≤ 16 → IsOperand count place 29 d → IsTarget count place d
+operand_target count place d few is = record {
+  free = operand_free count place 29 d few (omega arith) (omega arith) is;
+  no_address = operand_not count place 29 28 d few (omega arith) (λ e. omega (arith, e)) is;
+  no_spare = operand_not count place 29 30 d few (omega arith) (λ e. omega (arith, e)) is;
+  no_next = operand_apart count place (place + 1) 29 30 d few (λ e. omega (arith, e)) (omega arith) (omega arith)
+      (λ e. omega (arith, e)) is;
 }
+
+pub own_target : (count place : ℕ) → count ≤ 16 → IsTarget count place (working_register count place 29)
+own_target count place few = operand_target count place (working_register count place 29) few (inl refl)
 
 -- the register of a place that has one
 pub place_target : (count place : ℕ) → count ≤ 16 → place < count → IsTarget count place (5 + place)
-place_target count place few less = record {
-  free = free_from (5 + place) (omega arith) (omega (arith, few, less));
-  no_address = λ e. omega (arith, few, less, e);
-  no_spare = λ e. omega (arith, few, less, e);
-  no_next = λ e. absurd (grind (arith, nat_tests, few, less, e));
-}
+place_target count place few less =
+    let is : 5 + place ≡ working_register count place 29 = rw (lt-ltb place count less) in
+    operand_target count place (5 + place) few (inl is)
 
 pub home_target : (count place d : ℕ) → count ≤ 16 → IsHome count d → IsTarget count place d
-home_target count place d few home = record {
-  free = free_from d (omega (arith, home.0)) (omega (arith, home.1));
-  no_address = λ e. omega (arith, home.1, e);
-  no_spare = λ e. omega (arith, home.1, e);
-  no_next = λ e. absurd (grind (arith, nat_tests, home.0, home.1, e));
-}
+home_target count place d few home = operand_target count place d few (inr home)
+
+-- what there is under a test is there, and the test is met
+pub when_some : {A : Type 0} (b : Bool) (o : Option A) (x : A) → cond b o None ≡ Some x → (b ≡ true) × (o ≡ Some x)
+when_some true o x is = (refl, is)
+when_some false o x is = absurd (none-some x is)
 
 -- a conversion that has a home keeps words, and its operand has the same
 pub converted_home : (a : Allocation) (kind : Kind) (e : TermTree) (home : ℕ)
     → home_of_term a (convert kind e) ≡ Some home
     → (keeps_words a kind ≡ true) × (home_of_term a e ≡ Some home)
-converted_home a kind e home at = by_test (keeps_words a kind) refl at
-  where
-    by_test : (b : Bool) → keeps_words a kind ≡ b → (if b then home_of_term a e else None) ≡ Some home
-        → (keeps_words a kind ≡ true) × (home_of_term a e ≡ Some home)
-    by_test true keeps at' = (keeps, at')
-    by_test false keeps at' = absurd (none-some home at')
+converted_home a kind e home at = when_some (keeps_words a kind) (home_of_term a e) home at
 
 -- the home of an expression is that of a variable
 pub home_allowed : (declared : List FlatVariable) (a : Allocation) → IsAllocation declared a → (e : TermTree) (home : ℕ)

@@ -3,16 +3,14 @@
 use Rattle.std.proofs.Common.{◌≡◌, ℕ, List, [], ◌∷◌, true, false, None, Some, refl}
 use Rattle.std.specs.Int.Count.{count_leading_zeros}
 use Rattle.codegen.proofs.expression_code_lemmas.Below.{Allocation, binary, convert, element, expr_code, FlatVariable}
-use Rattle.codegen.proofs.expression_code_lemmas.Below.{Instr}
-use Rattle.codegen.proofs.expression_code_lemmas.Below.{into_code, Place, rotate, select, TermTree, variable, word_as}
-use Rattle.codegen.proofs.expression_code_lemmas.Below.{WordType}
+use Rattle.codegen.proofs.expression_code_lemmas.Below.{Instr, into_code, Place, rotate, select, TermTree, variable}
+use Rattle.codegen.proofs.expression_code_lemmas.Below.{word_as, WordType}
 use Rattle.codegen.specs.expression_code.Allocation.{plain}
 use Rattle.inline.specs.Flat.{array_as, number}
 use Rattle.language.specs.declared.signature.Kind.TheVariants.{Uint8, Uint32}
 use Rattle.language.specs.declared.signature.Label.TheVariants.{Public}
 use Rattle.language.specs.declared.operators.BinaryOperator.TheVariants.{Add, BitAnd, Both, LessOrEqual, Multiply}
-use Rattle.language.specs.declared.operators.BinaryOperator.TheVariants.{ShiftLeft}
-use Rattle.language.specs.declared.operators.BinaryOperator.TheVariants.{Subtract, Unequal}
+use Rattle.language.specs.declared.operators.BinaryOperator.TheVariants.{ShiftLeft, Subtract, Unequal}
 use Rattle.rv_code.specs.declared.instructions.Instr.TheVariants as instr
 use Rattle.rv_code.specs.declared.operations.ImmediateOperation.TheVariants.{Addi, Andi, Sltiu}
 use Rattle.rv_code.specs.declared.operations.LoadOperation.TheVariants.{Lw}
