@@ -37,7 +37,8 @@ module _ (w : Width) (a b : ℕ) where
       → operated (emitted_operator allocation operator) w a b ≡ operated operator w a b
   emitted_same low high allocation operator makes =
       cond_both allocation.immediates (of_bits operator) operator
-      (λ emitted. operated emitted w a b ≡ operated operator w a b) (λ on. bits_same low high operator makes) (λ off. refl)
+      (λ emitted. operated emitted w a b ≡ operated operator w a b)
+      (λ on. bits_same low high operator makes) (λ off. refl)
 
 module _ (place : Place) (a b : ℕ) where
   bits_marks : (operator : BinaryOperator) → marks_of place operator a b ≡ marks_of place (of_bits operator) a b

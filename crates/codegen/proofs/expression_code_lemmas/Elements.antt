@@ -1,5 +1,5 @@
--- Elements of arrays: the address of one, from its index in a register, and its value in a register, at an index that is
--- a number or in a register.
+-- Elements of arrays: the address of one, from its index in a register, and its value in a register, at an index that
+-- is a number or in a register.
 use Rattle.std.proofs.Common.{◌≡◌, ◌≢◌, ℕ, ◌+◌, ◌*◌, ◌^◌, ◌<◌, Bool, true, false, cond, nat_lt, List, [], ◌∷◌, ◌++◌}
 use Rattle.std.proofs.Common.{refl, ap, ap₂, ◌∙◌, arith, ◌==◌, ne_eqb, ◌%◌, Some, slice_get, slice_index, sym, eq-eqb}
 use Rattle.rv_code.specs.declared.instructions.Instr.TheVariants as instr
@@ -14,7 +14,7 @@ use Rattle.codegen.proofs.expression_code_lemmas.Below.{as_code, ByteMap, elemen
 use Rattle.codegen.proofs.expression_code_lemmas.Below.{indexed, kind_at, Known, near_code, near_element, never}
 use Rattle.codegen.proofs.expression_code_lemmas.Below.{number_at, number_or_zero, Path, Place, quiet, TermTree}
 use Rattle.codegen.proofs.expression_code_lemmas.Below.{true≢false, value_in, variable_offset, WordType}
-use Rattle.language.specs.declared.signature.Kind.TheVariants.{Boolean, Uint16, Uint32}
+use Rattle.language.specs.declared.signature.Kind.TheVariants.{Boolean, Uint16}
 use Rattle.codegen.proofs.expression_code_lemmas.Arithmetic.{upper_fits, lower_fits, near_address}
 use Rattle.codegen.proofs.expression_code_lemmas.OperatorCode.{either_of, dd, td, d0, d32, q0, q32, low_beside}
 use Rattle.codegen.proofs.expression_code_lemmas.OperatorCode.{kept_beside}
@@ -67,11 +67,6 @@ module _ (z : Setting) (d r : ℕ) (target : IsFree d) (source : IsFree r) (apar
       × ((regs : ℕ → ℕ) → element_bytes kind * regs r < 2 ^ 32
       → registers_after (scale_code d r kind) regs d ≡ sum_of (element_bytes kind * regs r) (regs 2))
   scaled Uint16 = (
-    simp (dd pair, d32 pair, q32 pair source),
-    λ regs below.
-        simp (dd pair, d0 pair, q0 pair source, d2) (omega (arith, below)),
-  )
-  scaled Uint32 = (
     simp (dd pair, d32 pair, q32 pair source),
     λ regs below.
         simp (dd pair, d0 pair, q0 pair source, d2) (omega (arith, below)),
@@ -134,7 +129,40 @@ module _ (slots : Slots) (place d : ℕ) (target : IsTarget slots.z.allocation.c
   own : works d ≡ true
   own = target_works z.allocation.count place d
 
-  -- The element at an index that is a number, where its access holds its offset.
+  -- The element at an index, where its address is known.
+  loaded : (source : Place) (x size : ℕ) (word : WordType) (mutable : Bool) (i : ℕ) (index : TermTree)
+      → slice_get z.declared x ≡ Some (array_as word mutable size) → i < size
+      → (rs offset : ℕ) → rs < 32 → offset < 4096
+      → Runs z 1 none (instr.Load (load_by word.kind) d rs offset ∷ [])
+      (λ env s. HeldAt z s
+      × (address_of s.regs rs offset ≡ z.frame + place_of z.declared x (array_as word mutable size) i)
+      × (number_at s.bytes (element_bytes word.kind)
+      (z.frame + place_of z.declared x (array_as word mutable size) i) ≡ Some (slice_index (env.variables x) i))
+      × (value_in env.variables index ≡ i))
+      (λ env s t. Outcome z works d (value_in env.variables (element source x size index)) s t)
+  loaded source x size word mutable i index known below rs offset small short =
+      let array = array_as word mutable size in
+      let a = place_of z.declared x array i in
+      let bytes = load_bytes word.kind in
+      let h = place_ends z x array i known below in
+      weaken
+      (λ env s fine given. (given.0, given.1))
+      (λ env s t fine given two. record {
+        held = two.0;
+        there =
+            ap (λ (regs : ℕ → ℕ). regs d) two.1
+            ∙ (written s.regs d _ target.free.nonzero
+            ∙ (load_plain word.kind _
+            ∙ (ap (λ n. number_or_zero (number_at s.bytes n (z.frame + a))) bytes
+            ∙ (ap number_or_zero given.2 ∙ ap (slice_index (env.variables x)) (sym given.3)))));
+        others = λ q other. ap (λ (regs : ℕ → ℕ). regs q) two.1
+            ∙ unwritten s.regs d _ q (not_written works q d other own);
+        same = two.2;
+      })
+      (loading z rs offset a small short (load_by word.kind) d target.free.low target.free.small
+      (ap (λ n. a % n) bytes ∙ place_even z.declared x array i) (omega (arith, h, bytes)))
+
+  -- that at an index that is a number, where its access holds its offset
   near_picked : (source : Place) (x size : ℕ) (word : WordType) (mutable : Bool) (i o : ℕ) (index : TermTree)
       → slice_get z.declared x ≡ Some (array_as word mutable size) → i < size
       → place_of z.declared x (array_as word mutable size) i ≡ o → o < 2048
@@ -143,38 +171,20 @@ module _ (slots : Slots) (place d : ℕ) (target : IsTarget slots.z.allocation.c
       (λ env s t. Outcome z works d (value_in env.variables (element source x size index)) s t)
   near_picked source x size word mutable i o index known below at near =
       let array = array_as word mutable size in
-      let load = load_by word.kind in
-      let bytes = load_bytes word.kind in
       let h = place_ends z x array i known below in
       let ends = z.ends in
-      let away = z.allocated.words x array size known refl in
-      gives
-      (λ env s t fine given two.
-      let ready = given.given in
-      record {
-        held = two.0;
-        there =
-            ap (λ (regs : ℕ → ℕ). regs d) two.1
-            ∙ (written s.regs d _ target.free.nonzero
-            ∙ (load_plain word.kind _
-            ∙ (ap₂ (λ (n a : ℕ). number_or_zero (number_at s.bytes n (z.frame + a))) bytes (sym at)
-            ∙ (ap number_or_zero (ready.variables_there x array i known away below)
-            ∙ ap (slice_index (env.variables x)) (sym given.is)))));
-        others = λ q other. ap (λ (regs : ℕ → ℕ). regs q) two.1
-            ∙ unwritten s.regs d _ q (not_written works q d other own);
-        same = two.2;
-      })
-      (weaken
+      weaken
       (λ env s fine given. (
         given.given.held,
         ap (λ b. sum_of b (sign_extended 12 o)) given.given.held.base
-            ∙ near_address z.frame o near (omega (arith, h, ends, at)),
+            ∙ (near_address z.frame o near (omega (arith, h, ends, at)) ∙ ap (λ a. z.frame + a) (sym at)),
+        given.given.variables_there x array i known (z.allocated.words x array size known refl) below,
+        given.is,
       ))
       (λ env s t fine given done. done)
-      (loading z 2 o o (omega arith) (omega (arith, near)) load d target.free.low target.free.small
-      (ap₂ (λ a n. a % n) (sym at) bytes ∙ place_even z.declared x array i) (omega (arith, h, bytes, at))))
+      (loaded source x size word mutable i index known below 2 o (omega arith) (omega (arith, near)))
 
-  -- The element at an index that is in a register.
+  -- and that at an index that is in a register
   pub picked : (r : ℕ) → IsFree r
       → (source : Place) (x size : ℕ) (word : WordType) (mutable : Bool) (i : ℕ) (index : TermTree)
       → slice_get z.declared x ≡ Some (array_as word mutable size) → i < size
@@ -186,42 +196,34 @@ module _ (slots : Slots) (place d : ℕ) (target : IsTarget slots.z.allocation.c
       let o = variable_offset z.declared x in
       let array = array_as word mutable size in
       let a = place_of z.declared x array i in
-      let load = load_by word.kind in
-      let bytes = load_bytes word.kind in
       let h = place_ends z x array i known below in
       let away = z.allocated.words x array size known refl in
       gives
       (λ env s t fine given done.
       let one = done.first in
       let two = done.second in
-      let ready = given.given.0 in
       record {
-        held = two.0;
-        there =
-            ap (λ (regs : ℕ → ℕ). regs d) two.1
-            ∙ (written done.middle.regs d _ target.free.nonzero
-            ∙ (load_plain word.kind _
-            ∙ (ap (λ (b : ByteMap). number_or_zero (number_at b (byte_count (load_size load)) (z.frame + a)))
-            one.same
-            ∙ (ap (λ n. number_or_zero (number_at s.bytes n (z.frame + a))) bytes
-            ∙ (ap number_or_zero (ready.variables_there x array i known away below)
-            ∙ ap (slice_index (env.variables x)) (sym given.is))))));
+        held = two.held;
+        there = two.there;
         others = λ q other.
-            let apart = not_written works q d other own in
-            ap (λ (regs : ℕ → ℕ). regs q) two.1
-            ∙ (unwritten done.middle.regs d _ q apart
-            ∙ one.others q apart (not_written works q 28 other
-            (spare_works z.allocation.count place d 28 (omega arith))));
-        same = two.2 ∙ one.same;
+            two.others q other
+            ∙ one.others q (not_written works q d other own)
+            (not_written works q 28 other (spare_works z.allocation.count place d 28 (omega arith)));
+        same = two.same ∙ one.same;
       })
       (quiet
       (weaken
       (λ env s fine given. (given.given.0.held, given.given.1 ∙ given.is, omega (arith, h, z.ends)))
       (λ env s t fine given done. done)
       (address_runs z d r target.free at target.no_address word.kind o (λ env. i)))
-      (loading z d (lower_part o) a target.free.small (lower_fits o) load d target.free.low target.free.small
-      (ap (λ n. a % n) bytes ∙ place_even z.declared x array i) (omega (arith, h, bytes)))
-      (λ env s t given done. (done.held, done.address)))
+      (loaded source x size word mutable i index known below d (lower_part o) target.free.small (lower_fits o))
+      (λ env s t given done. (
+        done.held,
+        done.address,
+        ap (λ (b : ByteMap). number_at b (element_bytes word.kind) (z.frame + a)) done.same
+            ∙ given.given.0.variables_there x array i known away below,
+        given.is,
+      )))
 
   -- so the element at an index that is known to be one whose access holds its offset
   pub near_runs : (source : Place) {x size : ℕ} {index : TermTree} {word : WordType} {mutable : Bool}

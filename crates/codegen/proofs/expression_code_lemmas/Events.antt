@@ -152,7 +152,8 @@ module _ (z : Setting) where
               (shown p env s rest fit) (omega (arith, at, placed.1, with_value-pc s d v)) (record {
                 there = ap (λ (regs : ℕ → ℕ). regs d) (with_value-regs s d v)
                     ∙ (written s.regs d v target.nonzero ∙ ap₂ made first second);
-                others = λ q apart. ap (λ (regs : ℕ → ℕ). regs q) (with_value-regs s d v) ∙ unwritten s.regs d v q apart;
+                others = λ q apart. ap (λ (regs : ℕ → ℕ). regs q) (with_value-regs s d v)
+                    ∙ unwritten s.regs d v q apart;
                 same = with_value-bytes s d v;
               });
         };

@@ -18,10 +18,10 @@ use Rattle.codegen.proofs.expression_code_lemmas.Below.{value_fits, value_in, Va
 use Rattle.codegen.proofs.expression_code_lemmas.Below.{Width, width_of, word_as, word_of, WordType, working_register}
 use Rattle.codegen.proofs.expression_code_lemmas.Events.{by_index}
 use Rattle.codegen.proofs.expression_code_lemmas.Frame.{Setting, base_of, by_option, Runs, HeldAt, Held}
-use Rattle.codegen.proofs.expression_code_lemmas.WorkRegisters.{IsFree, ArePair, IsTarget, free_from, working_free}
-use Rattle.codegen.proofs.expression_code_lemmas.WorkRegisters.{operand_apart, operand_not, own_target, works_at}
-use Rattle.codegen.proofs.expression_code_lemmas.WorkRegisters.{low_at, target_works, own_works, next_works}
-use Rattle.codegen.proofs.expression_code_lemmas.WorkRegisters.{spare_works, not_written}
+use Rattle.codegen.proofs.expression_code_lemmas.WorkRegisters.{place_works, IsFree, ArePair, IsTarget, free_from}
+use Rattle.codegen.proofs.expression_code_lemmas.WorkRegisters.{working_free, operand_apart, operand_not, own_target}
+use Rattle.codegen.proofs.expression_code_lemmas.WorkRegisters.{works_at, low_at, target_works, spare_works}
+use Rattle.codegen.proofs.expression_code_lemmas.WorkRegisters.{not_written}
 use Rattle.codegen.proofs.expression_code_lemmas.Arithmetic.{chosen, chosen_or_zero, choice, choice_or_zero}
 use Rattle.codegen.proofs.expression_code_lemmas.Moves.{take, move_runs, written}
 use Rattle.codegen.proofs.expression_code_lemmas.NumberCode.{known, known_word, left_known, number_means, right_known}
@@ -82,6 +82,20 @@ module _ (z : Setting) (free : ℕ) (aligned : free % 4 ≡ 0) (above : base_of 
 
     spare_own : works 30 ≡ true
     spare_own = spare_works count place d 30 (omega arith)
+
+    -- the register of the next place, which operators may write
+    abbrev next : ℕ
+    next = working_register count (place + 1) 30
+
+    pair : ArePair d next
+    pair = record {
+      one = target.free;
+      other = working_free count (place + 1) 30 few (omega arith) (omega arith);
+      apart = target.no_next;
+    }
+
+    next_own : works next ≡ true
+    next_own = place_works count place d (place + 1) 30 (omega arith) (omega arith)
 
     -- within so many turns its value comes into the register
     abbrev Comes : TermTree → ℕ → List Instr → Type 0
@@ -171,8 +185,8 @@ module _ (z : Setting) (free : ℕ) (aligned : free % 4 ≡ 0) (above : base_of 
         (placed_at place e ++ fetched place e 29 ++ number_code d (found slots place e 29) w row)
     with_number {e = e} operator w n fits row is same has room runs =
         let r = found slots place e 29 in
-        let means = number_means spare works own spare_own (found_free slots place 0 e (omega arith)) operator n fits row
-        is in
+        let means =
+        number_means spare works own spare_own (found_free slots place 0 e (omega arith)) operator n fits row is in
         along (λ env. (same env.variables).1)
         (applied has room (number_code d r w row) (omega (arith, number_length d r w row)) (means.plain w)
         (λ v. operated operator w v n) (means.value w) (λ m. (same m).0) runs)
@@ -187,12 +201,6 @@ module _ (z : Setting) (free : ℕ) (aligned : free % 4 ≡ 0) (above : base_of 
     operated_runs source operator width {left = left} {right = right} has more makes room first alone second =
         let e = operands left right right in
         let l = found slots place left 29 in
-        let next = working_register count (place + 1) 30 in
-        let pair : ArePair d next = record {
-          one = target.free;
-          other = working_free count (place + 1) 30 few (omega arith) (omega arith);
-          apart = target.no_next;
-        } in
         by_option (right_row z.allocation operator right)
         (λ row is.
         let numbered = right_known z.allocation operator right row is in
@@ -229,7 +237,7 @@ module _ (z : Setting) (free : ℕ) (aligned : free % 4 ≡ 0) (above : base_of 
         (one_more slots place e 1 (one_more slots place e 0 (none_yet slots place e) first) second)))
         (emitted_runs z works none_low pair
         (found_free slots place 0 left (omega arith)) (found_free slots place 1 right (omega arith))
-        (found_apart slots place 0 1 left (λ f. omega (arith, f))) own (next_works count place d 30 (omega arith))
+        (found_apart slots place 0 1 left (λ f. omega (arith, f))) own next_own
         source width (λ env. value_in env.variables left) (λ env. value_in env.variables right) z.allocation operator
         makes)
         (λ env s u ready done. (
@@ -262,14 +270,8 @@ module _ (z : Setting) (free : ℕ) (aligned : free % 4 ≡ 0) (above : base_of 
         let l = found slots (place + 1) accepted 30 in
         let r = found slots (place + 2) otherwise 31 in
         let mask = working_register count place 29 in
-        let next = working_register count (place + 1) 30 in
-        let pair : ArePair d next = record {
-          one = target.free;
-          other = working_free count (place + 1) 30 few (omega arith) (omega arith);
-          apart = target.no_next;
-        } in
         let mask_free = working_free count place 29 few (omega arith) (omega arith) in
-        let mask_works = own_works count place d 29 (omega arith) in
+        let mask_works = place_works count place d place 29 (omega arith) (omega arith) in
         let c_free = found_free slots place 0 condition (omega arith) in
         let l_free = found_free slots place 1 accepted (omega arith) in
         let r_free = found_free slots place 2 otherwise (omega arith) in
@@ -312,7 +314,7 @@ module _ (z : Setting) (free : ℕ) (aligned : free % 4 ≡ 0) (above : base_of 
         (worked z works none_low {P = λ env s. HeldAt z s
         × (chosen (s.regs c) (s.regs l) (s.regs r) ≡ value_in env.variables whole)}
         d (choice_code d mask next c l r)
-        (choice_plain pair works own (next_works count place d 30 (omega arith)) r_free mask_free mask_works c_free
+        (choice_plain pair works own next_own r_free mask_free mask_works c_free
         l_free)
         (λ env. value_in env.variables whole)
         (λ env s given. (
@@ -422,8 +424,8 @@ module _ (z : Setting) (free : ℕ) (aligned : free % 4 ≡ 0) (above : base_of 
       (made slots place e d (one_fetched slots place e 0 (omega arith) (omega arith) (omega (arith, room))
       (one_more slots place e 0 (none_yet slots place e) (lies has place room (into_runs has place))))
       (by_index z source size (λ env. value_in env.variables index)
-      (λ i below. picked slots place d target r (found_free slots place 0 index (omega arith)) source x size word mutable
-      i index is below))
+      (λ i below. picked slots place d target r (found_free slots place 0 index (omega arith)) source x size word
+      mutable i index is below))
       (λ env s t ready done. (
         still_ready slots place env s t ready done.held done.kept done.lower,
         done.fetched 0 (omega arith),

@@ -1,8 +1,7 @@
 -- Of the code of an operator with a number in its instruction: that it only computes, and what it makes in its
 -- target, which is what the operator means.
 use Rattle.std.proofs.Common.{◌≡◌, ℕ, ◌+◌, ◌-◌, ◌*◌, ◌/◌, ◌%◌, ◌^◌, ◌<◌, ◌==◌, Bool, true, cond, not, nat_lt, nat_le}
-use Rattle.std.proofs.Common.{List, [], Option, None, Some, bit_and, bit_or, bit_xor, refl, sym, ap, ◌∙◌, ap₂, arith}
-use Rattle.std.proofs.Common.{subst}
+use Rattle.std.proofs.Common.{List, [], Option, None, Some, bit_and, refl, sym, ap, ◌∙◌, ap₂, arith, subst}
 use Rattle.std.proofs.Math.Nat.{mod-le, mul-div_cancel, mul-mod_left}
 use Rattle.std.proofs.lemmas.Nat.{and_comm, or_comm, xor_comm, mod_below, mod-pow-add, leading_top, pow_pos}
 use Rattle.std.specs.Int.Count.{count_leading_zeros}
@@ -18,7 +17,7 @@ use Rattle.codegen.proofs.expression_code_lemmas.Below.{both_right, only_compute
 use Rattle.codegen.proofs.expression_code_lemmas.Below.{registers_after, chooses_zero, false≢true, is_known_zero}
 use Rattle.codegen.proofs.expression_code_lemmas.Below.{right_row, shift_value, sign_extended, sum_of, TermTree}
 use Rattle.codegen.proofs.expression_code_lemmas.Below.{turned_of, Types, value_in, Values, variable_offset, Width}
-use Rattle.codegen.proofs.expression_code_lemmas.Below.{word_of}
+use Rattle.codegen.proofs.expression_code_lemmas.Below.{word_of, immediate_value}
 use Rattle.codegen.proofs.expression_code_lemmas.OperatorCode.{cut_composed, cut_plain, cut_value, cut_whole, d0, d32}
 use Rattle.codegen.proofs.expression_code_lemmas.OperatorCode.{dd, q0, q32, truth_fits}
 use Rattle.codegen.proofs.expression_code_lemmas.Values.{kind_fits}
@@ -30,9 +29,9 @@ use Rattle.inline.specs.Flat.{number, truth}
 use Rattle.language.specs.declared.operators.BinaryOperator.TheVariants.{Equal, Unequal, Less, LessOrEqual, Greater}
 use Rattle.language.specs.declared.operators.BinaryOperator.TheVariants.{GreaterOrEqual, BitOr, BitXor, BitAnd}
 use Rattle.language.specs.declared.operators.BinaryOperator.TheVariants.{ShiftLeft, ShiftRight, Add, Subtract, Multiply}
-use Rattle.language.specs.declared.operators.BinaryOperator.TheVariants.{Divide, Remainder}
 use Rattle.rv_code.specs.declared.operations.ImmediateOperation.{ImmediateOperation}
 use Rattle.rv_code.specs.declared.operations.ImmediateOperation.TheVariants.{Addi, Sltiu, Xori, Ori, Andi}
+use Rattle.rv_code.specs.declared.operations.ShiftOperation.{ShiftOperation}
 use Rattle.rv_code.specs.declared.operations.ShiftOperation.TheVariants.{Slli, Srli}
 use Rattle.word.specs.Operators.{negated}
 use Rattle.word.specs.declared.width.Width.TheVariants.{W8, W32}
@@ -215,16 +214,19 @@ module _ (place : Place) (a b : ℕ) where
   pub row_quiet : (operator : BinaryOperator) (n : ℕ) (row : NumberRow) → number_row operator n ≡ Some row
       → marks_of place operator a b ≡ []
   row_quiet Multiply n row is = absurd (none-some row is)
-  row_quiet Divide n row is = absurd (none-some row is)
-  row_quiet Remainder n row is = absurd (none-some row is)
-  row_quiet operator n row is = refl
+  row_quiet operator n row is = cc
 
   pub turned_quiet : (operator p : BinaryOperator) → turned_of operator ≡ Some p
       → marks_of place operator a b ≡ []
   turned_quiet Multiply p is = absurd (none-some p is)
-  turned_quiet Divide p is = absurd (none-some p is)
-  turned_quiet Remainder p is = absurd (none-some p is)
-  turned_quiet operator p is = refl
+  turned_quiet operator p is = cc
+
+-- what is made of an outcome
+abbrev finished : Finish → Width → ℕ → ℕ
+finished Alone w v = v
+finished GivesZero w v = word_of (nat_lt v 1)
+finished GivesMore w v = word_of (nat_lt 0 v)
+finished Narrowed w v = cut_value w v
 
 -- Code, of the register r, into d.
 
@@ -235,6 +237,12 @@ module _ {d t : ℕ} (pair : ArePair d t) (works : ℕ → Bool) (wd : works d �
   finish_plain w Alone = refl
   finish_plain w finish = simp (d32 pair, wd)
 
+  finish_made : (w : Width) (finish : Finish) (regs : ℕ → ℕ)
+      → registers_after (finish_code d w finish) regs d ≡ finished finish w (regs d)
+  finish_made w Alone regs = refl
+  finish_made w Narrowed regs = cut_composed pair w regs
+  finish_made w finish regs = simp (dd pair, d0 pair)
+
   -- it only computes, and makes what the operator means
   pub record Means (operator : BinaryOperator) (n : ℕ) (row : NumberRow) : Type 0 where
     pub plain : (w : Width) → only_computes works (number_code d r w row) ≡ true
@@ -243,10 +251,8 @@ module _ {d t : ℕ} (pair : ArePair d t) (works : ℕ → Bool) (wd : works d �
 
   immediate : (operator : BinaryOperator) (n : ℕ) (operation : ImmediateOperation) (finish : Finish) (m : ℕ)
       (row : NumberRow) → held operation finish m ≡ Some row
-      → ((w : Width) (regs : ℕ → ℕ) → sign_extended 12 (m % 4096) ≡ m → regs r < 2 ^ 32
-      → registers_after
-      (number_code d r w (record { finish = finish; step = WithImmediate operation (m % 4096) })) regs d
-      ≡ operated operator w (regs r) n)
+      → ((w : Width) (v : ℕ) → v < 2 ^ 32
+      → finished finish w (immediate_value operation v m) ≡ operated operator w v n)
       → Means operator n row
   immediate operator n operation finish m row is made =
       of_held (Means operator n) operation finish m row is
@@ -258,7 +264,10 @@ module _ {d t : ℕ} (pair : ArePair d t) (works : ℕ → Bool) (wd : works d �
           lt-ltb (m % 4096) 4096 (lower_fits m),
           finish_plain w finish,
         );
-        value = λ w regs below. made w regs (short_held m short) below;
+        value = λ w regs below.
+            finish_made w finish _ ∙ simp (dd pair, d0 pair, q0 pair source)
+            (ap (λ x. finished finish w (immediate_value operation (regs r) x)) (short_held m short)
+            ∙ made w (regs r) below);
       })
 
   above : (operator : BinaryOperator) (n : ℕ) (row : NumberRow) → Some above_zero ≡ Some row
@@ -268,6 +277,23 @@ module _ {d t : ℕ} (pair : ArePair d t) (works : ℕ → Bool) (wd : works d �
       (record {
         plain = λ w. simp (wd, d32 pair, q32 pair source);
         value = λ w regs below. simp (dd pair, d0 pair, q0 pair source) (same (regs r) w);
+      })
+
+  moved : (operator : BinaryOperator) (n : ℕ) (operation : ShiftOperation) (row : NumberRow)
+      → Some (shifted operation n) ≡ Some row
+      → ((w : Width) (v : ℕ) → cut_value w (shift_value operation v (n % 32)) ≡ operated operator w v n)
+      → Means operator n row
+  moved operator n operation row is made =
+      of_row (Means operator n) (shifted operation n) row is
+      (record {
+        plain = λ w. simp (
+          wd,
+          d32 pair,
+          q32 pair source,
+          lt-ltb (n % 32) 32 (mod_below n 32 (omega arith)),
+          cut_plain pair works wd wt w,
+        );
+        value = λ w regs below. cut_composed pair w _ ∙ simp (dd pair, d0 pair, q0 pair source) (made w (regs r));
       })
 
   low_means : (n : ℕ) → n < 2 ^ 32 → 0 < n → (row : NumberRow) → low_bits n ≡ Some row → Means BitAnd n row
@@ -291,9 +317,9 @@ module _ {d t : ℕ} (pair : ArePair d t) (works : ℕ → Bool) (wd : works d �
 
   bits_mean : (n : ℕ) → n < 2 ^ 32 → (row : NumberRow) → masked n ≡ Some row → Means BitAnd n row
   bits_mean n fits row is =
-      cond_both (is_short n) (held Andi Alone n) (low_bits n) (λ (o : Option NumberRow). o ≡ Some row → Means BitAnd n row)
-      (λ short same. immediate BitAnd n Andi Alone n row same (λ w regs short below.
-      simp (dd pair, d0 pair, q0 pair source) (ap (bit_and (regs r)) short)))
+      cond_both (is_short n) (held Andi Alone n) (low_bits n)
+      (λ (o : Option NumberRow). o ≡ Some row → Means BitAnd n row)
+      (λ short same. immediate BitAnd n Andi Alone n row same (λ w v below. refl))
       (λ long same. low_means n fits (grind (arith, nat_tests, long)) row same) is
 
   pub number_means : (operator : BinaryOperator) (n : ℕ) → n < 2 ^ 32 → (row : NumberRow)
@@ -301,75 +327,31 @@ module _ {d t : ℕ} (pair : ArePair d t) (works : ℕ → Bool) (wd : works d �
   number_means Equal n fits row is =
       of_zero (Means Equal n) n _ _ row is
       (λ zero same. immediate Equal n Sltiu Alone 1 row same
-      (λ w regs short below. simp (dd pair, d0 pair, q0 pair source)
-      (grind (arith, nat_tests, eqb-true n 0 zero))))
-      (λ same. immediate Equal n Addi GivesZero (negated W32 n) row same (λ w regs short below.
-      simp (dd pair, d0 pair, q0 pair source) (ap (λ x. word_of (nat_lt (sum_of (regs r) x) 1)) short
-      ∙ is_equal (regs r) n below fits)))
+      (λ w v below. grind (arith, nat_tests, eqb-true n 0 zero)))
+      (λ same. immediate Equal n Addi GivesZero (negated W32 n) row same (λ w v below. is_equal v n below fits))
   number_means Unequal n fits row is =
       of_zero (Means Unequal n) n _ _ row is
       (λ zero same. above Unequal n row same (λ v w. grind (arith, nat_tests, eqb-true n 0 zero)))
-      (λ same. immediate Unequal n Addi GivesMore (negated W32 n) row same (λ w regs short below.
-      simp (dd pair, d0 pair, q0 pair source) (ap (λ x. word_of (nat_lt 0 (sum_of (regs r) x))) short
-      ∙ is_unequal (regs r) n below fits)))
-  number_means Less n fits row is =
-      immediate Less n Sltiu Alone n row is (λ w regs short below.
-      simp (dd pair, d0 pair, q0 pair source) (ap (λ x. word_of (nat_lt (regs r) x)) short))
-  number_means LessOrEqual n fits row is =
-      immediate LessOrEqual n Sltiu Alone (n + 1) row is (λ w regs short below.
-      simp (dd pair, d0 pair, q0 pair source) (ap (λ x. word_of (nat_lt (regs r) x)) short ∙ at_most (regs r) n))
+      (λ same. immediate Unequal n Addi GivesMore (negated W32 n) row same (λ w v below. is_unequal v n below fits))
+  number_means Less n fits row is = immediate Less n Sltiu Alone n row is (λ w v below. refl)
+  number_means LessOrEqual n fits row is = immediate LessOrEqual n Sltiu Alone (n + 1) row is (λ w v below. at_most v n)
   number_means Greater n fits row is =
       of_zero (Means Greater n) n _ _ row is
       (λ zero same. above Greater n row same (λ v w. ap (λ x. word_of (nat_lt x v)) (sym (eqb-true n 0 zero))))
-      (λ same. immediate Greater n Sltiu GivesZero (n + 1) row same (λ w regs short below.
-      simp (dd pair, d0 pair, q0 pair source) (ap (λ x. word_of (nat_lt (word_of (nat_lt (regs r) x)) 1)) short
-      ∙ not_at_most (regs r) n)))
+      (λ same. immediate Greater n Sltiu GivesZero (n + 1) row same (λ w v below. not_at_most v n))
   number_means GreaterOrEqual n fits row is =
-      immediate GreaterOrEqual n Sltiu GivesZero n row is (λ w regs short below.
-      simp (dd pair, d0 pair, q0 pair source) (ap (λ x. word_of (nat_lt (word_of (nat_lt (regs r) x)) 1)) short
-      ∙ not_less (regs r) n))
-  number_means BitOr n fits row is =
-      immediate BitOr n Ori Alone n row is (λ w regs short below.
-      simp (dd pair, d0 pair, q0 pair source) (ap (bit_or (regs r)) short))
-  number_means BitXor n fits row is =
-      immediate BitXor n Xori Alone n row is
-      (λ w regs short below. simp (dd pair, d0 pair, q0 pair source) (ap (bit_xor (regs r)) short))
+      immediate GreaterOrEqual n Sltiu GivesZero n row is (λ w v below. not_less v n)
+  number_means BitOr n fits row is = immediate BitOr n Ori Alone n row is (λ w v below. refl)
+  number_means BitXor n fits row is = immediate BitXor n Xori Alone n row is (λ w v below. refl)
   number_means BitAnd n fits row is = bits_mean n fits row is
-  number_means Add n fits row is =
-      immediate Add n Addi Narrowed n row is (λ w regs short below.
-      cut_composed pair w _ ∙ simp (dd pair, d0 pair, q0 pair source) (ap (λ x. cut_value w (sum_of (regs r) x)) short
-      ∙ cut_whole w (regs r + n)))
+  number_means Add n fits row is = immediate Add n Addi Narrowed n row is (λ w v below. cut_whole w (v + n))
   number_means Subtract n fits row is =
-      immediate Subtract n Addi Narrowed (negated W32 n) row is (λ w regs short below.
-      cut_composed pair w _
-      ∙ simp (dd pair, d0 pair, q0 pair source) (ap (λ x. cut_value w (sum_of (regs r) x)) short
-      ∙ (cut_whole w (regs r + negated W32 n) ∙ less_by w (regs r) n fits)))
+      immediate Subtract n Addi Narrowed (negated W32 n) row is
+      (λ w v below. cut_whole w (v + negated W32 n) ∙ less_by w v n fits)
   number_means ShiftLeft n fits row is =
-      of_row (Means ShiftLeft n) (shifted Slli n) row is
-      (record {
-        plain = λ w. simp (
-          wd,
-          d32 pair,
-          q32 pair source,
-          lt-ltb (n % 32) 32 (mod_below n 32 (omega arith)),
-          cut_plain pair works wd wt w,
-        );
-        value = λ w regs below.
-            cut_composed pair w _ ∙ simp (dd pair, d0 pair, q0 pair source) (cut_whole w (regs r * 2 ^ (n % 32 % 32))
-            ∙ ap (λ k. regs r * 2 ^ k % 2 ^ bits w) (low_again n));
-      })
+      moved ShiftLeft n Slli row is (λ w v. cut_whole w (v * 2 ^ (n % 32 % 32))
+      ∙ ap (λ k. v * 2 ^ k % 2 ^ bits w) (low_again n))
   number_means ShiftRight n fits row is =
-      of_row (Means ShiftRight n) (shifted Srli n) row is
-      (record {
-        plain = λ w. simp (
-          wd,
-          d32 pair,
-          q32 pair source,
-          lt-ltb (n % 32) 32 (mod_below n 32 (omega arith)),
-          cut_plain pair works wd wt w,
-        );
-        value = λ w regs below.
-            cut_composed pair w _ ∙ simp (dd pair, d0 pair, q0 pair source) (cut_whole w (regs r / 2 ^ (n % 32 % 32))
-            ∙ ap (λ k. regs r / 2 ^ k % 2 ^ bits w) (low_again n));
-      })
+      moved ShiftRight n Srli row is (λ w v. cut_whole w (v / 2 ^ (n % 32 % 32))
+      ∙ ap (λ k. v / 2 ^ k % 2 ^ bits w) (low_again n))
   number_means operator n fits row is = absurd (none-some row is)

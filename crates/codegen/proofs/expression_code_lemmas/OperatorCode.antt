@@ -164,7 +164,8 @@ module _ {d t : ℕ} (pair : ArePair d t) where
 
     pub move_made : (regs : ℕ → ℕ) → regs q < 2 ^ 32 → registers_after (move_code d q) regs d ≡ regs q
     move_made regs fits =
-        cond_both (d == q) [] (instr.Immediate Addi d q 0 ∷ []) (λ (is : List Instr). registers_after is regs d ≡ regs q)
+        cond_both (d == q) [] (instr.Immediate Addi d q 0 ∷ [])
+        (λ (is : List Instr). registers_after is regs d ≡ regs q)
         (λ e. ap regs (eqb-true d q e)) (λ e. simp (dd, d0, q0) (omega (arith, fits)))
 
     -- Cuts.

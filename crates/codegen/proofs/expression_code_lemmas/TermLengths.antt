@@ -13,11 +13,11 @@ use Rattle.codegen.proofs.expression_code_lemmas.Below.{move_code, narrow_code, 
 use Rattle.codegen.proofs.expression_code_lemmas.Below.{NumberRow, NumberStep, number_step_code, of_binary}
 use Rattle.codegen.proofs.expression_code_lemmas.Below.{of_conversion, of_element, of_number, of_prefix, of_rotation}
 use Rattle.codegen.proofs.expression_code_lemmas.Below.{of_selection, of_truth, of_variable, operand, operator_code}
-use Rattle.codegen.proofs.expression_code_lemmas.Below.{prefix, prefix_code, PrefixOperator, Profile}
-use Rattle.codegen.proofs.expression_code_lemmas.Below.{raise_code, register_of, right_row, rotate, rotate_code, row_of}
-use Rattle.codegen.proofs.expression_code_lemmas.Below.{scale_code, select, step_code, store_code, temporary}
-use Rattle.codegen.proofs.expression_code_lemmas.Below.{term_nodes, TermTree, Types, types_of, variable}
-use Rattle.codegen.proofs.expression_code_lemmas.Below.{variable_location, Width, WordType, working_register}
+use Rattle.codegen.proofs.expression_code_lemmas.Below.{prefix, prefix_code, PrefixOperator, Profile, raise_code}
+use Rattle.codegen.proofs.expression_code_lemmas.Below.{register_of, right_row, rotate, rotate_code, row_of, scale_code}
+use Rattle.codegen.proofs.expression_code_lemmas.Below.{select, step_code, store_code, temporary, term_nodes, TermTree}
+use Rattle.codegen.proofs.expression_code_lemmas.Below.{Types, types_of, variable, variable_location, Width, WordType}
+use Rattle.codegen.proofs.expression_code_lemmas.Below.{working_register}
 use Rattle.language.specs.declared.signature.Kind.TheVariants.{Boolean}
 use Rattle.codegen.specs.declared.expression_code.numbers.Finish.TheVariants.{Narrowed}
 use Rattle.codegen.specs.declared.expression_code.numbers.NumberStep.TheVariants.{KeepsLow}

@@ -161,7 +161,8 @@ pub controls_kept : (z : Setting) (env : StraightState) (s t : State) → Ready 
     → Holds z (control_location z.declared z.allocation c) t (mask_of (env.controls c))
 controls_kept z env s t ready homes c among read slot =
     control_stays z c (mask_of (env.controls c)) s t
-    (λ home at. homes home (z.allocated.allowed (length z.declared + c) home at)) slot (ready.controls_there c among read)
+    (λ home at. homes home (z.allocated.allowed (length z.declared + c) home at)) slot
+    (ready.controls_there c among read)
 
 -- the others stay where nothing before the result is written
 pub variables_kept : (z : Setting) (free : ℕ) (env : StraightState) (s t : State) → result_offset z.declared ≤ free
@@ -234,7 +235,8 @@ module _ (z : Setting) (free less place v : ℕ) (s t : State) where
       → (e : TermTree) → Stays (operand z.allocation free less e)
   holds_lower below kept lower =
       operand_stays (λ small. lower (5 + less) (lower_stays count place less below small z.allocated.few))
-      (λ high. kept_number z (slot_of count free place) s t kept 4 (slot_of count free less) (omega (arith, below, high)))
+      (λ high. kept_number z (slot_of count free place) s t kept 4 (slot_of count free less)
+      (omega (arith, below, high)))
       (homes_left z place s t lower)
 
   pub holds_still : (spare : ℕ) → 27 < spare → ((q : ℕ) → q ≢ spare → t.regs q ≡ s.regs q) → t.bytes ≡ s.bytes

@@ -63,13 +63,10 @@ own_stays count place q few h = grind (arith, nat_tests)
 pub target_works : (count place d : ℕ) → works_at count place d d ≡ true
 target_works count place d = grind (arith, nat_tests)
 
-pub own_works : (count place d spare : ℕ) → 28 < spare
-    → works_at count place d (working_register count place spare) ≡ true
-own_works count place d spare low = grind (arith, nat_tests)
-
-pub next_works : (count place d spare : ℕ) → 28 < spare
-    → works_at count place d (working_register count (place + 1) spare) ≡ true
-next_works count place d spare low = grind (arith, nat_tests)
+-- those of this place and of higher ones among them
+pub place_works : (count place d p spare : ℕ) → place ≤ p → 28 < spare
+    → works_at count place d (working_register count p spare) ≡ true
+place_works count place d p spare higher low = grind (arith, nat_tests)
 
 pub spare_works : (count place d q : ℕ) → 27 < q → works_at count place d q ≡ true
 spare_works count place d q low = grind (arith, nat_tests)

@@ -5,11 +5,10 @@ use Rattle.std.proofs.Common.{length-append, eq-eqb, ne_eqb}
 use Rattle.std.proofs.Math.Path.{fun_ext}
 use Rattle.std.proofs.lemmas.Bool.{eqb-true, eqb-false}
 use Rattle.std.proofs.lemmas.Bool.Decides.{nat_tests}
-use Rattle.codegen.proofs.program_logic_lemmas.Pieces.{turn_ends, then_ends, ends_as, ends_to, along_fit, stop_here}
+use Rattle.codegen.proofs.program_logic_lemmas.Pieces.{cheaper, turn_ends, then_ends, ends_to, along_fit, stop_here}
 use Rattle.codegen.proofs.program_logic_lemmas.PlacedLaws.{Placed-left, Placed-right, Placed-below, stands}
 use Rattle.codegen.specs.program_logic.Jumps.{skip, over, back, branch_code}
-use Rattle.codegen.specs.program_logic.Pieces.{Setting, Before, After, Steps, Leak, always, both, Ends, Straight, Runs}
-use Rattle.codegen.specs.program_logic.Pieces.{Still}
+use Rattle.codegen.specs.program_logic.Pieces.{Setting, Before, After, Steps, Leak, always, both, Ends, Runs, Still}
 use Rattle.codegen.specs.program_logic.Placed.{Placed}
 use Rattle.rv_code.specs.declared.instructions.Instr.{Instr}
 use Rattle.rv_code.specs.declared.instructions.Instr.TheVariants as instr
@@ -52,6 +51,18 @@ backward p n some near low below =
 -- what a branch makes of a state
 pub moved_still : (s : State) (target : ℕ) → Still s (moved_to s target)
 moved_still s target = record { regs = moved_to-regs s target; bytes = moved_to-bytes s target }
+
+-- an arm of a choice: turns to a piece, and turns from behind it to the end
+pub record Way (z : Setting) (p k l : ℕ) (goes : State → Type 0) (code xs : List Instr) (Back : State → State → Type 0) :
+    Type 0 where
+  pub start : ℕ
+  pub stands_there : Placed z.code start xs
+  pub into : Leak z
+  pub out : Leak z
+  pub enters : (s : State) (rest : List z.Mark) → s.pc ≡ p → goes s
+      → Ends z k start into rest rest (λ t. Still s t) s
+  pub leaves : (u : State) (rest : List z.Mark) → u.pc ≡ start + 4 * length xs
+      → Ends z l (p + 4 * length code) out rest rest (Back u) u
 
 -- a piece has been run
 record Between (z : Setting) (Q : After z) (env : z.Beside) (s u : State) : Type 0 where
@@ -117,23 +128,31 @@ module _ {z : Setting} where
           (branch_passes z.code s test l r halves (stands z.code p _ [] placed fields s at) failed) refl z.silence
           (z.keeps_still s _ (moved_still s _)) refl (moved_to-pc s (next s) ∙ to) (moved_still s _)
 
-  -- One arm of a choice: turns to a piece, the piece, and turns from behind it to the end.
-  pub arm_ends : {k m l start q : ℕ} {into out : Leak z} {a : Steps z} {xs : List Instr} {P : Before z} {Q : After z}
-      {Back : State → State → Type 0} {R : State → Type 0} {env : z.Beside} {s : State} {rest : List z.Mark}
-      (piece : Straight z start m a xs P Q) → z.Fine (a env)
-      → Ends z k start into (z.seen (a env) ++ rest) (z.seen (a env) ++ rest) (λ t. Still s t) s
-      → ((t : State) → Still s t → P env t)
-      → ((u : State) → u.pc ≡ start + 4 * length xs → Ends z l q out rest rest (Back u) u)
-      → ((t u v : State) → Still s t → Q env t u → Back u v → R v)
-      → Ends z (k + m + l) q (both (both into piece.leak) out) (z.seen (a env) ++ rest) rest R s
-  arm_ends {Q = Q} {R = R} {env = env} {s = s} {rest = rest} piece fine enters before leaves after =
-      then_ends
-      (then_ends enters
-      (λ t there still.
-      ends_to {R = Between z Q env s} (piece.runs env t rest there fine (before t still)) refl
-      (λ u done. record { start = t; still = still; done = done })))
-      (λ u there done.
-      ends_to {R = R} (leaves u there) refl (λ v back. after done.start u v done.still done.done back))
+  -- an arm's code, from states that go to its piece
+  pub arm_runs : {k m l : ℕ} {a : Steps z} {code xs : List Instr} {P P' : Before z} {Q S : After z}
+      {goes : State → Type 0} {Back : State → State → Type 0}
+      → ((p : ℕ) → Placed z.code p code → Way z p k l goes code xs Back)
+      → ((env : z.Beside) (s : State) → P env s → goes s)
+      → ((env : z.Beside) (s t : State) → P env s → Still s t → P' env t)
+      → ((env : z.Beside) (s t u v : State) → P env s → Still s t → Q env t u → Back u v → S env s v)
+      → Runs z m a xs P' Q → Runs z (k + m + l) a code P S
+  arm_runs {a = a} {Q = Q} {S = S} way tested before after one = record {
+    placed_at = λ p placed.
+        let w = way p placed in
+        let piece = one.placed_at w.start w.stands_there in
+        record {
+          leak = both (both w.into piece.leak) w.out;
+          runs = λ env s rest at fine fit.
+              then_ends
+              (then_ends (w.enters s (z.seen (a env) ++ rest) at (tested env s fit))
+              (λ t there still.
+              ends_to {R = Between z Q env s} (piece.runs env t rest there fine (before env s t fit still)) refl
+              (λ u done. record { start = t; still = still; done = done })))
+              (λ u there done.
+              ends_to {R = S env s} (w.leaves u rest there) refl
+              (λ v back. after env s done.start u v fit done.still done.done back));
+        };
+  }
 
   -- where a value is known, the steps of one arm or those of the other
   pub by_known : {n : ℕ} {a b : Steps z} {is : List Instr} {P : Before z} {S : After z} (value : z.Beside → ℕ) (v : ℕ)
@@ -194,72 +213,59 @@ module _ {z : Setting} where
         last : p + 4 + 4 + 4 * length xs + 4 + 4 * length ys ≡ p + 4 * length (branch_code r xs ys)
         last = let e = length-append xs (over (length ys) ∷ ys) in omega (arith, e)
 
-        first_arm : Straight z (p + 4 + 4) m a xs P1 Q
-        first_arm = one.placed_at (p + 4 + 4) (Placed-left z.code (p + 4 + 4) xs (over (length ys) ∷ ys) after_first)
+        first_way : Way z p 1 1 (λ s. s.regs r ≢ 0) (branch_code r xs ys) xs Still
+        first_way =
+            let arm = after_arm.1 in
+            let below = Placed-below z.code (middle + 4) ys after_arm.3 arm in
+            let e = last in
+            record {
+              start = p + 4 + 4;
+              stands_there = Placed-left z.code (p + 4 + 4) xs (over (length ys) ∷ ys) after_first;
+              into = always (shown_at p);
+              out = always (shown_at middle);
+              enters = λ s rest at some. skip_ends p rest (placed.0, placed.1, placed.2, tt) (omega (arith, arm)) s at some;
+              leaves = λ u rest there.
+                  ends_to (over_ends middle (length ys) rest (after_arm.0, after_arm.1, after_arm.2, tt)
+                  (omega (arith, near)) below u there) (omega (arith, e)) (λ v still. still);
+            }
 
-        second_arm : Straight z (middle + 4) n b ys P2 R
-        second_arm = two.placed_at (middle + 4) after_arm.3
-
-        rejects_ends : (env : z.Beside) (s : State) (rest : List z.Mark) → value env ≡ 0 → s.pc ≡ p
-            → z.Fine (b env) → P env s
-            → Ends z (2 + m + n) (p + 4 * length (branch_code r xs ys))
-            (both (both (both (always (shown_at p)) (always (shown_at (p + 4)))) second_arm.leak) (always []))
-            (z.seen (b env) ++ rest) rest (S env s) s
-        rejects_ends env s rest none' at fine fit =
+        second_way : Way z p 2 0 (λ s. s.regs r ≡ 0) (branch_code r xs ys) ys (λ u v. v ≡ u)
+        second_way =
             let arm = after_arm.1 in
             let e = last in
             let past : p + 4 + 4 + 4 * (length xs + 1) ≡ middle + 4 = omega arith in
-            ends_as
-            (arm_ends {l = 0} {Back = λ u v. v ≡ u} second_arm fine
-            (then_ends
-            (pass_ends p (z.seen (b env) ++ rest) (placed.0, placed.1, placed.2, tt) s at (tested env s fit ∙ none'))
-            (λ t there still.
-            ends_to (over_ends (p + 4) (length xs + 1) (z.seen (b env) ++ rest)
-            (placed.3.0, placed.3.1, placed.3.2, tt) (omega (arith, near)) (omega (arith, arm, past)) t there)
-            past
-            (λ u again. record { regs = again.regs ∙ still.regs; bytes = again.bytes ∙ still.bytes })))
-            (λ t still. rejects env s t none' fit still)
-            (λ u there. stop_here u there refl)
-            (λ t u v still done same. subst (S env s) (sym same) (rejected env s t u none' fit still done)))
-            (omega arith) (omega (arith, e)) (λ v done. done)
-
-        accepts_ends : (env : z.Beside) (s : State) (rest : List z.Mark) → value env ≢ 0 → s.pc ≡ p
-            → z.Fine (a env) → P env s
-            → Ends z (2 + m + n) (p + 4 * length (branch_code r xs ys))
-            (both (both (always (shown_at p)) first_arm.leak) (always (shown_at middle)))
-            (z.seen (a env) ++ rest) rest (S env s) s
-        accepts_ends env s rest some at fine fit =
-            let arm = after_arm.1 in
-            let e = last in
-            let below = Placed-below z.code (middle + 4) ys after_arm.3 arm in
-            ends_as
-            (arm_ends first_arm fine
-            (skip_ends p (z.seen (a env) ++ rest) (placed.0, placed.1, placed.2, tt) (omega (arith, arm)) s at
-            (λ e. some (sym (tested env s fit) ∙ e)))
-            (λ t still. accepts env s t some fit still)
-            (over_ends middle (length ys) rest (after_arm.0, after_arm.1, after_arm.2, tt) (omega (arith, near)) below)
-            (λ t u v still done back. accepted env s t u v some fit still done back))
-            (omega arith) (omega (arith, e)) (λ v done. done)
+            record {
+              start = middle + 4;
+              stands_there = after_arm.3;
+              into = both (always (shown_at p)) (always (shown_at (p + 4)));
+              out = always [];
+              enters = λ s rest at none'.
+                  then_ends (pass_ends p rest (placed.0, placed.1, placed.2, tt) s at none')
+                  (λ t there still.
+                  ends_to (over_ends (p + 4) (length xs + 1) rest (placed.3.0, placed.3.1, placed.3.2, tt)
+                  (omega (arith, near)) (omega (arith, arm, past)) t there) past
+                  (λ u again. record { regs = again.regs ∙ still.regs; bytes = again.bytes ∙ still.bytes }));
+              leaves = λ u rest there. stop_here u (omega (arith, there, e)) refl;
+            }
 
       -- where the value is known to be 0
       pub second_runs : ((env : z.Beside) (s : State) → P env s → value env ≡ 0)
           → Runs z (2 + m + n) b (branch_code r xs ys) P S
-      second_runs none' = record {
-        placed_at = λ p placed. record {
-          leak = both (both (both (always (shown_at p)) (always (shown_at (p + 4)))) (second_arm p placed).leak) (always []);
-          runs = λ env s rest at fine fit. rejects_ends p placed env s rest (none' env s fit) at fine fit;
-        };
-      }
+      second_runs none' =
+          cheaper (omega arith)
+          (arm_runs second_way (λ env s fit. tested env s fit ∙ none' env s fit)
+          (λ env s t fit still. rejects env s t (none' env s fit) fit still)
+          (λ env s t u v fit still done same.
+          subst (S env s) (sym same) (rejected env s t u (none' env s fit) fit still done)) two)
 
       -- or known not to be
       pub first_runs : ((env : z.Beside) (s : State) → P env s → value env ≢ 0)
           → Runs z (2 + m + n) a (branch_code r xs ys) P S
-      first_runs some = record {
-        placed_at = λ p placed. record {
-          leak = both (both (always (shown_at p)) (first_arm p placed).leak) (always (shown_at (middle p placed)));
-          runs = λ env s rest at fine fit. accepts_ends p placed env s rest (some env s fit) at fine fit;
-        };
-      }
+      first_runs some =
+          cheaper (omega arith)
+          (arm_runs first_way (λ env s fit e. some env s fit (sym (tested env s fit) ∙ e))
+          (λ env s t fit still. accepts env s t (some env s fit) fit still)
+          (λ env s t u v fit still done back. accepted env s t u v (some env s fit) fit still done back) one)
 
       -- where the value is known, the first piece where it is not 0, and else the second
       pub branching_at : (v : ℕ) → ((env : z.Beside) (s : State) → P env s → value env ≡ v)

@@ -239,8 +239,8 @@ module _ {z : Setting} (r q : ℕ) (small : r < 32) (small' : q < 32) {n : ℕ} 
         (then_ends ((round_at 0 i).runs env s rest at (z.fine_left (path i env) [] fine) (enters 0 i env o s inv))
         (λ t there done.
         ends_to {R = Over (turn i env) o}
-        (untaken_ends Bne r q _ branch_at fields from_branch rest t there (ap not (eq-eqb _ _ (ends' i env o s t inv done))))
-        behind
+        (untaken_ends Bne r q _ branch_at fields from_branch rest t there
+        (ap not (eq-eqb _ _ (ends' i env o s t inv done)))) behind
         (λ u still. leaves i env o s t u inv done still)))
         (ap (λ (marks : List z.Mark). z.seen marks ++ rest) (append-nil (path i env))))
         (omega arith) refl (λ t done. done)

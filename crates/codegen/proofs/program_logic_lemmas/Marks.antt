@@ -22,20 +22,15 @@ pub record Known (z : Setting) (A : Type 0) (Good : A → Type 0) (P : Before z)
   pub is : value env ≡ x
   pub good : Good x
 
-by_value : {A M : Type 0} → (A → List M → List Observation × List M) → List M → Option A → List Observation × List M
+abbrev by_value : {A M : Type 0} → (A → List M → List Observation × List M) → List M → Option A
+    → List Observation × List M
 by_value leak rest (Some x) = leak x rest
 by_value leak rest None = ([], rest)
 
-by_mark_leak : {A M : Type 0} → (M → Option A) → (A → List M → List Observation × List M) → List M
+abbrev by_mark_leak : {A M : Type 0} → (M → Option A) → (A → List M → List Observation × List M) → List M
     → List Observation × List M
 by_mark_leak read leak [] = ([], [])
 by_mark_leak read leak (mark ∷ rest) = by_value leak rest (read mark)
-
-by_mark_read : {A M : Type 0} (read : M → Option A) (leak : A → List M
-    → List Observation × List M) (mark : M) (x : A) (rest : List M) → read mark ≡ Some x
-    → by_mark_leak read leak (mark ∷ rest) ≡ leak x rest
-unfolding by_mark_leak by_value
-by_mark_read read leak mark x rest is = ap (by_value leak rest) is
 
 module _ {z : Setting} {A : Type 0} {Good : A → Type 0} (kind : Kind z A Good) where
   -- code for each thing that the mark may carry
@@ -48,11 +43,10 @@ module _ {z : Setting} {A : Type 0} {Good : A → Type 0} (kind : Kind z A Good)
       runs = λ env s rest at fine fit.
           let x = value env in
           let piece = (each x).placed_at p placed in
+          let leak = λ (y : A). ((each y).placed_at p placed).leak in
           ends_by (piece.runs env s rest at (kind.fine x (steps env) fine)
           (record { given = fit; is = refl; good = kind.good x (steps env) fine }))
-          (ap (λ (path : List z.Mark). by_mark_leak kind.read (λ y. ((each y).placed_at p placed).leak)
-          (path ++ rest)) (kind.seen x (steps env))
-          ∙ by_mark_read kind.read (λ y. ((each y).placed_at p placed).leak) (kind.mark x) x
-          (z.seen (steps env) ++ rest) (kind.told x));
+          (ap (λ (path : List z.Mark). by_mark_leak kind.read leak (path ++ rest)) (kind.seen x (steps env))
+          ∙ ap (by_value leak (z.seen (steps env) ++ rest)) (kind.told x));
     };
   }

@@ -175,39 +175,48 @@ module _ {z : Setting} where
         };
   }
 
-  -- the same code, asked more and giving less
+  -- the same code, asked more and giving less, with a greater cost, and with its steps otherwise written
+  adapt : {m n : ℕ} {a b : Steps z} {is : List Instr} {P P' : Before z} {Q R : After z} → m ≤ n
+      → ((env : z.Beside) (s : State) → P' env s → b env ≡ a env)
+      → ((env : z.Beside) (s : State) → z.Fine (b env) → P' env s → P env s)
+      → ((env : z.Beside) (s t : State) → z.Fine (b env) → P' env s → Q env s t → R env s t)
+      → Runs z m a is P Q → Runs z n b is P' R
+  adapt more same before after one = record {
+    placed_at = λ p placed.
+        let x = one.placed_at p placed in
+        record {
+          leak = x.leak;
+          runs = λ env s rest at fine fit.
+              ends_on
+              (ends_as (x.runs env s rest at (subst z.Fine (same env s fit) fine) (before env s fine fit)) more refl
+              (λ t done. after env s t fine fit done))
+              (ap (λ (path : List z.Mark). z.seen path ++ rest) (same env s fit));
+        };
+  }
+
   pub weaken : {n : ℕ} {steps : Steps z} {is : List Instr} {P P' : Before z} {Q R : After z}
       → ((env : z.Beside) (s : State) → z.Fine (steps env) → P' env s → P env s)
       → ((env : z.Beside) (s t : State) → z.Fine (steps env) → P' env s → Q env s t → R env s t)
       → Runs z n steps is P Q → Runs z n steps is P' R
-  weaken before after one = record {
-    placed_at = λ p placed.
-        let a = one.placed_at p placed in
-        record {
-          leak = a.leak;
-          runs = λ env s rest at fine fit.
-              ends_as (a.runs env s rest at fine (before env s fine fit)) (omega arith) refl
-              (λ t done. after env s t fine fit done);
-        };
-  }
+  weaken before after one = adapt (omega arith) (λ env s fit. refl) before after one
 
-  -- the same code, giving less
   pub gives : {n : ℕ} {steps : Steps z} {is : List Instr} {P : Before z} {Q R : After z}
       → ((env : z.Beside) (s t : State) → z.Fine (steps env) → P env s → Q env s t → R env s t)
       → Runs z n steps is P Q → Runs z n steps is P R
   gives after one = weaken (λ env s fine given. given) after one
 
-  -- the same code, with a greater cost
   pub cheaper : {m n : ℕ} {steps : Steps z} {is : List Instr} {P : Before z} {Q : After z}
       → m ≤ n → Runs z m steps is P Q → Runs z n steps is P Q
-  cheaper more one = record {
-    placed_at = λ p placed.
-        let a = one.placed_at p placed in
-        record {
-          leak = a.leak;
-          runs = λ env s rest at fine fit. ends_as (a.runs env s rest at fine fit) more refl (λ t done. done);
-        };
-  }
+  cheaper more one = adapt more (λ env s fit. refl) (λ env s fine fit. fit) (λ env s t fine fit done. done) one
+
+  -- where it is run, or everywhere
+  pub along_fit : {n : ℕ} {a b : Steps z} {is : List Instr} {P : Before z} {Q : After z}
+      → ((env : z.Beside) (s : State) → P env s → b env ≡ a env) → Runs z n a is P Q → Runs z n b is P Q
+  along_fit same one = adapt (omega arith) same (λ env s fine fit. fit) (λ env s t fine fit done. done) one
+
+  pub along : {n : ℕ} {a b : Steps z} {is : List Instr} {P : Before z} {Q : After z}
+      → ((env : z.Beside) → b env ≡ a env) → Runs z n a is P Q → Runs z n b is P Q
+  along same one = along_fit (λ env s fit. same env) one
 
   -- the same code, beside something else
   pub beside : {n : ℕ} {steps : Steps z} {is : List Instr} {P : Before z} {Q : After z} (move : z.Beside → z.Beside)
@@ -218,25 +227,6 @@ module _ {z : Setting} where
         let a = one.placed_at p placed in
         record { leak = a.leak; runs = λ env s rest at fine fit. a.runs (move env) s rest at fine fit };
   }
-
-  -- the same code, with the same steps otherwise written, where it is run
-  pub along_fit : {n : ℕ} {a b : Steps z} {is : List Instr} {P : Before z} {Q : After z}
-      → ((env : z.Beside) (s : State) → P env s → b env ≡ a env) → Runs z n a is P Q → Runs z n b is P Q
-  along_fit {a = a} {b = b} same one = record {
-    placed_at = λ p placed.
-        let x = one.placed_at p placed in
-        record {
-          leak = x.leak;
-          runs = λ env s rest at fine fit.
-              ends_on (x.runs env s rest at (subst z.Fine (same env s fit) fine) fit)
-              (ap (λ (path : List z.Mark). z.seen path ++ rest) (same env s fit));
-        };
-  }
-
-  -- or everywhere
-  pub along : {n : ℕ} {a b : Steps z} {is : List Instr} {P : Before z} {Q : After z}
-      → ((env : z.Beside) → b env ≡ a env) → Runs z n a is P Q → Runs z n b is P Q
-  along same one = along_fit (λ env s fit. same env) one
 
   -- the same instructions, otherwise written
   pub as_code : {n : ℕ} {steps : Steps z} {is js : List Instr} {P : Before z} {Q : After z}

@@ -168,4 +168,5 @@ shown_allowed works Allows silence p [] places plain fit = All-nil (λ (o : Obse
 shown_allowed works Allows silence p (i ∷ is) places plain fit =
     let a = next_of places in
     All-cons (λ (o : Observation). Allows o.event) _ _ (one_allowed Allows silence i a _ fit)
-    (shown_allowed works Allows silence (p + 4) is (left_by i places) (both_right _ _ plain) (rest_fit Allows i a _ fit))
+    (shown_allowed works Allows silence (p + 4) is (left_by i places) (both_right _ _ plain)
+    (rest_fit Allows i a _ fit))

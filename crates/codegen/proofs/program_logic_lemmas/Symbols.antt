@@ -91,7 +91,8 @@ data_kept (i ∷ is) places c x met =
 module _ (Allows : Option Event → Type 0) (x : ℕ)
     (beside : (bytes : ByteMap) (size : Size) (a v : ℕ) → Allows (Some (event.Store a size))
     → with_number bytes (byte_count size) a v x ≡ bytes x) where
-  byte_after : (i : Instr) (a : ℕ) (c : Contents) (F : Type 0) → fit_and Allows i a F → (after i a c).bytes x ≡ c.bytes x
+  byte_after : (i : Instr) (a : ℕ) (c : Contents) (F : Type 0) → fit_and Allows i a F
+      → (after i a c).bytes x ≡ c.bytes x
   byte_after (Store operation rs2 rs1 offset) a c F fit =
       beside c.bytes (store_size operation) a (register c.regs rs2) fit.0.allowed
   byte_after i a c F fit = refl

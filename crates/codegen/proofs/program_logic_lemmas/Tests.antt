@@ -1,12 +1,13 @@
 -- Of two pieces one, by a test of two registers: a branch jumps over the first piece where they pass it.
-use Rattle.std.proofs.Common.{◌≡◌, ◌≢◌, ℕ, ◌+◌, ◌*◌, ◌^◌, ◌<◌, ◌==◌, if◌then◌else◌, List, [], ◌∷◌, ◌++◌, length, refl}
-use Rattle.std.proofs.Common.{sym, subst, ap, ◌∙◌, arith, length-append, eq-eqb, ne_eqb}
+use Rattle.std.proofs.Common.{true, false, ◌≡◌, ◌≢◌, ℕ, ◌+◌, ◌*◌, ◌^◌, ◌<◌, ◌==◌, if◌then◌else◌, List, [], ◌∷◌, ◌++◌}
+use Rattle.std.proofs.Common.{length, refl, sym, subst, ap, ◌∙◌, arith, length-append, eq-eqb, ne_eqb}
 use Rattle.std.proofs.lemmas.Bool.Decides.{nat_tests}
-use Rattle.codegen.proofs.program_logic_lemmas.Jumps.{arm_ends, by_known, over_ends, shown_at, taken_ends, untaken_ends}
-use Rattle.codegen.proofs.program_logic_lemmas.Pieces.{ends_as, ends_to, stop_here}
+use Rattle.codegen.proofs.program_logic_lemmas.Jumps.{Way, arm_runs, by_known, over_ends, shown_at, taken_ends}
+use Rattle.codegen.proofs.program_logic_lemmas.Jumps.{untaken_ends}
+use Rattle.codegen.proofs.program_logic_lemmas.Pieces.{cheaper, ends_to, stop_here}
 use Rattle.codegen.proofs.program_logic_lemmas.PlacedLaws.{Placed-below, Placed-left, Placed-right}
 use Rattle.codegen.specs.program_logic.Tests.{leave, unless_code}
-use Rattle.codegen.specs.program_logic.Pieces.{After, Before, Ends, Runs, Setting, Steps, Still, Straight, always, both}
+use Rattle.codegen.specs.program_logic.Pieces.{After, Before, Ends, Runs, Setting, Steps, Still, always}
 use Rattle.codegen.specs.program_logic.Placed.{Placed}
 use Rattle.rv_code.specs.Words.{IsInstr}
 use Rattle.rv_code.specs.declared.instructions.Instr.{Instr}
@@ -78,13 +79,6 @@ module _ {z : Setting} where
         start_is : middle + 4 * length (leave ys) ≡ p + 4 + 4 * count
         start_is = omega arith
 
-        first_arm : Straight z (p + 4) m a xs P1 Q
-        first_arm = one.placed_at (p + 4) (Placed-left z.code (p + 4) xs (leave ys ++ ys) placed.3)
-
-        second_arm : Straight z (middle + 4 * length (leave ys)) n b ys P2 R
-        second_arm = two.placed_at (middle + 4 * length (leave ys))
-            (Placed-right z.code middle (leave ys) ys after_arm)
-
         below : p + 4 + 4 * count < 2 ^ 32
         below =
             let all = Placed-below z.code (p + 4) (xs ++ (leave ys ++ ys)) placed.3 placed.1 in
@@ -92,53 +86,47 @@ module _ {z : Setting} where
             let f = length-append (leave ys) ys in
             omega (arith, all, e, f)
 
-        rejects_ends : (env : z.Beside) (s : State) (rest : List z.Mark) → value env ≡ 0 → s.pc ≡ p
-            → z.Fine (b env) → P env s
-            → Ends z (2 + m + n) (p + 4 * length (unless_code test l r xs ys))
-            (both (both (always (shown_at p)) second_arm.leak) (always [])) (z.seen (b env) ++ rest) rest (S env s) s
-        rejects_ends env s rest none' at fine fit =
+        first_way : Way z p 1 1 (λ s. holds test (register s.regs l) (register s.regs r) ≡ false)
+            (unless_code test l r xs ys) xs Still
+        first_way = record {
+          start = p + 4;
+          stands_there = Placed-left z.code (p + 4) xs (leave ys ++ ys) placed.3;
+          into = always (shown_at p);
+          out = leave_leak middle ys;
+          enters = λ s rest at failed.
+              untaken_ends test l r (2 * count + 2) p fields (placed.0, placed.1, placed.2, tt) rest s at failed;
+          leaves = λ u rest there. ends_to (leave_ends ys middle rest after_arm near u there) last (λ v still. still);
+        }
+
+        second_way : Way z p 1 0 (λ s. holds test (register s.regs l) (register s.regs r) ≡ true)
+            (unless_code test l r xs ys) ys (λ u v. v ≡ u)
+        second_way =
             let even = placed.0 in
             let e = last in
             let f = length-append (leave ys) ys in
-            ends_as
-            (arm_ends {l = 0} {Back = λ u v. v ≡ u} second_arm fine
-            (taken_ends test l r (2 * count + 2) p fields (placed.0, placed.1, placed.2, tt) (z.seen (b env) ++ rest) s at
-            (middle + 4 * length (leave ys)) (ahead p count (count_near ys) below ∙ sym start_is) (omega (arith, even))
-            (tested env s fit ∙ eq-eqb (value env) 0 none'))
-            (λ t still. rejects env s t none' fit still)
-            (λ u there. stop_here u there refl)
-            (λ t u v still done same. subst (S env s) (sym same) (rejected env s t u none' fit still done)))
-            (omega arith) (omega (arith, e, f)) (λ u done. done)
-
-        accepts_ends : (env : z.Beside) (s : State) (rest : List z.Mark) → value env ≢ 0 → s.pc ≡ p
-            → z.Fine (a env) → P env s
-            → Ends z (2 + m + n) (p + 4 * length (unless_code test l r xs ys))
-            (both (both (always (shown_at p)) first_arm.leak) (leave_leak middle ys))
-            (z.seen (a env) ++ rest) rest (S env s) s
-        accepts_ends env s rest some at fine fit =
-            ends_as
-            (arm_ends first_arm fine
-            (untaken_ends test l r (2 * count + 2) p fields (placed.0, placed.1, placed.2, tt) (z.seen (a env) ++ rest)
-            s at (tested env s fit ∙ ne_eqb (value env) 0 some))
-            (λ t still. accepts env s t some fit still)
-            (leave_ends ys middle rest after_arm near)
-            (λ t u v still done back. accepted env s t u v some fit still done back))
-            (omega arith) last (λ v done. done)
+            record {
+              start = middle + 4 * length (leave ys);
+              stands_there = Placed-right z.code middle (leave ys) ys after_arm;
+              into = always (shown_at p);
+              out = always [];
+              enters = λ s rest at passed.
+                  taken_ends test l r (2 * count + 2) p fields (placed.0, placed.1, placed.2, tt) rest s at
+                  (middle + 4 * length (leave ys)) (ahead p count (count_near ys) below ∙ sym start_is)
+                  (omega (arith, even)) passed;
+              leaves = λ u rest there. stop_here u (omega (arith, there, e, f)) refl;
+            }
 
       -- where the value is known, the first piece where it is not 0, and else the second
       pub unless_at : (v : ℕ) → ((env : z.Beside) (s : State) → P env s → value env ≡ v)
           → Runs z (2 + m + n) (λ env. if value env == 0 then b env else a env) (unless_code test l r xs ys) P S
       unless_at v is =
           by_known value v is
-          (λ some. record {
-            placed_at = λ p placed. record {
-              leak = both (both (always (shown_at p)) (first_arm p placed).leak) (leave_leak (middle p placed) ys);
-              runs = λ env s rest at fine fit. accepts_ends p placed env s rest (some env s fit) at fine fit;
-            };
-          })
-          (λ none'. record {
-            placed_at = λ p placed. record {
-              leak = both (both (always (shown_at p)) (second_arm p placed).leak) (always []);
-              runs = λ env s rest at fine fit. rejects_ends p placed env s rest (none' env s fit) at fine fit;
-            };
-          })
+          (λ some. cheaper (omega arith)
+          (arm_runs first_way (λ env s fit. tested env s fit ∙ ne_eqb (value env) 0 (some env s fit))
+          (λ env s t fit still. accepts env s t (some env s fit) fit still)
+          (λ env s t u v fit still done back. accepted env s t u v (some env s fit) fit still done back) one))
+          (λ none'. cheaper (omega arith)
+          (arm_runs second_way (λ env s fit. tested env s fit ∙ eq-eqb (value env) 0 (none' env s fit))
+          (λ env s t fit still. rejects env s t (none' env s fit) fit still)
+          (λ env s t u v fit still done same.
+          subst (S env s) (sym same) (rejected env s t u (none' env s fit) fit still done)) two))
