@@ -1,11 +1,11 @@
 -- The pieces of emitted code that take words from slots, that put registers into the frame, and that compute in
 -- between.
 -- A list of such moves is run on registers and bytes by a function, and the machine on its code does that.
-use Rattle.std.proofs.Common.{◌≡◌, ◌≢◌, ℕ, ◌+◌, ◌*◌, ◌%◌, ◌^◌, ◌<◌, ◌≤◌, ◌==◌, Bool, true, false, not, ◌&&◌, cond}
+use Rattle.std.proofs.Common.{Some, ◌≡◌, ◌≢◌, ℕ, ◌+◌, ◌*◌, ◌%◌, ◌^◌, ◌<◌, ◌≤◌, ◌==◌, Bool, true, false, not, ◌&&◌, cond}
 use Rattle.std.proofs.Common.{nat_lt, List, [], ◌∷◌, ◌++◌, length, refl, ap, ap₂, ◌∙◌, arith, eq-eqb, ne_eqb}
-use Rattle.codegen.proofs.expression_code_lemmas.Below.{address_of, all_straight, as_code, both_left, both_right}
-use Rattle.codegen.proofs.expression_code_lemmas.Below.{byte_count, ByteMap, cheaper, Contents, contents_of, fun_ext}
-use Rattle.codegen.proofs.expression_code_lemmas.Below.{gives, idle, Instr, load_code, load_size, loaded_value}
+use Rattle.codegen.proofs.expression_code_lemmas.Below.{Event, IsInside, address_of, all_straight, as_code, both_left}
+use Rattle.codegen.proofs.expression_code_lemmas.Below.{both_right, byte_count, ByteMap, cheaper, Contents, contents_of}
+use Rattle.codegen.proofs.expression_code_lemmas.Below.{fun_ext, gives, idle, Instr, load_code, load_size, loaded_value}
 use Rattle.codegen.proofs.expression_code_lemmas.Below.{LoadOperation, lower_part, lt-ltb, ltb-true, nat_tests}
 use Rattle.codegen.proofs.expression_code_lemmas.Below.{no_access_fit, no_access_met, none, number_at, number_or_zero}
 use Rattle.codegen.proofs.expression_code_lemmas.Below.{only_computes, quiet, register, registers_after, registers_of}
@@ -15,7 +15,7 @@ use Rattle.codegen.proofs.expression_code_lemmas.Below.{with_register, with_resu
 use Rattle.codegen.proofs.expression_code_lemmas.Arithmetic.{far_address, near_address, upper_fits}
 use Rattle.codegen.proofs.expression_code_lemmas.Frame.{Setting, Before, After, Steps, Runs, setting, HeldAt, Held}
 use Rattle.codegen.proofs.expression_code_lemmas.Frame.{frame_there, frame_runs}
-use Rattle.codegen.proofs.program_logic_lemmas.Face.{IsMet}
+use Rattle.codegen.proofs.program_logic_lemmas.Face.{IsFit, IsMet}
 use Rattle.rv_code.specs.declared.instructions.Instr.TheVariants as instr
 use Rattle.rv_code.specs.declared.operations.LoadOperation.TheVariants.{Lw}
 use Rattle.rv_code.specs.declared.operations.RegisterOperation.TheVariants.{Add}
@@ -152,6 +152,10 @@ module _ (z : Setting) (rs offset a : ℕ) (rs_small : rs < 32) (offset_small : 
       → IsMet n rs offset (z.frame + a) (contents_of s)
   met n inside s held address = record { address = address; data_there = frame_there z s held n a inside }
 
+  fit : (size : Size) (e : Event) → a % byte_count size ≡ 0 → IsInside z.frame z.size (Some e)
+      → IsFit (λ e. IsInside z.frame z.size e) (byte_count size) e (z.frame + a)
+  fit size e even inside = record { even = even_at size z.frame a z.even even; allowed = inside }
+
   pub loading : (operation : LoadOperation) (rd : ℕ) → 4 < rd → rd < 32 → a % byte_count (load_size operation) ≡ 0
       → a + byte_count (load_size operation) ≤ z.size
       → Runs z 1 none (instr.Load operation rd rs offset ∷ []) (Addresses z rs offset a)
@@ -165,13 +169,8 @@ module _ (z : Setting) (rs offset a : ℕ) (rs_small : rs < 32) (offset_small : 
       (λ env s t fine given done. (done.0, done.1.regs, done.1.bytes))
       (frame_runs z {P = Addresses z rs offset a} is_free (instr.Load operation rd rs offset ∷ [])
       ((z.frame + a) ∷ [])
-      (simp (lt-ltb 4 rd low, lt-ltb rd 32 small, lt-ltb rs 32 rs_small, lt-ltb offset 4096 offset_small)) none_low (
-        record {
-          even = even_at (load_size operation) z.frame a z.even even;
-          allowed = (omega arith, omega (arith, inside));
-        },
-        tt,
-      )
+      (simp (lt-ltb 4 rd low, lt-ltb rd 32 small, lt-ltb rs 32 rs_small, lt-ltb offset 4096 offset_small)) none_low
+      (fit (load_size operation) _ even (omega arith, omega (arith, inside)), tt)
       (λ env s given. (given.0, (met _ inside s given.0 given.1, tt))))
 
   pub storing : (operation : StoreOperation) (rs2 : ℕ) → rs2 < 32 → a % byte_count (store_size operation) ≡ 0
@@ -184,13 +183,8 @@ module _ (z : Setting) (rs offset a : ℕ) (rs_small : rs < 32) (offset_small : 
       (λ env s t fine given done. (done.0, done.1.regs, done.1.bytes))
       (frame_runs z {P = Addresses z rs offset a} is_free (instr.Store operation rs2 rs offset ∷ [])
       ((z.frame + a) ∷ [])
-      (simp (lt-ltb rs2 32 small, lt-ltb rs 32 rs_small, lt-ltb offset 4096 offset_small)) none_low (
-        record {
-          even = even_at (store_size operation) z.frame a z.even even;
-          allowed = (omega arith, omega (arith, inside));
-        },
-        tt,
-      )
+      (simp (lt-ltb rs2 32 small, lt-ltb rs 32 rs_small, lt-ltb offset 4096 offset_small)) none_low
+      (fit (store_size operation) _ even (omega arith, omega (arith, inside)), tt)
       (λ env s given. (given.0, (met _ inside s given.0 given.1, tt))))
 
 -- An access of a slot: the address of a far one is first made in a register.

@@ -257,13 +257,9 @@ module _ {d t : ℕ} (pair : ArePair d t) (works : ℕ → Bool) (wd : works d �
   immediate operator n operation finish m row is made =
       of_held (Means operator n) operation finish m row is
       (λ short. record {
-        plain = λ w. simp (
-          wd,
-          d32 pair,
-          q32 pair source,
-          lt-ltb (m % 4096) 4096 (lower_fits m),
-          finish_plain w finish,
-        );
+        plain = λ w.
+            let small = lt-ltb (m % 4096) 4096 (lower_fits m) in
+            simp (wd, d32 pair, q32 pair source, small, finish_plain w finish);
         value = λ w regs below.
             finish_made w finish _ ∙ simp (dd pair, d0 pair, q0 pair source)
             (ap (λ x. finished finish w (immediate_value operation (regs r) x)) (short_held m short)
@@ -286,13 +282,9 @@ module _ {d t : ℕ} (pair : ArePair d t) (works : ℕ → Bool) (wd : works d �
   moved operator n operation row is made =
       of_row (Means operator n) (shifted operation n) row is
       (record {
-        plain = λ w. simp (
-          wd,
-          d32 pair,
-          q32 pair source,
-          lt-ltb (n % 32) 32 (mod_below n 32 (omega arith)),
-          cut_plain pair works wd wt w,
-        );
+        plain = λ w.
+            let small = lt-ltb (n % 32) 32 (mod_below n 32 (omega arith)) in
+            simp (wd, d32 pair, q32 pair source, small, cut_plain pair works wd wt w);
         value = λ w regs below. cut_composed pair w _ ∙ simp (dd pair, d0 pair, q0 pair source) (made w (regs r));
       })
 
@@ -303,12 +295,9 @@ module _ {d t : ℕ} (pair : ArePair d t) (works : ℕ → Bool) (wd : works d �
       let both = cond_some (n + 1 == 2 ^ (32 - others)) _ row is in
       subst (Means BitAnd n) both.1
       (record {
-        plain = λ w. simp (
-          wd,
-          d32 pair,
-          q32 pair source,
-          lt-ltb (others % 32) 32 (mod_below others 32 (omega arith)),
-        );
+        plain = λ w.
+            let small = lt-ltb (others % 32) 32 (mod_below others 32 (omega arith)) in
+            simp (wd, d32 pair, q32 pair source, small);
         value = λ w regs below.
             simp (dd pair, d0 pair, q0 pair source)
             (low_kept (regs r) n (32 - others) others below (omega (arith, top.1)) (omega (arith, top.1))

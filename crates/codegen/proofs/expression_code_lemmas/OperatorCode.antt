@@ -244,16 +244,9 @@ module _ {d t : ℕ} (pair : ArePair d t) where
           (λ (is : List Instr). only_computes works is ≡ true) (λ h. move_plain)
           (λ h.
           let some : 0 < amount = grind (arith, nat_tests, h) in
-          simp (
-            wd,
-            wt,
-            d32,
-            t32,
-            q32 source,
-            lt-ltb amount 32 (omega (arith, (narrow w).1)),
-            lt-ltb (bits w - amount) 32 (omega (arith, (narrow w).1)),
-            cut_plain w,
-          ))
+          let up = lt-ltb amount 32 (omega (arith, (narrow w).1)) in
+          let down = lt-ltb (bits w - amount) 32 (omega (arith, (narrow w).1)) in
+          simp (wd, wt, d32, t32, q32 source, up, down, cut_plain w))
 
     module _ {r : ℕ} (source : IsFree r) where
       pub convert_plain : (w : Width) → only_computes works (convert_code d r w) ≡ true
@@ -346,18 +339,9 @@ module _ {d t : ℕ} (pair : ArePair d t) where
       pub choice_made : {m c : ℕ} → IsFree m → IsFree c → m ≢ t → l ≢ m → r ≢ m → r ≢ t → (regs : ℕ → ℕ)
           → registers_after (choice_code d m t c l r) regs d ≡ chosen (regs c) (regs l) (regs r)
       choice_made {m = m} {c = c} mask condition mt lm rm rt regs =
-          simp (
-            dd,
-            tt',
-            eq-eqb m m refl,
-            ne_eqb m t mt,
-            ne_eqb l m lm,
-            ne_eqb r m rm,
-            ne_eqb r t rt,
-            d0,
-            t0,
-            q0 mask,
-            q0 condition,
-            q0 first,
-            q0 source,
-          )
+          let mm = eq-eqb m m refl in
+          let m_t = ne_eqb m t mt in
+          let l_m = ne_eqb l m lm in
+          let r_m = ne_eqb r m rm in
+          let r_t = ne_eqb r t rt in
+          simp (dd, tt', mm, m_t, l_m, r_m, r_t, d0, t0, q0 mask, q0 condition, q0 first, q0 source)

@@ -124,11 +124,8 @@ number_step_length d r (KeepsLow others) = omega arith
 number_step_length d r step = omega arith
 
 pub number_length : (d r : ℕ) (w : Width) (row : NumberRow) → length (number_code d r w row) ≤ 4
-number_length d r w row = simp length-append (omega (
-  arith,
-  number_step_length d r row.step,
-  finish_length d w row.finish,
-))
+number_length d r w row =
+    simp length-append (omega (arith, number_step_length d r row.step, finish_length d w row.finish))
 
 pub prefix_length : (d r : ℕ) (o : PrefixOperator) (w : Width) → length (prefix_code d r o w) ≤ 4
 prefix_length d r prefixes.Not w = omega arith
@@ -172,21 +169,13 @@ module _ (declared : List FlatVariable) (a : Allocation) (free : ℕ) where
       let right = placed_length place other (into_short (own place) place other) in
       let next = placed_length (place + 1) other (into_short (own (place + 1)) (place + 1) other) in
       code_length (right_row a operator other) _ _ _
-      (λ row. omega (
-        arith,
-        length-append {A = Instr},
-        left,
-        fetch_length,
-        number_length d (register_of (operand a free place one) 29) width row,
-      ))
+      (λ row.
+      let made = number_length d (register_of (operand a free place one) 29) width row in
+      omega (arith, length-append {A = Instr}, left, fetch_length, made))
       (code_length (left_row a operator one) _ _ _
-      (λ row. omega (
-        arith,
-        length-append {A = Instr},
-        right,
-        fetch_length,
-        number_length d (register_of (operand a free place other) 29) width row,
-      ))
+      (λ row.
+      let made = number_length d (register_of (operand a free place other) 29) width row in
+      omega (arith, length-append {A = Instr}, right, fetch_length, made))
       (omega (arith, length-append {A = Instr}, left, next, fetch_length, operator_length)))
   into_short d place (rotate width e amount) =
       let placed = placed_length place e (into_short (own place) place e) in

@@ -53,8 +53,8 @@ pub moved_still : (s : State) (target : ℕ) → Still s (moved_to s target)
 moved_still s target = record { regs = moved_to-regs s target; bytes = moved_to-bytes s target }
 
 -- an arm of a choice: turns to a piece, and turns from behind it to the end
-pub record Way (z : Setting) (p k l : ℕ) (goes : State → Type 0) (code xs : List Instr) (Back : State → State → Type 0) :
-    Type 0 where
+pub record Way (z : Setting) (p k l : ℕ) (goes : State → Type 0) (code xs : List Instr) (Back : State → State
+    → Type 0) : Type 0 where
   pub start : ℕ
   pub stands_there : Placed z.code start xs
   pub into : Leak z
@@ -223,7 +223,8 @@ module _ {z : Setting} where
               stands_there = Placed-left z.code (p + 4 + 4) xs (over (length ys) ∷ ys) after_first;
               into = always (shown_at p);
               out = always (shown_at middle);
-              enters = λ s rest at some. skip_ends p rest (placed.0, placed.1, placed.2, tt) (omega (arith, arm)) s at some;
+              enters = λ s rest at some.
+                  skip_ends p rest (placed.0, placed.1, placed.2, tt) (omega (arith, arm)) s at some;
               leaves = λ u rest there.
                   ends_to (over_ends middle (length ys) rest (after_arm.0, after_arm.1, after_arm.2, tt)
                   (omega (arith, near)) below u there) (omega (arith, e)) (λ v still. still);
