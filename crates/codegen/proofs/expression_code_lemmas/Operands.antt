@@ -22,7 +22,7 @@ use Rattle.codegen.proofs.expression_code_lemmas.Moves.{take, put, Moved, move_r
 use Rattle.codegen.proofs.expression_code_lemmas.Moves.{computing_within}
 use Rattle.codegen.proofs.expression_code_lemmas.OperatorCode.{is_plain, cut_plain, operator_plain, operator_made}
 use Rattle.codegen.proofs.expression_code_lemmas.OperatorCode.{product_made}
-use Rattle.codegen.proofs.expression_code_lemmas.TermLengths.{cut_length, operator_length}
+use Rattle.codegen.proofs.expression_code_lemmas.TermLengths.{narrow_length, operator_length}
 use Rattle.codegen.proofs.expression_code_lemmas.BoolCode.{emitted_marks, emitted_same}
 use Rattle.codegen.proofs.expression_code_lemmas.Values.{Kept, Leaves, Holds, kept_by, Wrote, wrote_kept, wrote_there}
 use Rattle.std.proofs.lemmas.Bool.{cond_both}
@@ -213,7 +213,7 @@ module _ (z : Setting) (works : ℕ → Bool) (none_low : (q : ℕ) → q < 5 �
           quotient Divide Divu (λ env some. divided_by (b env) some (2 ^ 32 - 1) (a env / b env))
       operator_runs Remainder = quotient Remainder Remu (λ env some. divided_by (b env) some (a env) (a env % b env))
       operator_runs Multiply =
-          cheaper (omega (arith, cut_length d width))
+          cheaper (omega (arith, narrow_length d d width))
           (shown (λ env. multiply_value Mul (a env) (b env)) (λ env. operated Multiply width (a env) (b env))
           (cut_code d width) (cut_plain pair works wd wt width)
           (multiplying z pair.one first second a b Mul)

@@ -130,11 +130,7 @@ module _ {d t : ℕ} (pair : ArePair d t) where
 
   -- where these two alone work, any other register is as it was
   pub low_beside : (q : ℕ) → q < 5 → either_of d t q ≡ false
-  low_beside q below =
-      simp (
-        ne_eqb q d (λ e. omega (arith, pair.one.low, below, e)),
-        ne_eqb q t (λ e. omega (arith, pair.other.low, below, e)),
-      )
+  low_beside q below = grind (arith, nat_tests, pair.one.low, pair.other.low, below)
 
   pub kept_beside : (is : List Instr) → only_computes (either_of d t) is ≡ true → (regs : ℕ → ℕ) (q : ℕ) → q ≢ d
       → q ≢ t → registers_after is regs q ≡ regs q

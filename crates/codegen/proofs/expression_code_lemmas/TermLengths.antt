@@ -5,18 +5,18 @@ use Rattle.std.proofs.Common.{Option, None, Some, ◌-◌, arith, length-append}
 use Rattle.std.proofs.lemmas.Option.{slice_get_within}
 use Rattle.codegen.proofs.expression_code_lemmas.Below.{expr_code, address_code, Allocation, around_code, binary}
 use Rattle.codegen.proofs.expression_code_lemmas.Below.{BinaryOperator, bits, code_by, chooses_zero, constant_code}
-use Rattle.codegen.proofs.expression_code_lemmas.Below.{convert, convert_code, copy_code, cut_code, element, fetch_code}
-use Rattle.codegen.proofs.expression_code_lemmas.Below.{Finish, finish_code, FlatVariable, HasType, height_of}
-use Rattle.codegen.proofs.expression_code_lemmas.Below.{InRegister, InSlot, Instr, into_code, IsAmong, is_at_home}
-use Rattle.codegen.proofs.expression_code_lemmas.Below.{keep_code, keeps_words, Kind, left_row, load_code, Location}
-use Rattle.codegen.proofs.expression_code_lemmas.Below.{move_code, narrow_code, narrowed_in, near_element, number_code}
-use Rattle.codegen.proofs.expression_code_lemmas.Below.{NumberRow, NumberStep, number_step_code, of_binary}
-use Rattle.codegen.proofs.expression_code_lemmas.Below.{of_conversion, of_element, of_number, of_prefix, of_rotation}
-use Rattle.codegen.proofs.expression_code_lemmas.Below.{of_selection, of_truth, of_variable, operand, operator_code}
-use Rattle.codegen.proofs.expression_code_lemmas.Below.{prefix, prefix_code, PrefixOperator, Profile, raise_code}
-use Rattle.codegen.proofs.expression_code_lemmas.Below.{register_of, right_row, rotate, rotate_code, row_of, scale_code}
-use Rattle.codegen.proofs.expression_code_lemmas.Below.{select, step_code, store_code, temporary, term_nodes, TermTree}
-use Rattle.codegen.proofs.expression_code_lemmas.Below.{Types, types_of, variable, variable_location, Width, WordType}
+use Rattle.codegen.proofs.expression_code_lemmas.Below.{convert, convert_code, copy_code, element, fetch_code, Finish}
+use Rattle.codegen.proofs.expression_code_lemmas.Below.{finish_code, FlatVariable, HasType, height_of, InRegister}
+use Rattle.codegen.proofs.expression_code_lemmas.Below.{InSlot, Instr, into_code, IsAmong, is_at_home, keep_code}
+use Rattle.codegen.proofs.expression_code_lemmas.Below.{keeps_words, Kind, left_row, load_code, Location, move_code}
+use Rattle.codegen.proofs.expression_code_lemmas.Below.{narrow_code, narrowed_in, near_element, number_code, NumberRow}
+use Rattle.codegen.proofs.expression_code_lemmas.Below.{NumberStep, number_step_code, of_binary, of_conversion}
+use Rattle.codegen.proofs.expression_code_lemmas.Below.{of_element, of_number, of_prefix, of_rotation, of_selection}
+use Rattle.codegen.proofs.expression_code_lemmas.Below.{of_truth, of_variable, operand, operator_code, prefix}
+use Rattle.codegen.proofs.expression_code_lemmas.Below.{prefix_code, PrefixOperator, Profile, raise_code, register_of}
+use Rattle.codegen.proofs.expression_code_lemmas.Below.{right_row, rotate, rotate_code, row_of, scale_code, select}
+use Rattle.codegen.proofs.expression_code_lemmas.Below.{step_code, store_code, temporary, term_nodes, TermTree, Types}
+use Rattle.codegen.proofs.expression_code_lemmas.Below.{types_of, variable, variable_location, Width, WordType}
 use Rattle.codegen.proofs.expression_code_lemmas.Below.{working_register}
 use Rattle.language.specs.declared.signature.Kind.TheVariants.{Boolean}
 use Rattle.codegen.specs.declared.expression_code.numbers.Finish.TheVariants.{Narrowed}
@@ -94,18 +94,15 @@ keep_length : (l : Location) → length (keep_code l) ≤ 3
 keep_length (InRegister r) = omega arith
 keep_length (InSlot o) = store_length 29 o
 
-narrow_length : (d r : ℕ) (w : Width) → length (narrow_code d r w) ≤ 2
+pub narrow_length : (d r : ℕ) (w : Width) → length (narrow_code d r w) ≤ 2
 narrow_length d r W8 = omega arith
 narrow_length d r width = omega arith
-
-pub cut_length : (r : ℕ) (w : Width) → length (cut_code r w) ≤ 2
-cut_length r w = narrow_length r r w
 
 pub convert_length : (d r : ℕ) (w : Width) → length (convert_code d r w) ≤ 3
 convert_length d r w = simp length-append (omega (arith, narrow_length d r w, move_length d (narrowed_in d r w)))
 
 pub finish_length : (d : ℕ) (w : Width) (finish : Finish) → length (finish_code d w finish) ≤ 2
-finish_length d w Narrowed = omega (arith, cut_length d w)
+finish_length d w Narrowed = omega (arith, narrow_length d d w)
 finish_length d w finish = omega arith
 
 -- of the rows there are, the longest
@@ -113,7 +110,7 @@ row_length : (d t l r : ℕ) (w : Width) (o : BinaryOperator)
     → length (step_code d t l r (row_of o).step) + length (finish_code d w (row_of o).finish) ≤ 4
 row_length d t l r w Either = omega arith
 row_length d t l r w Both = omega arith
-row_length d t l r w Multiply = omega (arith, cut_length d w)
+row_length d t l r w Multiply = omega (arith, narrow_length d d w)
 row_length d t l r w o = omega (arith, finish_length d w (row_of o).finish)
 
 pub operator_length : (d t l r : ℕ) (o : BinaryOperator) (w : Width) → length (operator_code d t l r o w) ≤ 4
@@ -129,13 +126,13 @@ number_length d r w row =
 
 pub prefix_length : (d r : ℕ) (o : PrefixOperator) (w : Width) → length (prefix_code d r o w) ≤ 4
 prefix_length d r prefixes.Not w = omega arith
-prefix_length d r operator w = omega (arith, cut_length d w)
+prefix_length d r operator w = omega (arith, narrow_length d d w)
 
 pub rotate_length : (d r : ℕ) (w : Width) (amount : ℕ) → length (rotate_code d r w amount) ≤ 7
 rotate_length d r w amount =
     let around : length (around_code d (narrowed_in d r w) w (amount % bits w)) ≤ 5 =
     one_of (amount % bits w == 0) _ _ 5 (omega (arith, move_length d (narrowed_in d r w)))
-    (omega (arith, cut_length d w)) in
+    (omega (arith, narrow_length d d w)) in
     simp length-append (omega (arith, narrow_length d r w, around))
 
 scale_length : (d r : ℕ) (kind : Kind) → length (scale_code d r kind) ≤ 2

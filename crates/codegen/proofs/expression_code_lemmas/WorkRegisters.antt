@@ -77,13 +77,6 @@ stays_spare count place q h = grind (arith, nat_tests)
 pub not_written : (works : ℕ → Bool) (q r : ℕ) → works q ≡ false → works r ≡ true → q ≢ r
 not_written works q r h k e = true≢false (sym k ∙ (ap works (sym e) ∙ h))
 
--- Working registers.
-
-pub working_free : (count place spare : ℕ) → count ≤ 16 → 28 < spare → spare < 32
-    → IsFree (working_register count place spare)
-working_free count place spare few low high =
-    free_from (working_register count place spare) (grind (arith, nat_tests)) (grind (arith, nat_tests))
-
 -- Operands: in a home, or in the register of a place, or in a spare one.
 
 abbrev pub IsHome : ℕ → ℕ → Type 0
@@ -97,6 +90,10 @@ pub operand_free : (count place spare r : ℕ) → count ≤ 16 → 28 < spare �
 operand_free count place spare r few low high (inl e) =
     free_from r (grind (arith, nat_tests, e)) (grind (arith, nat_tests, e))
 operand_free count place spare r few low high (inr home) = free_from r (omega (arith, home.0)) (omega (arith, home.1))
+
+pub working_free : (count place spare : ℕ) → count ≤ 16 → 28 < spare → spare < 32
+    → IsFree (working_register count place spare)
+working_free count place spare few low high = operand_free count place spare _ few low high (inl refl)
 
 -- an operand is not in a register that another place works in
 pub operand_apart : (count p q s t r : ℕ) → count ≤ 16 → p ≢ q → 28 < s → 28 < t → s ≢ t → IsOperand count p s r

@@ -194,22 +194,26 @@ module _ {z : Setting} where
         };
   }
 
+  -- asked more and giving less
   pub weaken : {n : ℕ} {steps : Steps z} {is : List Instr} {P P' : Before z} {Q R : After z}
       → ((env : z.Beside) (s : State) → z.Fine (steps env) → P' env s → P env s)
       → ((env : z.Beside) (s t : State) → z.Fine (steps env) → P' env s → Q env s t → R env s t)
       → Runs z n steps is P Q → Runs z n steps is P' R
   weaken before after one = adapt (omega arith) (λ env s fit. refl) before after one
 
+  -- giving less
   pub gives : {n : ℕ} {steps : Steps z} {is : List Instr} {P : Before z} {Q R : After z}
       → ((env : z.Beside) (s t : State) → z.Fine (steps env) → P env s → Q env s t → R env s t)
       → Runs z n steps is P Q → Runs z n steps is P R
   gives after one = weaken (λ env s fine given. given) after one
 
+  -- with a greater cost
   pub cheaper : {m n : ℕ} {steps : Steps z} {is : List Instr} {P : Before z} {Q : After z}
       → m ≤ n → Runs z m steps is P Q → Runs z n steps is P Q
   cheaper more one = adapt more (λ env s fit. refl) (λ env s fine fit. fit) (λ env s t fine fit done. done) one
 
-  -- where it is run, or everywhere
+  -- with its steps otherwise written, where it is run or everywhere
+
   pub along_fit : {n : ℕ} {a b : Steps z} {is : List Instr} {P : Before z} {Q : After z}
       → ((env : z.Beside) (s : State) → P env s → b env ≡ a env) → Runs z n a is P Q → Runs z n b is P Q
   along_fit same one = adapt (omega arith) same (λ env s fine fit. fit) (λ env s t fine fit done. done) one
