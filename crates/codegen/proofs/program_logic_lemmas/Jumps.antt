@@ -107,26 +107,26 @@ module _ {z : Setting} where
 
   -- A branch, whose registers pass its test or do not.
   module _ (test : BranchTest) (l r halves p : ℕ) (fields : IsInstr (instr.Branch test l r halves))
-      (placed : Placed z.code p (instr.Branch test l r halves ∷ [])) (rest : List z.Mark) (s : State) (at : s.pc ≡ p)
-    where
-      pub taken_ends : (target : ℕ) → branch_target p halves ≡ target → target % 4 ≡ 0
-          → holds test (register s.regs l) (register s.regs r) ≡ true
-          → Ends z 1 target (always (shown_at p)) rest rest (λ t. Still s t) s
-      taken_ends target to even passed =
-          let there : branch_target s.pc halves ≡ target = ap (λ q. branch_target q halves) at ∙ to in
-          turn_ends None None (moved_to s (branch_target s.pc halves)) at
-          (branch_leads z.code s test l r halves (stands z.code p _ [] placed fields s at) passed
-          (ap (λ q. q % 4) there ∙ even)) refl z.silence (z.keeps_still s _ (moved_still s _)) refl
-          (moved_to-pc s (branch_target s.pc halves) ∙ there) (moved_still s _)
+      (placed : Placed z.code p (instr.Branch test l r halves ∷ []))
+      (rest : List z.Mark) (s : State) (at : s.pc ≡ p) where
+    pub taken_ends : (target : ℕ) → branch_target p halves ≡ target → target % 4 ≡ 0
+        → holds test (register s.regs l) (register s.regs r) ≡ true
+        → Ends z 1 target (always (shown_at p)) rest rest (λ t. Still s t) s
+    taken_ends target to even passed =
+        let there : branch_target s.pc halves ≡ target = ap (λ q. branch_target q halves) at ∙ to in
+        turn_ends None None (moved_to s (branch_target s.pc halves)) at
+        (branch_leads z.code s test l r halves (stands z.code p _ [] placed fields s at) passed
+        (ap (λ q. q % 4) there ∙ even)) refl z.silence (z.keeps_still s _ (moved_still s _)) refl
+        (moved_to-pc s (branch_target s.pc halves) ∙ there) (moved_still s _)
 
-      pub untaken_ends : holds test (register s.regs l) (register s.regs r) ≡ false
-          → Ends z 1 (p + 4) (always (shown_at p)) rest rest (λ t. Still s t) s
-      untaken_ends failed =
-          let below = placed.1 in
-          let to : next s ≡ p + 4 = omega (arith, at, below) in
-          turn_ends None None (moved_to s (next s)) at
-          (branch_passes z.code s test l r halves (stands z.code p _ [] placed fields s at) failed) refl z.silence
-          (z.keeps_still s _ (moved_still s _)) refl (moved_to-pc s (next s) ∙ to) (moved_still s _)
+    pub untaken_ends : holds test (register s.regs l) (register s.regs r) ≡ false
+        → Ends z 1 (p + 4) (always (shown_at p)) rest rest (λ t. Still s t) s
+    untaken_ends failed =
+        let below = placed.1 in
+        let to : next s ≡ p + 4 = omega (arith, at, below) in
+        turn_ends None None (moved_to s (next s)) at
+        (branch_passes z.code s test l r halves (stands z.code p _ [] placed fields s at) failed) refl z.silence
+        (z.keeps_still s _ (moved_still s _)) refl (moved_to-pc s (next s) ∙ to) (moved_still s _)
 
   -- an arm's code, from states that go to its piece
   pub arm_runs : {k m l : ℕ} {a : Steps z} {code xs : List Instr} {P P' : Before z} {Q S : After z}
