@@ -42,18 +42,21 @@ AreSaved bytes regs a (r ∷ rs) = (number_at bytes 4 a ≡ Some (regs r)) × Ar
 abbrev pub saved_at : Fields → Site → ℕ
 saved_at image site = room_base image site + frame_room image
 
--- each array's pointer stands at its argument's place
-abbrev pub PointerStands : Fields → Site → ByteMap → ℕ → Form → Type 0
-PointerStands image site bytes i SingleWord = Unit {0}
-PointerStands image site bytes i FixedArray = number_at bytes 4 (room_base image site + argument_offset image i)
-    ≡ Some (site.pointers i)
-PointerStands image site bytes i MutableArray = number_at bytes 4 (room_base image site + argument_offset image i)
-    ≡ Some (site.pointers i)
+-- an array's pointer stands at its argument's place, and the array is data
+pub record ReadyArray (image : Fields) (site : Site) (bytes : ByteMap) (i : ℕ) (slot : Slot) : Type 0 where
+  pub pointer : number_at bytes 4 (room_base image site + argument_offset image i) ≡ Some (site.pointers i)
+  pub array : AreData (site.pointers i) (site.pointers i + array_bytes slot) bytes
 
-abbrev pub PointersStand : Fields → Site → ByteMap → ℕ → List Slot → Type 0
-PointersStand image site bytes i [] = Unit {0}
-PointersStand image site bytes i (slot ∷ slots) = PointerStands image site bytes i slot.param.form
-    × PointersStand image site bytes (i + 1) slots
+abbrev pub IsReady : Fields → Site → ByteMap → ℕ → Slot → Form → Type 0
+IsReady image site bytes i slot SingleWord = Unit {0}
+IsReady image site bytes i slot FixedArray = ReadyArray image site bytes i slot
+IsReady image site bytes i slot MutableArray = ReadyArray image site bytes i slot
+
+-- those from the i-th argument on
+abbrev pub AreReady : Fields → Site → ByteMap → ℕ → List Slot → Type 0
+AreReady image site bytes i [] = Unit {0}
+AreReady image site bytes i (slot ∷ slots) = IsReady image site bytes i slot slot.param.form
+    × AreReady image site bytes (i + 1) slots
 
 -- an address before the room of the call or behind it
 abbrev pub IsOutsideRoom : Fields → Site → ℕ → Type 0
@@ -67,7 +70,7 @@ pub record IsEntered (image : Fields) (site : Site) (s t : State) : Type 0 where
   pub loaded : IsLoaded image (room_base image site) (arguments_of image site s) t
   pub untouched : (r : ℕ) → IsUntouched r → t.regs r ≡ s.regs r
   pub saved : AreSaved t.bytes s.regs (saved_at image site) saved_registers
-  pub pointers : PointersStand image site t.bytes 0 image.slots
+  pub ready : AreReady image site t.bytes 0 image.slots
   pub outside : (x : ℕ) → IsOutsideRoom image site x → t.bytes x ≡ s.bytes x
   pub there : AreData (room_base image site) site.stack t.bytes
 
@@ -88,17 +91,6 @@ EnteringLeads = (image : Fields) (code : Code) (site : Site) → IsImage image �
 
 -- Behind the body.
 
--- an array that is handed back is data
-abbrev pub IsWritableData : Site → ByteMap → ℕ → Slot → Form → Type 0
-IsWritableData site bytes i slot SingleWord = Unit {0}
-IsWritableData site bytes i slot FixedArray = Unit {0}
-IsWritableData site bytes i slot MutableArray = AreData (site.pointers i) (site.pointers i + array_bytes slot) bytes
-
-abbrev pub AreWritableData : Site → ByteMap → ℕ → List Slot → Type 0
-AreWritableData site bytes i [] = Unit {0}
-AreWritableData site bytes i (slot ∷ slots) = IsWritableData site bytes i slot slot.param.form
-    × AreWritableData site bytes (i + 1) slots
-
 -- the body is done, of a call whose caller had these registers
 pub record CanLeave (image : Fields) (site : Site) (regs : ℕ → ℕ) (s : State) : Type 0 where
   pub at_leave : s.pc ≡ leave_at image site
@@ -107,9 +99,8 @@ pub record CanLeave (image : Fields) (site : Site) (regs : ℕ → ℕ) (s : Sta
   pub untouched : (r : ℕ) → IsUntouched r → s.regs r ≡ regs r
   pub words : (r : ℕ) → regs r < 2 ^ 32
   pub saved : AreSaved s.bytes regs (saved_at image site) saved_registers
-  pub pointers : PointersStand image site s.bytes 0 image.slots
   pub there : AreData (room_base image site) (arguments_end image site) s.bytes
-  pub arrays : AreWritableData site s.bytes 0 image.slots
+  pub ready : AreReady image site s.bytes 0 image.slots
 
 pub record LeavesFrom (image : Fields) (code : Code) (site : Site) (list : List Observation) (regs : ℕ
     → ℕ) (s : State) : Type 0 where

@@ -1,11 +1,11 @@
 -- Bytes: data that stays data, numbers put one after another, and stretches of zeros.
-use Rattle.std.specs.Prelude.{◌⊎◌, is_some, unwrap_or}
-use Rattle.std.proofs.Common.{◌≡◌, ◌≢◌, ℕ, zero, suc, ◌+◌, ◌*◌, ◌/◌, ◌%◌, ◌^◌, ◌<◌, ◌≤◌, true, ◌&&◌, cond, nat_le}
-use Rattle.std.proofs.Common.{nat_lt, List, [], ◌∷◌, length, Option, Some, None, inl, inr, ⊎_elim, refl, sym, ap, ap₂}
+use Rattle.std.specs.Prelude.{◌⊎◌, is_some, unwrap_or, not}
+use Rattle.std.proofs.Common.{◌≡◌, ◌≢◌, ℕ, zero, suc, ◌+◌, ◌*◌, ◌/◌, ◌%◌, ◌^◌, ◌<◌, ◌≤◌, true, ◌&&◌, ◌==◌, cond}
+use Rattle.std.proofs.Common.{nat_le, nat_lt, List, [], ◌∷◌, ◌++◌, length, Option, Some, None, inl, inr, ⊎_elim, refl, sym, ap, ap₂}
 use Rattle.std.proofs.Common.{◌∙◌, subst, arith}
 use Rattle.std.proofs.Math.Arith.{mod-mul}
 use Rattle.std.proofs.Math.Nat.{pow-suc}
-use Rattle.std.proofs.lemmas.Bool.{cases_eq, cases_lt, false≢true}
+use Rattle.std.proofs.lemmas.Bool.{cases_eq, cases_lt}
 use Rattle.std.proofs.lemmas.Bool.Decides.{nat_tests}
 use Rattle.rv_machine.specs.Bytes.{ByteMap, joined, number_at, with_byte, with_number, zeros}
 use Rattle.linked_calls.proofs.Below.{number_at-zero, number_at-suc, number_at_same, with_number-zero}
@@ -13,6 +13,7 @@ use Rattle.linked_calls.proofs.Below.{with_number-suc, with_number_below, with_n
 use Rattle.linked_calls.proofs.Below.{with_byte_other, is_some-with_number}
 pub use Rattle.linked_calls.specs.Stretches.{AreData, AreZeroed}
 use Rattle.codegen.specs.Loaded.{with_numbers, numbers_at}
+use Rattle.word.specs.Operators.{word_of}
 
 is_some-joined : (a b : Option ℕ) → is_some (joined a b) ≡ (is_some a && is_some b)
 is_some-joined (Some x) (Some y) = refl
@@ -27,12 +28,6 @@ number_there bytes (suc n) a there =
     ap is_some (number_at-suc bytes n a)
     ∙ (is_some-joined (bytes a) (number_at bytes n (a + 1))
     ∙ ap₂ (λ x y. x && y) (there a (omega arith) (omega arith)) rest)
-
--- a store keeps what is data
-pub stays_data : (bytes : ByteMap) (n a v low high : ℕ) → is_some (number_at bytes n a) ≡ true
-    → AreData low high bytes → AreData low high (with_number bytes n a v)
-stays_data bytes n a v low high there data_there x above below = is_some-with_number bytes n a v x there
-    ∙ data_there x above below
 
 -- a store of equal numbers where two maps agree
 pub with_number_agree : (one other : ByteMap) (n a v x : ℕ) → one x ≡ other x
@@ -78,6 +73,12 @@ with_number_cut bytes (suc n) a v =
     ∙ with_number_cut bytes n (a + 1) (v / 256)) (lowest v w high e)
     ∙ sym (with_number-suc bytes n a v)
 
+-- a bool is 0 or not
+pub same_truth : (v : ℕ) → word_of (nat_lt 0 v) ≡ word_of (not (v == 0))
+same_truth v =
+    let same : nat_lt 0 v ≡ not (v == 0) = grind (arith, nat_tests) in
+    ap word_of same
+
 -- Numbers put one after another.
 
 pub numbers_below : (bytes : ByteMap) (size at : ℕ) (vs : List ℕ) (x : ℕ) → x < at
@@ -101,43 +102,64 @@ numbers_agree one other size at (v ∷ vs) x same =
     numbers_agree (with_number one size at v) (with_number other size at v) size (at + size) vs x
     (with_number_agree one other size at v x same)
 
--- these numbers are there, one after another
-abbrev pub Holds : ByteMap → ℕ → ℕ → List ℕ → Type 0
-Holds bytes n a [] = Unit {0}
-Holds bytes n a (v ∷ vs) = (number_at bytes n a ≡ Some v) × Holds bytes n (a + n) vs
-
-some_is : (o : Option ℕ) → is_some o ≡ true → o ≡ Some (unwrap_or o 0)
-some_is (Some v) h = refl
-some_is None h = absurd (false≢true h)
-
--- the numbers of a stretch of data are there
-pub numbers_hold : (bytes : ByteMap) (n a k : ℕ) → AreData a (a + n * k) bytes
-    → Holds bytes n a (numbers_at bytes n a k)
-numbers_hold bytes n a zero there = tt
-numbers_hold bytes n a (suc k) there = (
-  some_is (number_at bytes n a) (number_there bytes n a (λ x low high. there x low (omega (arith, high)))),
-  numbers_hold bytes n (a + n) k (λ x low high. there x (omega (arith, low)) (omega (arith, high))),
-)
-
 pub numbers_count : (bytes : ByteMap) (n a k : ℕ) → length (numbers_at bytes n a k) ≡ k
 numbers_count bytes n a zero = refl
 numbers_count bytes n a (suc k) = ap suc (numbers_count bytes n (a + n) k)
 
--- they are there in a map that agrees
-pub holds_same : (old new : ByteMap) (n a : ℕ) (vs : List ℕ)
-    → ((x : ℕ) → a ≤ x → x < a + n * length vs → new x ≡ old x) → Holds old n a vs → Holds new n a vs
-holds_same old new n a [] same h = tt
-holds_same old new n a (v ∷ vs) same h = (
-  number_at_same old new n a (λ x low high. same x low (omega (arith, high))) ∙ h.0,
-  holds_same old new n (a + n) vs (λ x low high. same x (omega (arith, low)) (omega (arith, high))) h.1,
-)
+-- they are read the same where maps agree
+pub numbers_same : (old new : ByteMap) (n a k : ℕ) → ((x : ℕ) → a ≤ x → x < a + n * k → new x ≡ old x)
+    → numbers_at new n a k ≡ numbers_at old n a k
+numbers_same old new n a zero same = refl
+numbers_same old new n a (suc k) same =
+    ap₂ (λ o (vs : List ℕ). unwrap_or o 0 ∷ vs)
+    (number_at_same old new n a (λ x low high. same x low (omega (arith, high))))
+    (numbers_same old new n (a + n) k (λ x low high. same x (omega (arith, low)) (omega (arith, high))))
 
--- and are what is read there
-pub held_numbers : (bytes : ByteMap) (n a : ℕ) (vs : List ℕ) → Holds bytes n a vs
-    → numbers_at bytes n a (length vs) ≡ vs
-held_numbers bytes n a [] h = refl
-held_numbers bytes n a (v ∷ vs) h =
-    ap₂ (λ x (xs : List ℕ). x ∷ xs) (ap (λ o. unwrap_or o 0) h.0) (held_numbers bytes n (a + n) vs h.1)
+-- a number beside those that are put is read as before
+pub number_beside : (bytes : ByteMap) (n at : ℕ) (vs : List ℕ) (m a : ℕ) → (a + m ≤ at) ⊎ (at + n * length vs ≤ a)
+    → number_at (with_numbers bytes n at vs) m a ≡ number_at bytes m a
+number_beside bytes n at vs m a (inl before) =
+    number_at_same bytes (with_numbers bytes n at vs) m a
+    (λ x low high. numbers_below bytes n at vs x (omega (arith, high, before)))
+number_beside bytes n at vs m a (inr behind) =
+    number_at_same bytes (with_numbers bytes n at vs) m a
+    (λ x low high. numbers_above bytes n at vs x (omega (arith, low, behind)))
+
+-- one more is read, and one more is put
+pub numbers_more : (bytes : ByteMap) (n a k : ℕ)
+    → numbers_at bytes n a (suc k) ≡ numbers_at bytes n a k ++ unwrap_or (number_at bytes n (a + n * k)) 0 ∷ []
+numbers_more bytes n a zero =
+    let e : a + n * 0 ≡ a = omega arith in
+    ap (λ x. unwrap_or (number_at bytes n x) 0 ∷ []) (sym e)
+numbers_more bytes n a (suc k) =
+    let e : a + n + n * k ≡ a + n * suc k = omega arith in
+    ap (λ (vs : List ℕ). unwrap_or (number_at bytes n a) 0 ∷ vs) (numbers_more bytes n (a + n) k
+    ∙ ap (λ x. numbers_at bytes n (a + n) k ++ unwrap_or (number_at bytes n x) 0 ∷ []) e)
+
+pub numbers_then : (bytes : ByteMap) (n at : ℕ) (vs : List ℕ) (v : ℕ)
+    → with_numbers bytes n at (vs ++ v ∷ []) ≡ with_number (with_numbers bytes n at vs) n (at + n * length vs) v
+numbers_then bytes n at [] v =
+    let e : at + n * 0 ≡ at = omega arith in
+    ap (λ x. with_number bytes n x v) (sym e)
+numbers_then bytes n at (u ∷ vs) v =
+    let e : at + n + n * length vs ≡ at + n * suc (length vs) = omega arith in
+    let one = with_number bytes n at u in
+    numbers_then one n (at + n) vs v ∙ ap (λ x. with_number (with_numbers one n (at + n) vs) n x v) e
+
+-- the same addresses are data
+abbrev pub SameData : ByteMap → ByteMap → Type 0
+SameData old new = (x : ℕ) → is_some (new x) ≡ is_some (old x)
+
+-- also under numbers of data
+pub numbers_data : (bytes : ByteMap) (n at : ℕ) (vs : List ℕ) → AreData at (at + n * length vs) bytes
+    → SameData bytes (with_numbers bytes n at vs)
+numbers_data bytes n at [] there x = refl
+numbers_data bytes n at (v ∷ vs) there x =
+    let first = number_there bytes n at (λ y low high. there y low (omega (arith, high))) in
+    numbers_data (with_number bytes n at v) n (at + n) vs
+    (λ y low high. is_some-with_number bytes n at v y first
+    ∙ there y (omega (arith, low)) (omega (arith, high))) x
+    ∙ is_some-with_number bytes n at v x first
 
 -- Zeros.
 
@@ -193,21 +215,20 @@ zeros_up low mid high one two three a b down up = record {
   outside = λ x w. up.outside x (above_too low mid x high a b w) ∙ down.outside x (below_too low mid x high a b w);
 }
 
--- a block of four words
-pub block_zeroed : (bytes : ByteMap) (a : ℕ)
-    → AreZeroed a (a + 16) bytes
-    (with_number (with_number (with_number (with_number bytes 4 a 0) 4 (a + 4) 0) 4 (a + 8) 0) 4 (a + 12) 0)
-block_zeroed bytes a =
+-- so many zeros
+abbrev pub zeros_of : ℕ → List ℕ
+zeros_of zero = []
+zeros_of (suc k) = 0 ∷ zeros_of k
+
+-- as words one after another
+pub zeroed_words : (bytes : ByteMap) (a k : ℕ) → AreZeroed a (a + 4 * k) bytes (with_numbers bytes 4 a (zeros_of k))
+zeroed_words bytes a zero = record {
+  inside = λ x low high. absurd (omega (arith, low, high));
+  outside = λ x w. refl;
+}
+zeroed_words bytes a (suc k) =
     let one = with_number bytes 4 a 0 in
-    let two = with_number one 4 (a + 4) 0 in
-    let three = with_number two 4 (a + 8) 0 in
-    let four = with_number three 4 (a + 12) 0 in
-    let e : a + 4 + 4 ≡ a + 8 = omega arith in
-    let f : a + 8 + 4 ≡ a + 12 = omega arith in
-    let g : a + 12 + 4 ≡ a + 16 = omega arith in
-    zeros_up a (a + 4) (a + 16) bytes one four (omega arith) (omega arith) (zero_number bytes 4 a)
-    (zeros_up (a + 4) (a + 8) (a + 16) one two four (omega arith) (omega arith)
-    (subst (λ x. AreZeroed (a + 4) x one two) e (zero_number one 4 (a + 4)))
-    (zeros_up (a + 8) (a + 12) (a + 16) two three four (omega arith) (omega arith)
-    (subst (λ x. AreZeroed (a + 8) x two three) f (zero_number two 4 (a + 8)))
-    (subst (λ x. AreZeroed (a + 12) x three four) g (zero_number three 4 (a + 12)))))
+    let all = with_numbers one 4 (a + 4) (zeros_of k) in
+    let e : a + 4 + 4 * k ≡ a + 4 * suc k = omega arith in
+    zeros_up a (a + 4) (a + 4 * suc k) bytes one all (omega arith) (omega arith) (zero_number bytes 4 a)
+    (subst (λ x. AreZeroed (a + 4) x one all) e (zeroed_words one (a + 4) k))

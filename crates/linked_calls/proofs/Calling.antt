@@ -1,7 +1,7 @@
 -- The whole call: the code before the body, the body, and the code behind it, one after another.
 use Rattle.std.specs.Prelude.{sum, is_some}
-use Rattle.std.proofs.Common.{◌≡◌, ℕ, suc, ◌+◌, ◌-◌, ◌%◌, ◌<◌, ◌≤◌, true, List, ◌++◌, map, Option, Some, None, inl}
-use Rattle.std.proofs.Common.{inr, ⊎_elim, ap, ◌∙◌, subst, arith}
+use Rattle.std.proofs.Common.{◌≡◌, ℕ, suc, ◌+◌, ◌-◌, ◌<◌, ◌≤◌, true, List, ◌++◌, map, Option, Some, None, inl}
+use Rattle.std.proofs.Common.{inr, ⊎_elim, sym, ap, ◌∙◌, subst, arith}
 use Rattle.std.proofs.lemmas.Bool.{cases_lt}
 use Rattle.std.proofs.lemmas.List.{map-append}
 use Rattle.std.proofs.lemmas.List.Elements.{All-append}
@@ -18,13 +18,15 @@ use Rattle.linked_calls.specs.Callable.{Returns, IsCallable, CallsAreLinked}
 use Rattle.linked_calls.specs.Called.{IsOfCall, IsLeft}
 use Rattle.linked_calls.specs.Calls.{Site, IsSite, IsCalled, room_base, arguments_end, arguments_of}
 use Rattle.linked_calls.specs.Convention.{saved_registers}
-use Rattle.linked_calls.specs.FunctionCode.{frame_room}
 use Rattle.linked_calls.specs.Sections.{enter_sections, leave_sections, section_turns, around_turns}
 use Rattle.linked_calls.specs.Stretches.{AreData}
 use Rattle.linked_calls.proofs.Between.{IsOutsideRoom, body_at, saved_at, enter_turns, leave_turns, Enters}
 use Rattle.linked_calls.proofs.Between.{EntersFrom, EnteringLeads, CanLeave, Leaves, LeavesFrom, LeavesEverywhere}
+use Rattle.linked_calls.proofs.Bytes.{SameData}
+use Rattle.linked_calls.proofs.Rooms.{room_numbers}
+use Rattle.linked_calls.proofs.SavedRegisters.{saved_same}
 use Rattle.linked_calls.proofs.Standing.{body_stands}
-use Rattle.linked_calls.proofs.Staying.{AreSameFrom, saved_stay, pointers_stay, arrays_stay, arrays_agree}
+use Rattle.linked_calls.proofs.Staying.{arrays_agree, stay_ready}
 use Rattle.linked_calls.proofs.WithinParameters.{arguments_within}
 use Rattle.linked_calls.proofs.Below.{Leads-append}
 use Rattle.rv_machine.specs.Machine.{State, Code}
@@ -33,12 +35,6 @@ use Rattle.rv_machine.specs.declared.observation.Event.TheVariants.{Load, Store,
 use Rattle.rv_machine.specs.declared.observation.Observation.{Observation}
 
 -- Places.
-
-base_aligned : (image : Fields) (code : Code) (site : Site) → IsSite image code site → room_base image site % 4 ≡ 0
-base_aligned image code site is =
-    let aligned = is.stack_aligned in
-    let room = is.room in
-    omega (arith, aligned, room)
 
 -- the frame lies in the room
 frame_below : (image : Fields) (code : Code) (site : Site) → IsSite image code site
@@ -52,10 +48,12 @@ is_placed : (image : Fields) (code : Code) (site : Site) → IsSite image code s
 is_placed image code site is =
     let below = frame_below image code site is in
     let ends = is.stack_ends in
+    let aligned = is.stack_aligned in
+    let room = is.room in
     record {
       observed = is.observed;
       words = body_stands image code site is;
-      frame_aligned = base_aligned image code site is;
+      frame_aligned = omega (arith, aligned, room);
       frame_ends = omega (arith, below, ends);
     }
 
@@ -94,10 +92,10 @@ module _ (image : Fields) (code : Code) (site : Site) (is : IsSite image code si
     (before : List Observation) (entered : EntersFrom image code site before s)
     (list : List Observation) (run : BodyRun image code (body_at image site) (room_base image site) entered.end
     list) where
-  beside_above : (x : ℕ) → room_base image site + frame_room image ≤ x → IsBeside image (room_base image site) x
+  beside_above : (x : ℕ) → saved_at image site ≤ x → IsBeside image (room_base image site) x
   beside_above x above = inr (omega (arith, above))
 
-  same_above : AreSameFrom (room_base image site + frame_room image) entered.end.bytes run.end.bytes
+  same_above : (x : ℕ) → saved_at image site ≤ x → run.end.bytes x ≡ entered.end.bytes x
   same_above x above = run.beside x (beside_above x above)
 
   beside_room : (x : ℕ) → IsOutsideRoom image site x → IsBeside image (room_base image site) x
@@ -110,22 +108,30 @@ module _ (image : Fields) (code : Code) (site : Site) (is : IsSite image code si
   same_outside : (x : ℕ) → IsOutsideRoom image site x → run.end.bytes x ≡ s.bytes x
   same_outside x out = run.beside x (beside_room x out) ∙ entered.entered.outside x out
 
-  -- the room is data
-  room_there : AreData (room_base image site) site.stack run.end.bytes
-  room_there x low high =
-      ⊎_elim
-      (λ (inside : x < room_base image site + image.frame_bytes).
+  -- what is data is so behind it
+  in_frame : (x : ℕ) → room_base image site ≤ x → x < room_base image site + image.frame_bytes
+      → is_some (run.end.bytes x) ≡ true
+  in_frame x low high =
       let e : room_base image site + (x - room_base image site) ≡ x = omega (arith, low) in
       subst (λ a. is_some (run.end.bytes a) ≡ true) e
-      (run.frame_there (x - room_base image site) (omega (arith, low, inside))))
-      (λ (above : room_base image site + image.frame_bytes ≤ x). ap is_some (run.beside x (inr above))
-      ∙ entered.entered.there x low high)
-      (cases_lt x (room_base image site + image.frame_bytes))
+      (run.frame_there (x - room_base image site) (omega (arith, low, high)))
+
+  data_same : SameData entered.end.bytes run.end.bytes
+  data_same x =
+      ⊎_elim (λ (e : x < room_base image site). ap is_some (run.beside x (inl e)))
+      (λ (low : room_base image site ≤ x).
+      ⊎_elim
+      (λ (high : x < room_base image site + image.frame_bytes).
+      let below = frame_below image code site is in
+      in_frame x low high ∙ sym (entered.entered.there x low (omega (arith, high, below))))
+      (λ (above : room_base image site + image.frame_bytes ≤ x). ap is_some (run.beside x (inr above)))
+      (cases_lt x (room_base image site + image.frame_bytes)))
+      (cases_lt x (room_base image site))
 
   all_there : AreData (room_base image site) (arguments_end image site) run.end.bytes
   all_there x low high =
       ⊎_elim
-      (λ (below : x < site.stack). room_there x low below)
+      (λ (below : x < site.stack). data_same x ∙ entered.entered.there x low below)
       (λ (above : site.stack ≤ x). ap is_some (same_outside x (inr above)) ∙ called.there x low high)
       (cases_lt x site.stack)
 
@@ -136,12 +142,11 @@ module _ (image : Fields) (code : Code) (site : Site) (is : IsSite image code si
     stack = called.stack;
     untouched = λ r which. run.untouched r which ∙ entered.entered.untouched r which;
     words = called.words;
-    saved = saved_stay (room_base image site + frame_room image) (saved_at image site) entered.end.bytes run.end.bytes
-        s.regs saved_registers same_above (omega arith) entered.entered.saved;
-    pointers = pointers_stay image site entered.end.bytes run.end.bytes same_above 0 image.slots
-        entered.entered.pointers;
+    saved = saved_same entered.end.bytes run.end.bytes s.regs (saved_at image site) saved_registers
+        (λ x low high. same_above x low) entered.entered.saved;
     there = all_there;
-    arrays = arrays_stay image site s run.end.bytes same_outside 0 image.slots is.arrays called.arguments;
+    ready = stay_ready image site (room_numbers image code site is) entered.end.bytes run.end.bytes
+        (λ x low high. same_above x low) data_same 0 image.slots (omega arith) entered.entered.ready;
   }
 
   -- so what is left of the bytes behind the body is left of those at the call

@@ -1,348 +1,398 @@
--- The code that takes an array into its slot, and the code that hands it back: the bounds, and then the loop.
-use Rattle.std.specs.Prelude.{is_some, unwrap_or}
-use Rattle.std.proofs.Common.{◌≡◌, ◌≢◌, ℕ, zero, suc, ◌+◌, ◌*◌, ◌%◌, ◌^◌, ◌<◌, ◌≤◌, true, List, [], ◌∷◌, ◌++◌, length}
-use Rattle.std.proofs.Common.{map, Option, Some, inl, inr, refl, sym, ap, ap₂, ◌∙◌, subst, arith, length-append}
-use Rattle.std.proofs.Common.{append_assoc}
-use Rattle.std.proofs.lemmas.List.{map-id}
+-- The code that takes an array into its slot, and the code that hands it back: the bounds, and then a loop over the
+-- elements, in which x5 goes through the caller's array up to x7, and x6 through the slot.
+use Rattle.std.specs.Prelude.{◌⊎◌, is_some, unwrap_or}
+use Rattle.std.proofs.Common.{◌≡◌, ◌≢◌, ℕ, suc, ◌+◌, ◌*◌, ◌%◌, ◌^◌, ◌<◌, ◌≤◌, Bool, true, false, List, [], ◌∷◌, ◌++◌}
+use Rattle.std.proofs.Common.{length, map, inl, inr, refl, sym, ap, ap₂, ◌∙◌, subst, arith, append_assoc, length-append}
+use Rattle.std.proofs.lemmas.List.{length-map, map-append, map-id}
 use Rattle.codegen.specs.Loaded.{with_numbers, numbers_at}
 use Rattle.codegen.specs.expression_code.TermCode.{load_code, constant_code}
-use Rattle.linked_calls.specs.FunctionCode.{argument_offset, array_bytes, bounds_code, argument_code, copy_out_code}
-use Rattle.linked_calls.specs.FunctionCode.{copied_in_code, copied_out_code, until_equal}
-use Rattle.linked_calls.specs.Sections.{element_turns}
 use Rattle.codegen.specs.image_fields.Fields.{Fields}
 use Rattle.codegen.specs.declared.image_fields.slot.Slot.{Slot}
 use Rattle.language.specs.Size.{element_bytes}
 use Rattle.language.specs.declared.signature.Form.TheVariants.{FixedArray, MutableArray}
 use Rattle.language.specs.declared.signature.Kind.{Kind}
-use Rattle.language.specs.declared.signature.Kind.TheVariants.{Boolean, Uint8, Uint16, Uint32}
 use Rattle.rv_code.specs.declared.instructions.Instr.{Instr}
 use Rattle.rv_code.specs.declared.instructions.Instr.TheVariants.{Register}
 use Rattle.rv_code.specs.declared.operations.RegisterOperation.TheVariants.{Add}
-use Rattle.rv_machine.specs.declared.memory.Size.TheVariants.{Word}
-use Rattle.rv_machine.specs.declared.observation.Event.TheVariants as event
-use Rattle.rv_machine.specs.Bytes.{ByteMap, number_at}
+use Rattle.rv_machine.specs.Bytes.{ByteMap, number_at, with_number}
 use Rattle.rv_machine.specs.Effects.{sum_of}
-use Rattle.rv_machine.specs.Registers.{register}
-use Rattle.linked_calls.specs.Copies.{Pointed, place_of, slot_of, CanBeCopied, HasArray, OthersAsBefore, IsCopying}
-use Rattle.linked_calls.specs.Copies.{IsTaken, ArrayIsTaken, IsHandedBack, ArrayIsHandedBack}
+use Rattle.rv_machine.specs.Machine.{Code}
+use Rattle.linked_calls.specs.Copies.{ArrayIsHandedBack, ArrayIsTaken, AreApart, CanBeCopied, HasArray, IsCopying}
+use Rattle.linked_calls.specs.Copies.{IsHandedBack, IsTaken, OthersAsBefore, Pointed, place_of, slot_of}
 use Rattle.linked_calls.specs.Does.{Data}
-use Rattle.linked_calls.specs.Meant.{meant}
-use Rattle.linked_calls.specs.Stretches.{AreData, LiesIn}
-use Rattle.linked_calls.proofs.CopySpots.{MayLoad, MayStore, element_size}
-use Rattle.linked_calls.proofs.Copying.{BeginsCopy, Copies, CanCopy, copied_into, copied_back, copy_in_runs}
-use Rattle.linked_calls.proofs.Copying.{copy_out_runs}
-use Rattle.linked_calls.proofs.Parts.{Runs, Sets, HasWord, load_part, constant_part, straight_runs, then_runs}
-use Rattle.linked_calls.proofs.Parts.{weaken_runs, part_to}
-use Rattle.linked_calls.proofs.Pieces.{Setting}
-use Rattle.linked_calls.proofs.Placing.{placed, does}
-use Rattle.linked_calls.proofs.Registers.{register-at, written, unwritten, three_fit}
-use Rattle.linked_calls.proofs.Steps.{plain}
+use Rattle.linked_calls.specs.FunctionCode.{argument_code, argument_offset, array_bytes, bounds_code, copy_out_code}
+use Rattle.linked_calls.specs.FunctionCode.{until_equal}
+use Rattle.linked_calls.specs.Sections.{element_turns}
+use Rattle.linked_calls.specs.Stretches.{AreData}
+use Rattle.linked_calls.proofs.Below.{number_or_zero, register_kept}
+use Rattle.linked_calls.proofs.Bytes.{number_beside, number_there, numbers_count, numbers_data, numbers_more}
+use Rattle.linked_calls.proofs.Bytes.{numbers_then}
+use Rattle.linked_calls.proofs.CopyElements.{Reached, chosen, copied_code, copied_value, copy_fit, copy_leaves}
+use Rattle.linked_calls.proofs.CopyElements.{copy_length, copy_made, copy_met, copy_plain, copy_works, element_even}
+use Rattle.linked_calls.proofs.CopyElements.{element_lies, elements_fit, some_bytes, source, target}
+use Rattle.linked_calls.proofs.Loops.{loop}
+use Rattle.linked_calls.proofs.Parts.{Sets, load_runs, same_number, sum_runs}
+use Rattle.linked_calls.proofs.Pieces.{Runs, Setting, as_code, in_turns, placed, straight_runs, then_runs, weaken_runs}
 
--- Loops over as many elements as there are.
+-- What holds of both of two, or of the two in both orders, holds of those that are chosen.
 
-lies : (kind : Kind) (low high x : ℕ) → low ≤ x → x + element_bytes kind ≤ high
-    → LiesIn low high x (element_size kind)
-lies Boolean low high x from to = (from, to)
-lies Uint8 low high x from to = (from, to)
-lies Uint16 low high x from to = (from, to)
-lies Uint32 low high x from to = (from, to)
+both : (inward : Bool) (P : ℕ → Type 0) (x y : ℕ) → P x → P y → P (chosen inward x y)
+both true P x y one other = one
+both false P x y one other = other
 
-module _ (z : Setting) (pointer slot : ℕ) where
-  in_loop : (kind : Kind) (k : ℕ) → CanCopy (element_bytes kind) (suc k) pointer slot
-      → MayLoad z (element_bytes kind) (element_size kind) pointer (pointer + element_bytes kind * suc k)
-      → MayStore z (element_bytes kind) (element_size kind) slot (slot + element_bytes kind * suc k)
-      → Runs z (element_turns (copied_in_code kind) (suc k)) (until_equal 5 7 (copied_in_code kind))
-      (BeginsCopy (element_bytes kind) (suc k) pointer slot)
-      (Copies (copied_into (element_bytes kind) (meant kind) (suc k) pointer slot))
-  in_loop Boolean k can loads stores p there =
-      part_to z refl (omega arith) (copy_in_runs z k pointer slot Boolean can loads stores p there)
-  in_loop Uint8 k can loads stores p there =
-      part_to z refl (omega arith) (copy_in_runs z k pointer slot Uint8 can loads stores p there)
-  in_loop Uint16 k can loads stores p there =
-      part_to z refl (omega arith) (copy_in_runs z k pointer slot Uint16 can loads stores p there)
-  in_loop Uint32 k can loads stores p there =
-      part_to z refl (omega arith) (copy_in_runs z k pointer slot Uint32 can loads stores p there)
+chosen_apart : (inward : Bool) (n x y : ℕ) → AreApart n x y → AreApart n (chosen inward x y) (chosen inward y x)
+chosen_apart true n x y apart = apart
+chosen_apart false n x y (inl below) = inr below
+chosen_apart false n x y (inr above) = inl above
 
-  out_loop : (kind : Kind) (k : ℕ) → CanCopy (element_bytes kind) (suc k) pointer slot
-      → MayStore z (element_bytes kind) (element_size kind) pointer (pointer + element_bytes kind * suc k)
-      → MayLoad z (element_bytes kind) (element_size kind) slot (slot + element_bytes kind * suc k)
-      → Runs z (element_turns (copied_out_code kind) (suc k)) (until_equal 5 7 (copied_out_code kind))
-      (BeginsCopy (element_bytes kind) (suc k) pointer slot)
-      (Copies (copied_back (element_bytes kind) (suc k) pointer slot))
-  out_loop Boolean k can stores loads p there =
-      part_to z refl (omega arith) (copy_out_runs z k pointer slot Boolean can stores loads p there)
-  out_loop Uint8 k can stores loads p there =
-      part_to z refl (omega arith) (copy_out_runs z k pointer slot Uint8 can stores loads p there)
-  out_loop Uint16 k can stores loads p there =
-      part_to z refl (omega arith) (copy_out_runs z k pointer slot Uint16 can stores loads p there)
-  out_loop Uint32 k can stores loads p there =
-      part_to z refl (omega arith) (copy_out_runs z k pointer slot Uint32 can stores loads p there)
+chosen_on : (inward : Bool) (x y m : ℕ)
+    → chosen inward ((chosen inward x y + m) % 2 ^ 32) ((chosen inward y x + m) % 2 ^ 32) ≡ (x + m) % 2 ^ 32
+chosen_on true x y m = refl
+chosen_on false x y m = refl
 
--- The bounds.
+first_is : (inward : Bool) (regs : ℕ → ℕ) → regs 5 ≡ chosen inward (source inward regs) (target inward regs)
+first_is true regs = refl
+first_is false regs = refl
 
-module _ (z : Setting) (r o : ℕ) (few : r < 32) (nonzero : r ≢ 0) (few_other : o < 32) (nonzero_other : o ≢ 0)
-    (differ : o ≢ r) where
-  adds : Runs z 1 (Register Add r r o ∷ []) (λ s. Unit {0}) (Sets r (λ s. sum_of (s.regs r) (s.regs o)))
-  adds =
-      straight_runs z {P = λ s. Unit {0}} {R = Sets r (λ s. sum_of (s.regs r) (s.regs o))}
-      (plain (Register Add r r o) ∷ []) (z.silent, tt)
-      (λ s u.
-      let v = sum_of (register s.regs r) (register s.regs o) in
+regrouped : (a b c d e : List Instr) → (a ++ (b ++ c)) ++ (d ++ e) ≡ a ++ b ++ c ++ d ++ e
+regrouped a b c d e = simp append_assoc
+
+module _ (code : Code) (image : Fields) (slot : Slot) (spot : Pointed) (can : CanBeCopied image slot spot)
+    (inward : Bool) where
+  abbrev kind : Kind
+  kind = slot.param.kind
+
+  abbrev n : ℕ
+  n = element_bytes kind
+
+  abbrev k : ℕ
+  k = slot.param.length
+
+  abbrev from : ℕ
+  from = chosen inward spot.pointer (slot_of slot spot)
+
+  abbrev to : ℕ
+  to = chosen inward (slot_of slot spot) spot.pointer
+
+  abbrev z : Setting
+  z = record { code = code; allowed = IsCopying (place_of image spot) (array_bytes slot) from to; silent = tt }
+
+  -- the elements that were copied, of so many
+  abbrev copied : ℕ → ByteMap → ByteMap
+  copied i bytes = with_numbers bytes n to (map (copied_value inward kind) (numbers_at bytes n from i))
+
+  -- Where both lie.
+
+  from_even : from % n ≡ 0
+  from_even = both inward (λ x. x % n ≡ 0) spot.pointer (slot_of slot spot) can.array_aligned can.slot_aligned
+
+  to_even : to % n ≡ 0
+  to_even = both inward (λ x. x % n ≡ 0) (slot_of slot spot) spot.pointer can.slot_aligned can.array_aligned
+
+  slot_to : slot_of slot spot + n * k ≤ 2 ^ 32
+  slot_to = let ends = can.slot_ends in omega (arith, ends)
+
+  from_ends : from + n * k ≤ 2 ^ 32
+  from_ends = both inward (λ x. x + n * k ≤ 2 ^ 32) spot.pointer (slot_of slot spot) can.array_ends slot_to
+
+  to_ends : to + n * k ≤ 2 ^ 32
+  to_ends = both inward (λ x. x + n * k ≤ 2 ^ 32) (slot_of slot spot) spot.pointer slot_to can.array_ends
+
+  -- The loop.
+
+  -- x5 at the caller's array, x6 at its slot, x7 behind the array, and both are data
+  record BeginsCopy (s : Data) : Type 0 where
+    pointer : s.regs 5 ≡ spot.pointer
+    slot_at : s.regs 6 ≡ slot_of slot spot
+    stop : s.regs 7 ≡ (spot.pointer + n * k) % 2 ^ 32
+    from_there : AreData from (from + n * k) s.bytes
+    to_there : AreData to (to + n * k) s.bytes
+
+  -- so many elements are copied
+  record Copying (i : ℕ) (s d : Data) : Type 0 where
+    begins : BeginsCopy s
+    source_is : source inward d.regs ≡ (from + n * i) % 2 ^ 32
+    target_is : target inward d.regs ≡ (to + n * i) % 2 ^ 32
+    others : (q : ℕ) → q ≢ 5 → q ≢ 6 → q ≢ 28 → d.regs q ≡ s.regs q
+    bytes : d.bytes ≡ copied i s.bytes
+
+  count : (bytes : ByteMap) (i : ℕ) → length (map (copied_value inward kind) (numbers_at bytes n from i)) ≡ i
+  count bytes i = length-map (numbers_at bytes n from i) (copied_value inward kind) ∙ numbers_count bytes n from i
+
+  module _ (i : ℕ) (few : i < k) where
+    inside : n * i + n ≤ n * k
+    inside = elements_fit kind i k few
+
+    -- the next one is not written yet
+    unwritten_yet : (bytes : ByteMap) → number_at (copied i bytes) n (from + n * i) ≡ number_at bytes n (from + n * i)
+    unwritten_yet bytes =
+        number_beside bytes n to (map (copied_value inward kind) (numbers_at bytes n from i)) n (from + n * i)
+        (by (chosen_apart inward (n * k) spot.pointer (slot_of slot spot) can.apart))
+      where
+        by : AreApart (n * k) from to → (from + n * i + n ≤ to)
+            ⊎ (to + n * length (map (copied_value inward kind) (numbers_at bytes n from i)) ≤ from + n * i)
+        by (inl before) = let fits = inside in inl (omega (arith, before, fits))
+        by (inr behind) =
+            let fits = inside in
+            inr (subst (λ x. to + n * x ≤ from + n * i) (sym (count bytes i)) (omega (arith, behind, fits)))
+
+    one_more : (bytes : ByteMap)
+        → with_number (copied i bytes) n (to + n * i)
+        (copied_value inward kind (number_or_zero (number_at (copied i bytes) n (from + n * i))))
+        ≡ copied (suc i) bytes
+    one_more bytes =
+        let f = copied_value inward kind in
+        let vs = numbers_at bytes n from i in
+        let v = unwrap_or (number_at bytes n (from + n * i)) 0 in
+        ap (λ x. with_number (copied i bytes) n (to + n * i) (f x)) (ap number_or_zero (unwritten_yet bytes)
+        ∙ same_number (number_at bytes n (from + n * i)))
+        ∙ ap (λ x. with_number (copied i bytes) n (to + n * x) (f v)) (sym (count bytes i))
+        ∙ sym (numbers_then bytes n to (map f vs) (f v))
+        ∙ ap (λ (ws : List ℕ). with_numbers bytes n to ws) (sym (map-append f vs (v ∷ [])))
+        ∙ ap (λ (ws : List ℕ). with_numbers bytes n to (map f ws)) (sym (numbers_more bytes n from i))
+
+    source_reached : (s d : Data) → Copying i s d → Reached n (source inward d.regs) (from + n * i) d
+    source_reached s d held =
+        let is = held.source_is in
+        let fits = inside in
+        let some = some_bytes kind in
+        let ends = from_ends in
+        record {
+          is = is ∙ omega (arith, fits, some, ends);
+          below = omega (arith, fits, some, ends);
+          there = ap (λ (b : ByteMap). is_some (number_at b n (from + n * i))) held.bytes
+              ∙ ap is_some (unwritten_yet s.bytes)
+              ∙ number_there s.bytes n (from + n * i)
+              (λ x low high. held.begins.from_there x (omega (arith, low)) (omega (arith, high, fits)));
+        }
+
+    target_reached : (s d : Data) → Copying i s d → Reached n (target inward d.regs) (to + n * i) d
+    target_reached s d held =
+        let is = held.target_is in
+        let fits = inside in
+        let some = some_bytes kind in
+        let ends = to_ends in
+        let done = count s.bytes i in
+        let same = numbers_data s.bytes n to (map (copied_value inward kind) (numbers_at s.bytes n from i))
+        (λ x low high. held.begins.to_there x low (omega (arith, subst (λ c. x < to + n * c) done high, fits))) in
+        record {
+          is = is ∙ omega (arith, fits, some, ends);
+          below = omega (arith, fits, some, ends);
+          there = number_there d.bytes n (to + n * i)
+              (λ x low high. ap (λ (b : ByteMap). is_some (b x)) held.bytes
+              ∙ same x ∙ held.begins.to_there x (omega (arith, low)) (omega (arith, high, fits)));
+        }
+
+    round : Runs z (length (copied_code inward kind)) (copied_code inward kind) (λ d. (s : Data) × Copying i s d)
+        (λ d t. (s : Data) → Copying i s d → Copying (suc i) s t)
+    round =
+        let a = from + n * i in
+        let b = to + n * i in
+        let fits = inside in
+        straight_runs z copy_works (copied_code inward kind) (a ∷ b ∷ []) (copy_plain inward kind)
+        (copy_fit z.allowed inward kind a b
+        (record {
+          even = element_even kind from i from_even;
+          allowed = inr (element_lies kind from (from + array_bytes slot) a (omega arith) (omega (arith, fits)));
+        })
+        (record {
+          even = element_even kind to i to_even;
+          allowed = element_lies kind to (to + array_bytes slot) b (omega arith) (omega (arith, fits));
+        }))
+        (λ d given. copy_met inward kind a b d (source_reached given.0 d given.1) (target_reached given.0 d given.1))
+        (λ d given s held.
+        let made = copy_made inward kind a b d in
+        record {
+          begins = held.begins;
+          source_is = made.source_on ∙ ap (λ x. sum_of x n) held.source_is ∙ omega arith;
+          target_is = made.target_on ∙ ap (λ x. sum_of x n) held.target_is ∙ omega arith;
+          others = λ q g h l. register_kept copy_works (copied_code inward kind) (a ∷ b ∷ []) d q
+              (copy_plain inward kind) (copy_leaves q g h l) ∙ held.others q g h l;
+          bytes = made.bytes
+              ∙ ap (λ (m : ByteMap). with_number m n b (copied_value inward kind (number_or_zero (number_at m n a))))
+              held.bytes
+              ∙ one_more s.bytes;
+        })
+
+  -- x5 has come so far
+  pointer_is : (i : ℕ) (s d : Data) → Copying i s d → d.regs 5 ≡ (spot.pointer + n * i) % 2 ^ 32
+  pointer_is i s d held = first_is inward d.regs ∙ ap₂ (chosen inward) held.source_is held.target_is
+      ∙ chosen_on inward spot.pointer (slot_of slot spot) (n * i)
+
+  stop_is : (i : ℕ) (s d : Data) → Copying i s d → d.regs 7 ≡ (spot.pointer + n * k) % 2 ^ 32
+  stop_is i s d held = held.others 7 (λ e. omega arith) (λ e. omega arith) (λ e. omega arith) ∙ held.begins.stop
+
+  goes_further : (i : ℕ) (s d : Data) → i < k → Copying i s d → d.regs 5 ≢ d.regs 7
+  goes_further i s d few held same =
+      let here = pointer_is i s d held in
+      let stop = stop_is i s d held in
+      let fits = inside i few in
+      let some = some_bytes kind in
+      let ends = can.slot_ends in
+      omega (arith, here, stop, fits, some, ends, same)
+
+  begins_copying : (s : Data) → BeginsCopy s → Copying 0 s s
+  begins_copying s begins =
+      let fits = inside 0 can.some in
+      let some = some_bytes kind in
+      let pointer = begins.pointer in
+      let at = begins.slot_at in
+      let one = from_ends in
+      let other = to_ends in
+      let source_at : source inward s.regs ≡ from = ap₂ (chosen inward) pointer at in
+      let target_at : target inward s.regs ≡ to = ap₂ (chosen inward) at pointer in
       record {
-        fit = (three_fit r 32 r 32 o 32 few few few_other, tt, tt);
-        done = record {
-          there = written s.regs r v nonzero
-              ∙ ap₂ sum_of (register-at s.regs r nonzero) (register-at s.regs o nonzero_other);
-          others = λ q h. unwritten s.regs r v q h;
-          same = refl;
-        };
+        begins = begins;
+        source_is = source_at ∙ omega (arith, fits, some, one);
+        target_is = target_at ∙ omega (arith, fits, some, other);
+        others = λ q g h l. refl;
+        bytes = refl;
+      }
+
+  -- the bytes are those with all elements copied
+  record Copies (s t : Data) : Type 0 where
+    bytes : t.bytes ≡ copied k s.bytes
+    others : (q : ℕ) → q ≢ 5 → q ≢ 6 → q ≢ 28 → t.regs q ≡ s.regs q
+
+  copy_runs : Runs z (k * suc (length (copied_code inward kind))) (until_equal 5 7 (copied_code inward kind)) BeginsCopy
+      Copies
+  copy_runs =
+      let size = copy_length inward kind in
+      loop z 5 7 (omega arith, omega arith) (copied_code inward kind) size.0 size.1 k Copying round goes_further
+      (λ s d held. pointer_is k s d held ∙ sym (stop_is k s d held)) can.some begins_copying
+      (λ s t begins held. record { bytes = held.bytes; others = held.others })
+
+  -- The bounds.
+
+  -- x5 is where the array is, and x6 where the slot is
+  record Located (s t : Data) : Type 0 where
+    pointer : t.regs 5 ≡ spot.pointer
+    slot_at : t.regs 6 ≡ sum_of slot.offset (s.regs 2)
+    others : (q : ℕ) → q ≢ 5 → q ≢ 6 → t.regs q ≡ s.regs q
+    same : t.bytes ≡ s.bytes
+
+  -- and x7 where the array ends
+  record Bounded (s t : Data) : Type 0 where
+    begins : BeginsCopy t
+    others : (q : ℕ) → q ≢ 5 → q ≢ 6 → q ≢ 7 → t.regs q ≡ s.regs q
+    same : t.bytes ≡ s.bytes
+
+  pointer_runs : Runs z (length (load_code 5 (argument_offset image spot.index)))
+      (load_code 5 (argument_offset image spot.index)) (HasArray image slot spot) (Sets 5 (λ s. spot.pointer))
+  pointer_runs =
+      let offset = argument_offset image spot.index in
+      let aligned = can.frame_aligned in
+      weaken_runs z {P' = HasArray image slot spot} {R' = Sets 5 (λ s. spot.pointer)} (load_code 5 offset)
+      (load_runs z spot.frame offset (omega (arith, aligned)) can.place_ends 5 (omega arith) (λ e. omega arith)
+      (λ e. omega arith) (inl refl))
+      (λ s has. record { stack = has.stack; there = ap is_some has.argument })
+      (λ s t has sets. record {
+        there = sets.there ∙ ap (λ o. unwrap_or o 0) has.argument;
+        others = sets.others;
+        same = sets.same;
       })
 
-  -- a register and a number into another register
-  number_added : (n : ℕ) → n < 2 ^ 32
-      → Runs z (length (constant_code r n) + 1) (constant_code r n ++ Register Add r r o ∷ []) (λ s. Unit {0})
-      (Sets r (λ s. sum_of n (s.regs o)))
-  number_added n below =
-      then_runs z {P = λ s. Unit {0}} {S = Sets r (λ s. sum_of n (s.regs o))} (constant_code r n)
-      (Register Add r r o ∷ []) (constant_part z r n few nonzero below) adds
-      (λ s t given one. tt)
-      (λ s t u given one two. record {
-        there = two.there ∙ ap₂ sum_of one.there (one.others o differ);
-        others = λ q h. two.others q h ∙ one.others q h;
+  located_runs : Runs z (length (load_code 5 (argument_offset image spot.index)) + (length (constant_code 6 slot.offset) + 1))
+      (load_code 5 (argument_offset image spot.index) ++ (constant_code 6 slot.offset ++ Register Add 6 6 2 ∷ []))
+      (HasArray image slot spot) Located
+  located_runs =
+      let ends = can.slot_ends in
+      then_runs z {P = HasArray image slot spot} {P' = λ s. Unit {0}} {S = Located}
+      (load_code 5 (argument_offset image spot.index)) (constant_code 6 slot.offset ++ Register Add 6 6 2 ∷ [])
+      pointer_runs
+      (sum_runs z 6 slot.offset (omega arith) (λ e. omega arith) (omega (arith, ends)) 2 (omega arith) (λ e. omega arith)
+      (λ e. omega arith))
+      (λ s t has one. tt)
+      (λ s t u has one two. record {
+        pointer = two.others 5 (λ e. omega arith) ∙ one.there;
+        slot_at = two.there ∙ ap (λ x. sum_of slot.offset x) (one.others 2 (λ e. omega arith));
+        others = λ q g h. two.others q h ∙ one.others q g;
         same = two.same ∙ one.same;
       })
 
--- x6 is a number above x2, x7 another above x5
-record Bounds (n m : ℕ) (s t : Data) : Type 0 where
-  to : t.regs 6 ≡ sum_of n (s.regs 2)
-  stop : t.regs 7 ≡ sum_of m (s.regs 5)
-  others : (q : ℕ) → q ≢ 6 → q ≢ 7 → t.regs q ≡ s.regs q
-  same : t.bytes ≡ s.bytes
-
-two_bounds : (z : Setting) (n m : ℕ) → n < 2 ^ 32 → m < 2 ^ 32
-    → Runs z ((length (constant_code 6 n) + 1) + (length (constant_code 7 m) + 1))
-    ((constant_code 6 n ++ Register Add 6 6 2 ∷ []) ++ (constant_code 7 m ++ Register Add 7 7 5 ∷ []))
-    (λ s. Unit {0}) (Bounds n m)
-two_bounds z n m small few =
-    then_runs z {P = λ s. Unit {0}} {S = Bounds n m} (constant_code 6 n ++ Register Add 6 6 2 ∷ [])
-    (constant_code 7 m ++ Register Add 7 7 5 ∷ [])
-    (number_added z 6 2 (omega arith) (λ e. omega arith) (omega arith) (λ e. omega arith) (λ e. omega arith) n small)
-    (number_added z 7 5 (omega arith) (λ e. omega arith) (omega arith) (λ e. omega arith) (λ e. omega arith) m few)
-    (λ s t given one. tt)
-    (λ s t u given one two. record {
-      to = two.others 6 (λ e. omega arith) ∙ one.there;
-      stop = two.there ∙ ap (λ x. sum_of m x) (one.others 5 (λ e. omega arith));
-      others = λ q h k. two.others q k ∙ one.others q h;
-      same = two.same ∙ one.same;
-    })
-
--- x5 is what stands at a place as well
-record AllBounds (base offset n m : ℕ) (s t : Data) : Type 0 where
-  from : t.regs 5 ≡ unwrap_or (number_at s.bytes 4 (base + offset)) 0
-  to : t.regs 6 ≡ sum_of n (s.regs 2)
-  stop : t.regs 7 ≡ sum_of m (t.regs 5)
-  others : (q : ℕ) → q ≢ 5 → q ≢ 6 → q ≢ 7 → t.regs q ≡ s.regs q
-  same : t.bytes ≡ s.bytes
-
-module _ (z : Setting) (base offset n m : ℕ) where
-  all_bounds : (is : List Instr)
-      → (load_code 5 offset ++ ((constant_code 6 n ++ Register Add 6 6 2 ∷ [])
-      ++ (constant_code 7 m ++ Register Add 7 7 5 ∷ []))) ≡ is
-      → (base + offset) % 4 ≡ 0 → base + offset < 2 ^ 32 → z.allowed (Some (event.Load (base + offset) Word))
-      → n < 2 ^ 32 → m < 2 ^ 32
-      → Runs z (length is) is (HasWord base offset) (AllBounds base offset n m)
-  all_bounds is same even below allowed small few =
-      let one = load_code 5 offset in
-      let c6 = constant_code 6 n in
-      let c7 = constant_code 7 m in
-      let two = c6 ++ Register Add 6 6 2 ∷ [] in
-      let three = c7 ++ Register Add 7 7 5 ∷ [] in
-      let a = length-append c6 (Register Add 6 6 2 ∷ []) in
-      let b = length-append c7 (Register Add 7 7 5 ∷ []) in
-      let c = length-append two three in
-      let d = length-append one (two ++ three) in
-      let turns : length one + ((length c6 + 1) + (length c7 + 1)) ≡ length (one ++ (two ++ three)) =
-      omega (arith, a, b, c, d) in
-      subst (λ (is : List Instr). Runs z (length is) is (HasWord base offset) (AllBounds base offset n m)) same
-      (subst (λ t. Runs z t (one ++ (two ++ three)) (HasWord base offset) (AllBounds base offset n m)) turns
-      (then_runs z {P = HasWord base offset} {S = AllBounds base offset n m} one (two ++ three)
-      (load_part z base 5 offset (omega arith) (λ e. omega arith) (λ e. omega arith) even below allowed)
-      (two_bounds z n m small few)
-      (λ s t given sets. tt)
-      (λ s t u given sets bounds. record {
-        from = bounds.others 5 (λ e. omega arith) (λ e. omega arith) ∙ sets.there;
-        to = bounds.to ∙ ap (λ x. sum_of n x) (sets.others 2 (λ e. omega arith));
-        stop = bounds.stop ∙ ap (λ x. sum_of m x) (sym (bounds.others 5 (λ e. omega arith) (λ e. omega arith)));
-        others = λ q h k l. bounds.others q k l ∙ sets.others q h;
-        same = bounds.same ∙ sets.same;
-      })))
-
--- The bounds, and then a loop.
-
-one_by_one : (a b c d e : List Instr) → a ++ ((b ++ c) ++ (d ++ e)) ≡ a ++ b ++ c ++ d ++ e
-one_by_one a b c d e =
-    sym (append_assoc (a ++ b ++ c) d e ∙ ap (λ x. x ++ (d ++ e)) (append_assoc a b c)
-    ∙ append_assoc a (b ++ c) (d ++ e))
-
-six_is : (frame offset : ℕ) → frame + offset < 2 ^ 32 → sum_of offset frame ≡ frame + offset
-six_is frame offset below = omega (arith, below)
-
-seven_is : (m pointer : ℕ) → sum_of m pointer ≡ (pointer + m) % 2 ^ 32
-seven_is m pointer = omega arith
-
-place_even : (image : Fields) (frame i : ℕ) → frame % 4 ≡ 0 → (frame + argument_offset image i) % 4 ≡ 0
-place_even image frame i even = omega (arith, even)
-
-number_found : (o : Option ℕ) (v : ℕ) → o ≡ Some v → unwrap_or o 0 ≡ v
-number_found o v e = ap (λ x. unwrap_or x 0) e
-
-number_is_there : (o : Option ℕ) (v : ℕ) → o ≡ Some v → is_some o ≡ true
-number_is_there o v e = ap is_some e
-
--- the bytes are those that a function gives, and no register that copying writes not has changed
-record Copied (goal : Data → ByteMap) (s t : Data) : Type 0 where
-  bytes : t.bytes ≡ goal s
-  others : OthersAsBefore s t
-
-module _ (z : Setting) (image : Fields) (slot : Slot) (spot : Pointed) (can : CanBeCopied image slot spot)
-    (allowed : z.allowed (Some (event.Load (place_of image spot) Word))) where
-  abbrev begins : Data → Type 0
-  begins = BeginsCopy (element_bytes slot.param.kind) slot.param.length spot.pointer (slot_of slot spot)
-
-  bounds_first : Runs z (length (bounds_code image spot.index slot)) (bounds_code image spot.index slot)
-      (HasWord spot.frame (argument_offset image spot.index))
-      (AllBounds spot.frame (argument_offset image spot.index) slot.offset (array_bytes slot))
-  bounds_first =
-      let a = can.slot_ends in
-      all_bounds z spot.frame (argument_offset image spot.index) slot.offset (array_bytes slot)
-      (bounds_code image spot.index slot)
-      (one_by_one (load_code 5 (argument_offset image spot.index)) (constant_code 6 slot.offset)
-      (Register Add 6 6 2 ∷ []) (constant_code 7 (array_bytes slot)) (Register Add 7 7 5 ∷ []))
-      (place_even image spot.frame spot.index can.frame_aligned) can.place_ends allowed (omega (arith, a))
-      (omega (arith, a))
-
-  has_word : (s : Data) → HasArray image slot spot s → HasWord spot.frame (argument_offset image spot.index) s
-  has_word s has = record {
-    stack = has.stack;
-    there = number_is_there (number_at s.bytes 4 (place_of image spot)) spot.pointer has.argument;
-  }
-
-  copy_begins : (s t : Data) → HasArray image slot spot s
-      → AllBounds spot.frame (argument_offset image spot.index) slot.offset (array_bytes slot) s t → begins t
-  copy_begins s t has bounds =
-      let a = can.slot_ends in
-      let from : t.regs 5 ≡ spot.pointer = bounds.from
-      ∙ number_found (number_at s.bytes 4 (place_of image spot)) spot.pointer has.argument in
+  bounds_begin : (s u : Data) → HasArray image slot spot s → u.regs 5 ≡ spot.pointer
+      → u.regs 6 ≡ sum_of slot.offset (s.regs 2) → u.regs 7 ≡ sum_of (array_bytes slot) spot.pointer
+      → u.bytes ≡ s.bytes → BeginsCopy u
+  bounds_begin s u has pointer slot_at stop same =
+      let ends = can.slot_ends in
+      let stack = has.stack in
+      let there = λ (x : ℕ) (data_there : AreData x (x + n * k) s.bytes).
+      subst (λ (b : ByteMap). AreData x (x + n * k) b) (sym same) data_there in
+      let array = there spot.pointer has.array_there in
+      let held = there (slot_of slot spot) has.slot_there in
       record {
-        from = from;
-        to = bounds.to ∙ ap (λ x. sum_of slot.offset x) has.stack ∙ six_is spot.frame slot.offset (omega (arith, a));
-        stop = bounds.stop ∙ ap (λ x. sum_of (array_bytes slot) x) from ∙ seven_is (array_bytes slot) spot.pointer;
-        array_there = subst (λ (b : ByteMap). AreData spot.pointer (spot.pointer + array_bytes slot) b)
-            (sym bounds.same) has.array_there;
-        slot_there = subst (λ (b : ByteMap). AreData (slot_of slot spot) (slot_of slot spot + array_bytes slot) b)
-            (sym bounds.same) has.slot_there;
+        pointer = pointer;
+        slot_at = slot_at ∙ omega (arith, stack, ends);
+        stop = stop ∙ omega arith;
+        from_there = both inward (λ x. AreData x (x + n * k) u.bytes) spot.pointer (slot_of slot spot) array held;
+        to_there = both inward (λ x. AreData x (x + n * k) u.bytes) (slot_of slot spot) spot.pointer held array;
       }
 
-  -- where the map that the loop leaves is made of the bytes alone
-  bounds_then : (made : ByteMap → ByteMap) (turns : ℕ) (loop : List Instr)
-      → Runs z turns loop begins (Copies (λ s. made s.bytes))
-      → Runs z (length (bounds_code image spot.index slot) + turns) (bounds_code image spot.index slot ++ loop)
-      (HasArray image slot spot) (Copied (λ s. made s.bytes))
-  bounds_then made turns loop one =
-      then_runs z {P = HasArray image slot spot} {S = Copied (λ s. made s.bytes)}
-      (bounds_code image spot.index slot) loop
-      (weaken_runs z {P' = HasArray image slot spot} {R' =
-      AllBounds spot.frame (argument_offset image spot.index) slot.offset (array_bytes slot)}
-      (bounds_code image spot.index slot) has_word (λ s t g r. r) bounds_first)
-      one
-      copy_begins
-      (λ s t u given bounds copies. record {
-        bytes = copies.bytes ∙ ap made bounds.same;
-        others = λ q h k l m. copies.others q h k m ∙ bounds.others q h k l;
+  bounds_runs : Runs z (length (bounds_code image spot.index slot)) (bounds_code image spot.index slot)
+      (HasArray image slot spot) Bounded
+  bounds_runs =
+      let ends = can.slot_ends in
+      let load = load_code 5 (argument_offset image spot.index) in
+      let slots = constant_code 6 slot.offset in
+      let size = constant_code 7 (array_bytes slot) in
+      let first = load ++ (slots ++ Register Add 6 6 2 ∷ []) in
+      let second = size ++ Register Add 7 7 5 ∷ [] in
+      let is = regrouped load slots (Register Add 6 6 2 ∷ []) size (Register Add 7 7 5 ∷ []) in
+      let a = length-append load (slots ++ Register Add 6 6 2 ∷ []) in
+      let b = length-append slots (Register Add 6 6 2 ∷ []) in
+      let c = length-append size (Register Add 7 7 5 ∷ []) in
+      let d = length-append first second in
+      let all : length (first ++ second) ≡ length (bounds_code image spot.index slot) =
+      ap (λ (xs : List Instr). length xs) is in
+      in_turns z (bounds_code image spot.index slot) (omega (arith, a, b, c, d) ∙ all)
+      (as_code z (first ++ second) (bounds_code image spot.index slot) is
+      (then_runs z {P = HasArray image slot spot} {P' = λ s. Unit {0}} {S = Bounded} first second located_runs
+      (sum_runs z 7 (array_bytes slot) (omega arith) (λ e. omega arith) (omega (arith, ends)) 5 (omega arith)
+      (λ e. omega arith) (λ e. omega arith))
+      (λ s t has located. tt)
+      (λ s t u has located sets. record {
+        begins = bounds_begin s u has (sets.others 5 (λ e. omega arith) ∙ located.pointer)
+            (sets.others 6 (λ e. omega arith) ∙ located.slot_at)
+            (sets.there ∙ ap (λ x. sum_of (array_bytes slot) x) located.pointer) (sets.same ∙ located.same);
+        others = λ q g h l. sets.others q l ∙ located.others q g h;
+        same = sets.same ∙ located.same;
+      })))
+
+  -- The whole.
+
+  record Copied (s t : Data) : Type 0 where
+    bytes : t.bytes ≡ copied k s.bytes
+    others : OthersAsBefore s t
+
+  array_runs : Runs z (length (bounds_code image spot.index slot) + element_turns (copied_code inward kind) k)
+      (bounds_code image spot.index slot ++ until_equal 5 7 (copied_code inward kind)) (HasArray image slot spot) Copied
+  array_runs =
+      then_runs z {P = HasArray image slot spot} {S = Copied} (bounds_code image spot.index slot)
+      (until_equal 5 7 (copied_code inward kind)) bounds_runs
+      (in_turns z (until_equal 5 7 (copied_code inward kind)) (omega arith) copy_runs)
+      (λ s t has bounded. bounded.begins)
+      (λ s t u has bounded copies. record {
+        bytes = copies.bytes ∙ ap (copied k) bounded.same;
+        others = λ q g h l m. copies.others q g h m ∙ bounded.others q g h l;
       })
-
-can_copy : (image : Fields) (slot : Slot) (spot : Pointed) → CanBeCopied image slot spot
-    → CanCopy (element_bytes slot.param.kind) slot.param.length spot.pointer (slot_of slot spot)
-can_copy image slot spot can =
-    let a = can.slot_ends in
-    record {
-      pointer_even = can.array_aligned;
-      slot_even = can.slot_aligned;
-      pointer_ends = can.array_ends;
-      slot_ends = omega (arith, a);
-      few = omega (arith, a);
-      apart = can.apart;
-    }
-
-module _ (z : Setting) (pointer slot : ℕ) where
-  counted_in : (kind : Kind) (c : ℕ) → 0 < c → CanCopy (element_bytes kind) c pointer slot
-      → MayLoad z (element_bytes kind) (element_size kind) pointer (pointer + element_bytes kind * c)
-      → MayStore z (element_bytes kind) (element_size kind) slot (slot + element_bytes kind * c)
-      → Runs z (element_turns (copied_in_code kind) c) (until_equal 5 7 (copied_in_code kind))
-      (BeginsCopy (element_bytes kind) c pointer slot)
-      (Copies (copied_into (element_bytes kind) (meant kind) c pointer slot))
-  counted_in kind zero some can loads stores = absurd (omega arith)
-  counted_in kind (suc k) some can loads stores = in_loop z pointer slot kind k can loads stores
-
-  counted_out : (kind : Kind) (c : ℕ) → 0 < c → CanCopy (element_bytes kind) c pointer slot
-      → MayStore z (element_bytes kind) (element_size kind) pointer (pointer + element_bytes kind * c)
-      → MayLoad z (element_bytes kind) (element_size kind) slot (slot + element_bytes kind * c)
-      → Runs z (element_turns (copied_out_code kind) c) (until_equal 5 7 (copied_out_code kind))
-      (BeginsCopy (element_bytes kind) c pointer slot)
-      (Copies (copied_back (element_bytes kind) c pointer slot))
-  counted_out kind zero some can stores loads = absurd (omega arith)
-  counted_out kind (suc k) some can stores loads = out_loop z pointer slot kind k can stores loads
 
 pub array_is_taken : ArrayIsTaken
 array_is_taken code start image slot spot there can =
-    let kind = slot.param.kind in
-    let bytes = array_bytes slot in
-    let z : Setting = record {
-      code = code;
-      allowed =
-          IsCopying (place_of image spot) bytes spot.pointer (slot_of slot spot);
-      silent = tt;
-    } in
-    let goal : ByteMap → ByteMap =
-    λ b. with_numbers b (element_bytes kind) (slot_of slot spot)
-    (map (meant kind) (numbers_at b (element_bytes kind) spot.pointer slot.param.length)) in
-    let loop = counted_in z spot.pointer (slot_of slot spot) kind slot.param.length can.some
-    (can_copy image slot spot can)
-    (λ x low high. inr (lies kind spot.pointer (spot.pointer + bytes) x low high))
-    (λ x low high. lies kind (slot_of slot spot) (slot_of slot spot + bytes) x low high) in
-    does z (argument_code image spot.index slot FixedArray) {P = HasArray image slot spot} {Before =
-    HasArray image slot spot} {R = Copied (λ s. goal s.bytes)} {After = IsTaken slot spot}
-    (bounds_then z image slot spot can (inl refl) goal (element_turns (copied_in_code kind) slot.param.length)
-    (until_equal 5 7 (copied_in_code kind)) loop start
-    (placed code start (argument_code image spot.index slot FixedArray) there))
-    (λ s has. has)
+    let is = argument_code image spot.index slot FixedArray in
+    weaken_runs (z code image slot spot can true) {P' = HasArray image slot spot} {R' = IsTaken slot spot} is
+    (array_runs code image slot spot can true) (λ s has. has)
     (λ s t has copied. record { bytes = copied.bytes; others = copied.others })
+    start (placed code start is there)
 
 pub array_is_handed_back : ArrayIsHandedBack
 array_is_handed_back code start image slot spot there can =
-    let kind = slot.param.kind in
-    let bytes = array_bytes slot in
-    let z : Setting = record {
-      code = code;
-      allowed =
-          IsCopying (place_of image spot) bytes (slot_of slot spot) spot.pointer;
-      silent = tt;
-    } in
-    let goal : ByteMap → ByteMap =
-    λ b. with_numbers b (element_bytes kind) spot.pointer
-    (map (λ v. v) (numbers_at b (element_bytes kind) (slot_of slot spot) slot.param.length)) in
-    let loop = counted_out z spot.pointer (slot_of slot spot) kind slot.param.length can.some
-    (can_copy image slot spot can)
-    (λ x low high. lies kind spot.pointer (spot.pointer + bytes) x low high)
-    (λ x low high. inr (lies kind (slot_of slot spot) (slot_of slot spot + bytes) x low high)) in
-    does z (copy_out_code image spot.index slot MutableArray) {P = HasArray image slot spot} {Before =
-    HasArray image slot spot} {R = Copied (λ s. goal s.bytes)} {After = IsHandedBack slot spot}
-    (bounds_then z image slot spot can (inl refl) goal (element_turns (copied_out_code kind) slot.param.length)
-    (until_equal 5 7 (copied_out_code kind)) loop start
-    (placed code start (copy_out_code image spot.index slot MutableArray) there))
-    (λ s has. has)
+    let is = copy_out_code image spot.index slot MutableArray in
+    weaken_runs (z code image slot spot can false) {P' = HasArray image slot spot} {R' = IsHandedBack slot spot} is
+    (array_runs code image slot spot can false) (λ s has. has)
     (λ s t has copied. record {
-      bytes = copied.bytes ∙ ap (λ vs. with_numbers s.bytes (element_bytes kind) spot.pointer vs)
-          (map-id (numbers_at s.bytes (element_bytes kind) (slot_of slot spot) slot.param.length));
+      bytes = copied.bytes
+          ∙ ap (λ (vs : List ℕ). with_numbers s.bytes (element_bytes slot.param.kind) spot.pointer vs)
+          (map-id (numbers_at s.bytes (element_bytes slot.param.kind) (slot_of slot spot) slot.param.length));
       others = copied.others;
     })
+    start (placed code start is there)

@@ -1,286 +1,149 @@
--- One element of an array, by its kind: from where an argument points into its slot, and back.
-use Rattle.std.specs.Prelude.{◌⊎◌, is_some, unwrap_or, not}
-use Rattle.std.proofs.Common.{◌≡◌, ◌≢◌, ℕ, zero, suc, ◌+◌, ◌-◌, ◌*◌, ◌%◌, ◌^◌, ◌<◌, ◌≤◌, true, nat_lt, List, [], ◌∷◌}
-use Rattle.std.proofs.Common.{◌++◌, length, map, Option, Some, inl, inr, refl, sym, ap, ◌∙◌, subst, arith, ne_eqb}
+-- One element of an array, copied: inward, from where an argument points (x5) into its slot (x6), or back. What is done
+-- with it is one computation for all kinds and both ways.
+use Rattle.std.specs.Prelude.{is_some}
+use Rattle.std.proofs.Common.{◌≡◌, ◌≢◌, ℕ, ◌+◌, ◌*◌, ◌%◌, ◌^◌, ◌<◌, ◌≤◌, ◌==◌, ◌||◌, Bool, true, false, List, [], ◌∷◌}
+use Rattle.std.proofs.Common.{length, Option, refl, sym, ap, arith, ne_eqb}
+use Rattle.codegen.specs.program_logic.StraightCode.{IsFit}
 use Rattle.language.specs.Size.{element_bytes}
 use Rattle.language.specs.declared.signature.Kind.{Kind}
 use Rattle.language.specs.declared.signature.Kind.TheVariants.{Boolean, Uint8, Uint16, Uint32}
 use Rattle.rv_code.specs.declared.instructions.Instr.{Instr}
-use Rattle.rv_code.specs.declared.instructions.Instr.TheVariants.{Register, Load, Store, Branch}
-use Rattle.rv_code.specs.declared.operations.BranchTest.TheVariants.{Bne}
-use Rattle.rv_code.specs.declared.operations.LoadOperation.TheVariants.{Lw, Lbu, Lhu}
-use Rattle.rv_code.specs.declared.operations.RegisterOperation.TheVariants.{Sltu}
-use Rattle.rv_code.specs.declared.operations.StoreOperation.TheVariants.{Sw, Sb, Sh}
+use Rattle.rv_machine.specs.declared.observation.Event.{Event}
 use Rattle.rv_machine.specs.declared.observation.Event.TheVariants as event
 use Rattle.rv_machine.specs.declared.memory.Size.{Size}
 use Rattle.rv_machine.specs.declared.memory.Size.TheVariants.{Byte, Half, Word}
-use Rattle.rv_machine.specs.Bytes.{ByteMap, number_at, with_number}
-use Rattle.rv_machine.specs.Registers.{with_register}
-use Rattle.linked_calls.proofs.Below.{number_at_apart}
-use Rattle.word.specs.Operators.{word_of}
-use Rattle.linked_calls.specs.Copies.{AreApart}
+use Rattle.rv_machine.specs.Bytes.{number_at, with_number}
+use Rattle.rv_machine.specs.Effects.{sum_of}
+use Rattle.linked_calls.specs.Does.{Data}
+use Rattle.linked_calls.specs.FunctionCode.{copied_in_code, copied_out_code}
 use Rattle.linked_calls.specs.Meant.{meant}
-use Rattle.linked_calls.proofs.Bytes.{AreData, number_there, stays_data, with_number_cut, Holds, numbers_hold}
-use Rattle.linked_calls.proofs.Bytes.{numbers_count}
-use Rattle.linked_calls.proofs.Parts.{Part, part, part_to, Runs}
-use Rattle.linked_calls.proofs.Pieces.{Setting, Piece, block, weaken, loop, Placed-left, Placed-right}
-use Rattle.linked_calls.proofs.Registers.{unwritten, one_fit}
-use Rattle.linked_calls.proofs.Steps.{Placed, Data, plain, access, Reaches}
-use Rattle.codegen.specs.Loaded.{with_numbers, numbers_at}
-use Rattle.codegen.specs.expression_code.TermCode.{load_by}
-use Rattle.linked_calls.specs.FunctionCode.{until_equal, added, next_code, element_meant_code, store_by}
-use Rattle.linked_calls.proofs.CopySpots.{pointer_fits, slot_fits, pointer_below, slot_below, Spot, past, next_put}
-use Rattle.linked_calls.proofs.CopySpots.{other_way, Stretches, Known, reach_five, reach_six, found_is, found_there}
-use Rattle.linked_calls.proofs.CopySpots.{first_there, LeftIn, LeftOut, stepped, stepped_others, MayLoad, MayStore}
-use Rattle.linked_calls.proofs.CopySpots.{truth_same, copied_in, copied_out}
+use Rattle.linked_calls.specs.Stretches.{LiesIn}
+use Rattle.linked_calls.proofs.Below.{AreFit, AreMet, after_all, are_straight, number_or_zero}
+use Rattle.linked_calls.proofs.Bytes.{same_truth, with_number_cut}
 
-module _ (z : Setting) where
-  -- One element, by its kind.
+-- The two ways.
 
-  pub bool_in : (goal : Data → ByteMap) (both : Stretches 1) → MayLoad z 1 Byte both.pointer_low both.pointer_high
-      → MayStore z 1 Byte both.slot_low both.slot_high
-      → (p j : ℕ) (spot : Spot)
-      → Placed z.code p (Load Lbu 28 5 0 ∷ Register Sltu 28 0 28 ∷ Store Sb 28 6 0 ∷ added 5 1 ∷ added 6 1 ∷ [])
-      → Known 1 both (suc j) spot
-      → Piece z Data p (p + 20) 5 (LeftIn 1 (meant Boolean) both goal (suc j) spot)
-      (LeftIn 1 (meant Boolean) both goal j (past 1 spot))
-  bool_in goal both loads stores p j spot placed known =
-      block z p (access (Load Lbu 28 5 0) spot.pointer ∷ plain (Register Sltu 28 0 28)
-      ∷ access (Store Sb 28 6 0) spot.slot ∷ plain (added 5 1) ∷ plain (added 6 1) ∷ []) placed (
-        loads spot.pointer known.pointer_from (pointer_fits 1 j both spot known),
-        (
-          z.silent,
-          (
-            stores spot.slot known.slot_from (slot_fits 1 j both spot known),
-            (z.silent, (z.silent, tt)),
-          ),
-        ),
-      )
-      (λ s d left.
-      let put = next_put 1 (meant Boolean) j spot.pointer spot.slot (goal s) d.bytes known.apart left.rest in
-      let v = unwrap_or (number_at d.bytes 1 spot.pointer) 0 in
-      let w = word_of (nat_lt 0 v) in
-      let one : Data = record { regs = with_register (with_register d.regs 28 v) 28 w; bytes = d.bytes } in
-      record {
-        fit = (
-          refl,
-          reach_five d spot.pointer 1 left.running.pointer (pointer_below 1 j both spot known (omega arith))
-              known.pointer_even (found_there _ put.value put.there),
-          (
-            refl,
-            tt,
-            (
-              refl,
-              reach_six one spot.slot 1 left.running.slot (slot_below 1 j both spot known (omega arith))
-                  known.slot_even (first_there 1 j spot.slot d.bytes left.there),
-              (refl, tt, (refl, tt, tt)),
-            ),
-          ),
-        );
-        done = copied_in 1 both goal j spot s d (stepped 1 (with_register d.regs 28 v) w) w refl refl
-            (λ q h k l. stepped_others 1 (with_register d.regs 28 v) w q h k l ∙ unwritten d.regs 28 v q l) known
-            (meant Boolean)
-            (λ x e. ap (λ x. with_number d.bytes 1 spot.slot x) (truth_same v ∙ ap (meant Boolean) (found_is _ x e)))
-            left;
-      })
+abbrev pub chosen : Bool → ℕ → ℕ → ℕ
+chosen true x y = x
+chosen false x y = y
 
-  pub byte_in : (goal : Data → ByteMap) (both : Stretches 1) → MayLoad z 1 Byte both.pointer_low both.pointer_high
-      → MayStore z 1 Byte both.slot_low both.slot_high
-      → (p j : ℕ) (spot : Spot) → Placed z.code p (Load Lbu 28 5 0 ∷ Store Sb 28 6 0 ∷ added 5 1 ∷ added 6 1 ∷ [])
-      → Known 1 both (suc j) spot
-      → Piece z Data p (p + 16) 4 (LeftIn 1 (meant Uint8) both goal (suc j) spot)
-      (LeftIn 1 (meant Uint8) both goal j (past 1 spot))
-  byte_in goal both loads stores p j spot placed known =
-      block z p (access (Load Lbu 28 5 0) spot.pointer ∷ access (Store Sb 28 6 0) spot.slot ∷ plain (added 5 1)
-      ∷ plain (added 6 1) ∷ []) placed (
-        loads spot.pointer known.pointer_from (pointer_fits 1 j both spot known),
-        (stores spot.slot known.slot_from (slot_fits 1 j both spot known), (z.silent, (z.silent, tt))),
-      )
-      (λ s d left.
-      let put = next_put 1 (meant Uint8) j spot.pointer spot.slot (goal s) d.bytes known.apart left.rest in
-      let v = unwrap_or (number_at d.bytes 1 spot.pointer) 0 in
-      let w = v in
-      let one : Data = record { regs = with_register d.regs 28 v; bytes = d.bytes } in
-      record {
-        fit = (
-          refl,
-          reach_five d spot.pointer 1 left.running.pointer (pointer_below 1 j both spot known (omega arith))
-              known.pointer_even (found_there _ put.value put.there),
-          (
-            refl,
-            reach_six one spot.slot 1 left.running.slot (slot_below 1 j both spot known (omega arith))
-                known.slot_even (first_there 1 j spot.slot d.bytes left.there),
-            (refl, tt, (refl, tt, tt)),
-          ),
-        );
-        done = copied_in 1 both goal j spot s d (stepped 1 d.regs v) w refl refl (stepped_others 1 d.regs v) known
-            (meant Uint8)
-            (λ x e. ap (λ y. with_number d.bytes 1 spot.slot y) (found_is _ x e)
-            ∙ sym (with_number_cut d.bytes 1 spot.slot x)) left;
-      })
+-- where x5 and x6 say that the element is, and where it goes
+abbrev pub source : Bool → (ℕ → ℕ) → ℕ
+source inward regs = chosen inward (regs 5) (regs 6)
 
-  pub half_in : (goal : Data → ByteMap) (both : Stretches 2) → MayLoad z 2 Half both.pointer_low both.pointer_high
-      → MayStore z 2 Half both.slot_low both.slot_high
-      → (p j : ℕ) (spot : Spot) → Placed z.code p (Load Lhu 28 5 0 ∷ Store Sh 28 6 0 ∷ added 5 2 ∷ added 6 2 ∷ [])
-      → Known 2 both (suc j) spot
-      → Piece z Data p (p + 16) 4 (LeftIn 2 (meant Uint16) both goal (suc j) spot)
-      (LeftIn 2 (meant Uint16) both goal j (past 2 spot))
-  half_in goal both loads stores p j spot placed known =
-      block z p (access (Load Lhu 28 5 0) spot.pointer ∷ access (Store Sh 28 6 0) spot.slot ∷ plain (added 5 2)
-      ∷ plain (added 6 2) ∷ []) placed (
-        loads spot.pointer known.pointer_from (pointer_fits 2 j both spot known),
-        (stores spot.slot known.slot_from (slot_fits 2 j both spot known), (z.silent, (z.silent, tt))),
-      )
-      (λ s d left.
-      let put = next_put 2 (meant Uint16) j spot.pointer spot.slot (goal s) d.bytes known.apart left.rest in
-      let v = unwrap_or (number_at d.bytes 2 spot.pointer) 0 in
-      let w = v in
-      let one : Data = record { regs = with_register d.regs 28 v; bytes = d.bytes } in
-      record {
-        fit = (
-          refl,
-          reach_five d spot.pointer 2 left.running.pointer (pointer_below 2 j both spot known (omega arith))
-              known.pointer_even (found_there _ put.value put.there),
-          (
-            refl,
-            reach_six one spot.slot 2 left.running.slot (slot_below 2 j both spot known (omega arith))
-                known.slot_even (first_there 2 j spot.slot d.bytes left.there),
-            (refl, tt, (refl, tt, tt)),
-          ),
-        );
-        done = copied_in 2 both goal j spot s d (stepped 2 d.regs v) w refl refl (stepped_others 2 d.regs v) known
-            (meant Uint16)
-            (λ x e. ap (λ y. with_number d.bytes 2 spot.slot y) (found_is _ x e)
-            ∙ sym (with_number_cut d.bytes 2 spot.slot x)) left;
-      })
+abbrev pub target : Bool → (ℕ → ℕ) → ℕ
+target inward regs = chosen inward (regs 6) (regs 5)
 
-  pub word_in : (goal : Data → ByteMap) (both : Stretches 4) → MayLoad z 4 Word both.pointer_low both.pointer_high
-      → MayStore z 4 Word both.slot_low both.slot_high
-      → (p j : ℕ) (spot : Spot) → Placed z.code p (Load Lw 28 5 0 ∷ Store Sw 28 6 0 ∷ added 5 4 ∷ added 6 4 ∷ [])
-      → Known 4 both (suc j) spot
-      → Piece z Data p (p + 16) 4 (LeftIn 4 (meant Uint32) both goal (suc j) spot)
-      (LeftIn 4 (meant Uint32) both goal j (past 4 spot))
-  word_in goal both loads stores p j spot placed known =
-      block z p (access (Load Lw 28 5 0) spot.pointer ∷ access (Store Sw 28 6 0) spot.slot ∷ plain (added 5 4)
-      ∷ plain (added 6 4) ∷ []) placed (
-        loads spot.pointer known.pointer_from (pointer_fits 4 j both spot known),
-        (stores spot.slot known.slot_from (slot_fits 4 j both spot known), (z.silent, (z.silent, tt))),
-      )
-      (λ s d left.
-      let put = next_put 4 (meant Uint32) j spot.pointer spot.slot (goal s) d.bytes known.apart left.rest in
-      let v = unwrap_or (number_at d.bytes 4 spot.pointer) 0 in
-      let w = v in
-      let one : Data = record { regs = with_register d.regs 28 v; bytes = d.bytes } in
-      record {
-        fit = (
-          refl,
-          reach_five d spot.pointer 4 left.running.pointer (pointer_below 4 j both spot known (omega arith))
-              known.pointer_even (found_there _ put.value put.there),
-          (
-            refl,
-            reach_six one spot.slot 4 left.running.slot (slot_below 4 j both spot known (omega arith))
-                known.slot_even (first_there 4 j spot.slot d.bytes left.there),
-            (refl, tt, (refl, tt, tt)),
-          ),
-        );
-        done = copied_in 4 both goal j spot s d (stepped 4 d.regs v) w refl refl (stepped_others 4 d.regs v) known
-            (meant Uint32)
-            (λ x e. ap (λ y. with_number d.bytes 4 spot.slot y) (found_is _ x e)
-            ∙ sym (with_number_cut d.bytes 4 spot.slot x)) left;
-      })
+abbrev pub copied_code : Bool → Kind → List Instr
+copied_code true kind = copied_in_code kind
+copied_code false kind = copied_out_code kind
 
-  pub byte_out : (goal : Data → ByteMap) (both : Stretches 1) → MayStore z 1 Byte both.pointer_low both.pointer_high
-      → MayLoad z 1 Byte both.slot_low both.slot_high
-      → (p j : ℕ) (spot : Spot) → Placed z.code p (Load Lbu 28 6 0 ∷ Store Sb 28 5 0 ∷ added 5 1 ∷ added 6 1 ∷ [])
-      → Known 1 both (suc j) spot
-      → Piece z Data p (p + 16) 4 (LeftOut 1 both goal (suc j) spot) (LeftOut 1 both goal j (past 1 spot))
-  byte_out goal both stores loads p j spot placed known =
-      block z p (access (Load Lbu 28 6 0) spot.slot ∷ access (Store Sb 28 5 0) spot.pointer ∷ plain (added 5 1)
-      ∷ plain (added 6 1) ∷ []) placed (
-        loads spot.slot known.slot_from (slot_fits 1 j both spot known),
-        (stores spot.pointer known.pointer_from (pointer_fits 1 j both spot known), (z.silent, (z.silent, tt))),
-      )
-      (λ s d left.
-      let put = next_put 1 (λ v. v) j spot.slot spot.pointer (goal s) d.bytes
-      (other_way (1 * suc j) spot.pointer spot.slot known.apart) left.rest in
-      let v = unwrap_or (number_at d.bytes 1 spot.slot) 0 in
-      let one : Data = record { regs = with_register d.regs 28 v; bytes = d.bytes } in
-      record {
-        fit = (
-          refl,
-          reach_six d spot.slot 1 left.running.slot (slot_below 1 j both spot known (omega arith)) known.slot_even
-              (found_there _ put.value put.there),
-          (
-            refl,
-            reach_five one spot.pointer 1 left.running.pointer (pointer_below 1 j both spot known (omega arith))
-                known.pointer_even (first_there 1 j spot.pointer d.bytes left.there),
-            (refl, tt, (refl, tt, tt)),
-          ),
-        );
-        done = copied_out 1 both goal j spot s d (stepped 1 d.regs v) v refl refl (stepped_others 1 d.regs v) known
-            (λ x e. ap (λ y. with_number d.bytes 1 spot.pointer y) (found_is _ x e)) left;
-      })
+-- what an element becomes
+abbrev pub copied_value : Bool → Kind → ℕ → ℕ
+copied_value true kind = meant kind
+copied_value false kind = λ v. v
 
-  pub half_out : (goal : Data → ByteMap) (both : Stretches 2) → MayStore z 2 Half both.pointer_low both.pointer_high
-      → MayLoad z 2 Half both.slot_low both.slot_high
-      → (p j : ℕ) (spot : Spot) → Placed z.code p (Load Lhu 28 6 0 ∷ Store Sh 28 5 0 ∷ added 5 2 ∷ added 6 2 ∷ [])
-      → Known 2 both (suc j) spot
-      → Piece z Data p (p + 16) 4 (LeftOut 2 both goal (suc j) spot) (LeftOut 2 both goal j (past 2 spot))
-  half_out goal both stores loads p j spot placed known =
-      block z p (access (Load Lhu 28 6 0) spot.slot ∷ access (Store Sh 28 5 0) spot.pointer ∷ plain (added 5 2)
-      ∷ plain (added 6 2) ∷ []) placed (
-        loads spot.slot known.slot_from (slot_fits 2 j both spot known),
-        (stores spot.pointer known.pointer_from (pointer_fits 2 j both spot known), (z.silent, (z.silent, tt))),
-      )
-      (λ s d left.
-      let put = next_put 2 (λ v. v) j spot.slot spot.pointer (goal s) d.bytes
-      (other_way (2 * suc j) spot.pointer spot.slot known.apart) left.rest in
-      let v = unwrap_or (number_at d.bytes 2 spot.slot) 0 in
-      let one : Data = record { regs = with_register d.regs 28 v; bytes = d.bytes } in
-      record {
-        fit = (
-          refl,
-          reach_six d spot.slot 2 left.running.slot (slot_below 2 j both spot known (omega arith)) known.slot_even
-              (found_there _ put.value put.there),
-          (
-            refl,
-            reach_five one spot.pointer 2 left.running.pointer (pointer_below 2 j both spot known (omega arith))
-                known.pointer_even (first_there 2 j spot.pointer d.bytes left.there),
-            (refl, tt, (refl, tt, tt)),
-          ),
-        );
-        done = copied_out 2 both goal j spot s d (stepped 2 d.regs v) v refl refl (stepped_others 2 d.regs v) known
-            (λ x e. ap (λ y. with_number d.bytes 2 spot.pointer y) (found_is _ x e)) left;
-      })
+-- The sizes of elements.
 
-  pub word_out : (goal : Data → ByteMap) (both : Stretches 4) → MayStore z 4 Word both.pointer_low both.pointer_high
-      → MayLoad z 4 Word both.slot_low both.slot_high
-      → (p j : ℕ) (spot : Spot) → Placed z.code p (Load Lw 28 6 0 ∷ Store Sw 28 5 0 ∷ added 5 4 ∷ added 6 4 ∷ [])
-      → Known 4 both (suc j) spot
-      → Piece z Data p (p + 16) 4 (LeftOut 4 both goal (suc j) spot) (LeftOut 4 both goal j (past 4 spot))
-  word_out goal both stores loads p j spot placed known =
-      block z p (access (Load Lw 28 6 0) spot.slot ∷ access (Store Sw 28 5 0) spot.pointer ∷ plain (added 5 4)
-      ∷ plain (added 6 4) ∷ []) placed (
-        loads spot.slot known.slot_from (slot_fits 4 j both spot known),
-        (stores spot.pointer known.pointer_from (pointer_fits 4 j both spot known), (z.silent, (z.silent, tt))),
-      )
-      (λ s d left.
-      let put = next_put 4 (λ v. v) j spot.slot spot.pointer (goal s) d.bytes
-      (other_way (4 * suc j) spot.pointer spot.slot known.apart) left.rest in
-      let v = unwrap_or (number_at d.bytes 4 spot.slot) 0 in
-      let one : Data = record { regs = with_register d.regs 28 v; bytes = d.bytes } in
-      record {
-        fit = (
-          refl,
-          reach_six d spot.slot 4 left.running.slot (slot_below 4 j both spot known (omega arith)) known.slot_even
-              (found_there _ put.value put.there),
-          (
-            refl,
-            reach_five one spot.pointer 4 left.running.pointer (pointer_below 4 j both spot known (omega arith))
-                known.pointer_even (first_there 4 j spot.pointer d.bytes left.there),
-            (refl, tt, (refl, tt, tt)),
-          ),
-        );
-        done = copied_out 4 both goal j spot s d (stepped 4 d.regs v) v refl refl (stepped_others 4 d.regs v) known
-            (λ x e. ap (λ y. with_number d.bytes 4 spot.pointer y) (found_is _ x e)) left;
-      })
+abbrev pub element_size : Kind → Size
+element_size Boolean = Byte
+element_size Uint8 = Byte
+element_size Uint16 = Half
+element_size Uint32 = Word
+
+-- an element lies in a stretch
+pub element_lies : (kind : Kind) (low high x : ℕ) → low ≤ x → x + element_bytes kind ≤ high
+    → LiesIn low high x (element_size kind)
+element_lies Boolean low high x from to = (from, to)
+element_lies kind low high x from to = (from, to)
+
+pub some_bytes : (kind : Kind) → 0 < element_bytes kind
+some_bytes Boolean = omega arith
+some_bytes kind = omega arith
+
+-- so many elements, and one more
+pub elements_fit : (kind : Kind) (i k : ℕ) → i < k → element_bytes kind * i + element_bytes kind ≤ element_bytes kind * k
+elements_fit Boolean i k few = omega (arith, few)
+elements_fit kind i k few = omega (arith, few)
+
+pub element_even : (kind : Kind) (a i : ℕ) → a % element_bytes kind ≡ 0
+    → (a + element_bytes kind * i) % element_bytes kind ≡ 0
+element_even Boolean a i even = omega (arith, even)
+element_even kind a i even = omega (arith, even)
+
+-- The code of one element.
+
+-- the registers that it writes
+abbrev pub copy_works : ℕ → Bool
+copy_works q = (q == 5) || ((q == 6) || (q == 28))
+
+pub copy_leaves : (q : ℕ) → q ≢ 5 → q ≢ 6 → q ≢ 28 → copy_works q ≡ false
+copy_leaves q h k l = rw (ne_eqb q 5 h, ne_eqb q 6 k, ne_eqb q 28 l)
+
+pub copy_plain : (inward : Bool) (kind : Kind) → are_straight copy_works (copied_code inward kind) ≡ true
+copy_plain true Boolean = refl
+copy_plain false Boolean = refl
+copy_plain inward kind = refl
+
+pub copy_length : (inward : Bool) (kind : Kind)
+    → (0 < length (copied_code inward kind)) × (length (copied_code inward kind) < 1024)
+copy_length true Boolean = (omega arith, omega arith)
+copy_length false Boolean = (omega arith, omega arith)
+copy_length inward kind = (omega arith, omega arith)
+
+pub copy_fit : (Allows : Option Event → Type 0) (inward : Bool) (kind : Kind) (a b : ℕ)
+    → IsFit Allows (element_bytes kind) (event.Load a (element_size kind)) a
+    → IsFit Allows (element_bytes kind) (event.Store b (element_size kind)) b
+    → AreFit Allows (copied_code inward kind) (a ∷ b ∷ [])
+copy_fit Allows true Boolean a b one other = (one, (other, tt))
+copy_fit Allows false Boolean a b one other = (one, (other, tt))
+copy_fit Allows inward kind a b one other = (one, (other, tt))
+
+-- a register has an address, where data is
+pub record Reached (n value a : ℕ) (d : Data) : Type 0 where
+  pub is : value ≡ a
+  pub below : a < 2 ^ 32
+  pub there : is_some (number_at d.bytes n a) ≡ true
+
+pub copy_met : (inward : Bool) (kind : Kind) (a b : ℕ) (d : Data)
+    → Reached (element_bytes kind) (source inward d.regs) a d
+    → Reached (element_bytes kind) (target inward d.regs) b d
+    → AreMet (copied_code inward kind) (a ∷ b ∷ []) d
+copy_met true Boolean a b d one other =
+    let x = one.is in let l = one.below in let y = other.is in let m = other.below in (
+      record { address = omega (arith, x, l); data_there = one.there },
+      (record { address = omega (arith, y, m); data_there = other.there }, tt),
+    )
+copy_met false Boolean a b d one other =
+    let x = one.is in let l = one.below in let y = other.is in let m = other.below in (
+      record { address = omega (arith, x, l); data_there = one.there },
+      (record { address = omega (arith, y, m); data_there = other.there }, tt),
+    )
+copy_met inward kind a b d one other =
+    let x = one.is in let l = one.below in let y = other.is in let m = other.below in (
+      record { address = omega (arith, x, l); data_there = one.there },
+      (record { address = omega (arith, y, m); data_there = other.there }, tt),
+    )
+
+-- what it makes
+pub record Stepped (inward : Bool) (kind : Kind) (a b : ℕ) (d t : Data) : Type 0 where
+  pub source_on : source inward t.regs ≡ sum_of (source inward d.regs) (element_bytes kind)
+  pub target_on : target inward t.regs ≡ sum_of (target inward d.regs) (element_bytes kind)
+  pub bytes : t.bytes ≡ with_number d.bytes (element_bytes kind) b
+      (copied_value inward kind (number_or_zero (number_at d.bytes (element_bytes kind) a)))
+
+pub copy_made : (inward : Bool) (kind : Kind) (a b : ℕ) (d : Data)
+    → Stepped inward kind a b d (after_all (copied_code inward kind) (a ∷ b ∷ []) d)
+copy_made true Boolean a b d = record {
+  source_on = refl;
+  target_on = refl;
+  bytes = ap (λ v. with_number d.bytes 1 b v) (same_truth (number_or_zero (number_at d.bytes 1 a)));
+}
+copy_made true kind a b d = record {
+  source_on = refl;
+  target_on = refl;
+  bytes = sym (with_number_cut d.bytes (element_bytes kind) b
+      (number_or_zero (number_at d.bytes (element_bytes kind) a)));
+}
+copy_made false Boolean a b d = record { source_on = refl; target_on = refl; bytes = refl }
+copy_made false kind a b d = record { source_on = refl; target_on = refl; bytes = refl }

@@ -4,8 +4,7 @@ use Rattle.std.proofs.Math.Path.{fun_ext}
 use Rattle.rv_code.specs.declared.instructions.Instr.TheVariants.{JumpRegister}
 use Rattle.rv_machine.specs.Effects.{sum_of, sign_extended, register_target}
 use Rattle.rv_machine.specs.Machine.{State, Code, IsAt, Turn, goes_on, observed, next, with_link, moved_to}
-use Rattle.linked_calls.proofs.Below.{jump_done, turn_of}
-use Rattle.linked_calls.proofs.Registers.{near_address}
+use Rattle.linked_calls.proofs.Below.{jump_done, near_address, turn_of}
 
 either : (b : Bool) (v x : ℕ) → cond b x (cond b v x) ≡ x
 either true v x = refl

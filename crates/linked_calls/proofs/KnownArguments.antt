@@ -1,10 +1,9 @@
 -- What is known of the arguments of a call before any state: their slots lie in the frame, their words in the room or
--- on the stack, and arrays apart from the room.
-use Rattle.std.specs.Prelude.{◌⊎◌}
+-- on the stack, and arrays apart from the room; and the accesses to them are the call's.
 use Rattle.std.specs.List.{AllByRecursion}
-use Rattle.std.proofs.Common.{◌≡◌, ℕ, zero, suc, ◌+◌, ◌*◌, ◌%◌, ◌^◌, ◌<◌, ◌≤◌, nat_le, true, ◌&&◌, List, [], ◌∷◌}
-use Rattle.std.proofs.Common.{length, Some, inl, inr, refl, ap, sym, subst, arith}
-use Rattle.std.proofs.lemmas.Bool.{false≢true}
+use Rattle.std.proofs.Common.{◌≡◌, ℕ, ◌+◌, ◌*◌, ◌%◌, ◌<◌, ◌≤◌, nat_le, true, ◌&&◌, List, [], ◌∷◌, length, Option, Some}
+use Rattle.std.proofs.Common.{None, inl, inr, arith}
+use Rattle.std.proofs.lemmas.Bool.Decides.{nat_tests}
 use Rattle.codegen.specs.image_fields.Fields.{Fields, IsImage, AreSlots, is_length, slot_bytes, slot_end}
 use Rattle.codegen.specs.declared.image_fields.slot.Slot.{Slot}
 use Rattle.language.specs.Limits.{most_elements}
@@ -12,148 +11,183 @@ use Rattle.language.specs.Size.{element_bytes, array_words}
 use Rattle.language.specs.declared.signature.Form.{Form}
 use Rattle.language.specs.declared.signature.Form.TheVariants.{SingleWord, FixedArray, MutableArray}
 use Rattle.language.specs.declared.signature.Kind.{Kind}
-use Rattle.language.specs.declared.signature.Kind.TheVariants.{Boolean, Uint8, Uint16, Uint32}
-use Rattle.linked_calls.specs.Called.{ReadsArray, ReadsAnArray}
-use Rattle.linked_calls.specs.Calls.{Site, IsSite, IsReadable, IsBesides, LiesWell, LieWell, room_base, arguments_end}
-use Rattle.linked_calls.specs.FunctionCode.{frame_room, argument_offset, array_bytes}
-use Rattle.linked_calls.proofs.Allowed.{call_setting, element_lies, may_load_words, may_store_words}
-use Rattle.linked_calls.proofs.Allowed.{may_store_elements}
-use Rattle.linked_calls.proofs.AllArguments.{KnownWord, KnownArray, IsKnown, AreKnown}
-use Rattle.linked_calls.proofs.Copying.{CanCopy}
-use Rattle.linked_calls.proofs.Pieces.{Setting}
-use Rattle.linked_calls.proofs.Rooms.{frame_fits, room_limit, room_ends, base_aligned, stack_below, place_aligned}
-use Rattle.linked_calls.proofs.Rooms.{place_ends, place_below}
+use Rattle.language.specs.declared.signature.Kind.TheVariants.{Boolean}
+use Rattle.linked_calls.specs.Called.{IsOfCall, ReadsArray, ReadsAnArray, WritesArray, WritesAnArray}
+use Rattle.linked_calls.specs.Calls.{Site, IsSite, IsBesides, IsReadable, LiesWell, LieWell, room_base, arguments_end}
+use Rattle.linked_calls.specs.Copies.{AreApart, CanBeCopied, IsCopying}
+use Rattle.linked_calls.specs.FunctionCode.{argument_offset, array_bytes}
+use Rattle.linked_calls.specs.Stretches.{LiesIn}
+use Rattle.linked_calls.specs.Words.{IsPutting}
+use Rattle.linked_calls.specs.Zeros.{IsStoreIn}
+use Rattle.linked_calls.proofs.AllArguments.{AreKnown, IsKnown, KnownArray, KnownWord, spot_at}
+use Rattle.linked_calls.proofs.CopyElements.{elements_fit, some_bytes}
+use Rattle.linked_calls.proofs.Rooms.{RoomNumbers, place_inside, room_numbers}
 use Rattle.rv_machine.specs.Machine.{Code}
+use Rattle.rv_machine.specs.Sizes.{byte_count}
 use Rattle.rv_machine.specs.declared.memory.Size.{Size}
-use Rattle.rv_machine.specs.declared.memory.Size.TheVariants.{Word}
+use Rattle.rv_machine.specs.declared.memory.Size.TheVariants as sizes
+use Rattle.rv_machine.specs.declared.observation.Event.{Event}
 use Rattle.rv_machine.specs.declared.observation.Event.TheVariants as event
 
 -- Slots.
 
 -- an array fits into the words that its slot takes
-pub array_fits : (kind : Kind) (n : ℕ) → element_bytes kind * n ≤ 4 * array_words kind n
+array_fits : (kind : Kind) (n : ℕ) → element_bytes kind * n ≤ 4 * array_words kind n
 array_fits Boolean n = omega arith
-array_fits Uint8 n = omega arith
-array_fits Uint16 n = omega arith
-array_fits Uint32 n = omega arith
+array_fits kind n = omega arith
 
 -- and may begin wherever a word may
-pub element_aligned : (kind : Kind) (a : ℕ) → a % 4 ≡ 0 → a % element_bytes kind ≡ 0
+element_aligned : (kind : Kind) (a : ℕ) → a % 4 ≡ 0 → a % element_bytes kind ≡ 0
 element_aligned Boolean a even = omega (arith, even)
-element_aligned Uint8 a even = omega (arith, even)
-element_aligned Uint16 a even = omega (arith, even)
-element_aligned Uint32 a even = even
+element_aligned kind a even = omega (arith, even)
 
--- one element or more
-pub record IsMore (n : ℕ) : Type 0 where
-  pub fewer : ℕ
-  pub is : suc fewer ≡ n
+some_elements : (n : ℕ) → (nat_le 1 n && nat_le n most_elements) ≡ true → 0 < n
+some_elements n h = grind (arith, nat_tests)
 
-pub some_elements : (n : ℕ) → (nat_le 1 n && nat_le n most_elements) ≡ true → IsMore n
-some_elements zero h = absurd (false≢true h)
-some_elements (suc n) h = record { fewer = n; is = refl }
+pub small_access : (size : Size) → byte_count size ≤ 4
+small_access sizes.Byte = omega arith
+small_access size = omega arith
 
-beside : (a n low high at : ℕ) → low ≤ at → at + n ≤ high → IsBesides a n low high → (a + n ≤ at) ⊎ (at + n ≤ a)
+beside : (a n low high at : ℕ) → low ≤ at → at + n ≤ high → IsBesides a n low high → AreApart n a at
 beside a n low high at from to (inl before) = inl (omega (arith, from, before))
 beside a n low high at from to (inr behind) = inr (omega (arith, to, behind))
 
-apart : (a n low mid high : ℕ) → mid ≤ high → IsBesides a n low high → (a + n ≤ low) ⊎ (mid ≤ a)
-apart a n low mid high within (inl before) = inl before
-apart a n low mid high within (inr behind) = inr (omega (arith, within, behind))
+both_beside : (a n low mid high : ℕ) → 0 < n → IsBesides a n low mid → IsBesides a n mid high → IsBesides a n low high
+both_beside a n low mid high some (inl below) other = inl below
+both_beside a n low mid high some (inr above) (inl below) = absurd (omega (arith, some, above, below))
+both_beside a n low mid high some (inr above) (inr beyond) = inr beyond
+
+module _ (image : Fields) (site : Site) where
+  -- Which accesses are the call's: stores of zeros, and those of an argument's word or elements.
+
+  pub zero_allowed : (low high : ℕ) → room_base image site ≤ low → high ≤ site.stack
+      → (o : Option Event) → IsStoreIn low high o → IsOfCall image site o
+  zero_allowed low high from to None is = tt
+  zero_allowed low high from to (Some (event.Load a size)) is = absurd is
+  zero_allowed low high from to (Some (event.Store a size)) is =
+      let above = is.0 in
+      let below = is.1 in
+      inl (omega (arith, from, above), omega (arith, to, below))
+  zero_allowed low high from to (Some (event.Div a b)) is = absurd is
+  zero_allowed low high from to (Some (event.Mul a b)) is = absurd is
+
+  put_allowed : (place slot : ℕ) → room_base image site ≤ place → place + 4 ≤ arguments_end image site
+      → room_base image site ≤ slot → slot + 4 ≤ site.stack
+      → (o : Option Event) → IsPutting place slot o → IsOfCall image site o
+  put_allowed place slot low up from to None is = tt
+  put_allowed place slot low up from to (Some (event.Load a size)) is =
+      let at = is.0 in
+      let small = small_access size in
+      inl (omega (arith, at, low), omega (arith, at, up, small))
+  put_allowed place slot low up from to (Some (event.Store a size)) is =
+      let at = is.0 in
+      let small = small_access size in
+      inl (omega (arith, at, from), omega (arith, at, to, small))
+  put_allowed place slot low up from to (Some (event.Div a b)) is = absurd is
+  put_allowed place slot low up from to (Some (event.Mul a b)) is = absurd is
+
+  copy_allowed : (place n from to : ℕ) → room_base image site ≤ place → place + 4 ≤ arguments_end image site
+      → ((a : ℕ) (size : Size) → LiesIn from (from + n) a size → IsOfCall image site (Some (event.Load a size)))
+      → ((a : ℕ) (size : Size) → LiesIn to (to + n) a size → IsOfCall image site (Some (event.Store a size)))
+      → (o : Option Event) → IsCopying place n from to o → IsOfCall image site o
+  copy_allowed place n from to low up loads stores None is = tt
+  copy_allowed place n from to low up loads stores (Some (event.Load a size)) (inl at) =
+      let small = small_access size in
+      inl (omega (arith, at, low), omega (arith, at, up, small))
+  copy_allowed place n from to low up loads stores (Some (event.Load a size)) (inr lies) = loads a size lies
+  copy_allowed place n from to low up loads stores (Some (event.Store a size)) lies = stores a size lies
+  copy_allowed place n from to low up loads stores (Some (event.Div a b)) is = absurd is
+  copy_allowed place n from to low up loads stores (Some (event.Mul a b)) is = absurd is
 
 module _ (image : Fields) (code : Code) (site : Site) (is : IsImage image) (there : IsSite image code site) where
-  abbrev z : Setting
-  z = call_setting image code site
+  numbers : RoomNumbers image site
+  numbers = room_numbers image code site there
 
   abbrev frame : ℕ
   frame = room_base image site
 
-  abbrev room : ℕ
-  room = frame_room image
-
   module _ (i : ℕ) (few : i < length image.slots) (slot : Slot) (aligned : slot.offset % 4 ≡ 0) where
-    slot_aligned : (frame + slot.offset) % 4 ≡ 0
-    slot_aligned =
-        let a = base_aligned image code site there in
-        omega (arith, a, aligned)
-
-    place_may : z.allowed (Some (event.Load (frame + argument_offset image i) Word))
-    place_may =
-        let place = frame + argument_offset image i in
-        may_load_words image code site place (arguments_end image site) (omega arith) (omega arith) place
-        (omega arith) (place_ends image code site there i few)
-
-    word_known : slot.offset + 4 ≤ image.frame_bytes → KnownWord z image frame room site.pointers i slot
-    word_known ends =
-        let fits = frame_fits image in
-        let top = room_ends image code site there in
-        let below = stack_below image code site there in
+    word_known : slot.offset + 4 ≤ image.frame_bytes → KnownWord image site i slot
+    word_known inside =
+        let place = place_inside image site numbers i few in
+        let ends = numbers.ends in
+        let even = numbers.even in
+        let whole = numbers.whole in
+        let holds = numbers.holds in
+        let arguments = numbers.arguments in
+        let below = numbers.below in
         record {
-          even = place_aligned image code site there i;
-          below = place_below image code site there i few;
-          may = place_may;
-          slot_even = slot_aligned;
-          slot_below = omega (arith, ends, fits, top, below);
-          slot_may = may_store_words image code site frame site.stack (omega arith) (omega arith)
-              (frame + slot.offset) (omega arith) (omega (arith, ends, fits, top));
-          inside = omega (arith, ends, fits);
+          can = record {
+            frame_aligned = omega (arith, even);
+            slot_aligned = omega (arith, even, aligned);
+            place_ends = omega (arith, place, below);
+            slot_ends = omega (arith, inside, holds, ends, arguments, below);
+          };
+          may = put_allowed image site (frame + argument_offset image i) (frame + slot.offset) (omega arith) place
+              (omega arith) (omega (arith, inside, holds, ends));
+          place_inside = place;
+          inside = omega (arith, inside, holds);
         }
 
-    module _ (ends : slot.offset + array_bytes slot ≤ image.frame_bytes) (readable : IsReadable image site i slot)
-        (reads : (a : ℕ) (size : Size) → ReadsArray site i slot FixedArray a size
-        → ReadsAnArray site 0 image.slots a size) where
-      slot_in_frame : frame + slot.offset + array_bytes slot ≤ frame + room
-      slot_in_frame =
-          let fits = frame_fits image in
-          omega (arith, ends, fits)
+    module _ (some : 0 < slot.param.length) (ends_inside : slot.offset + array_bytes slot ≤ image.frame_bytes)
+        (readable : IsReadable image site i slot) where
+      slot_inside : frame + slot.offset + array_bytes slot ≤ site.stack
+      slot_inside =
+          let ends = numbers.ends in
+          let holds = numbers.holds in
+          omega (arith, ends_inside, holds, ends)
 
-      can_copy : CanCopy (element_bytes slot.param.kind) slot.param.length (site.pointers i) (frame + slot.offset)
+      can_copy : CanBeCopied image slot (spot_at image site i)
       can_copy =
-          let inside = slot_in_frame in
-          let top = room_ends image code site there in
-          let below = stack_below image code site there in
-          let limit = room_limit image is in
+          let place = place_inside image site numbers i few in
+          let even = numbers.even in
+          let inside = slot_inside in
+          let arguments = numbers.arguments in
+          let below = numbers.below in
           record {
-            pointer_even = readable.aligned;
-            slot_even = element_aligned slot.param.kind (frame + slot.offset) slot_aligned;
-            pointer_ends = readable.ends;
-            slot_ends = omega (arith, inside, top, below);
-            few = omega (arith, inside, top, below);
+            some = some;
+            frame_aligned = omega (arith, even);
+            array_aligned = readable.aligned;
+            slot_aligned = element_aligned slot.param.kind (frame + slot.offset) (omega (arith, even, aligned));
+            place_ends = omega (arith, place, below);
+            array_ends = readable.ends;
+            slot_ends = omega (arith, inside, arguments, below);
             apart = beside (site.pointers i) (array_bytes slot) frame site.stack (frame + slot.offset) (omega arith)
-                (omega (arith, inside, top)) readable.beside_room;
+                inside readable.beside_room;
           }
 
-      array_known : IsMore slot.param.length → KnownArray z image frame room site.pointers i slot
-      array_known more =
-          let kind = slot.param.kind in
-          let bytes : element_bytes kind * suc more.fewer ≡ array_bytes slot =
-          ap (λ n. element_bytes kind * n) more.is in
-          let inside = slot_in_frame in
-          let fits = frame_fits image in
-          let top = room_ends image code site there in
-          let below = stack_below image code site there in
-          let can = can_copy in
+      array_known : ((a : ℕ) (size : Size) → ReadsArray site i slot FixedArray a size
+          → ReadsAnArray site 0 image.slots a size) → KnownArray image site i slot
+      array_known reads =
+          let place = place_inside image site numbers i few in
+          let inside = slot_inside in
+          let holds = numbers.holds in
           record {
-            even = place_aligned image code site there i;
-            below = place_below image code site there i few;
-            may = place_may;
-            count = more.fewer;
-            count_is = more.is;
-            slot_below = omega (arith, inside, top, below);
-            few = subst (λ b. b < 2 ^ 32) (sym bytes) can.few;
-            can = subst (λ n. CanCopy (element_bytes kind) n (site.pointers i) (frame + slot.offset))
-                (sym more.is) can;
-            loads =
-                λ x low high.
-                inr
-                (reads x _ (element_lies kind (site.pointers i) (site.pointers i + array_bytes slot) x low
-                (subst (λ b. x + element_bytes kind ≤ site.pointers i + b) bytes high)));
-            stores = λ x low high. may_store_elements image code site (frame + slot.offset) site.stack (omega arith)
-                kind (omega arith) x low (omega (arith, high, bytes, inside, top));
-            inside = omega (arith, ends, fits);
-            apart = apart (site.pointers i) (array_bytes slot) frame (frame + room) site.stack (omega (arith, top))
-                readable.beside_room;
+            can = can_copy;
+            may_take = copy_allowed image site (frame + argument_offset image i) (array_bytes slot) (site.pointers i)
+                (frame + slot.offset) (omega arith) place (λ a size lies. inr (reads a size lies))
+                (λ a size lies.
+                let from = lies.0 in
+                let to = lies.1 in
+                inl (omega (arith, from), omega (arith, to, inside)));
+            place_inside = place;
+            inside = omega (arith, ends_inside, holds);
           }
+
+      may_hand : ((a : ℕ) (size : Size) → WritesArray site i slot MutableArray a size
+          → WritesAnArray site 0 image.slots a size)
+          → (o : Option Event) → IsCopying (frame + argument_offset image i) (array_bytes slot) (frame + slot.offset)
+          (site.pointers i) o → IsOfCall image site o
+      may_hand writes =
+          let inside = slot_inside in
+          let arguments = numbers.arguments in
+          copy_allowed image site (frame + argument_offset image i) (array_bytes slot) (frame + slot.offset)
+          (site.pointers i) (omega arith) (place_inside image site numbers i few)
+          (λ a size lies.
+          let from = lies.0 in
+          let to = lies.1 in
+          inl (omega (arith, from), omega (arith, to, inside, arguments)))
+          (λ a size lies. inr (writes a size lies))
 
     array_ends : slot.offset + 4 * array_words slot.param.kind slot.param.length ≤ image.frame_bytes
         → slot.offset + array_bytes slot ≤ image.frame_bytes
@@ -165,26 +199,37 @@ module _ (image : Fields) (code : Code) (site : Site) (is : IsImage image) (ther
         → slot.offset + slot_bytes form slot.param.kind slot.param.length ≤ image.frame_bytes
         → LiesWell image site i slot form
         → ((a : ℕ) (size : Size) → ReadsArray site i slot form a size → ReadsAnArray site 0 image.slots a size)
-        → IsKnown z image frame room site.pointers i slot form
-    known SingleWord long ends lies reads = word_known ends
-    known FixedArray long ends lies reads =
-        array_known (array_ends ends) lies reads (some_elements slot.param.length long)
-    known MutableArray long ends lies reads =
-        array_known (array_ends ends) lies.readable reads (some_elements slot.param.length long)
+        → ((a : ℕ) (size : Size) → WritesArray site i slot form a size → WritesAnArray site 0 image.slots a size)
+        → IsKnown image site i slot form
+    known SingleWord long ends lies reads writes = word_known ends
+    known FixedArray long ends lies reads writes =
+        array_known (some_elements slot.param.length long) (array_ends ends) lies reads
+    known MutableArray long ends lies reads writes =
+        let some = some_elements slot.param.length long in
+        let one = some_bytes slot.param.kind in
+        let fit = elements_fit slot.param.kind 0 slot.param.length some in
+        record {
+          known = array_known some (array_ends ends) lies.readable reads;
+          may_hand = may_hand some (array_ends ends) lies.readable writes;
+          beside = both_beside (site.pointers i) (array_bytes slot) frame site.stack (arguments_end image site)
+              (omega (arith, one, fit)) lies.readable.beside_room lies.beside_arguments;
+        }
 
   known_from : (i low : ℕ) (slots : List Slot) → i + length slots ≡ length image.slots → AreSlots low slots
       → AllByRecursion (λ slot. slot_end slot ≤ image.frame_bytes) slots
       → LieWell image site i slots
       → ((a : ℕ) (size : Size) → ReadsAnArray site i slots a size → ReadsAnArray site 0 image.slots a size)
-      → AreKnown z image frame room site.pointers i slots
-  known_from i low [] count are ends lie reads = tt
-  known_from i low (slot ∷ slots) count are ends lie reads = (
+      → ((a : ℕ) (size : Size) → WritesAnArray site i slots a size → WritesAnArray site 0 image.slots a size)
+      → AreKnown image site i slots
+  known_from i low [] count are ends lie reads writes = tt
+  known_from i low (slot ∷ slots) count are ends lie reads writes = (
     known i (omega (arith, count)) slot are.0.aligned slot.param.form are.0.length ends.0 lie.0
-        (λ a size h. reads a size (inl h)),
+        (λ a size h. reads a size (inl h)) (λ a size h. writes a size (inl h)),
     known_from (i + 1) (slot_end slot) slots (omega (arith, count)) are.1 ends.1 lie.1
-        (λ a size h. reads a size (inr h)),
+        (λ a size h. reads a size (inr h)) (λ a size h. writes a size (inr h)),
   )
 
   -- all of them
-  pub all_known : AreKnown z image frame room site.pointers 0 image.slots
+  pub all_known : AreKnown image site 0 image.slots
   all_known = known_from 0 0 image.slots (omega arith) is.slots is.slots_inside there.arrays (λ a size h. h)
+      (λ a size h. h)

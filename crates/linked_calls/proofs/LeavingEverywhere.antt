@@ -2,15 +2,12 @@
 -- instruction, which goes back.
 use Rattle.std.specs.Prelude.{unwrap_or, is_some, IfSome}
 use Rattle.std.specs.Option.{option_map}
-use Rattle.std.proofs.Common.{◌≡◌, ◌≢◌, ℕ, suc, ◌+◌, ◌-◌, ◌*◌, ◌<◌, ◌≤◌, List, [], ◌∷◌, ◌++◌, length, map, Option}
-use Rattle.std.proofs.Common.{Some, None, inl, inr, refl, sym, ap, ◌∙◌, subst, arith, length-append, append_assoc}
-use Rattle.std.proofs.lemmas.List.{length-map}
-use Rattle.codegen.specs.Anywhere.{Stand, body_words}
+use Rattle.std.proofs.Common.{◌≡◌, ◌≢◌, ℕ, suc, ◌+◌, ◌-◌, ◌*◌, ◌<◌, ◌≤◌, List, [], ◌∷◌, ◌++◌, length, Option}
+use Rattle.std.proofs.Common.{All, Some, None, inl, inr, refl, sym, ap, ◌∙◌, subst, arith, length-append, append_assoc}
 use Rattle.codegen.specs.Loaded.{word_in, arrays_in, results_in}
 use Rattle.codegen.specs.expression_code.TermCode.{constant_code}
 use Rattle.codegen.specs.image_fields.Fields.{Fields, IsImage, IsResultSlot, result_end, slots_end}
 use Rattle.codegen.specs.declared.image_fields.slot.ResultSlot.{ResultSlot}
-use Rattle.rv_code.specs.Words.{word_of}
 use Rattle.rv_code.specs.declared.instructions.Instr.{Instr}
 use Rattle.rv_code.specs.declared.instructions.Instr.TheVariants.{Immediate, JumpRegister}
 use Rattle.rv_code.specs.declared.operations.ImmediateOperation.TheVariants.{Addi}
@@ -19,94 +16,52 @@ use Rattle.rv_machine.specs.Leakage.{Leads}
 use Rattle.rv_machine.specs.Machine.{State, Code, IsAt}
 use Rattle.rv_machine.specs.declared.observation.Event.{Event}
 use Rattle.rv_machine.specs.declared.observation.Event.TheVariants as event
-use Rattle.linked_calls.proofs.Below.{number_at_same}
-use Rattle.linked_calls.specs.Called.{IsOfCall, IsLeft, with_arrays, kept_registers, cleared_registers}
+use Rattle.linked_calls.specs.Called.{IsOfCall, IsLeft, with_arrays, kept_registers}
+use Rattle.linked_calls.specs.Does.{Data, at}
 use Rattle.linked_calls.specs.Calls.{Site, IsSite, room_base, arguments_end}
 use Rattle.linked_calls.specs.Convention.{saved_registers, scratch_registers}
-use Rattle.linked_calls.specs.FunctionCode.{enter_code, leave_code, function_words, frame_room, result_code}
+use Rattle.linked_calls.specs.FunctionCode.{function_words, frame_room, result_code}
 use Rattle.linked_calls.specs.FunctionCode.{results_code, restore_code, wipe_code, clear_registers_code}
 use Rattle.linked_calls.specs.Sections.{block_turns}
 use Rattle.linked_calls.specs.Words.{HasResult, IsReturned, IsLoadOf}
-use Rattle.linked_calls.specs.Zeros.{IsStoreIn}
-use Rattle.linked_calls.proofs.AllResults.{AreKnownOutputs, AreReadyOutputs, BeginsHanding, results_runs}
-use Rattle.linked_calls.proofs.AllResults.{all_handed_apart, all_handed_are}
-use Rattle.linked_calls.proofs.Between.{AreSaved, LeavesEverywhere, Leaves, CanLeave, leave_at, leave_turns, saved_at}
-use Rattle.linked_calls.proofs.Bytes.{AreData, AreZeroed}
+use Rattle.linked_calls.specs.Stretches.{AreData, AreZeroed}
+use Rattle.linked_calls.proofs.AllArguments.{AreKnown, Begins, call_setting}
+use Rattle.linked_calls.proofs.AllResults.{all_handed_apart, all_handed_are, results_runs}
+use Rattle.linked_calls.proofs.Below.{Placed-left, Placed-right}
+use Rattle.linked_calls.proofs.Between.{AreReady, AreSaved, CanLeave, Leaves, LeavesEverywhere, leave_at, leave_turns}
+use Rattle.linked_calls.proofs.Between.{saved_at}
 use Rattle.linked_calls.proofs.GoingBack.{goes_back}
-use Rattle.linked_calls.proofs.KnownResults.{calling, small_access, outputs_known, outputs_ready}
+use Rattle.linked_calls.proofs.KnownArguments.{all_known, small_access, zero_allowed}
 use Rattle.linked_calls.proofs.LeaveTurns.{outputs_turns, leave_turns_are}
-use Rattle.linked_calls.proofs.Parts.{Runs, Sets, straight_runs, then_runs, weaken_runs}
-use Rattle.linked_calls.proofs.Pieces.{Setting, Placed-left, Placed-right}
-use Rattle.linked_calls.proofs.Placing.{placed}
-use Rattle.linked_calls.proofs.Promised.{promised_runs}
-use Rattle.linked_calls.proofs.Registers.{unwritten}
-use Rattle.linked_calls.proofs.Restoring.{lasts_run, saved_words, saved_values}
-use Rattle.linked_calls.proofs.RoomNumbers.{RoomNumbers, room_numbers}
-use Rattle.linked_calls.proofs.SameRegisters.{AreSame, same_beside, same_then, same_values, all_same}
-use Rattle.linked_calls.proofs.Steps.{Placed, Data, at, plain}
-use Rattle.linked_calls.proofs.Taking.{as_code}
+use Rattle.linked_calls.proofs.Parts.{Sets, sets_runs}
+use Rattle.linked_calls.proofs.Pieces.{Runs, Setting, as_code, promised_runs, then_runs, weaken_runs}
+use Rattle.linked_calls.proofs.Restoring.{lasts_run}
+use Rattle.linked_calls.proofs.Rooms.{RoomNumbers, room_numbers}
+use Rattle.linked_calls.proofs.SameRegisters.{AreSame, all_same, same_beside, same_then}
+use Rattle.linked_calls.proofs.SavedRegisters.{saved_same}
+use Rattle.linked_calls.proofs.Standing.{function_length, leave_placed}
 use Rattle.linked_calls.proofs.Words.{result_is_handed_back}
 
--- what was saved is still there where the bytes are the same
-saved_stay : (old new : ByteMap) (regs : ℕ → ℕ) (a : ℕ) (rs : List ℕ)
-    → ((x : ℕ) → a ≤ x → x < a + 4 * length rs → new x ≡ old x) → AreSaved old regs a rs → AreSaved new regs a rs
-saved_stay old new regs a [] same saved = tt
-saved_stay old new regs a (r ∷ rs) same saved = (
-  number_at_same old new 4 a (λ x low high. same x low (omega (arith, high))) ∙ saved.0,
-  saved_stay old new regs (a + 4) rs (λ x low high. same x (omega (arith, low)) (omega (arith, high))) saved.1,
-)
-
 -- Where the code stands.
-
-stand_behind : (code : Code) (p : ℕ) (ws vs : List ℕ) → Stand code p (ws ++ vs) → Stand code (p + 4 * length ws) vs
-stand_behind code p [] vs stand =
-    let e : p ≡ p + 4 * 0 = omega arith in
-    subst (λ q. Stand code q vs) e stand
-stand_behind code p (w ∷ ws) vs stand =
-    let e : p + 4 + 4 * length ws ≡ p + 4 * suc (length ws) = omega arith in
-    subst (λ q. Stand code q vs) e (stand_behind code (p + 4) ws vs stand.3)
-
-words_are : (image : Fields) → function_words image ≡
-    (map word_of (enter_code image) ++ body_words image.words) ++ map word_of (leave_code image)
-unfolding function_words
-words_are image = refl
 
 abbrev front : Fields → List Instr
 front image =
     result_code image.returned ++ results_code image 0 image.slots ++ restore_code
     (frame_room image) ++ wipe_code ++ clear_registers_code scratch_registers
 
-words_before : (image : Fields)
-    → length (map word_of (enter_code image) ++ body_words image.words) ≡ length (enter_code image) + length
-    (body_words image.words)
-words_before image =
-    let a = length-append (map word_of (enter_code image)) (body_words image.words) in
-    let b = length-map (enter_code image) word_of in
-    omega (arith, a, b)
-
-word_count : (image : Fields) → length (function_words image) ≡ length (enter_code image) + length
-    (body_words image.words) + (length (front image) + 1)
-word_count image =
-    let before = map word_of (enter_code image) ++ body_words image.words in
-    let a = ap length (words_are image) in
-    let b = length-append before (map word_of (leave_code image)) in
-    let c = length-map (leave_code image) word_of in
-    let d = length-append (front image) (JumpRegister 0 1 0 ∷ []) in
-    let e = words_before image in
-    omega (arith, a, b, c, d, e)
-
 last_place : (image : Fields) (site : Site)
     → leave_at image site + 4 * length (front image) ≡ site.entry + 4 * (length (function_words image) - 1)
 last_place image site =
-    let count = word_count image in
-    omega (arith, count)
+    let count = function_length image in
+    let last = length-append (front image) (JumpRegister 0 1 0 ∷ []) in
+    omega (arith, count, last)
 
 grouped : (x r w c : List Instr) → x ++ (r ++ w ++ c) ≡ x ++ r ++ w ++ c
 grouped x r w c = sym (append_assoc x (r ++ w) c) ∙ ap (λ (is : List Instr). is ++ c) (sym (append_assoc x r w))
 
 module _ (image : Fields) (code : Code) (site : Site) (is : IsImage image) (at_site : IsSite image code site) where
   abbrev z : Setting
-  z = calling image code site
+  z = call_setting image code site
 
   abbrev base : ℕ
   base = room_base image site
@@ -117,24 +72,12 @@ module _ (image : Fields) (code : Code) (site : Site) (is : IsImage image) (at_s
   numbers : RoomNumbers image site
   numbers = room_numbers image code site at_site
 
-  known : AreKnownOutputs z image site base end 0 image.slots
-  known =
-      outputs_known image code site numbers 0 0 image.slots is.slots is.slots_inside at_site.arrays (omega arith)
-      (λ a size writes. writes)
-
-  leave_stands : Placed code (leave_at image site) (leave_code image)
-  leave_stands =
-      let before = map word_of (enter_code image) ++ body_words image.words in
-      let count = words_before image in
-      let e : site.entry + 4 * length before ≡ leave_at image site = omega (arith, count) in
-      placed code (leave_at image site) (leave_code image)
-      (subst (λ p. Stand code p (map word_of (leave_code image))) e
-      (stand_behind code site.entry before (map word_of (leave_code image))
-      (subst (λ (ws : List ℕ). Stand code site.entry ws) (words_are image) at_site.words)))
+  known : AreKnown image site 0 image.slots
+  known = all_known image code site is at_site
 
   -- room and arguments are data, and the arrays are ready
-  abbrev Begins : Data → Type 0
-  Begins = BeginsHanding z image site base end (λ bytes. AreReadyOutputs z image site base end bytes 0 image.slots)
+  abbrev Starts : Data → Type 0
+  Starts = Begins image site (λ bytes. AreReady image site bytes 0 image.slots)
 
   -- The result.
 
@@ -158,15 +101,10 @@ module _ (image : Fields) (code : Code) (site : Site) (is : IsImage image) (at_s
   result_runs : (returned : Option ResultSlot) (low : ℕ)
       → IfSome returned (λ (slot : ResultSlot). IsResultSlot low slot)
       → IfSome returned (λ (slot : ResultSlot). result_end slot ≤ image.frame_bytes)
-      → Runs z (length (result_code returned)) (result_code returned) Begins
+      → Runs z (length (result_code returned)) (result_code returned) Starts
       (Sets 10 (λ s. result_of s.bytes returned))
   result_runs None low slot inside =
-      straight_runs z {P = Begins} {R = Sets 10 (λ s. 0)} (plain (Immediate Addi 10 0 0) ∷ []) (tt, tt)
-      (λ s begins. record {
-        fit = (refl, tt, tt);
-        done = record
-            { there = refl; others = λ q h. unwritten s.regs 10 0 q h; same = refl };
-      })
+      sets_runs z 10 (Immediate Addi 10 0 0 ∷ []) [] refl tt (λ s begins. tt) (λ s begins. refl) (λ s. refl)
   result_runs (Some slot) low is_slot inside =
       let ends = numbers.ends in
       let holds = numbers.holds in
@@ -174,18 +112,17 @@ module _ (image : Fields) (code : Code) (site : Site) (is : IsImage image) (at_s
       let below = numbers.below in
       let even = numbers.even in
       let aligned = is_slot.aligned in
-      weaken_runs z {P = HasResult slot base} {P' = Begins} {R = IsReturned slot base}
-      {R' = Sets 10 (λ s. result_of s.bytes (Some slot))} (result_code (Some slot))
+      weaken_runs z {P' = Starts} {R' = Sets 10 (λ s. result_of s.bytes (Some slot))} (result_code (Some slot))
+      (promised_runs z (result_code (Some slot)) {Before = HasResult slot base} {After = IsReturned slot base}
+      (load_allowed slot.offset inside)
+      (λ p there. result_is_handed_back z.code p slot base there (omega (arith, even, aligned))
+      (omega (arith, inside, ends, holds, arguments, below))))
       (λ s begins. record {
         stack = begins.stack;
         slot_there = λ x l h. begins.there x (omega (arith, l))
             (omega (arith, h, inside, ends, holds, arguments));
       })
       (λ s t begins returned. record { there = returned.result; others = returned.others; same = returned.bytes })
-      (promised_runs z (result_code (Some slot)) {Before = HasResult slot base} {After = IsReturned slot base}
-      (load_allowed slot.offset inside)
-      (λ p there. result_is_handed_back z.code p slot base there (omega (arith, even, aligned))
-      (omega (arith, inside, ends, holds, arguments, below))))
 
   -- And the arrays.
 
@@ -194,8 +131,8 @@ module _ (image : Fields) (code : Code) (site : Site) (is : IsImage image) (at_s
 
   in_room : (bytes : ByteMap) (x : ℕ) → base ≤ x → x < end → left_bytes bytes x ≡ bytes x
   in_room bytes x low high =
-      ap (λ (b : ByteMap). b x) (sym (all_handed_are z image site base end bytes 0 image.slots known))
-      ∙ all_handed_apart z image site base end bytes 0 image.slots x known low high
+      ap (λ (b : ByteMap). b x) (sym (all_handed_are image code site numbers bytes 0 image.slots known))
+      ∙ all_handed_apart image code site numbers bytes 0 image.slots x known low high
 
   record Handed (s t : Data) : Type 0 where
     result : t.regs 10 ≡ result_of s.bytes image.returned
@@ -203,16 +140,15 @@ module _ (image : Fields) (code : Code) (site : Site) (is : IsImage image) (at_s
     others : (q : ℕ) → q ≢ 10 → q ≢ 5 → q ≢ 6 → q ≢ 7 → q ≢ 28 → t.regs q ≡ s.regs q
 
   handed_runs : Runs z (length (result_code image.returned) + outputs_turns image 0 image.slots)
-      (result_code image.returned ++ results_code image 0 image.slots) Begins Handed
+      (result_code image.returned ++ results_code image 0 image.slots) Starts Handed
   handed_runs =
-      then_runs z {P = Begins} {S = Handed} (result_code image.returned) (results_code image 0 image.slots)
+      then_runs z {P = Starts} {S = Handed} (result_code image.returned) (results_code image 0 image.slots)
       (result_runs image.returned (slots_end 0 image.slots) is.returned is.returned_inside)
-      (results_runs z image site base end 0 image.slots known)
+      (results_runs image code site numbers known)
       (λ s t begins sets. record {
         stack = sets.others 2 (λ e. omega arith) ∙ begins.stack;
         there = subst (λ (b : ByteMap). AreData base end b) (sym sets.same) begins.there;
-        ready = subst (λ (b : ByteMap). AreReadyOutputs z image site base end b 0 image.slots)
-            (sym sets.same) begins.ready;
+        ready = subst (λ (b : ByteMap). AreReady image site b 0 image.slots) (sym sets.same) begins.ready;
       })
       (λ s t u begins sets takes. record {
         result = takes.others 10 (λ e. omega arith) (λ e. omega arith) (λ e. omega arith) (λ e. omega arith)
@@ -223,22 +159,13 @@ module _ (image : Fields) (code : Code) (site : Site) (is : IsImage image) (at_s
 
   -- All but the last instruction.
 
-  store_allowed : (o : Option Event) → IsStoreIn base (base + (frame_room image + 80)) o → IsOfCall image site o
-  store_allowed None store = tt
-  store_allowed (Some (event.Load a size)) store = absurd store
-  store_allowed (Some (event.Store a size)) store =
-      let to = store.1 in
-      let ends = numbers.ends in
-      inl (store.0, omega (arith, to, ends))
-  store_allowed (Some (event.Div a b)) store = absurd store
-  store_allowed (Some (event.Mul a b)) store = absurd store
-
   record Front (s t : Data) : Type 0 where
     result : t.regs 10 ≡ result_of s.bytes image.returned
     kept : AreSame t.regs s.regs (1 ∷ 3 ∷ 4 ∷ [])
     stack : t.regs 2 ≡ site.stack
-    saved : map (λ r. t.regs r) saved_registers ≡ saved_words (left_bytes s.bytes) (saved_at image site)
-    cleared : AreSame t.regs (λ r. 0) scratch_registers
+    saved : (regs : ℕ → ℕ) → AreSaved (left_bytes s.bytes) regs (saved_at image site) saved_registers
+        → AreSame t.regs regs saved_registers
+    cleared : All (λ r. t.regs r ≡ 0) scratch_registers
     zeroed : AreZeroed base site.stack (left_bytes s.bytes) t.bytes
 
   abbrev front_turns : ℕ
@@ -246,7 +173,7 @@ module _ (image : Fields) (code : Code) (site : Site) (is : IsImage image) (at_s
       length (result_code image.returned) + outputs_turns image 0 image.slots +
       (length (constant_code 5 (frame_room image)) + 1 + 12 + 1 + block_turns (frame_room image + 80) + 14)
 
-  front_runs : Runs z front_turns (front image) Begins Front
+  front_runs : Runs z front_turns (front image) Starts Front
   front_runs =
       let ends = numbers.ends in
       let arguments = numbers.arguments in
@@ -254,11 +181,12 @@ module _ (image : Fields) (code : Code) (site : Site) (is : IsImage image) (at_s
       let room = frame_room image in
       let first = result_code image.returned ++ results_code image 0 image.slots in
       let rest = restore_code room ++ wipe_code ++ clear_registers_code scratch_registers in
-      as_code z front_turns (first ++ rest) (front image)
+      as_code z (first ++ rest) (front image)
       (grouped first (restore_code room) wipe_code (clear_registers_code scratch_registers))
-      (then_runs z {P = Begins} {S = Front} first rest handed_runs
+      (then_runs z {P = Starts} {S = Front} first rest handed_runs
       (lasts_run z base room numbers.even numbers.whole (omega (arith, ends, arguments, below))
-      (λ x low high. inl (omega (arith, low), omega (arith, high, ends, arguments))) store_allowed)
+      (λ x low high. inl (omega (arith, low), omega (arith, high, ends, arguments)))
+      (zero_allowed image site base (base + (room + 80)) (omega arith) (omega (arith, ends))))
       (λ s t begins handed. record {
         stack = handed.others 2 (λ e. omega arith) (λ e. omega arith) (λ e. omega arith) (λ e. omega arith)
             (λ e. omega arith) ∙ begins.stack;
@@ -268,15 +196,15 @@ module _ (image : Fields) (code : Code) (site : Site) (is : IsImage image) (at_s
             ∙ begins.there x low under;
       })
       (λ s t u begins handed lasts. record {
-        result = lasts.others.1.1.1.0 ∙ handed.result;
-        kept =
-            same_then u.regs t.regs s.regs (1 ∷ 3 ∷ 4 ∷ [])
-            (lasts.others.0, (lasts.others.1.0, (lasts.others.1.1.0, tt)))
+        result = lasts.others_same.1.1.1.0 ∙ handed.result;
+        kept = same_then u.regs t.regs s.regs (1 ∷ 3 ∷ 4 ∷ [])
+            (lasts.others_same.0, (lasts.others_same.1.0, (lasts.others_same.1.1.0, tt)))
             (same_beside (10 ∷ 5 ∷ 6 ∷ 7 ∷ 28 ∷ []) t.regs s.regs
             (λ q none. handed.others q none.0 none.1.0 none.1.1.0 none.1.1.1.0 none.1.1.1.1.0)
             (1 ∷ 3 ∷ 4 ∷ []) refl);
         stack = lasts.stack ∙ ends;
-        saved = lasts.saved ∙ ap (λ (b : ByteMap). saved_words b (base + room)) handed.bytes;
+        saved = λ regs saved. lasts.saved regs
+            (subst (λ (b : ByteMap). AreSaved b regs (base + room) saved_registers) (sym handed.bytes) saved);
         cleared = lasts.cleared;
         zeroed = subst (λ x. AreZeroed base x (left_bytes s.bytes) u.bytes) ends
             (subst (λ (b : ByteMap). AreZeroed base (base + (room + 80)) b u.bytes) handed.bytes lasts.zeroed);
@@ -287,19 +215,15 @@ module _ (image : Fields) (code : Code) (site : Site) (is : IsImage image) (at_s
   abbrev data_of : State → Data
   data_of s = record { regs = s.regs; bytes = s.bytes }
 
-  begins : (regs : ℕ → ℕ) (s : State) → CanLeave image site regs s → Begins (data_of s)
-  begins regs s can = record {
-    stack = can.base;
-    there = can.there;
-    ready = outputs_ready image code site numbers s.bytes 0 image.slots can.pointers can.arrays;
-  }
+  begins : (regs : ℕ → ℕ) (s : State) → CanLeave image site regs s → Starts (data_of s)
+  begins regs s can = record { stack = can.base; there = can.there; ready = can.ready }
 
   still_saved : (regs : ℕ → ℕ) (bytes : ByteMap) → AreSaved bytes regs (saved_at image site) saved_registers
       → AreSaved (left_bytes bytes) regs (saved_at image site) saved_registers
   still_saved regs bytes saved =
       let ends = numbers.ends in
       let arguments = numbers.arguments in
-      saved_stay bytes (left_bytes bytes) regs (saved_at image site) saved_registers
+      saved_same bytes (left_bytes bytes) regs (saved_at image site) saved_registers
       (λ x low high. in_room bytes x (omega (arith, low)) (omega (arith, high, ends, arguments))) saved
 
   left : (regs : ℕ → ℕ) (s : State) (t : Data) → CanLeave image site regs s → Front (data_of s) t
@@ -309,19 +233,18 @@ module _ (image : Fields) (code : Code) (site : Site) (is : IsImage image) (at_s
       let first = done.kept.0 ∙ can.untouched 1 (inl refl) in
       let third = done.kept.1.0 ∙ can.untouched 3 (inr (inl refl)) in
       let fourth = done.kept.1.1.0 ∙ can.untouched 4 (inr (inr refl)) in
-      let saved = same_values t.regs regs saved_registers
-      (done.saved ∙ saved_values (left_bytes s.bytes) regs (saved_at image site)
-      (still_saved regs s.bytes can.saved)) in
+      let saved = done.saved regs (still_saved regs s.bytes can.saved) in
       record {
         result = done.result;
         kept = all_same t.regs regs kept_registers (first, (done.stack ∙ sym can.stack, (third, (fourth, saved))));
-        cleared = all_same t.regs (λ r. 0) cleared_registers done.cleared;
+        cleared = done.cleared;
         memory = done.zeroed;
       }
 
   last_at : IsAt code (leave_at image site + 4 * length (front image)) (JumpRegister 0 1 0)
   last_at =
-      let last = Placed-right code (leave_at image site) (front image) (JumpRegister 0 1 0 ∷ []) leave_stands in
+      let last = Placed-right code (leave_at image site) (front image) (JumpRegister 0 1 0 ∷ [])
+      (leave_placed image code site at_site) in
       record { aligned = last.0; word = last.2; in_range = (omega arith, omega arith, omega arith) }
 
   turns_counted : suc front_turns ≡ leave_turns image
@@ -332,10 +255,11 @@ module _ (image : Fields) (code : Code) (site : Site) (is : IsImage image) (at_s
   leaves_here : Leaves image code site
   leaves_here =
       let one = front_runs (leave_at image site)
-      (Placed-left code (leave_at image site) (front image) (JumpRegister 0 1 0 ∷ []) leave_stands) in
+      (Placed-left code (leave_at image site) (front image) (JumpRegister 0 1 0 ∷ [])
+      (leave_placed image code site at_site)) in
       record {
-        shown = one.list;
-        within = one.inside;
+        shown = one.shown;
+        within = one.within;
         runs = λ regs s can.
             let a = one.runs (data_of s) (begins regs s can) in
             let there : at (leave_at image site) (data_of s) ≡ s = ap (λ p. at p (data_of s)) (sym can.at_leave) in
@@ -344,7 +268,7 @@ module _ (image : Fields) (code : Code) (site : Site) (is : IsImage image) (at_s
               turns = front_turns;
               counted = turns_counted;
               end = last;
-              leads = subst (λ (x : State). Leads code front_turns x one.list last) there a.leads;
+              leads = subst (λ (x : State). Leads code front_turns x one.shown last) there a.leads;
               at_last = last_place image site;
               left = left regs s a.end can a.done;
               goes_back = λ even. goes_back code last (regs 1) last_at (a.done.kept.0 ∙ can.untouched 1 (inl refl))

@@ -1,10 +1,9 @@
--- Parts of code, by what their end has to do with their beginning; and those that are emitted for words of the room
--- and for numbers.
+-- The pieces that are emitted for words of the room, for numbers and for lists of registers.
 use Rattle.std.specs.Prelude.{is_some, unwrap_or}
-use Rattle.std.proofs.Common.{◌≡◌, ◌≢◌, ℕ, suc, ◌+◌, ◌*◌, ◌%◌, ◌^◌, ◌<◌, Bool, true, false, cond, nat_lt, List, []}
-use Rattle.std.proofs.Common.{◌∷◌, ◌++◌, length, All, Some, refl, sym, ap, ap₂, ◌∙◌, subst, arith, length-append}
-use Rattle.std.proofs.lemmas.Bool.Decides.{nat_tests}
-use Rattle.std.proofs.lemmas.List.Elements.{All-append}
+use Rattle.std.proofs.Common.{◌≡◌, ◌≢◌, ℕ, ◌+◌, ◌*◌, ◌%◌, ◌^◌, ◌<◌, ◌≤◌, ◌==◌, Bool, true, false, ◌&&◌, cond, nat_lt}
+use Rattle.std.proofs.Common.{List, [], ◌∷◌, ◌++◌, length, map, Option, Some, None, refl, sym, ap, ap₂, ◌∙◌, arith}
+use Rattle.std.proofs.Common.{eq-eqb, ne_eqb, if◌then◌else◌}
+use Rattle.std.proofs.lemmas.Bool.{eqb-false, false≢true, lt-ltb, ltb-true}
 use Rattle.rv_code.specs.declared.instructions.Instr.{Instr}
 use Rattle.rv_code.specs.declared.instructions.Instr.TheVariants.{Upper, Immediate, Register, Load, Store}
 use Rattle.rv_code.specs.declared.operations.UpperOperation.TheVariants.{Lui}
@@ -13,329 +12,315 @@ use Rattle.rv_code.specs.declared.operations.ImmediateOperation.TheVariants.{Add
 use Rattle.rv_code.specs.declared.operations.LoadOperation.TheVariants.{Lw}
 use Rattle.rv_code.specs.declared.operations.StoreOperation.TheVariants.{Sw}
 use Rattle.rv_machine.specs.declared.observation.Event.TheVariants as event
-use Rattle.rv_machine.specs.declared.observation.Observation.{Observation}
+use Rattle.rv_machine.specs.declared.memory.Size.{Size}
 use Rattle.rv_machine.specs.declared.memory.Size.TheVariants.{Word}
 use Rattle.rv_machine.specs.Bytes.{number_at, with_number}
 use Rattle.rv_machine.specs.Effects.{sum_of, sign_extended}
 use Rattle.rv_machine.specs.Registers.{register, with_register}
-use Rattle.linked_calls.proofs.Below.{Leads-append}
-use Rattle.linked_calls.proofs.Registers.{register-at, written, unwritten, parts, far_address, near_address}
-use Rattle.linked_calls.proofs.Registers.{upper_fits, lower_fits, two_fit, three_fit}
-use Rattle.linked_calls.proofs.Pieces.{Setting, Ends, Piece, Makes, AreAllowed, block, Placed-left, Placed-right}
-use Rattle.linked_calls.proofs.Steps.{Placed, Data, Step, plain, access, instrs}
+use Rattle.codegen.specs.Loaded.{with_numbers}
+use Rattle.codegen.specs.program_logic.StraightCode.{IsMet}
 use Rattle.codegen.specs.expression_code.TermCode.{upper_part, lower_part, load_code, store_code, constant_code}
+use Rattle.linked_calls.specs.Does.{Data}
+use Rattle.linked_calls.specs.FunctionCode.{stores_code, loads_code}
+use Rattle.linked_calls.specs.Stretches.{AreData}
+use Rattle.linked_calls.proofs.Below.{AreFit, AreMet, after, after_all, are_straight, both_left, both_right}
+use Rattle.linked_calls.proofs.Below.{far_address, is_some-with_number, lower_fits, near_address, number_or_zero, parts, register-at}
+use Rattle.linked_calls.proofs.Below.{register_kept, unwritten, upper_fits, written}
+use Rattle.linked_calls.proofs.Bytes.{number_there}
+use Rattle.linked_calls.proofs.Pieces.{Setting, Runs, straight_runs, then_runs}
 
--- code from one address to another in an exact number of turns, which shows one list
-pub record Part (z : Setting) (p q n : ℕ) (P : Data → Type 0) (R : Data → Data → Type 0) : Type 0 where
-  pub list : List Observation
-  pub inside : All (λ (o : Observation). z.allowed o.event) list
-  pub runs : (s : Data) → P s → Ends z q n list (R s) p s
+-- One register.
 
--- instructions wherever they stand
-abbrev pub Runs : Setting → ℕ → List Instr → (Data → Type 0) → (Data → Data → Type 0) → Type 0
-Runs z n is P R = (p : ℕ) → Placed z.code p is → Part z p (p + 4 * length is) n P R
-
--- what a state was at the beginning
-pub record From (P : Data → Type 0) (s d : Data) : Type 0 where
-  pub same : d ≡ s
-  pub given : P s
-
-module _ (z : Setting) where
-  -- a piece whose logical variable is the state that it begins in
-  pub part : {P : Data → Type 0} {R : Data → Data → Type 0} {p q n : ℕ} → Piece z Data p q n (From P) R
-      → Part z p q n P R
-  part one = record {
-    list = one.list;
-    inside = one.inside;
-    runs = λ s given. one.runs s s (record { same = refl; given = given });
-  }
-
-  -- a part between other facts
-  pub apply : {E : Type 0} {A B : E → Data → Type 0} {P : Data → Type 0} {R : Data → Data → Type 0} {p q n : ℕ}
-      → Part z p q n P R
-      → ((e : E) (s : Data) → A e s → P s) → ((e : E) (s t : Data) → A e s → R s t → B e t) → Piece z E p q n A B
-  apply one before behind = record {
-    list = one.list;
-    inside = one.inside;
-    runs = λ e d given.
-        let a = one.runs d (before e d given) in
-        record { end = a.end; leads = a.leads; done = behind e d a.end given a.done };
-  }
-
-  -- one after the other
-  pub chain : {P P' : Data → Type 0} {R R' S : Data → Data → Type 0} {p q r m n : ℕ} → Part z p q m P R
-      → Part z q r n P' R'
-      → ((s t : Data) → P s → R s t → P' t) → ((s t u : Data) → P s → R s t → R' t u → S s u) → Part z p r (m + n) P S
-  chain one two link both = record {
-    list = one.list ++ two.list;
-    inside = All-append (λ (o : Observation). z.allowed o.event) one.list two.list one.inside two.inside;
-    runs = λ s given.
-        let a = one.runs s given in
-        let b = two.runs a.end (link s a.end given a.done) in
-        record { end = b.end; leads = Leads-append a.leads b.leads; done = both s a.end b.end given a.done b.done };
-  }
-
-  -- straight-line code
-  pub straight : {P : Data → Type 0} {R : Data → Data → Type 0} (p : ℕ) (xs : List Step) → Placed z.code p (instrs xs)
-      → AreAllowed z xs
-      → ((s : Data) → P s → Makes xs (R s) s)
-      → Part z p (p + 4 * length xs) (length xs) P R
-  straight {P = P} {R = R} p xs placed allowed makes =
-      part (block z {P = From P} {Q = R} p xs placed allowed
-      (λ s d given. subst (λ (x : Data). Makes xs (R s) x) (sym given.same) (makes s given.given)))
-
-  -- to the same address, in as many turns, otherwise written
-  pub part_to : {P : Data → Type 0} {R : Data → Data → Type 0} {p q r m n : ℕ} → q ≡ r → m ≡ n → Part z p q m P R
-      → Part z p r n P R
-  part_to {P = P} {R = R} {p = p} {q = q} {n = n} there turns one =
-      subst (λ x. Part z p x n P R) there (subst (λ k. Part z p q k P R) turns one)
-
-  -- code, and then other code
-  pub then_runs : {P P' : Data → Type 0} {R R' S : Data → Data → Type 0} {m n : ℕ} (xs ys : List Instr)
-      → Runs z m xs P R → Runs z n ys P' R'
-      → ((s t : Data) → P s → R s t → P' t) → ((s t u : Data) → P s → R s t → R' t u → S s u)
-      → Runs z (m + n) (xs ++ ys) P S
-  then_runs xs ys one two link both p placed =
-      let e = length-append xs ys in
-      part_to (omega (arith, e)) refl
-      (chain (one p (Placed-left z.code p xs ys placed))
-      (two (p + 4 * length xs) (Placed-right z.code p xs ys placed)) link both)
-
-  -- straight-line code
-  pub straight_runs : {P : Data → Type 0} {R : Data → Data → Type 0} (xs : List Step) → AreAllowed z xs
-      → ((s : Data) → P s → Makes xs (R s) s) → Runs z (length xs) (instrs xs) P R
-  straight_runs xs allowed makes p placed =
-      part_to (ap (λ n. p + 4 * n) (sym (count xs))) refl (straight p xs placed allowed makes)
-    where
-      count : (xs : List Step) → length (instrs xs) ≡ length xs
-      count [] = refl
-      count (x ∷ xs) = ap suc (count xs)
-
-  -- asked more, giving less
-  pub weaken_runs : {P P' : Data → Type 0} {R R' : Data → Data → Type 0} {n : ℕ} (is : List Instr)
-      → ((s : Data) → P' s → P s) → ((s t : Data) → P' s → R s t → R' s t) → Runs z n is P R → Runs z n is P' R'
-  weaken_runs is before behind one p placed =
-      let a = one p placed in
-      record {
-        list = a.list;
-        inside = a.inside;
-        runs = λ s given.
-            let e = a.runs s (before s given) in
-            record { end = e.end; leads = e.leads; done = behind s e.end given e.done };
-      }
-
--- one register was written, with a value that the beginning decides
+-- it was written, with a value that the beginning decides, and no byte
 pub record Sets (r : ℕ) (value : Data → ℕ) (s t : Data) : Type 0 where
   pub there : t.regs r ≡ value s
   pub others : (q : ℕ) → q ≢ r → t.regs q ≡ s.regs q
   pub same : t.bytes ≡ s.bytes
 
--- x2 is the base, and there is a word at an offset
+-- by straight-line code
+pub sets_runs : (z : Setting) {P : Data → Type 0} {value : Data → ℕ} (r : ℕ) (is : List Instr) (places : List ℕ)
+    → are_straight (λ q. q == r) is ≡ true → AreFit z.allowed is places
+    → ((s : Data) → P s → AreMet is places s)
+    → ((s : Data) → P s → (after_all is places s).regs r ≡ value s)
+    → ((s : Data) → (after_all is places s).bytes ≡ s.bytes)
+    → Runs z (length is) is P (Sets r value)
+sets_runs z r is places plain fit met there same =
+    straight_runs z (λ q. q == r) is places plain fit met
+    (λ s given. record {
+      there = there s given;
+      others = λ q h. register_kept (λ x. x == r) is places s q plain (ne_eqb q r h);
+      same = same s;
+    })
+
+-- one of two codes, by whether a number fits an immediate
+by_near : (z : Setting) {P : Data → Type 0} {R : Data → Data → Type 0} (n : ℕ) (near far : List Instr)
+    → (n < 2048 → Runs z (length near) near P R) → Runs z (length far) far P R
+    → Runs z (length (if nat_lt n 2048 then near else far)) (if nat_lt n 2048 then near else far) P R
+by_near z {P = P} {R = R} n near far one other = by (nat_lt n 2048) refl
+  where
+    by : (b : Bool) → nat_lt n 2048 ≡ b → Runs z (length (cond b near far)) (cond b near far) P R
+    by true h = one (ltb-true n 2048 h)
+    by false h = other
+
+-- A word of the room: x2 is the base, and the word is there at an offset.
+
 pub record HasWord (base offset : ℕ) (s : Data) : Type 0 where
   pub stack : s.regs 2 ≡ base
   pub there : is_some (number_at s.bytes 4 (base + offset)) ≡ true
 
-module _ (z : Setting) (base : ℕ) where
-  module _ (r offset : ℕ) (few : r < 32) (nonzero : r ≢ 0) (other : r ≢ 2) (even : (base + offset) % 4 ≡ 0)
-      (below : base + offset < 2 ^ 32) (allowed : z.allowed (Some (event.Load (base + offset) Word))) where
-    abbrev found : Data → ℕ
-    found s = unwrap_or (number_at s.bytes 4 (base + offset)) 0
+pub same_number : (o : Option ℕ) → number_or_zero o ≡ unwrap_or o 0
+same_number (Some v) = refl
+same_number None = refl
 
-    load_part_by : (p : ℕ) (b : Bool) → nat_lt offset 2048 ≡ b
-        → Placed z.code p (cond b (Load Lw r 2 offset ∷ []) (Upper Lui r (upper_part offset) ∷ Register Add r r 2
-        ∷ Load Lw r r (lower_part offset) ∷ []))
-        → Part z p
-        (p + 4 * length (cond b (Load Lw r 2 offset ∷ []) (Upper Lui r (upper_part offset) ∷ Register Add r r 2
-        ∷ Load Lw r r (lower_part offset) ∷ [])))
-        (length (cond b (Load Lw r 2 offset ∷ []) (Upper Lui r (upper_part offset) ∷ Register Add r r 2
-        ∷ Load Lw r r (lower_part offset) ∷ []))) (HasWord base offset) (Sets r found)
-    load_part_by p true h placed =
-        let near : offset < 2048 = grind (arith, nat_tests) in
-        straight z p (access (Load Lw r 2 offset) (base + offset) ∷ []) placed (allowed, tt)
-        (λ s has. record {
-          fit = (
-            three_fit r 32 2 32 offset 4096 few (omega arith) (omega (arith, near)),
-            record {
-              address = ap (λ x. sum_of x (sign_extended 12 offset)) has.stack
-                  ∙ near_address base offset near below;
-              even = even;
-              there = has.there;
-            },
-            tt,
-          );
-          done = record {
-            there = written s.regs r (found s) nonzero;
-            others = λ q h. unwritten s.regs r (found s) q h;
-            same = refl;
-          };
-        })
-    load_part_by p false h placed =
-        straight z p (plain (Upper Lui r (upper_part offset)) ∷ plain (Register Add r r 2)
-        ∷ access (Load Lw r r (lower_part offset)) (base + offset) ∷ []) placed
-        (z.silent, (z.silent, (allowed, tt)))
-        (λ s has.
-        let u = upper_part offset * 2 ^ 12 in
-        let one = with_register s.regs r u in
-        let v = sum_of (register one r) (one 2) in
-        let two = with_register one r v in
-        let v_is : v ≡ sum_of u base =
-        ap₂ sum_of (register-at one r nonzero ∙ written s.regs r u nonzero)
-        (unwritten s.regs r u 2 (λ e. other (sym e)) ∙ has.stack) in
-        let reads : register two r ≡ sum_of u base = register-at two r nonzero ∙ written one r v nonzero ∙ v_is in
-        record {
-          fit = (
-            two_fit r 32 (upper_part offset) 1048576 few (upper_fits offset),
-            tt,
-            (
-              three_fit r 32 r 32 2 32 few few (omega arith),
-              tt,
-              (
-                three_fit r 32 r 32 (lower_part offset) 4096 few few (lower_fits offset),
-                record {
-                  address = ap (λ x. sum_of x (sign_extended 12 (lower_part offset))) reads
-                      ∙ far_address base offset below;
-                  even = even;
-                  there = has.there;
-                },
-                tt,
-              ),
-            ),
-          );
-          done = record {
-            there = written two r (found s) nonzero;
-            others = λ q h. unwritten two r (found s) q h ∙ unwritten one r v q h ∙ unwritten s.regs r u q h;
-            same = refl;
-          };
-        })
+-- the upper part of an offset in a register, and then the base added to it
+abbrev raised : (ℕ → ℕ) → ℕ → ℕ → ℕ → ℕ
+raised regs r offset =
+    let one = with_register regs r (upper_part offset * 2 ^ 12) in
+    with_register one r (sum_of (register one r) (register one 2))
 
-    -- a word of the room into a register
-    pub load_part : (p : ℕ) → Placed z.code p (load_code r offset)
-        → Part z p (p + 4 * length (load_code r offset)) (length (load_code r offset)) (HasWord base offset)
-        (Sets r found)
-    load_part p placed = load_part_by p (nat_lt offset 2048) refl placed
+module _ (z : Setting) (base offset : ℕ) (even : (base + offset) % 4 ≡ 0) (below : base + offset < 2 ^ 32) where
+  near_met : offset < 2048 → (s : Data) → HasWord base offset s → IsMet 4 2 offset (base + offset) s
+  near_met near s has = record {
+    address = ap (λ x. sum_of x (sign_extended 12 offset)) has.stack ∙ near_address base offset near below;
+    data_there = has.there;
+  }
 
-  -- a register's low bytes were put at an address, and x28 may have changed
-  pub record Puts (n r a : ℕ) (s t : Data) : Type 0 where
-    pub written : t.bytes ≡ with_number s.bytes n a (s.regs r)
+  far_met : (r : ℕ) → r ≢ 0 → r ≢ 2 → (s : Data) → HasWord base offset s
+      → IsMet 4 r (lower_part offset) (base + offset) (record { regs = raised s.regs r offset; bytes = s.bytes })
+  far_met r nonzero other s has =
+      let u = upper_part offset * 2 ^ 12 in
+      let one = with_register s.regs r u in
+      let v = sum_of (register one r) (register one 2) in
+      record {
+        address = ap (λ x. sum_of x (sign_extended 12 (lower_part offset)))
+            (register-at (raised s.regs r offset) r nonzero ∙ written one r v nonzero
+            ∙ ap₂ sum_of (register-at one r nonzero ∙ written s.regs r u nonzero)
+            (unwritten s.regs r u 2 (λ e. other (sym e)) ∙ has.stack))
+            ∙ far_address base offset below;
+        data_there = has.there;
+      }
+
+  -- into a register
+  pub load_runs : (r : ℕ) → r < 32 → r ≢ 0 → r ≢ 2 → z.allowed (Some (event.Load (base + offset) Word))
+      → Runs z (length (load_code r offset)) (load_code r offset) (HasWord base offset)
+      (Sets r (λ s. unwrap_or (number_at s.bytes 4 (base + offset)) 0))
+  load_runs r few nonzero other allowed =
+      let far = Upper Lui r (upper_part offset) ∷ Register Add r r 2 ∷ Load Lw r r (lower_part offset) ∷ [] in
+      by_near z offset (Load Lw r 2 offset ∷ []) far
+      (λ near. sets_runs z r (Load Lw r 2 offset ∷ []) ((base + offset) ∷ [])
+      (simp (eq-eqb r r refl, lt-ltb r 32 few, lt-ltb offset 4096 (omega (arith, near))))
+      (record { even = even; allowed = allowed }, tt) (λ s has. (near_met near s has, tt))
+      (λ s has. written s.regs r _ nonzero ∙ same_number (number_at s.bytes 4 (base + offset))) (λ s. refl))
+      (sets_runs z r far ((base + offset) ∷ [])
+      (simp (
+        eq-eqb r r refl,
+        lt-ltb r 32 few,
+        lt-ltb (upper_part offset) 1048576 (upper_fits offset),
+        lt-ltb (lower_part offset) 4096 (lower_fits offset),
+      ))
+      (record { even = even; allowed = allowed }, tt) (λ s has. (far_met r nonzero other s has, tt))
+      (λ s has. written (raised s.regs r offset) r _ nonzero ∙ same_number (number_at s.bytes 4 (base + offset)))
+      (λ s. refl))
+
+  -- x5 was put there, and x28 may have changed
+  pub record Puts (s t : Data) : Type 0 where
+    pub written : t.bytes ≡ with_number s.bytes 4 (base + offset) (s.regs 5)
     pub others : (q : ℕ) → q ≢ 28 → t.regs q ≡ s.regs q
 
-  module _ (r offset : ℕ) (few : r < 32) (nonzero : r ≢ 0) (other : r ≢ 28) (even : (base + offset) % 4 ≡ 0)
-      (below : base + offset < 2 ^ 32) (allowed : z.allowed (Some (event.Store (base + offset) Word))) where
-    store_part_by : (p : ℕ) (b : Bool) → nat_lt offset 2048 ≡ b
-        → Placed z.code p (cond b (Store Sw r 2 offset ∷ []) (Upper Lui 28 (upper_part offset) ∷ Register Add 28 28 2
-        ∷ Store Sw r 28 (lower_part offset) ∷ []))
-        → Part z p
-        (p + 4 * length (cond b (Store Sw r 2 offset ∷ [])
-        (Upper Lui 28 (upper_part offset) ∷ Register Add 28 28 2 ∷ Store Sw r 28 (lower_part offset) ∷ [])))
-        (length (cond b (Store Sw r 2 offset ∷ []) (Upper Lui 28 (upper_part offset) ∷ Register Add 28 28 2
-        ∷ Store Sw r 28 (lower_part offset) ∷ []))) (HasWord base offset) (Puts 4 r (base + offset))
-    store_part_by p true h placed =
-        let near : offset < 2048 = grind (arith, nat_tests) in
-        straight z p (access (Store Sw r 2 offset) (base + offset) ∷ []) placed (allowed, tt)
-        (λ s has. record {
-          fit = (
-            three_fit r 32 2 32 offset 4096 few (omega arith) (omega (arith, near)),
-            record {
-              address = ap (λ x. sum_of x (sign_extended 12 offset)) has.stack
-                  ∙ near_address base offset near below;
-              even = even;
-              there = has.there;
-            },
-            tt,
-          );
-          done = record {
-            written = ap (λ v. with_number s.bytes 4 (base + offset) v) (register-at s.regs r nonzero);
-            others = λ q h. refl;
-          };
-        })
-    store_part_by p false h placed =
-        straight z p (plain (Upper Lui 28 (upper_part offset)) ∷ plain (Register Add 28 28 2)
-        ∷ access (Store Sw r 28 (lower_part offset)) (base + offset) ∷ []) placed
-        (z.silent, (z.silent, (allowed, tt)))
-        (λ s has.
-        let u = upper_part offset * 2 ^ 12 in
-        let one = with_register s.regs 28 u in
-        let v = sum_of (one 28) (one 2) in
-        let two = with_register one 28 v in
-        let value : register two r ≡ s.regs r = register-at two r nonzero ∙ unwritten one 28 v r other
-        ∙ unwritten s.regs 28 u r other in
-        record {
-          fit = (
-            two_fit 28 32 (upper_part offset) 1048576 (omega arith) (upper_fits offset),
-            tt,
-            (
-              refl,
-              tt,
-              (
-                three_fit r 32 28 32 (lower_part offset) 4096 few (omega arith) (lower_fits offset),
-                record {
-                  address = ap (λ x. sum_of (sum_of u x) (sign_extended 12 (lower_part offset))) has.stack
-                      ∙ far_address base offset below;
-                  even = even;
-                  there = has.there;
-                },
-                tt,
-              ),
-            ),
-          );
-          done = record {
-            written = ap (λ x. with_number s.bytes 4 (base + offset) x) value;
-            others = λ q h. unwritten one 28 v q h ∙ unwritten s.regs 28 u q h;
-          };
-        })
+  pub store_runs : z.allowed (Some (event.Store (base + offset) Word))
+      → Runs z (length (store_code 5 offset)) (store_code 5 offset) (HasWord base offset) Puts
+  store_runs allowed =
+      let far = Upper Lui 28 (upper_part offset) ∷ Register Add 28 28 2 ∷ Store Sw 5 28 (lower_part offset) ∷ [] in
+      let plain : are_straight (λ q. q == 28) far ≡ true = simp (
+        lt-ltb (upper_part offset) 1048576 (upper_fits offset),
+        lt-ltb (lower_part offset) 4096 (lower_fits offset),
+      ) in
+      by_near z offset (Store Sw 5 2 offset ∷ []) far
+      (λ near. straight_runs z (λ q. q == 28) (Store Sw 5 2 offset ∷ []) ((base + offset) ∷ [])
+      (simp (lt-ltb offset 4096 (omega (arith, near)))) (record { even = even; allowed = allowed }, tt)
+      (λ s has. (near_met near s has, tt)) (λ s has. record { written = refl; others = λ q h. refl }))
+      (straight_runs z (λ q. q == 28) far ((base + offset) ∷ []) plain (record { even = even; allowed = allowed }, tt)
+      (λ s has. (far_met 28 (λ e. omega arith) (λ e. omega arith) s has, tt))
+      (λ s has. record {
+        written = refl;
+        others = λ q h. register_kept (λ x. x == 28) far ((base + offset) ∷ []) s q plain (ne_eqb q 28 h);
+      }))
 
-    -- a register into a word of the room
-    pub store_part : (p : ℕ) → Placed z.code p (store_code r offset)
-        → Part z p (p + 4 * length (store_code r offset)) (length (store_code r offset)) (HasWord base offset)
-        (Puts 4 r (base + offset))
-    store_part p placed = store_part_by p (nat_lt offset 2048) refl placed
+-- Numbers.
 
 module _ (z : Setting) (r n : ℕ) (few : r < 32) (nonzero : r ≢ 0) (below : n < 2 ^ 32) where
-  constant_part_by : (p : ℕ) (b : Bool) → nat_lt n 2048 ≡ b
-      → Placed z.code p (cond b (Immediate Addi r 0 n ∷ [])
-      (Upper Lui r (upper_part n) ∷ Immediate Addi r r (lower_part n) ∷ []))
-      → Part z p
-      (p + 4 * length (cond b (Immediate Addi r 0 n ∷ [])
-      (Upper Lui r (upper_part n) ∷ Immediate Addi r r (lower_part n) ∷ [])))
-      (length (cond b (Immediate Addi r 0 n ∷ []) (Upper Lui r (upper_part n) ∷ Immediate Addi r r (lower_part n)
-      ∷ []))) (λ s. Unit {0}) (Sets r (λ s. n))
-  constant_part_by p true h placed =
-      let near : n < 2048 = grind (arith, nat_tests) in
-      straight z p (plain (Immediate Addi r 0 n) ∷ []) placed (z.silent, tt)
-      (λ s u.
-      let v = sum_of 0 (sign_extended 12 n) in
-      let is : v ≡ n = near_address 0 n near (omega arith) ∙ omega arith in
-      record {
-        fit = (three_fit r 32 0 32 n 4096 few (omega arith) (omega (arith, near)), tt, tt);
-        done = record {
-          there = written s.regs r v nonzero ∙ is;
-          others = λ q h. unwritten s.regs r v q h;
-          same = refl;
-        };
-      })
-  constant_part_by p false h placed =
-      straight z p (plain (Upper Lui r (upper_part n)) ∷ plain (Immediate Addi r r (lower_part n)) ∷ []) placed
-      (z.silent, (z.silent, tt))
-      (λ s t.
-      let u = upper_part n * 2 ^ 12 in
-      let one = with_register s.regs r u in
-      let v = sum_of (register one r) (sign_extended 12 (lower_part n)) in
-      let is : v ≡ n = ap (λ x. sum_of x (sign_extended 12 (lower_part n))) (register-at one r nonzero
-      ∙ written s.regs r u nonzero) ∙ parts n below in
-      record {
-        fit = (
-          two_fit r 32 (upper_part n) 1048576 few (upper_fits n),
-          tt,
-          (three_fit r 32 r 32 (lower_part n) 4096 few few (lower_fits n), tt, tt),
-        );
-        done = record {
-          there = written one r v nonzero ∙ is;
-          others = λ q h. unwritten one r v q h ∙ unwritten s.regs r u q h;
-          same = refl;
-        };
+  -- a number into a register
+  pub constant_runs : {P : Data → Type 0} → Runs z (length (constant_code r n)) (constant_code r n) P (Sets r (λ s. n))
+  constant_runs =
+      let far = Upper Lui r (upper_part n) ∷ Immediate Addi r r (lower_part n) ∷ [] in
+      by_near z n (Immediate Addi r 0 n ∷ []) far
+      (λ near. sets_runs z r (Immediate Addi r 0 n ∷ []) []
+      (simp (eq-eqb r r refl, lt-ltb r 32 few, lt-ltb n 4096 (omega (arith, near)))) tt (λ s given. tt)
+      (λ s given. written s.regs r _ nonzero ∙ near_address 0 n near (omega (arith, below)) ∙ omega arith)
+      (λ s. refl))
+      (sets_runs z r far []
+      (simp (
+        eq-eqb r r refl,
+        lt-ltb r 32 few,
+        lt-ltb (upper_part n) 1048576 (upper_fits n),
+        lt-ltb (lower_part n) 4096 (lower_fits n),
+      )) tt (λ s given. tt)
+      (λ s given.
+      let one = with_register s.regs r (upper_part n * 2 ^ 12) in
+      written one r _ nonzero
+      ∙ ap (λ x. sum_of x (sign_extended 12 (lower_part n))) (register-at one r nonzero
+      ∙ written s.regs r (upper_part n * 2 ^ 12) nonzero)
+      ∙ parts n below)
+      (λ s. refl))
+
+  -- a number and another register into a register
+  pub sum_runs : {P : Data → Type 0} (o : ℕ) → o < 32 → o ≢ 0 → o ≢ r
+      → Runs z (length (constant_code r n) + 1) (constant_code r n ++ Register Add r r o ∷ []) P
+      (Sets r (λ s. sum_of n (s.regs o)))
+  sum_runs o small nonzero' apart =
+      then_runs z {P' = λ s. Unit {0}} {R' = Sets r (λ s. sum_of (register s.regs r) (register s.regs o))}
+      (constant_code r n) (Register Add r r o ∷ []) constant_runs
+      (sets_runs z r (Register Add r r o ∷ []) [] (simp (eq-eqb r r refl, lt-ltb r 32 few, lt-ltb o 32 small)) tt
+      (λ s given. tt) (λ s given. written s.regs r _ nonzero) (λ s. refl))
+      (λ s t given one. tt)
+      (λ s t u given one two. record {
+        there = two.there
+            ∙ ap₂ sum_of (register-at t.regs r nonzero ∙ one.there) (register-at t.regs o nonzero' ∙ one.others o apart);
+        others = λ q h. two.others q h ∙ one.others q h;
+        same = two.same ∙ one.same;
       })
 
-  -- a number into a register
-  pub constant_part : (p : ℕ) → Placed z.code p (constant_code r n)
-      → Part z p (p + 4 * length (constant_code r n)) (length (constant_code r n)) (λ s. Unit {0}) (Sets r (λ s. n))
-  constant_part p placed = constant_part_by p (nat_lt n 2048) refl placed
+-- Lists of registers, in words one after another.
+
+-- loads and stores of so many bytes at every place of a stretch
+abbrev pub MayLoad : Setting → ℕ → Size → ℕ → ℕ → Type 0
+MayLoad z n size low high = (x : ℕ) → low ≤ x → x + n ≤ high → z.allowed (Some (event.Load x size))
+
+abbrev pub MayStore : Setting → ℕ → Size → ℕ → ℕ → Type 0
+MayStore z n size low high = (x : ℕ) → low ≤ x → x + n ≤ high → z.allowed (Some (event.Store x size))
+
+-- the words' addresses
+abbrev pub words_at : ℕ → List ℕ → List ℕ
+words_at a [] = []
+words_at a (r ∷ rs) = a ∷ words_at (a + 4) rs
+
+abbrev pub are_registers : List ℕ → Bool
+are_registers [] = true
+are_registers (r ∷ rs) = nat_lt r 32 && are_registers rs
+
+-- a base register is so far below an address, from which on there is room for so many words
+pub record BeginsStores (base offset a n : ℕ) (s : Data) : Type 0 where
+  pub root : register s.regs base + offset ≡ a
+  pub there : AreData a (a + 4 * n) s.bytes
+
+pub record Stores (a : ℕ) (rs : List ℕ) (s t : Data) : Type 0 where
+  pub regs : t.regs ≡ s.regs
+  pub bytes : t.bytes ≡ with_numbers s.bytes 4 a (map (λ r. register s.regs r) rs)
+
+module _ (z : Setting) (base : ℕ) (few : base < 32) where
+  stores_plain : (offset : ℕ) (rs : List ℕ) → are_registers rs ≡ true → offset + 4 * length rs ≤ 2048
+      → are_straight (λ q. false) (stores_code base offset rs) ≡ true
+  stores_plain offset [] registers near = refl
+  stores_plain offset (r ∷ rs) registers near =
+      rw (
+        both_left (nat_lt r 32) (are_registers rs) registers,
+        lt-ltb base 32 few,
+        lt-ltb offset 4096 (omega (arith, near)),
+      )
+      (stores_plain (offset + 4) rs (both_right (nat_lt r 32) (are_registers rs) registers) (omega (arith, near)))
+
+  stores_fit : (offset a : ℕ) (rs : List ℕ) → a % 4 ≡ 0 → MayStore z 4 Word a (a + 4 * length rs)
+      → AreFit z.allowed (stores_code base offset rs) (words_at a rs)
+  stores_fit offset a [] even may = tt
+  stores_fit offset a (r ∷ rs) even may = (
+    record { even = even; allowed = may a (omega arith) (omega arith) },
+    stores_fit (offset + 4) (a + 4) rs (omega (arith, even))
+        (λ x low high. may x (omega (arith, low)) (omega (arith, high))),
+  )
+
+  stores_met : (offset a : ℕ) (rs : List ℕ) (d : Data) → offset + 4 * length rs ≤ 2048 → a + 4 * length rs ≤ 2 ^ 32
+      → BeginsStores base offset a (length rs) d → AreMet (stores_code base offset rs) (words_at a rs) d
+  stores_met offset a [] d near below begins = tt
+  stores_met offset a (r ∷ rs) d near below begins =
+      let root = begins.root in
+      let here = number_there d.bytes 4 a (λ x low high. begins.there x low (omega (arith, high))) in (
+        record {
+          address = near_address (register d.regs base) offset (omega (arith, near)) (omega (arith, below, root))
+              ∙ root;
+          data_there = here;
+        },
+        stores_met (offset + 4) (a + 4) rs (after (Store Sw r base offset) a d) (omega (arith, near))
+            (omega (arith, below)) (record {
+              root = omega (arith, root);
+              there = λ x low high. is_some-with_number d.bytes 4 a (register d.regs r) x here
+                  ∙ begins.there x (omega (arith, low)) (omega (arith, high));
+            }),
+      )
+
+  stored : (offset a : ℕ) (rs : List ℕ) (d : Data)
+      → after_all (stores_code base offset rs) (words_at a rs) d
+      ≡ record { regs = d.regs; bytes = with_numbers d.bytes 4 a (map (λ r. register d.regs r) rs) }
+  stored offset a [] d = refl
+  stored offset a (r ∷ rs) d = stored (offset + 4) (a + 4) rs (after (Store Sw r base offset) a d)
+
+  pub stores_runs : (offset a : ℕ) (rs : List ℕ) → are_registers rs ≡ true → a % 4 ≡ 0
+      → offset + 4 * length rs ≤ 2048 → a + 4 * length rs ≤ 2 ^ 32 → MayStore z 4 Word a (a + 4 * length rs)
+      → Runs z (length (stores_code base offset rs)) (stores_code base offset rs)
+      (BeginsStores base offset a (length rs)) (Stores a rs)
+  stores_runs offset a rs registers even near below may =
+      straight_runs z (λ q. false) (stores_code base offset rs) (words_at a rs)
+      (stores_plain offset rs registers near) (stores_fit offset a rs even may)
+      (λ s begins. stores_met offset a rs s near below begins)
+      (λ s begins. record {
+        regs = ap (λ (d : Data). d.regs) (stored offset a rs s);
+        bytes = ap (λ (d : Data). d.bytes) (stored offset a rs s);
+      })
+
+-- from x5 on, which is none of them
+
+abbrev pub are_others : List ℕ → Bool
+are_others [] = true
+are_others (r ∷ rs) = cond (5 == r) false (are_others rs)
+
+loads_fit : (z : Setting) (offset a : ℕ) (rs : List ℕ) → a % 4 ≡ 0 → MayLoad z 4 Word a (a + 4 * length rs)
+    → AreFit z.allowed (loads_code 5 offset rs) (words_at a rs)
+loads_fit z offset a [] even may = tt
+loads_fit z offset a (r ∷ rs) even may = (
+  record { even = even; allowed = may a (omega arith) (omega arith) },
+  loads_fit z (offset + 4) (a + 4) rs (omega (arith, even))
+      (λ x low high. may x (omega (arith, low)) (omega (arith, high))),
+)
+
+other_first : (b c : Bool) → cond b false c ≡ true → (b ≡ false) × (c ≡ true)
+other_first true c h = absurd (false≢true h)
+other_first false c h = (refl, h)
+
+loads_met : (offset a : ℕ) (rs : List ℕ) (d : Data) → are_others rs ≡ true → d.regs 5 + offset ≡ a
+    → offset + 4 * length rs ≤ 2048 → a + 4 * length rs ≤ 2 ^ 32 → AreData a (a + 4 * length rs) d.bytes
+    → AreMet (loads_code 5 offset rs) (words_at a rs) d
+loads_met offset a [] d others root near below there = tt
+loads_met offset a (r ∷ rs) d others root near below there =
+    let each = other_first (5 == r) (are_others rs) others in
+    let next = after (Load Lw r 5 offset) a d in
+    let kept : next.regs 5 ≡ d.regs 5 = unwritten d.regs r _ 5 (eqb-false 5 r each.0) in (
+      record {
+        address = near_address (d.regs 5) offset (omega (arith, near)) (omega (arith, below, root)) ∙ root;
+        data_there = number_there d.bytes 4 a (λ x low high. there x low (omega (arith, high)));
+      },
+      loads_met (offset + 4) (a + 4) rs next each.1 (omega (arith, kept, root)) (omega (arith, near))
+          (omega (arith, below)) (λ x low high. there x (omega (arith, low)) (omega (arith, high))),
+    )
+
+-- registers from words; of each it is known what it has then
+pub loads_runs : (z : Setting) {P : Data → Type 0} {R : Data → Data → Type 0} (a : ℕ) (rs : List ℕ)
+    → are_straight (λ q. true) (loads_code 5 0 rs) ≡ true → are_others rs ≡ true → a % 4 ≡ 0
+    → 4 * length rs ≤ 2048 → a + 4 * length rs ≤ 2 ^ 32 → MayLoad z 4 Word a (a + 4 * length rs)
+    → ((s : Data) → P s → (s.regs 5 ≡ a) × AreData a (a + 4 * length rs) s.bytes)
+    → ((s : Data) → P s → R s (after_all (loads_code 5 0 rs) (words_at a rs) s))
+    → Runs z (length (loads_code 5 0 rs)) (loads_code 5 0 rs) P R
+loads_runs z a rs plain others even near below may begins done =
+    straight_runs z (λ q. true) (loads_code 5 0 rs) (words_at a rs) plain (loads_fit z 0 a rs even may)
+    (λ s given.
+    let begin = begins s given in
+    let root = begin.0 in
+    loads_met 0 a rs s others (omega (arith, root)) (omega (arith, near)) below begin.1) done

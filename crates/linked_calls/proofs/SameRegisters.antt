@@ -1,10 +1,10 @@
 -- Registers that hold what others hold: by a list, one after another.
 use Rattle.std.specs.Prelude.{not}
-use Rattle.std.proofs.Common.{◌≡◌, ◌≢◌, ℕ, ◌==◌, Bool, true, false, ◌&&◌, List, [], ◌∷◌, map, All, refl, ap₂, ◌∙◌}
+use Rattle.std.proofs.Common.{◌≡◌, ◌≢◌, ℕ, ◌==◌, Bool, true, ◌&&◌, List, [], ◌∷◌, map, All, refl, ap₂, ◌∙◌}
 use Rattle.std.proofs.Common.{arith}
-use Rattle.std.proofs.lemmas.Bool.{false≢true}
 use Rattle.std.proofs.lemmas.Bool.Decides.{nat_tests}
-use Rattle.linked_calls.proofs.Pieces.{All-none, All-cons}
+use Rattle.std.proofs.lemmas.List.Elements.{All-cons, All-nil}
+use Rattle.linked_calls.proofs.Below.{both_left, both_right}
 
 -- two functions agree on each of a list
 abbrev pub AreSame : (ℕ → ℕ) → (ℕ → ℕ) → List ℕ → Type 0
@@ -25,46 +25,40 @@ abbrev pub are_none : List ℕ → List ℕ → Bool
 are_none ks [] = true
 are_none ks (r ∷ rs) = is_none ks r && are_none ks rs
 
-both_true : (a b : Bool) → (a && b) ≡ true → (a ≡ true) × (b ≡ true)
-both_true true b h = (refl, h)
-both_true false b h = absurd (false≢true h)
-
 differs : (q k : ℕ) → not (q == k) ≡ true → q ≢ k
 differs q k h = grind (arith, nat_tests)
 
 none_of : (ks : List ℕ) (q : ℕ) → is_none ks q ≡ true → IsNone ks q
 none_of [] q h = tt
 none_of (k ∷ ks) q h =
-    let both = both_true (not (q == k)) (is_none ks q) h in
-    (differs q k both.0, none_of ks q both.1)
+    (differs q k (both_left (not (q == k)) (is_none ks q) h), none_of ks q (both_right (not (q == k)) (is_none ks q) h))
+
+pub all_differ : (ks : List ℕ) (q : ℕ) → IsNone ks q → All (λ k. q ≢ k) ks
+all_differ [] q none = All-nil (λ k. q ≢ k)
+all_differ (k ∷ ks) q none = All-cons (λ x. q ≢ x) k ks none.0 (all_differ ks q none.1)
 
 -- functions that agree beside some numbers agree on a list without them
 pub same_beside : (ks : List ℕ) (f g : ℕ → ℕ) → ((q : ℕ) → IsNone ks q → f q ≡ g q) → (rs : List ℕ)
     → are_none ks rs ≡ true → AreSame f g rs
 same_beside ks f g same [] h = tt
-same_beside ks f g same (r ∷ rs) h =
-    let both = both_true (is_none ks r) (are_none ks rs) h in
-    (same r (none_of ks r both.0), same_beside ks f g same rs both.1)
+same_beside ks f g same (r ∷ rs) h = (
+  same r (none_of ks r (both_left (is_none ks r) (are_none ks rs) h)),
+  same_beside ks f g same rs (both_right (is_none ks r) (are_none ks rs) h),
+)
 
 pub same_then : (f g h : ℕ → ℕ) (rs : List ℕ) → AreSame f g rs → AreSame g h rs → AreSame f h rs
 same_then f g h [] one other = tt
 same_then f g h (r ∷ rs) one other = (one.0 ∙ other.0, same_then f g h rs one.1 other.1)
 
-heads : (x y : ℕ) (xs ys : List ℕ) → x ∷ xs ≡ y ∷ ys → x ≡ y
-heads x y xs ys e = cc
-
-tails : (x y : ℕ) (xs ys : List ℕ) → x ∷ xs ≡ y ∷ ys → xs ≡ ys
-tails x y xs ys e = cc
-
-pub same_values : (f g : ℕ → ℕ) (rs : List ℕ) → map f rs ≡ map g rs → AreSame f g rs
-same_values f g [] e = tt
-same_values f g (r ∷ rs) e =
-    (heads (f r) (g r) (map f rs) (map g rs) e, same_values f g rs (tails (f r) (g r) (map f rs) (map g rs) e))
+-- so what agrees with one agrees with another that differs from it beside the list
+pub still_same : (ks : List ℕ) (f g h : ℕ → ℕ) → ((q : ℕ) → IsNone ks q → f q ≡ g q) → (rs : List ℕ)
+    → are_none ks rs ≡ true → AreSame g h rs → AreSame f h rs
+still_same ks f g h beside rs ok same = same_then f g h rs (same_beside ks f g beside rs ok) same
 
 pub values_same : (f g : ℕ → ℕ) (rs : List ℕ) → AreSame f g rs → map f rs ≡ map g rs
 values_same f g [] same = refl
 values_same f g (r ∷ rs) same = ap₂ (λ x (xs : List ℕ). x ∷ xs) same.0 (values_same f g rs same.1)
 
 pub all_same : (f g : ℕ → ℕ) (rs : List ℕ) → AreSame f g rs → All (λ r. f r ≡ g r) rs
-all_same f g [] same = All-none (λ r. f r ≡ g r)
+all_same f g [] same = All-nil (λ r. f r ≡ g r)
 all_same f g (r ∷ rs) same = All-cons (λ r. f r ≡ g r) r rs same.0 (all_same f g rs same.1)

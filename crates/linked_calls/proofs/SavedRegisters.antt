@@ -5,7 +5,15 @@ use Rattle.codegen.specs.Loaded.{with_numbers}
 use Rattle.linked_calls.proofs.Between.{AreSaved}
 use Rattle.linked_calls.proofs.Bytes.{numbers_below}
 use Rattle.rv_machine.specs.Bytes.{ByteMap, number_at, with_number}
-use Rattle.linked_calls.proofs.Below.{number_at_same, number_at-with_number}
+use Rattle.linked_calls.proofs.Below.{number_at_same, number_at-with_number, number_or_zero}
+use Rattle.linked_calls.proofs.Parts.{words_at}
+use Rattle.linked_calls.proofs.SameRegisters.{AreSame}
+
+heads : (x y : ℕ) (xs ys : List ℕ) → x ∷ xs ≡ y ∷ ys → x ≡ y
+heads x y xs ys e = cc
+
+tails : (x y : ℕ) (xs ys : List ℕ) → x ∷ xs ≡ y ∷ ys → xs ≡ ys
+tails x y xs ys e = cc
 
 word_whole : (v : ℕ) → v < 2 ^ 32 → v % 256 ^ 4 ≡ v
 word_whole v below = omega (arith, below)
@@ -21,6 +29,16 @@ stored_are_saved bytes regs a (r ∷ rs) words =
           ∙ number_at-with_number bytes 4 a (regs r) ∙ ap Some (word_whole (regs r) (words r)),
       stored_are_saved one regs (a + 4) rs words,
     )
+
+-- read from there they are what the registers held
+pub saved_values : (bytes : ByteMap) (regs : ℕ → ℕ) (a : ℕ) (rs : List ℕ) (f : ℕ → ℕ)
+    → map f rs ≡ map (λ x. number_or_zero (number_at bytes 4 x)) (words_at a rs) → AreSaved bytes regs a rs
+    → AreSame f regs rs
+saved_values bytes regs a [] f is saved = tt
+saved_values bytes regs a (r ∷ rs) f is saved = (
+  heads (f r) _ (map f rs) _ is ∙ ap number_or_zero saved.0,
+  saved_values bytes regs (a + 4) rs f (tails (f r) _ (map f rs) _ is) saved.1,
+)
 
 -- and stay there as long as nothing else is stored
 pub saved_same : (old new : ByteMap) (regs : ℕ → ℕ) (a : ℕ) (rs : List ℕ)

@@ -8,18 +8,18 @@ use Rattle.codegen.specs.image_fields.Fields.{Fields}
 use Rattle.linked_calls.specs.Calls.{Site, IsSite}
 use Rattle.linked_calls.specs.FunctionCode.{enter_code, leave_code, function_words}
 use Rattle.linked_calls.proofs.Between.{body_at, leave_at}
-use Rattle.linked_calls.proofs.Placing.{placed}
-use Rattle.linked_calls.proofs.Steps.{Placed}
+use Rattle.linked_calls.proofs.Below.{Placed}
+use Rattle.linked_calls.proofs.Pieces.{placed}
 use Rattle.rv_code.specs.Words.{word_of}
 use Rattle.rv_machine.specs.Machine.{Code}
 
 -- Words, one list after another.
 
-pub stand_first : (code : Code) (p : ℕ) (xs ys : List ℕ) → Stand code p (xs ++ ys) → Stand code p xs
+stand_first : (code : Code) (p : ℕ) (xs ys : List ℕ) → Stand code p (xs ++ ys) → Stand code p xs
 stand_first code p [] ys h = tt
 stand_first code p (x ∷ xs) ys h = (h.0, h.1, h.2, stand_first code (p + 4) xs ys h.3)
 
-pub stand_then : (code : Code) (p : ℕ) (xs ys : List ℕ) → Stand code p (xs ++ ys) → Stand code (p + 4 * length xs) ys
+stand_then : (code : Code) (p : ℕ) (xs ys : List ℕ) → Stand code p (xs ++ ys) → Stand code (p + 4 * length xs) ys
 stand_then code p [] ys h =
     let e : p ≡ p + 4 * 0 = omega arith in
     subst (λ q. Stand code q ys) e h

@@ -1,165 +1,309 @@
--- The code that zeroes a frame, and the code that wipes a room.
-use Rattle.std.proofs.Common.{◌≡◌, ℕ, zero, suc, ◌+◌, ◌-◌, ◌*◌, ◌/◌, ◌%◌, ◌^◌, ◌<◌, List, [], ◌∷◌, ◌++◌, length, refl}
-use Rattle.std.proofs.Common.{sym, ap, ap₂, ◌∙◌, subst, arith, ne_eqb, if◌then◌else◌}
+-- The code that zeroes a frame, and the code that wipes a room: loops over blocks of four words, downward over the
+-- frame, and upward over all the room.
+use Rattle.std.specs.Prelude.{is_some}
+use Rattle.std.proofs.Common.{◌≡◌, ◌≢◌, ℕ, suc, ◌+◌, ◌-◌, ◌*◌, ◌/◌, ◌%◌, ◌^◌, ◌<◌, ◌≤◌, ◌==◌, Bool, true, false, List}
+use Rattle.std.proofs.Common.{[], ◌∷◌, ◌++◌, length, refl, sym, ap, ap₂, ◌∙◌, subst, arith, append_assoc, if◌then◌else◌}
+use Rattle.std.proofs.lemmas.Bool.{eqb-false, eqb-true}
 use Rattle.codegen.specs.expression_code.TermCode.{constant_code}
-use Rattle.linked_calls.specs.FunctionCode.{frame_code, wipe_code, until_equal, added, zeros_code}
-use Rattle.linked_calls.specs.Sections.{block_turns}
+use Rattle.codegen.specs.Loaded.{with_numbers}
 use Rattle.rv_code.specs.declared.instructions.Instr.{Instr}
 use Rattle.rv_code.specs.declared.instructions.Instr.TheVariants.{Register}
 use Rattle.rv_code.specs.declared.operations.RegisterOperation.TheVariants.{Sub}
-use Rattle.rv_machine.specs.Effects.{difference_of}
+use Rattle.rv_machine.specs.Bytes.{ByteMap}
+use Rattle.rv_machine.specs.Effects.{difference_of, sum_of}
 use Rattle.rv_machine.specs.Machine.{Code}
-use Rattle.rv_machine.specs.Leakage.{Leads, stays}
-use Rattle.rv_machine.specs.declared.observation.Observation.{Observation}
-use Rattle.linked_calls.specs.Does.{Data, at, Does, AreThere}
-use Rattle.linked_calls.specs.Stretches.{AreZeroed}
-use Rattle.linked_calls.specs.Zeros.{IsStoreIn, HasFrame, IsZeroFrame, frame_turns, FrameIsZeroed, HasRoom, IsWiped}
-use Rattle.linked_calls.specs.Zeros.{RoomIsWiped}
-use Rattle.linked_calls.proofs.Bytes.{AreData, no_zeros}
-use Rattle.linked_calls.proofs.Parts.{Runs, Sets, constant_part, straight_runs, then_runs, weaken_runs, part_to}
-use Rattle.linked_calls.proofs.Pieces.{Setting, All-none}
-use Rattle.linked_calls.proofs.Placing.{placed, does}
-use Rattle.linked_calls.proofs.Registers.{unwritten}
-use Rattle.linked_calls.proofs.Steps.{plain}
-use Rattle.linked_calls.proofs.Zeroing.{BeginsDown, EndsDown, zero_down, zero_up}
+use Rattle.linked_calls.specs.Does.{AreThere, Data, Does}
+use Rattle.linked_calls.specs.FunctionCode.{added, until_equal, wipe_code, zeros_code}
+use Rattle.linked_calls.specs.Sections.{block_turns}
+use Rattle.linked_calls.specs.Stretches.{AreData, AreZeroed}
+use Rattle.linked_calls.specs.Zeros.{FrameIsZeroed, HasFrame, HasRoom, IsStoreIn, IsWiped, IsZeroFrame, RoomIsWiped}
+use Rattle.linked_calls.proofs.Bytes.{no_zeros, numbers_data, zeroed_words, zeros_down, zeros_of, zeros_up}
+use Rattle.linked_calls.proofs.Loops.{loop}
+use Rattle.linked_calls.proofs.Parts.{BeginsStores, Sets, Stores, constant_runs, sets_runs, stores_runs}
+use Rattle.linked_calls.proofs.Pieces.{Runs, Setting, as_code, in_turns, no_code, placed, then_runs, weaken_runs}
 
-abbrev setting : Code → ℕ → ℕ → Setting
-setting code low high = record { code = code; allowed = IsStoreIn low high; silent = tt }
+abbrev down_code : List Instr
+down_code = added 2 (4096 - 16) ∷ zeros_code
 
-whole : (n : ℕ) → suc n % 16 ≡ 0 → 16 * suc (n / 16) ≡ suc n
-whole n h = omega arith
-
-blocks : (n : ℕ) → suc n % 16 ≡ 0 → suc (n / 16) * 6 ≡ block_turns (suc n)
-blocks n h = omega arith
+abbrev up_code : List Instr
+up_code = zeros_code ++ added 2 16 ∷ []
 
 -- the code of a frame that has room
 abbrev some_frame : ℕ → List Instr
-some_frame n = constant_code 5 (suc n) ++ Register Sub 5 2 5 ∷ until_equal 2 5 (added 2 (4096 - 16) ∷ zeros_code)
+some_frame room = constant_code 5 room ++ Register Sub 5 2 5 ∷ until_equal 2 5 down_code
 
-frame_is : (n : ℕ) → frame_code (suc n) ≡ some_frame n
-frame_is n = ap (λ b. if b then [] else some_frame n) (ne_eqb (suc n) 0 (λ e. omega arith))
+abbrev storing : Code → ℕ → ℕ → Setting
+storing code bottom room = record { code = code; allowed = IsStoreIn bottom (bottom + room); silent = tt }
 
-turns_are : (n : ℕ) → length (constant_code 5 (suc n)) + (1 + block_turns (suc n)) ≡ frame_turns (suc n)
-turns_are n =
-    let e : length (constant_code 5 (suc n)) + (1 + block_turns (suc n))
-    ≡ length (constant_code 5 (suc n)) + 1 + block_turns (suc n) = omega arith in
-    e ∙ sym (ap (λ b. if b then 0 else length (constant_code 5 (suc n)) + 1 + block_turns (suc n))
-    (ne_eqb (suc n) 0 (λ e. omega arith)))
-
-difference_is : (bottom room : ℕ) → bottom + room < 2 ^ 32 → difference_of (bottom + room) room ≡ bottom
-difference_is bottom room below = omega (arith, below)
-
-module _ (code : Code) (bottom n : ℕ) (even : bottom % 16 ≡ 0) (even_room : suc n % 16 ≡ 0)
-    (below : bottom + suc n < 2 ^ 32) where
+module _ (code : Code) (bottom room : ℕ) (even : bottom % 16 ≡ 0) (whole : room % 16 ≡ 0) (positive : 0 < room)
+    (below : bottom + room < 2 ^ 32) where
   abbrev z : Setting
-  z = setting code bottom (bottom + suc n)
+  z = storing code bottom room
 
-  -- x5 is the number of bytes of the frame
-  record Counted (s : Data) : Type 0 where
-    stack : s.regs 2 ≡ bottom + suc n
-    count : s.regs 5 ≡ suc n
-    there : AreData bottom (bottom + suc n) s.bytes
+  abbrev top : ℕ
+  top = bottom + room
 
-  -- and then where the frame begins
-  base_runs : Runs z 1 (Register Sub 5 2 5 ∷ []) (λ s. Unit {0}) (Sets 5 (λ s. difference_of (s.regs 2) (s.regs 5)))
-  base_runs =
-      straight_runs z {P = λ s. Unit {0}} {R = Sets 5 (λ s. difference_of (s.regs 2) (s.regs 5))}
-      (plain (Register Sub 5 2 5) ∷ []) (tt, tt)
-      (λ s u. record {
-        fit = (refl, tt, tt);
-        done = record {
-          there = refl;
-          others =
-              λ q h. unwritten s.regs 5 (difference_of (s.regs 2) (s.regs 5)) q h;
-          same = refl;
-        };
+  -- One block: its words were zeroed, and x2 moved on.
+
+  record Block (a next : ℕ) (s t : Data) : Type 0 where
+    stack : t.regs 2 ≡ next
+    bytes : t.bytes ≡ with_numbers s.bytes 4 a (zeros_of 4)
+    others : (q : ℕ) → q ≢ 2 → t.regs q ≡ s.regs q
+
+  -- x2 is there, and the block is data
+  record HasBlock (x a : ℕ) (s : Data) : Type 0 where
+    stack : s.regs 2 ≡ x
+    there : AreData a (a + 16) s.bytes
+
+  zeros_run : (a : ℕ) → a % 16 ≡ 0 → bottom ≤ a → a + 16 ≤ top
+      → Runs z 4 zeros_code (BeginsStores 2 0 a 4) (Stores a (0 ∷ 0 ∷ 0 ∷ 0 ∷ []))
+  zeros_run a aligned from to =
+      stores_runs z 2 (omega arith) 0 a (0 ∷ 0 ∷ 0 ∷ 0 ∷ []) refl (omega (arith, aligned)) (omega arith)
+      (omega (arith, to, below)) (λ x low high. (omega (arith, from, low), omega (arith, to, high)))
+
+  block_down : (a : ℕ) → a % 16 ≡ 0 → bottom ≤ a → a + 16 ≤ top
+      → Runs z 5 down_code (HasBlock (a + 16) a) (Block a a)
+  block_down a aligned from to =
+      then_runs z {P = HasBlock (a + 16) a} {R = Sets 2 (λ s. sum_of (s.regs 2) 4294967280)} {S = Block a a}
+      (added 2 (4096 - 16) ∷ []) zeros_code
+      (sets_runs z 2 (added 2 (4096 - 16) ∷ []) [] refl tt (λ s has. tt) (λ s has. refl) (λ s. refl))
+      (zeros_run a aligned from to)
+      (λ s t has sets.
+      let stack = has.stack in
+      let moved = sets.there in
+      record {
+        root = omega (arith, moved, stack, to, below);
+        there = subst (λ (b : ByteMap). AreData a (a + 16) b) (sym sets.same) has.there;
+      })
+      (λ s t u has sets stores.
+      let stack = has.stack in
+      let moved = sets.there in
+      let kept = ap (λ (regs : ℕ → ℕ). regs 2) stores.regs in
+      record {
+        stack = kept ∙ omega (arith, moved, stack, to, below);
+        bytes = stores.bytes ∙ ap (λ (b : ByteMap). with_numbers b 4 a (zeros_of 4)) sets.same;
+        others = λ q h. ap (λ (regs : ℕ → ℕ). regs q) stores.regs ∙ sets.others q h;
       })
 
-  loop_runs : Runs z (block_turns (suc n)) (until_equal 2 5 (added 2 (4096 - 16) ∷ zeros_code))
-      (BeginsDown z bottom (bottom + suc n) even below (λ x low high. (low, high)))
-      (EndsDown z bottom (bottom + suc n) even below (λ x low high. (low, high)))
-  loop_runs p there =
-      let e = whole n even_room in
-      part_to z (omega arith) (blocks n even_room)
-      (zero_down z bottom (bottom + suc n) even below (λ x low high. (low, high)) p (n / 16) there.0 there
-      (omega (arith, e)))
-
-  counted_runs : Runs z (1 + block_turns (suc n)) (Register Sub 5 2 5
-      ∷ until_equal 2 5 (added 2 (4096 - 16) ∷ zeros_code)) Counted (IsZeroFrame bottom (suc n))
-  counted_runs =
-      then_runs z {P = Counted} {S = IsZeroFrame bottom (suc n)} (Register Sub 5 2 5 ∷ [])
-      (until_equal 2 5 (added 2 (4096 - 16) ∷ zeros_code))
-      (weaken_runs z {P' = Counted} {R' = Sets 5 (λ s. difference_of (s.regs 2) (s.regs 5))} (Register Sub 5 2 5 ∷ [])
-      (λ s g. tt) (λ s t g r. r) base_runs) loop_runs
-      (λ s t given sets. record {
-        stack = sets.others 2 (λ e. omega arith) ∙ given.stack;
-        stop = sets.there ∙ ap₂ difference_of given.stack given.count ∙ difference_is bottom (suc n) below;
-        there = subst (λ (b : _). AreData bottom (bottom + suc n) b) (sym sets.same) given.there;
+  block_up : (a : ℕ) → a % 16 ≡ 0 → bottom ≤ a → a + 16 ≤ top → Runs z 5 up_code (HasBlock a a) (Block a (a + 16))
+  block_up a aligned from to =
+      then_runs z {P = HasBlock a a} {R' = Sets 2 (λ s. sum_of (s.regs 2) 16)} {S = Block a (a + 16)} zeros_code
+      (added 2 16 ∷ [])
+      (weaken_runs z {P' = HasBlock a a} {R' = Stores a (0 ∷ 0 ∷ 0 ∷ 0 ∷ [])} zeros_code (zeros_run a aligned from to)
+      (λ s has. let stack = has.stack in record { root = omega (arith, stack); there = has.there })
+      (λ s t has stores. stores))
+      (sets_runs z {P = λ s. Unit {0}} 2 (added 2 16 ∷ []) [] refl tt (λ s given. tt) (λ s given. refl) (λ s. refl))
+      (λ s t has stores. tt)
+      (λ s t u has stores sets.
+      let stack = has.stack in
+      let moved = sets.there in
+      let kept = ap (λ (regs : ℕ → ℕ). regs 2) stores.regs in
+      record {
+        stack = omega (arith, moved, kept, stack, to, below);
+        bytes = sets.same ∙ stores.bytes;
+        others = λ q h. sets.others q h ∙ ap (λ (regs : ℕ → ℕ). regs q) stores.regs;
       })
-      (λ s t u given sets ends. record {
+
+  -- Blocks.
+
+  -- x2 has come to an address, x5 is where it stops, and a stretch is zeros
+  record Zeroing (x stop low high : ℕ) (s d : Data) : Type 0 where
+    stack : d.regs 2 ≡ x
+    last : d.regs 5 ≡ stop
+    there : AreData bottom top d.bytes
+    zeroed : AreZeroed low high s.bytes d.bytes
+    others : (q : ℕ) → q ≢ 2 → d.regs q ≡ s.regs q
+
+  has_block : (x stop low high a : ℕ) (s d : Data) → bottom ≤ a → a + 16 ≤ top → Zeroing x stop low high s d
+      → HasBlock x a d
+  has_block x stop low high a s d from to held =
+      record { stack = held.stack; there = λ y l h. held.there y (omega (arith, from, l)) (omega (arith, to, h)) }
+
+  one_more : (x stop low high a next low' high' : ℕ) (s d t : Data) → bottom ≤ a → a + 16 ≤ top → Block a next d t
+      → Zeroing x stop low high s d
+      → (AreZeroed a (a + 16) d.bytes t.bytes → AreZeroed low' high' s.bytes t.bytes)
+      → Zeroing next stop low' high' s t
+  one_more x stop low high a next low' high' s d t from to block held joined = record {
+    stack = block.stack;
+    last = block.others 5 (λ e. omega arith) ∙ held.last;
+    there = λ y l h. ap (λ (b : ByteMap). is_some (b y)) block.bytes
+        ∙ numbers_data d.bytes 4 a (zeros_of 4) (has_block x stop low high a s d from to held).there y
+        ∙ held.there y l h;
+    zeroed = joined (subst (λ (b : ByteMap). AreZeroed a (a + 16) d.bytes b) (sym block.bytes)
+        (zeroed_words d.bytes a 4));
+    others = λ q h. block.others q h ∙ held.others q h;
+  }
+
+  abbrev blocks : ℕ
+  blocks = room / 16
+
+  -- where x2 is after so many
+  abbrev down_at : ℕ → ℕ
+  down_at i = top - 16 * i
+
+  abbrev up_at : ℕ → ℕ
+  up_at i = bottom + 16 * i
+
+  turns : blocks * 6 ≡ block_turns room
+  turns = omega arith
+
+  -- x2 is the top, and x5 the bottom
+  record BeginsDown (s : Data) : Type 0 where
+    stack : s.regs 2 ≡ top
+    last : s.regs 5 ≡ bottom
+    there : AreData bottom top s.bytes
+
+  record EndsDown (s t : Data) : Type 0 where
+    stack : t.regs 2 ≡ bottom
+    zeroed : AreZeroed bottom top s.bytes t.bytes
+    others : (q : ℕ) → q ≢ 2 → t.regs q ≡ s.regs q
+
+  down_runs : Runs z (block_turns room) (until_equal 2 5 down_code) BeginsDown EndsDown
+  down_runs =
+      in_turns z (until_equal 2 5 down_code) turns
+      (loop z 2 5 (omega arith, omega arith) down_code (omega arith) (omega arith) blocks
+      (λ i. Zeroing (down_at i) bottom (down_at i) top)
+      (λ i few.
+      let a = down_at (suc i) in
+      let next : a + 16 ≡ down_at i = omega (arith, few, whole) in
+      weaken_runs z down_code
+      (block_down a (omega (arith, even, few, whole)) (omega (arith, few, whole)) (omega (arith, few, whole)))
+      (λ d given. subst (λ x. HasBlock x a d) (sym next)
+      (has_block (down_at i) bottom (down_at i) top a given.0 d (omega (arith, few, whole)) (omega (arith, few, whole)) given.1))
+      (λ d t given block s held.
+      one_more (down_at i) bottom (down_at i) top a a a top s d t (omega (arith, few, whole)) (omega (arith, few, whole)) block
+      held
+      (λ zeroed. zeros_down a (down_at i) top s.bytes d.bytes t.bytes (omega (arith, next)) (omega arith) held.zeroed
+      (subst (λ x. AreZeroed a x d.bytes t.bytes) next zeroed))))
+      (λ i s d few held same.
+      let stack = held.stack in
+      let last = held.last in
+      omega (arith, stack, last, same, few, whole))
+      (λ s d held.
+      let stack = held.stack in
+      let last = held.last in
+      omega (arith, stack, last, whole))
+      (omega (arith, positive, whole))
+      (λ s begins.
+      let first : top ≡ down_at 0 = omega arith in
+      record {
+        stack = begins.stack ∙ first;
+        last = begins.last;
+        there = begins.there;
+        zeroed = subst (λ x. AreZeroed x top s.bytes s.bytes) first (no_zeros top s.bytes);
+        others = λ q h. refl;
+      })
+      (λ s t begins held.
+      let end : down_at blocks ≡ bottom = omega (arith, whole) in
+      record {
+        stack = held.stack ∙ end;
+        zeroed = subst (λ x. AreZeroed x top s.bytes t.bytes) end held.zeroed;
+        others = held.others;
+      }))
+
+  up_runs : Runs z (block_turns room) (until_equal 2 5 up_code) (HasRoom bottom room) (IsWiped bottom room)
+  up_runs =
+      in_turns z (until_equal 2 5 up_code) turns
+      (loop z 2 5 (omega arith, omega arith) up_code (omega arith) (omega arith) blocks
+      (λ i. Zeroing (up_at i) top bottom (up_at i))
+      (λ i few.
+      let next : up_at i + 16 ≡ up_at (suc i) = omega arith in
+      weaken_runs z up_code
+      (block_up (up_at i) (omega (arith, even)) (omega arith) (omega (arith, few, whole)))
+      (λ d given. has_block (up_at i) top bottom (up_at i) (up_at i) given.0 d (omega arith) (omega (arith, few, whole)) given.1)
+      (λ d t given block s held.
+      subst (λ x. Zeroing x top bottom x s t) next
+      (one_more (up_at i) top bottom (up_at i) (up_at i) (up_at i + 16) bottom (up_at i + 16) s d t (omega arith)
+      (omega (arith, few, whole)) block held
+      (λ zeroed. zeros_up bottom (up_at i) (up_at i + 16) s.bytes d.bytes t.bytes (omega arith) (omega arith) held.zeroed
+      zeroed))))
+      (λ i s d few held same.
+      let stack = held.stack in
+      let last = held.last in
+      omega (arith, stack, last, same, few, whole))
+      (λ s d held.
+      let stack = held.stack in
+      let last = held.last in
+      omega (arith, stack, last, whole))
+      (omega (arith, positive, whole))
+      (λ s has.
+      let first : bottom ≡ up_at 0 = omega arith in
+      record {
+        stack = has.stack ∙ first;
+        last = has.top;
+        there = has.there;
+        zeroed = subst (λ x. AreZeroed bottom x s.bytes s.bytes) first (no_zeros bottom s.bytes);
+        others = λ q h. refl;
+      })
+      (λ s t has held.
+      let end : up_at blocks ≡ top = omega (arith, whole) in
+      record {
+        stack = held.stack ∙ end;
+        zeroed = subst (λ x. AreZeroed bottom x s.bytes t.bytes) end held.zeroed;
+        others = held.others;
+      }))
+
+  -- The frame.
+
+  -- x5 is the number of bytes, and then the bottom
+  based_runs : Runs z (length (constant_code 5 room) + 1) (constant_code 5 room ++ Register Sub 5 2 5 ∷ [])
+      (HasFrame bottom room) (Sets 5 (λ s. difference_of (s.regs 2) room))
+  based_runs =
+      then_runs z {R' = Sets 5 (λ s. difference_of (s.regs 2) (s.regs 5))} (constant_code 5 room)
+      (Register Sub 5 2 5 ∷ []) (constant_runs z 5 room (omega arith) (λ e. omega arith) (omega (arith, below)))
+      (sets_runs z {P = λ s. Unit {0}} 5 (Register Sub 5 2 5 ∷ []) [] refl tt (λ s given. tt) (λ s given. refl)
+      (λ s. refl))
+      (λ s t has one. tt)
+      (λ s t u has one two. record {
+        there = two.there ∙ ap₂ difference_of (one.others 2 (λ e. omega arith)) one.there;
+        others = λ q h. two.others q h ∙ one.others q h;
+        same = two.same ∙ one.same;
+      })
+
+  frame_runs : Runs z (length (constant_code 5 room) + 1 + block_turns room)
+      ((constant_code 5 room ++ Register Sub 5 2 5 ∷ []) ++ until_equal 2 5 down_code) (HasFrame bottom room)
+      (IsZeroFrame bottom room)
+  frame_runs =
+      then_runs z {P = HasFrame bottom room} {S = IsZeroFrame bottom room}
+      (constant_code 5 room ++ Register Sub 5 2 5 ∷ []) (until_equal 2 5 down_code) based_runs down_runs
+      (λ s t has sets.
+      let stack = has.stack in
+      let moved = sets.there in
+      record {
+        stack = sets.others 2 (λ e. omega arith) ∙ stack;
+        last = moved ∙ omega (arith, stack, below);
+        there = subst (λ (b : ByteMap). AreData bottom top b) (sym sets.same) has.there;
+      })
+      (λ s t u has sets ends. record {
         stack = ends.stack;
-        zeroed = subst (λ (b : _). AreZeroed bottom (bottom + suc n) b u.bytes) sets.same ends.zeroed;
+        zeroed = subst (λ (b : ByteMap). AreZeroed bottom top b u.bytes) sets.same ends.zeroed;
         others = λ q h k. ends.others q h ∙ sets.others q k;
       })
 
-  frame_runs : Runs z (length (constant_code 5 (suc n)) + (1 + block_turns (suc n))) (some_frame n)
-      (HasFrame bottom (suc n)) (IsZeroFrame bottom (suc n))
-  frame_runs =
-      then_runs z {P = HasFrame bottom (suc n)} {S = IsZeroFrame bottom (suc n)} (constant_code 5 (suc n))
-      (Register Sub 5 2 5 ∷ until_equal 2 5 (added 2 (4096 - 16) ∷ zeros_code))
-      (weaken_runs z {P' = HasFrame bottom (suc n)} {R' = Sets 5 (λ s. suc n)} (constant_code 5 (suc n)) (λ s g. tt)
-      (λ s t g r. r) (constant_part z 5 (suc n) (omega arith) (λ e. omega arith) (omega arith))) counted_runs
-      (λ s t given sets. record {
-        stack = sets.others 2 (λ e. omega arith) ∙ given.stack;
-        count = sets.there;
-        there = subst (λ (b : _). AreData bottom (bottom + suc n) b) (sym sets.same) given.there;
-      })
-      (λ s t u given sets ends. record {
-        stack = ends.stack;
-        zeroed = subst (λ (b : _). AreZeroed bottom (bottom + suc n) b u.bytes) sets.same ends.zeroed;
-        others = λ q h k. ends.others q h k ∙ sets.others q k;
-      })
-
-no_frame : (code : Code) (start bottom : ℕ)
-    → Does code start [] 0 (IsStoreIn bottom (bottom + 0)) (HasFrame bottom 0) (IsZeroFrame bottom 0)
-no_frame code start bottom =
-    let e : start ≡ start + 4 * 0 = omega arith in
-    let f : bottom ≡ bottom + 0 = omega arith in
-    record {
-      shown = [];
-      within = All-none (λ (o : Observation). IsStoreIn bottom (bottom + 0) o.event);
-      runs = λ s has. record {
-        end = s;
-        leads = subst (λ q. Leads code 0 (at start s) [] (at q s)) e stays;
-        done = record {
-          stack = has.stack ∙ sym f;
-          zeroed = subst (λ x. AreZeroed bottom x s.bytes s.bytes) f (no_zeros bottom s.bytes);
-          others = λ q h k. refl;
-        };
-      };
-    }
-
 pub frame_is_zeroed : FrameIsZeroed
-frame_is_zeroed code start bottom zero there even even_room below = no_frame code start bottom
-frame_is_zeroed code start bottom (suc n) there even even_room below =
-    let z = setting code bottom (bottom + suc n) in
-    let here = subst (λ (is : List Instr). AreThere code start is) (frame_is n) there in
-    subst (λ (is : List Instr). Does code start is (frame_turns (suc n)) (IsStoreIn bottom (bottom + suc n))
-    (HasFrame bottom (suc n)) (IsZeroFrame bottom (suc n))) (sym (frame_is n))
-    (does z (some_frame n) {Before = HasFrame bottom (suc n)} {After = IsZeroFrame bottom (suc n)}
-    (part_to z refl (turns_are n)
-    (frame_runs code bottom n even even_room below start (placed code start (some_frame n) here)))
-    (λ s has. has) (λ s t has ends. ends))
+frame_is_zeroed code start bottom room there even whole below = by (room == 0) refl there
+  where
+    by : (b : Bool) → (room == 0) ≡ b → AreThere code start (if b then [] else some_frame room)
+        → Does code start (if b then [] else some_frame room)
+        (if b then 0 else length (constant_code 5 room) + 1 + block_turns room)
+        (IsStoreIn bottom (bottom + room)) (HasFrame bottom room) (IsZeroFrame bottom room)
+    by true none here =
+        let no_room : room ≡ 0 = eqb-true room 0 none in
+        let same : bottom + room ≡ bottom = omega (arith, no_room) in
+        no_code (storing code bottom room) {P = HasFrame bottom room} {R = IsZeroFrame bottom room}
+        (λ s has. record {
+          stack = has.stack ∙ same;
+          zeroed = subst (λ x. AreZeroed bottom x s.bytes s.bytes) (sym same) (no_zeros bottom s.bytes);
+          others = λ q h k. refl;
+        }) start tt
+    by false some here =
+        let differ = eqb-false room 0 some in
+        let positive : 0 < room = omega (arith, differ) in
+        as_code (storing code bottom room)
+        ((constant_code 5 room ++ Register Sub 5 2 5 ∷ []) ++ until_equal 2 5 down_code) (some_frame room)
+        (append_assoc (constant_code 5 room) (Register Sub 5 2 5 ∷ []) (until_equal 2 5 down_code))
+        (frame_runs code bottom room even whole positive below) start (placed code start (some_frame room) here)
 
 pub room_is_wiped : RoomIsWiped
-room_is_wiped code start bottom zero there even even_room some below = absurd (omega arith)
-room_is_wiped code start bottom (suc n) there even even_room some below =
-    let room = suc n in
-    let z = setting code bottom (bottom + room) in
-    let e = whole n even_room in
-    does z wipe_code {Before = HasRoom bottom room} {After = IsWiped bottom room}
-    (part_to z (omega arith) (blocks n even_room)
-    (zero_up z bottom (bottom + room) even below (λ x low high. (low, high)) start (n / 16)
-    ((placed code start wipe_code there).0) (placed code start wipe_code there) (omega (arith, e))))
-    (λ s has. record { stack = has.stack; stop = has.top; there = has.there })
-    (λ s t has ends. record { stack = ends.stack; zeroed = ends.zeroed; others = ends.others })
+room_is_wiped code start bottom room there even whole positive below =
+    up_runs code bottom room even whole positive below start (placed code start wipe_code there)

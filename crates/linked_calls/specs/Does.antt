@@ -2,22 +2,21 @@
 -- an exact number of turns. What it shows is one list, given before the state, so all such states show the same.
 use Rattle.std.specs.Prelude.{ℕ, ◌+◌, ◌*◌, List, length, map, All, Option}
 use Rattle.codegen.specs.Anywhere.{Stand}
+use Rattle.codegen.specs.program_logic.StraightCode.{Contents, state_at}
 use Rattle.rv_code.specs.declared.instructions.Instr.{Instr}
 use Rattle.rv_code.specs.Words.{word_of}
 use Rattle.rv_machine.specs.declared.observation.Event.{Event}
 use Rattle.rv_machine.specs.declared.observation.Observation.{Observation}
-use Rattle.rv_machine.specs.Bytes.{ByteMap}
 use Rattle.rv_machine.specs.Leakage.{Leads}
 use Rattle.rv_machine.specs.Machine.{State, Code}
 
--- what a state holds beside its program counter
-pub record Data : Type 0 where
-  pub regs : ℕ → ℕ
-  pub bytes : ByteMap
+-- what a state holds beside its program counter: registers and bytes
+abbrev pub Data : Type 0
+Data = Contents
 
 -- with a program counter
 abbrev pub at : ℕ → Data → State
-at p d = record { pc = p; regs = d.regs; bytes = d.bytes }
+at p d = state_at p d
 
 -- a run that shows this list, from the first of the instructions to behind the last
 pub record RunOf (code : Code) (start : ℕ) (is : List Instr) (turns : ℕ) (list : List Observation) (After : Data
