@@ -14,7 +14,8 @@ use Rattle.language.specs.declared.values.Arg.{Arg}
 use Rattle.language.specs.declared.values.Arg.TheVariants.{Word, Array}
 use Rattle.linked_calls.specs.Called.{IsOfCall}
 use Rattle.linked_calls.specs.Calls.{Site, IsBesides, room_base, arguments_end}
-use Rattle.linked_calls.specs.Copies.{CanBeCopied, HasArray, IsCopying, IsTaken, Pointed, elements_at, place_of, slot_of}
+use Rattle.linked_calls.specs.Copies.{CanBeCopied, HasArray, IsCopying, IsTaken, Pointed, elements_at, place_of}
+use Rattle.linked_calls.specs.Copies.{slot_of}
 use Rattle.linked_calls.specs.Does.{Data}
 use Rattle.linked_calls.specs.FunctionCode.{argument_code, argument_offset, arguments_code, array_bytes, frame_room}
 use Rattle.linked_calls.specs.Meant.{meant}
@@ -156,8 +157,8 @@ module _ (image : Fields) (site : Site) where
     where
       by : IsOutside (room_base image site) (saved_at image site) x → IsOutside (room_base image site + slot.offset)
           (room_base image site + slot.offset + put_bytes slot (argument_in bytes i slot form)) x
-      by (inl low) = inl (omega (arith, low))
-      by (inr high) = let inside = fits bytes i slot form known in inr (omega (arith, high, inside))
+      by (inl low) = inl (omega arith)
+      by (inr high) = let inside = fits bytes i slot form known in inr (omega arith)
 
   pub all_taken_outside : (bytes : ByteMap) (i : ℕ) (slots : List Slot) (x : ℕ) → AreKnown i slots
       → IsOutside (room_base image site) (saved_at image site) x → all_taken bytes i slots x ≡ bytes x
@@ -171,7 +172,7 @@ module _ (image : Fields) (site : Site) where
   taken_data bytes i slot form known there =
       let inside = fits bytes i slot form known in
       put_data (room_base image site) bytes slot (argument_in bytes i slot form)
-      (λ x low high. there x (omega (arith, low)) (omega (arith, high, inside)))
+      (λ x low high. there x (omega arith) (omega arith))
 
   pub all_taken_data : (bytes : ByteMap) (i : ℕ) (slots : List Slot) → AreKnown i slots
       → AreData (room_base image site) (saved_at image site) bytes → SameData bytes (all_taken bytes i slots)
@@ -190,15 +191,12 @@ module _ (image : Fields) (site : Site) where
 
     room : saved_at image site ≤ arguments_end image site
     room =
-        let ends = numbers.ends in
-        let arguments = numbers.arguments in
-        omega (arith, ends, arguments)
+        omega arith
 
     array_runs : (i : ℕ) (slot : Slot) → KnownArray i slot
         → Runs z (argument_turns image i slot FixedArray) (argument_code image i slot FixedArray)
         (Begins (λ bytes. IsReady image site bytes i slot FixedArray)) (Takes (λ s. taken s.bytes i slot FixedArray))
     array_runs i slot known =
-        let inside = known.inside in
         let under = room in
         weaken_runs z {P' = Begins (λ bytes. IsReady image site bytes i slot FixedArray)}
         {R' = Takes (λ s. taken s.bytes i slot FixedArray)} (argument_code image i slot FixedArray)
@@ -209,7 +207,7 @@ module _ (image : Fields) (site : Site) where
           stack = begins.stack;
           argument = begins.ready.pointer;
           array_there = begins.ready.array;
-          slot_there = λ x l h. begins.there x (omega (arith, l)) (omega (arith, h, inside, under));
+          slot_there = λ x l h. begins.there x (omega arith) (omega arith);
         })
         (λ s t begins taken. record { bytes = taken.bytes; others = taken.others })
 
@@ -217,8 +215,6 @@ module _ (image : Fields) (site : Site) where
         → Runs z (argument_turns image i slot form) (argument_code image i slot form)
         (Begins (λ bytes. IsReady image site bytes i slot form)) (Takes (λ s. taken s.bytes i slot form))
     argument_runs i slot SingleWord known =
-        let inside = known.inside in
-        let place = known.place_inside in
         let under = room in
         weaken_runs z {P' = Begins (λ bytes. IsReady image site bytes i slot SingleWord)}
         {R' = Takes (λ s. taken s.bytes i slot SingleWord)} (argument_code image i slot SingleWord)
@@ -228,8 +224,8 @@ module _ (image : Fields) (site : Site) where
         (λ p there. word_is_taken z.code p image slot (room_base image site) i there known.can))
         (λ s begins. record {
           stack = begins.stack;
-          argument_there = λ x l h. begins.there x (omega (arith, l)) (omega (arith, h, place));
-          slot_there = λ x l h. begins.there x (omega (arith, l)) (omega (arith, h, inside, under));
+          argument_there = λ x l h. begins.there x (omega arith) (omega arith);
+          slot_there = λ x l h. begins.there x (omega arith) (omega arith);
         })
         (λ s t begins put. record { bytes = put.bytes; others = λ q g h k l. put.others q g l })
     argument_runs i slot FixedArray known = array_runs i slot known
@@ -249,9 +245,9 @@ module _ (image : Fields) (site : Site) where
         (argument_runs i slot form known.0)
         (λ s begins. record { stack = begins.stack; there = begins.there; ready = begins.ready.0 })
         (λ s t begins takes. takes))
-        (arguments_runs (i + 1) slots (omega (arith, count)) known.1)
+        (arguments_runs (i + 1) slots (omega arith) known.1)
         (λ s t begins takes.
-        let same = taken_data s.bytes i slot form known.0 (λ x l h. begins.there x l (omega (arith, h, under))) in
+        let same = taken_data s.bytes i slot form known.0 (λ x l h. begins.there x l (omega arith)) in
         record {
           stack = takes.others 2 (λ e. omega arith) (λ e. omega arith) (λ e. omega arith) (λ e. omega arith)
               ∙ begins.stack;
@@ -259,7 +255,7 @@ module _ (image : Fields) (site : Site) where
           ready = subst (λ (b : ByteMap). AreReady image site b (i + 1) slots) (sym takes.bytes)
               (stay_ready image site numbers s.bytes (taken s.bytes i slot form)
               (λ x low high. taken_outside s.bytes i slot form x known.0 (inr low)) same (i + 1) slots
-              (omega (arith, count)) begins.ready.1);
+              (omega arith) begins.ready.1);
         })
         (λ s t u begins takes more. record {
           bytes = more.bytes ∙ ap (λ (b : ByteMap). all_taken b (i + 1) slots) takes.bytes;

@@ -56,9 +56,6 @@ module _ (image : Fields) (code : Code) (site : Site) (numbers : RoomNumbers ima
   output_runs i slot SingleWord known = no_code z (λ s begins. record { bytes = refl; others = λ q g h k l. refl })
   output_runs i slot FixedArray known = no_code z (λ s begins. record { bytes = refl; others = λ q g h k l. refl })
   output_runs i slot MutableArray known =
-      let inside = known.known.inside in
-      let ends = numbers.ends in
-      let arguments = numbers.arguments in
       weaken_runs z {P' = Begins image site (λ bytes. IsReady image site bytes i slot MutableArray)}
       {R' = Takes (λ s. handed s.bytes i slot MutableArray)} (copy_out_code image i slot MutableArray)
       (promised_runs z (copy_out_code image i slot MutableArray) {Before = HasArray image slot (spot_at image site i)}
@@ -68,7 +65,7 @@ module _ (image : Fields) (code : Code) (site : Site) (numbers : RoomNumbers ima
         stack = begins.stack;
         argument = begins.ready.pointer;
         array_there = begins.ready.array;
-        slot_there = λ x l h. begins.there x (omega (arith, l)) (omega (arith, h, inside, ends, arguments));
+        slot_there = λ x l h. begins.there x (omega arith) (omega arith);
       })
       (λ s t begins back. record { bytes = back.bytes; others = back.others })
 
@@ -84,10 +81,10 @@ module _ (image : Fields) (code : Code) (site : Site) (numbers : RoomNumbers ima
   array_apart bytes i slot x (inl below) low up =
       let n = element_bytes slot.param.kind in
       numbers_above bytes n (site.pointers i) (outcome_at bytes slot) x
-      (subst (λ k. site.pointers i + n * k ≤ x) (sym (outcome_count bytes slot)) (omega (arith, below, low)))
+      (subst (λ k. site.pointers i + n * k ≤ x) (sym (outcome_count bytes slot)) (omega arith))
   array_apart bytes i slot x (inr above) low up =
       numbers_below bytes (element_bytes slot.param.kind) (site.pointers i) (outcome_at bytes slot) x
-      (omega (arith, above, up))
+      (omega arith)
 
   handed_apart : (bytes : ByteMap) (i : ℕ) (slot : Slot) (form : Form) (x : ℕ) → IsKnown image site i slot form
       → base ≤ x → x < end → handed bytes i slot form x ≡ bytes x
@@ -120,12 +117,9 @@ module _ (image : Fields) (code : Code) (site : Site) (numbers : RoomNumbers ima
     one_same i slot SingleWord known = refl
     one_same i slot FixedArray known = refl
     one_same i slot MutableArray known =
-        let inside = known.known.inside in
-        let ends = numbers.ends in
-        let arguments = numbers.arguments in
         ap (λ (vs : List ℕ). vs ∷ [])
         (numbers_same old new (element_bytes slot.param.kind) (base + slot.offset) slot.param.length
-        (λ x l h. same x (omega (arith, l)) (omega (arith, h, inside, ends, arguments))))
+        (λ x l h. same x (omega arith) (omega arith)))
 
     arrays_same : (i : ℕ) (slots : List Slot) → AreKnown image site i slots
         → arrays_in base new slots ≡ arrays_in base old slots
@@ -163,14 +157,13 @@ module _ (image : Fields) (code : Code) (site : Site) (numbers : RoomNumbers ima
   handed_runs i [] count known = no_code z (λ s begins. record { bytes = refl; others = λ q g h k l. refl })
   handed_runs i (slot ∷ slots) count known =
       let form = slot.param.form in
-      let ends = numbers.ends in
       then_runs z (copy_out_code image i slot form) (results_code image (i + 1) slots)
       (weaken_runs z {P' = Begins image site (λ bytes. AreReady image site bytes i (slot ∷ slots))}
       {R' = Takes (λ s. handed s.bytes i slot form)} (copy_out_code image i slot form)
       (output_runs i slot form known.0)
       (λ s begins. record { stack = begins.stack; there = begins.there; ready = begins.ready.0 })
       (λ s t begins takes. takes))
-      (handed_runs (i + 1) slots (omega (arith, count)) known.1)
+      (handed_runs (i + 1) slots (omega arith) known.1)
       (λ s t begins takes.
       let same = handed_data s.bytes i slot form begins.ready.0 in
       record {
@@ -179,8 +172,8 @@ module _ (image : Fields) (code : Code) (site : Site) (numbers : RoomNumbers ima
         there = λ x l h. ap (λ (b : ByteMap). is_some (b x)) takes.bytes ∙ same x ∙ begins.there x l h;
         ready = subst (λ (b : ByteMap). AreReady image site b (i + 1) slots) (sym takes.bytes)
             (stay_ready image site numbers s.bytes (handed s.bytes i slot form)
-            (λ x low up. handed_apart s.bytes i slot form x known.0 (omega (arith, low)) up) same
-            (i + 1) slots (omega (arith, count)) begins.ready.1);
+            (λ x low up. handed_apart s.bytes i slot form x known.0 (omega arith) up) same
+            (i + 1) slots (omega arith) begins.ready.1);
       })
       (λ s t u begins takes more. record {
         bytes = more.bytes ∙ ap (λ (b : ByteMap). all_handed b (i + 1) slots) takes.bytes;

@@ -1,5 +1,6 @@
 -- What these proofs take from the proofs of the crates below, in one place.
-pub use Rattle.codegen.proofs.expression_code_lemmas.Arithmetic.{far_address, lower_fits, near_address, parts, upper_fits}
+pub use Rattle.codegen.proofs.expression_code_lemmas.Arithmetic.{far_address, lower_fits, near_address, parts}
+pub use Rattle.codegen.proofs.expression_code_lemmas.Arithmetic.{upper_fits}
 pub use Rattle.codegen.proofs.expression_code_lemmas.Moves.{register-at, unwritten, written}
 pub use Rattle.codegen.proofs.program_logic_lemmas.Face.{
   AreFit,

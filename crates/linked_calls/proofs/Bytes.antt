@@ -1,7 +1,8 @@
 -- Bytes: data that stays data, numbers put one after another, and stretches of zeros.
 use Rattle.std.specs.Prelude.{◌⊎◌, is_some, unwrap_or, not}
 use Rattle.std.proofs.Common.{◌≡◌, ◌≢◌, ℕ, zero, suc, ◌+◌, ◌*◌, ◌/◌, ◌%◌, ◌^◌, ◌<◌, ◌≤◌, true, ◌&&◌, ◌==◌, cond}
-use Rattle.std.proofs.Common.{nat_le, nat_lt, List, [], ◌∷◌, ◌++◌, length, Option, Some, None, inl, inr, ⊎_elim, refl, sym, ap, ap₂}
+use Rattle.std.proofs.Common.{nat_le, nat_lt, List, [], ◌∷◌, ◌++◌, length, Option, Some, None, inl, inr, ⊎_elim, refl}
+use Rattle.std.proofs.Common.{sym, ap, ap₂}
 use Rattle.std.proofs.Common.{◌∙◌, subst, arith}
 use Rattle.std.proofs.Math.Arith.{mod-mul}
 use Rattle.std.proofs.Math.Nat.{pow-suc}
@@ -53,7 +54,7 @@ pow-pos (suc n) = let h = pow-pos n in rw (pow-suc 256 n) (omega arith)
 low_part : (n v : ℕ) → v % 256 + 256 * (v / 256 % 256 ^ n) ≡ v % 256 ^ suc n
 low_part n v =
     let cut = mod-mul v {m = 256 ^ n} {c = 256} (pow-pos n) (omega arith) in
-    omega (arith, cut) ∙ sym (ap (λ m. v % m) (pow-suc 256 n))
+    omega arith ∙ sym (ap (λ m. v % m) (pow-suc 256 n))
 
 lowest : (v w high : ℕ) → v % 256 + 256 * high ≡ w → w % 256 ≡ v % 256
 lowest v w high e = omega arith
@@ -85,15 +86,15 @@ pub numbers_below : (bytes : ByteMap) (size at : ℕ) (vs : List ℕ) (x : ℕ) 
     → with_numbers bytes size at vs x ≡ bytes x
 numbers_below bytes size at [] x below = refl
 numbers_below bytes size at (v ∷ vs) x below =
-    numbers_below (with_number bytes size at v) size (at + size) vs x (omega (arith, below))
+    numbers_below (with_number bytes size at v) size (at + size) vs x (omega arith)
     ∙ with_number_below bytes size at v x below
 
 pub numbers_above : (bytes : ByteMap) (size at : ℕ) (vs : List ℕ) (x : ℕ) → at + size * length vs ≤ x
     → with_numbers bytes size at vs x ≡ bytes x
 numbers_above bytes size at [] x above = refl
 numbers_above bytes size at (v ∷ vs) x above =
-    numbers_above (with_number bytes size at v) size (at + size) vs x (omega (arith, above))
-    ∙ with_number_above bytes size at v x (omega (arith, above))
+    numbers_above (with_number bytes size at v) size (at + size) vs x (omega arith)
+    ∙ with_number_above bytes size at v x (omega arith)
 
 pub numbers_agree : (one other : ByteMap) (size at : ℕ) (vs : List ℕ) (x : ℕ) → one x ≡ other x
     → with_numbers one size at vs x ≡ with_numbers other size at vs x
@@ -112,18 +113,18 @@ pub numbers_same : (old new : ByteMap) (n a k : ℕ) → ((x : ℕ) → a ≤ x 
 numbers_same old new n a zero same = refl
 numbers_same old new n a (suc k) same =
     ap₂ (λ o (vs : List ℕ). unwrap_or o 0 ∷ vs)
-    (number_at_same old new n a (λ x low high. same x low (omega (arith, high))))
-    (numbers_same old new n (a + n) k (λ x low high. same x (omega (arith, low)) (omega (arith, high))))
+    (number_at_same old new n a (λ x low high. same x low (omega arith)))
+    (numbers_same old new n (a + n) k (λ x low high. same x (omega arith) (omega arith)))
 
 -- a number beside those that are put is read as before
 pub number_beside : (bytes : ByteMap) (n at : ℕ) (vs : List ℕ) (m a : ℕ) → (a + m ≤ at) ⊎ (at + n * length vs ≤ a)
     → number_at (with_numbers bytes n at vs) m a ≡ number_at bytes m a
 number_beside bytes n at vs m a (inl before) =
     number_at_same bytes (with_numbers bytes n at vs) m a
-    (λ x low high. numbers_below bytes n at vs x (omega (arith, high, before)))
+    (λ x low high. numbers_below bytes n at vs x (omega arith))
 number_beside bytes n at vs m a (inr behind) =
     number_at_same bytes (with_numbers bytes n at vs) m a
-    (λ x low high. numbers_above bytes n at vs x (omega (arith, low, behind)))
+    (λ x low high. numbers_above bytes n at vs x (omega arith))
 
 -- one more is read, and one more is put
 pub numbers_more : (bytes : ByteMap) (n a k : ℕ)
@@ -155,16 +156,19 @@ pub numbers_data : (bytes : ByteMap) (n at : ℕ) (vs : List ℕ) → AreData at
     → SameData bytes (with_numbers bytes n at vs)
 numbers_data bytes n at [] there x = refl
 numbers_data bytes n at (v ∷ vs) there x =
-    let first = number_there bytes n at (λ y low high. there y low (omega (arith, high))) in
+    let first = number_there bytes n at (λ y low high. there y low (omega arith)) in
     numbers_data (with_number bytes n at v) n (at + n) vs
     (λ y low high. is_some-with_number bytes n at v y first
-    ∙ there y (omega (arith, low)) (omega (arith, high))) x
+    ∙ there y (omega arith) (omega arith)) x
     ∙ is_some-with_number bytes n at v x first
 
 -- Zeros.
 
-pub no_zeros : (a : ℕ) (bytes : ByteMap) → AreZeroed a a bytes bytes
-no_zeros a bytes = record { inside = λ x low high. absurd (omega (arith, low, high)); outside = λ x where'. refl }
+pub no_zeros : (low high : ℕ) (bytes : ByteMap) → high ≤ low → AreZeroed low high bytes bytes
+no_zeros low high bytes none = record {
+  inside = λ x from to. absurd (omega arith);
+  outside = λ x where'. refl;
+}
 
 within_zeros : (base n a : ℕ) → base ≤ a → a < base + n → (nat_le base a && nat_lt a (base + n)) ≡ true
 within_zeros base n a low high = grind (arith, nat_tests)
@@ -173,7 +177,7 @@ pub zero_byte : (base n a : ℕ) → base ≤ a → a < base + n → zeros base 
 zero_byte base n a low high = ap (λ b. cond b (Some 0) None) (within_zeros base n a low high)
 
 pub zero_inside : (bytes : ByteMap) (n a x : ℕ) → a ≤ x → x < a + n → with_number bytes n a 0 x ≡ Some 0
-zero_inside bytes zero a x low high = absurd (omega (arith, low, high))
+zero_inside bytes zero a x low high = absurd (omega arith)
 zero_inside bytes (suc n) a x low high =
     ap (λ (m : ByteMap). m x) (with_number-suc bytes n a 0)
     ∙ ⊎_elim
@@ -222,10 +226,7 @@ zeros_of (suc k) = 0 ∷ zeros_of k
 
 -- as words one after another
 pub zeroed_words : (bytes : ByteMap) (a k : ℕ) → AreZeroed a (a + 4 * k) bytes (with_numbers bytes 4 a (zeros_of k))
-zeroed_words bytes a zero = record {
-  inside = λ x low high. absurd (omega (arith, low, high));
-  outside = λ x w. refl;
-}
+zeroed_words bytes a zero = no_zeros a (a + 4 * 0) bytes (omega arith)
 zeroed_words bytes a (suc k) =
     let one = with_number bytes 4 a 0 in
     let all = with_numbers one 4 (a + 4) (zeros_of k) in

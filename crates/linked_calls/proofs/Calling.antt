@@ -40,21 +40,17 @@ use Rattle.rv_machine.specs.declared.observation.Observation.{Observation}
 frame_below : (image : Fields) (code : Code) (site : Site) → IsSite image code site
     → room_base image site + image.frame_bytes ≤ site.stack
 frame_below image code site is =
-    let room = is.room in
-    omega (arith, room)
+    omega arith
 
 is_placed : (image : Fields) (code : Code) (site : Site) → IsSite image code site
     → IsPlaced image code (body_at image site) (room_base image site)
 is_placed image code site is =
     let below = frame_below image code site is in
-    let ends = is.stack_ends in
-    let aligned = is.stack_aligned in
-    let room = is.room in
     record {
       observed = is.observed;
       words = body_stands image code site is;
-      frame_aligned = omega (arith, aligned, room);
-      frame_ends = omega (arith, below, ends);
+      frame_aligned = omega arith;
+      frame_ends = omega arith;
     }
 
 -- Accesses.
@@ -64,12 +60,10 @@ inside_is_of_call : (image : Fields) (code : Code) (site : Site) → IsSite imag
 inside_is_of_call image code site is None inside = tt
 inside_is_of_call image code site is (Some (Load a size)) inside =
     let below = frame_below image code site is in
-    let high = inside.1 in
-    inl (inside.0, omega (arith, below, high))
+    inl (inside.0, omega arith)
 inside_is_of_call image code site is (Some (Store a size)) inside =
     let below = frame_below image code site is in
-    let high = inside.1 in
-    inl (inside.0, omega (arith, below, high))
+    inl (inside.0, omega arith)
 inside_is_of_call image code site is (Some (Div a b)) inside = tt
 inside_is_of_call image code site is (Some (Mul a b)) inside = tt
 
@@ -83,7 +77,7 @@ turns_around image =
 
 turns_counted : (enter body leave around : ℕ) (rest : ℕ) → around ≡ enter + leave → suc rest ≡ leave
     → suc (enter + (body + rest)) ≡ around + body
-turns_counted enter body leave around rest e counted = omega (arith, e, counted)
+turns_counted enter body leave around rest e counted = omega arith
 
 -- The body, between the two.
 
@@ -93,7 +87,7 @@ module _ (image : Fields) (code : Code) (site : Site) (is : IsSite image code si
     (list : List Observation) (run : BodyRun image code (body_at image site) (room_base image site) entered.end
     list) where
   beside_above : (x : ℕ) → saved_at image site ≤ x → IsBeside image (room_base image site) x
-  beside_above x above = inr (omega (arith, above))
+  beside_above x above = inr (omega arith)
 
   same_above : (x : ℕ) → saved_at image site ≤ x → run.end.bytes x ≡ entered.end.bytes x
   same_above x above = run.beside x (beside_above x above)
@@ -102,7 +96,7 @@ module _ (image : Fields) (code : Code) (site : Site) (is : IsSite image code si
   beside_room x (inl low) = inl low
   beside_room x (inr high) =
       let below = frame_below image code site is in
-      inr (omega (arith, below, high))
+      inr (omega arith)
 
   -- what lies outside the room is as it was at the call
   same_outside : (x : ℕ) → IsOutsideRoom image site x → run.end.bytes x ≡ s.bytes x
@@ -112,9 +106,9 @@ module _ (image : Fields) (code : Code) (site : Site) (is : IsSite image code si
   in_frame : (x : ℕ) → room_base image site ≤ x → x < room_base image site + image.frame_bytes
       → is_some (run.end.bytes x) ≡ true
   in_frame x low high =
-      let e : room_base image site + (x - room_base image site) ≡ x = omega (arith, low) in
+      let e : room_base image site + (x - room_base image site) ≡ x = omega arith in
       subst (λ a. is_some (run.end.bytes a) ≡ true) e
-      (run.frame_there (x - room_base image site) (omega (arith, low, high)))
+      (run.frame_there (x - room_base image site) (omega arith))
 
   data_same : SameData entered.end.bytes run.end.bytes
   data_same x =
@@ -123,7 +117,7 @@ module _ (image : Fields) (code : Code) (site : Site) (is : IsSite image code si
       ⊎_elim
       (λ (high : x < room_base image site + image.frame_bytes).
       let below = frame_below image code site is in
-      in_frame x low high ∙ sym (entered.entered.there x low (omega (arith, high, below))))
+      in_frame x low high ∙ sym (entered.entered.there x low (omega arith)))
       (λ (above : room_base image site + image.frame_bytes ≤ x). ap is_some (run.beside x (inr above)))
       (cases_lt x (room_base image site + image.frame_bytes)))
       (cases_lt x (room_base image site))

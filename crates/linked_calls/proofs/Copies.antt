@@ -90,7 +90,7 @@ module _ (code : Code) (image : Fields) (slot : Slot) (spot : Pointed) (can : Ca
   to_even = both inward (λ x. x % n ≡ 0) (slot_of slot spot) spot.pointer can.slot_aligned can.array_aligned
 
   slot_to : slot_of slot spot + n * k ≤ 2 ^ 32
-  slot_to = let ends = can.slot_ends in omega (arith, ends)
+  slot_to = omega arith
 
   from_ends : from + n * k ≤ 2 ^ 32
   from_ends = both inward (λ x. x + n * k ≤ 2 ^ 32) spot.pointer (slot_of slot spot) can.array_ends slot_to
@@ -131,10 +131,10 @@ module _ (code : Code) (image : Fields) (slot : Slot) (spot : Pointed) (can : Ca
       where
         by : AreApart (n * k) from to → (from + n * i + n ≤ to)
             ⊎ (to + n * length (map (copied_value inward kind) (numbers_at bytes n from i)) ≤ from + n * i)
-        by (inl before) = let fits = inside in inl (omega (arith, before, fits))
+        by (inl before) = let fits = inside in inl (omega arith)
         by (inr behind) =
             let fits = inside in
-            inr (subst (λ x. to + n * x ≤ from + n * i) (sym (count bytes i)) (omega (arith, behind, fits)))
+            inr (subst (λ x. to + n * x ≤ from + n * i) (sym (count bytes i)) (omega arith))
 
     one_more : (bytes : ByteMap)
         → with_number (copied i bytes) n (to + n * i)
@@ -158,12 +158,12 @@ module _ (code : Code) (image : Fields) (slot : Slot) (spot : Pointed) (can : Ca
         let some = some_bytes kind in
         let ends = from_ends in
         record {
-          is = is ∙ omega (arith, fits, some, ends);
-          below = omega (arith, fits, some, ends);
+          is = is ∙ omega arith;
+          below = omega arith;
           there = ap (λ (b : ByteMap). is_some (number_at b n (from + n * i))) held.bytes
               ∙ ap is_some (unwritten_yet s.bytes)
               ∙ number_there s.bytes n (from + n * i)
-              (λ x low high. held.begins.from_there x (omega (arith, low)) (omega (arith, high, fits)));
+              (λ x low high. held.begins.from_there x (omega arith) (omega arith));
         }
 
     target_reached : (s d : Data) → Copying i s d → Reached n (target inward d.regs) (to + n * i) d
@@ -176,11 +176,11 @@ module _ (code : Code) (image : Fields) (slot : Slot) (spot : Pointed) (can : Ca
         let same = numbers_data s.bytes n to (map (copied_value inward kind) (numbers_at s.bytes n from i))
         (λ x low high. held.begins.to_there x low (omega (arith, subst (λ c. x < to + n * c) done high, fits))) in
         record {
-          is = is ∙ omega (arith, fits, some, ends);
-          below = omega (arith, fits, some, ends);
+          is = is ∙ omega arith;
+          below = omega arith;
           there = number_there d.bytes n (to + n * i)
               (λ x low high. ap (λ (b : ByteMap). is_some (b x)) held.bytes
-              ∙ same x ∙ held.begins.to_there x (omega (arith, low)) (omega (arith, high, fits)));
+              ∙ same x ∙ held.begins.to_there x (omega arith) (omega arith));
         }
 
     round : Runs z (length (copied_code inward kind)) (copied_code inward kind) (λ d. (s : Data) × Copying i s d)
@@ -193,11 +193,11 @@ module _ (code : Code) (image : Fields) (slot : Slot) (spot : Pointed) (can : Ca
         (copy_fit z.allowed inward kind a b
         (record {
           even = element_even kind from i from_even;
-          allowed = inr (element_lies kind from (from + array_bytes slot) a (omega arith) (omega (arith, fits)));
+          allowed = inr (element_lies kind from (from + array_bytes slot) a (omega arith) (omega arith));
         })
         (record {
           even = element_even kind to i to_even;
-          allowed = element_lies kind to (to + array_bytes slot) b (omega arith) (omega (arith, fits));
+          allowed = element_lies kind to (to + array_bytes slot) b (omega arith) (omega arith);
         }))
         (λ d given. copy_met inward kind a b d (source_reached given.0 d given.1) (target_reached given.0 d given.1))
         (λ d given s held.
@@ -228,8 +228,7 @@ module _ (code : Code) (image : Fields) (slot : Slot) (spot : Pointed) (can : Ca
       let stop = stop_is i s d held in
       let fits = inside i few in
       let some = some_bytes kind in
-      let ends = can.slot_ends in
-      omega (arith, here, stop, fits, some, ends, same)
+      omega arith
 
   begins_copying : (s : Data) → BeginsCopy s → Copying 0 s s
   begins_copying s begins =
@@ -243,8 +242,8 @@ module _ (code : Code) (image : Fields) (slot : Slot) (spot : Pointed) (can : Ca
       let target_at : target inward s.regs ≡ to = ap₂ (chosen inward) at pointer in
       record {
         begins = begins;
-        source_is = source_at ∙ omega (arith, fits, some, one);
-        target_is = target_at ∙ omega (arith, fits, some, other);
+        source_is = source_at ∙ omega arith;
+        target_is = target_at ∙ omega arith;
         others = λ q g h l. refl;
         bytes = refl;
       }
@@ -281,9 +280,8 @@ module _ (code : Code) (image : Fields) (slot : Slot) (spot : Pointed) (can : Ca
       (load_code 5 (argument_offset image spot.index)) (HasArray image slot spot) (Sets 5 (λ s. spot.pointer))
   pointer_runs =
       let offset = argument_offset image spot.index in
-      let aligned = can.frame_aligned in
       weaken_runs z {P' = HasArray image slot spot} {R' = Sets 5 (λ s. spot.pointer)} (load_code 5 offset)
-      (load_runs z spot.frame offset (omega (arith, aligned)) can.place_ends 5 (omega arith) (λ e. omega arith)
+      (load_runs z spot.frame offset (omega arith) can.place_ends 5 (omega arith) (λ e. omega arith)
       (λ e. omega arith) (inl refl))
       (λ s has. record { stack = has.stack; there = ap is_some has.argument })
       (λ s t has sets. record {
@@ -292,16 +290,16 @@ module _ (code : Code) (image : Fields) (slot : Slot) (spot : Pointed) (can : Ca
         same = sets.same;
       })
 
-  located_runs : Runs z (length (load_code 5 (argument_offset image spot.index)) + (length (constant_code 6 slot.offset) + 1))
+  located_runs : Runs z
+      (length (load_code 5 (argument_offset image spot.index)) + (length (constant_code 6 slot.offset) + 1))
       (load_code 5 (argument_offset image spot.index) ++ (constant_code 6 slot.offset ++ Register Add 6 6 2 ∷ []))
       (HasArray image slot spot) Located
   located_runs =
-      let ends = can.slot_ends in
       then_runs z {P = HasArray image slot spot} {P' = λ s. Unit {0}} {S = Located}
       (load_code 5 (argument_offset image spot.index)) (constant_code 6 slot.offset ++ Register Add 6 6 2 ∷ [])
       pointer_runs
-      (sum_runs z 6 slot.offset (omega arith) (λ e. omega arith) (omega (arith, ends)) 2 (omega arith) (λ e. omega arith)
-      (λ e. omega arith))
+      (sum_runs z 6 slot.offset (omega arith) (λ e. omega arith) (omega arith) 2 (omega arith)
+      (λ e. omega arith) (λ e. omega arith))
       (λ s t has one. tt)
       (λ s t u has one two. record {
         pointer = two.others 5 (λ e. omega arith) ∙ one.there;
@@ -314,15 +312,13 @@ module _ (code : Code) (image : Fields) (slot : Slot) (spot : Pointed) (can : Ca
       → u.regs 6 ≡ sum_of slot.offset (s.regs 2) → u.regs 7 ≡ sum_of (array_bytes slot) spot.pointer
       → u.bytes ≡ s.bytes → BeginsCopy u
   bounds_begin s u has pointer slot_at stop same =
-      let ends = can.slot_ends in
-      let stack = has.stack in
       let there = λ (x : ℕ) (data_there : AreData x (x + n * k) s.bytes).
       subst (λ (b : ByteMap). AreData x (x + n * k) b) (sym same) data_there in
       let array = there spot.pointer has.array_there in
       let held = there (slot_of slot spot) has.slot_there in
       record {
         pointer = pointer;
-        slot_at = slot_at ∙ omega (arith, stack, ends);
+        slot_at = slot_at ∙ omega arith;
         stop = stop ∙ omega arith;
         from_there = both inward (λ x. AreData x (x + n * k) u.bytes) spot.pointer (slot_of slot spot) array held;
         to_there = both inward (λ x. AreData x (x + n * k) u.bytes) (slot_of slot spot) spot.pointer held array;
@@ -331,7 +327,6 @@ module _ (code : Code) (image : Fields) (slot : Slot) (spot : Pointed) (can : Ca
   bounds_runs : Runs z (length (bounds_code image spot.index slot)) (bounds_code image spot.index slot)
       (HasArray image slot spot) Bounded
   bounds_runs =
-      let ends = can.slot_ends in
       let load = load_code 5 (argument_offset image spot.index) in
       let slots = constant_code 6 slot.offset in
       let size = constant_code 7 (array_bytes slot) in
@@ -344,10 +339,10 @@ module _ (code : Code) (image : Fields) (slot : Slot) (spot : Pointed) (can : Ca
       let d = length-append first second in
       let all : length (first ++ second) ≡ length (bounds_code image spot.index slot) =
       ap (λ (xs : List Instr). length xs) is in
-      in_turns z (bounds_code image spot.index slot) (omega (arith, a, b, c, d) ∙ all)
+      in_turns z (bounds_code image spot.index slot) (omega arith ∙ all)
       (as_code z (first ++ second) (bounds_code image spot.index slot) is
       (then_runs z {P = HasArray image slot spot} {P' = λ s. Unit {0}} {S = Bounded} first second located_runs
-      (sum_runs z 7 (array_bytes slot) (omega arith) (λ e. omega arith) (omega (arith, ends)) 5 (omega arith)
+      (sum_runs z 7 (array_bytes slot) (omega arith) (λ e. omega arith) (omega arith) 5 (omega arith)
       (λ e. omega arith) (λ e. omega arith))
       (λ s t has located. tt)
       (λ s t u has located sets. record {

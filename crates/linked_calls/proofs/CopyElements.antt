@@ -62,14 +62,15 @@ some_bytes Boolean = omega arith
 some_bytes kind = omega arith
 
 -- so many elements, and one more
-pub elements_fit : (kind : Kind) (i k : ℕ) → i < k → element_bytes kind * i + element_bytes kind ≤ element_bytes kind * k
-elements_fit Boolean i k few = omega (arith, few)
-elements_fit kind i k few = omega (arith, few)
+pub elements_fit : (kind : Kind) (i k : ℕ) → i < k
+    → element_bytes kind * i + element_bytes kind ≤ element_bytes kind * k
+elements_fit Boolean i k few = omega arith
+elements_fit kind i k few = omega arith
 
 pub element_even : (kind : Kind) (a i : ℕ) → a % element_bytes kind ≡ 0
     → (a + element_bytes kind * i) % element_bytes kind ≡ 0
-element_even Boolean a i even = omega (arith, even)
-element_even kind a i even = omega (arith, even)
+element_even Boolean a i even = omega arith
+element_even kind a i even = omega arith
 
 -- The code of one element.
 
@@ -109,21 +110,18 @@ pub copy_met : (inward : Bool) (kind : Kind) (a b : ℕ) (d : Data)
     → Reached (element_bytes kind) (source inward d.regs) a d
     → Reached (element_bytes kind) (target inward d.regs) b d
     → AreMet (copied_code inward kind) (a ∷ b ∷ []) d
-copy_met true Boolean a b d one other =
-    let x = one.is in let l = one.below in let y = other.is in let m = other.below in (
-      record { address = omega (arith, x, l); data_there = one.there },
-      (record { address = omega (arith, y, m); data_there = other.there }, tt),
-    )
-copy_met false Boolean a b d one other =
-    let x = one.is in let l = one.below in let y = other.is in let m = other.below in (
-      record { address = omega (arith, x, l); data_there = one.there },
-      (record { address = omega (arith, y, m); data_there = other.there }, tt),
-    )
-copy_met inward kind a b d one other =
-    let x = one.is in let l = one.below in let y = other.is in let m = other.below in (
-      record { address = omega (arith, x, l); data_there = one.there },
-      (record { address = omega (arith, y, m); data_there = other.there }, tt),
-    )
+copy_met true Boolean a b d one other = (
+  record { address = omega arith; data_there = one.there },
+  (record { address = omega arith; data_there = other.there }, tt),
+)
+copy_met false Boolean a b d one other = (
+  record { address = omega arith; data_there = one.there },
+  (record { address = omega arith; data_there = other.there }, tt),
+)
+copy_met inward kind a b d one other = (
+  record { address = omega arith; data_there = one.there },
+  (record { address = omega arith; data_there = other.there }, tt),
+)
 
 -- what it makes
 pub record Stepped (inward : Bool) (kind : Kind) (a b : ℕ) (d t : Data) : Type 0 where

@@ -30,7 +30,7 @@ frame_turns_by image false =
     let room = frame_room image in
     let e = length-append (constant_code 5 room) (Register Sub 5 2 5 ∷ []) in
     let turns : 0 + length (constant_code 5 room ++ Register Sub 5 2 5 ∷ []) + block_turns room
-    ≡ length (constant_code 5 room) + 1 + block_turns room = omega (arith, e) in
+    ≡ length (constant_code 5 room) + 1 + block_turns room = omega arith in
     turns
 
 frame_sections_turns : (image : Fields) → turns_of image (frame_sections (frame_room image))

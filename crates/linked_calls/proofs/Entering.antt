@@ -50,8 +50,7 @@ module _ (z : Setting) (above : ℕ) (even : above % 16 ≡ 0) (below : above + 
     (may : MayStore z 4 Word above (above + 80)) where
   lowered : (s t : Data) → BeginsCall above s → t.regs 2 ≡ sum_of (s.regs 2) 4294967216 → t.regs 2 ≡ above
   lowered s t begins moved =
-      let stack = begins.stack in
-      omega (arith, moved, stack, below)
+      omega arith
 
   saved_runs : Runs z 13 ((added 2 (4096 - 80) ∷ []) ++ stores_code 2 0 saved_registers) (BeginsCall above)
       (Entered above (saved_bytes above))
@@ -60,13 +59,13 @@ module _ (z : Setting) (above : ℕ) (even : above % 16 ≡ 0) (below : above + 
       (stores_code 2 0 saved_registers)
       (sets_runs z {value = λ s. sum_of (s.regs 2) 4294967216} 2 (added 2 (4096 - 80) ∷ []) [] refl tt
       (λ s begins. tt) (λ s begins. refl) (λ s. refl))
-      (stores_runs z 2 (omega arith) 0 above saved_registers refl (omega (arith, even)) (omega arith)
-      (omega (arith, below)) (λ x low high. may x low (omega (arith, high))))
+      (stores_runs z 2 (omega arith) 0 above saved_registers refl (omega arith) (omega arith)
+      (omega arith) (λ x low high. may x low (omega arith)))
       (λ s t begins sets.
       let stack = lowered s t begins sets.there in
       record {
-        root = omega (arith, stack);
-        there = λ x l h. ap (λ (b : ByteMap). is_some (b x)) sets.same ∙ begins.there x l (omega (arith, h));
+        root = omega arith;
+        there = λ x l h. ap (λ (b : ByteMap). is_some (b x)) sets.same ∙ begins.there x l (omega arith);
       })
       (λ s t u begins sets stores.
       stored_too above above (λ s. s.bytes) saved_registers s t u
@@ -79,16 +78,15 @@ module _ (z : Setting) (above : ℕ) (even : above % 16 ≡ 0) (below : above + 
   entry_runs =
       then_runs z {P = BeginsCall above} {S = Entered above (entered_bytes above)}
       ((added 2 (4096 - 80) ∷ []) ++ stores_code 2 0 saved_registers) (stores_code 2 48 argument_registers) saved_runs
-      (stores_runs z 2 (omega arith) 48 (above + 48) argument_registers refl (omega (arith, even)) (omega arith)
-      (omega (arith, below)) (λ x low high. may x (omega (arith, low)) (omega (arith, high))))
+      (stores_runs z 2 (omega arith) 48 (above + 48) argument_registers refl (omega arith) (omega arith)
+      (omega arith) (λ x low high. may x (omega arith) (omega arith)))
       (λ s t begins saved.
-      let stack = saved.stack in
       record {
-        root = omega (arith, stack);
+        root = omega arith;
         there = λ x l h. ap (λ (b : ByteMap). is_some (b x)) saved.bytes
             ∙ numbers_data s.bytes 4 above (map (λ r. register s.regs r) saved_registers)
-            (λ y low high. begins.there y low (omega (arith, high))) x
-            ∙ begins.there x (omega (arith, l)) (omega (arith, h));
+            (λ y low high. begins.there y low (omega arith)) x
+            ∙ begins.there x (omega arith) (omega arith);
       })
       (λ s t u begins saved stores.
       stored_too above (above + 48) (saved_bytes above) argument_registers s t u

@@ -38,11 +38,12 @@ use Rattle.rv_machine.specs.Registers.{register}
 
 -- ra, gp and tp are neither sp nor any that entering writes
 untouched_few : (r : ℕ) → IsUntouched r → (r < 5) × (r ≢ 2)
-untouched_few r (inl e) = (omega (arith, e), λ h. omega (arith, e, h))
-untouched_few r (inr (inl e)) = (omega (arith, e), λ h. omega (arith, e, h))
-untouched_few r (inr (inr e)) = (omega (arith, e), λ h. omega (arith, e, h))
+untouched_few r (inl e) = (omega arith, λ h. omega arith)
+untouched_few r (inr (inl e)) = (omega arith, λ h. omega arith)
+untouched_few r (inr (inr e)) = (omega arith, λ h. omega arith)
 
-module _ (image : Fields) (code : Code) (site : Site) (is : IsImage image) (is_site : IsSite image code site) where
+module _ (image : Fields) (code : Code) (site : Site) (is : IsImage image) (is_site : IsSite image code site)
+    (numbers : RoomNumbers image site) where
   abbrev z : Setting
   z = call_setting image code site
 
@@ -61,11 +62,8 @@ module _ (image : Fields) (code : Code) (site : Site) (is : IsImage image) (is_s
   abbrev Called : Data → Type 0
   Called d = IsCalled image site (at_call d)
 
-  numbers : RoomNumbers image site
-  numbers = room_numbers image code site is_site
-
   known : AreKnown image site 0 image.slots
-  known = all_known image code site is is_site
+  known = all_known image site is is_site.arrays numbers
 
   -- What the entry stores.
 
@@ -80,30 +78,28 @@ module _ (image : Fields) (code : Code) (site : Site) (is : IsImage image) (is_s
 
   stored_outside : (d : Data) (x : ℕ) → IsOutside above (above + 80) x → stored d x ≡ d.bytes x
   stored_outside d x (inl low) =
-      numbers_below (saved_bytes above d) 4 (above + 48) (argument_values d) x (omega (arith, low))
+      numbers_below (saved_bytes above d) 4 (above + 48) (argument_values d) x (omega arith)
       ∙ numbers_below d.bytes 4 above (saved_values d) x low
   stored_outside d x (inr high) =
-      numbers_above (saved_bytes above d) 4 (above + 48) (argument_values d) x (omega (arith, high))
-      ∙ numbers_above d.bytes 4 above (saved_values d) x (omega (arith, high))
+      numbers_above (saved_bytes above d) 4 (above + 48) (argument_values d) x (omega arith)
+      ∙ numbers_above d.bytes 4 above (saved_values d) x (omega arith)
 
   stored_saved : (d : Data) → ((r : ℕ) → d.regs r < 2 ^ 32) → AreSaved (stored d) d.regs above saved_registers
   stored_saved d words =
       saved_same (saved_bytes above d) (stored d) d.regs above saved_registers
-      (λ x low high. numbers_below (saved_bytes above d) 4 (above + 48) (argument_values d) x (omega (arith, high)))
+      (λ x low high. numbers_below (saved_bytes above d) 4 (above + 48) (argument_values d) x (omega arith))
       (stored_are_saved d.bytes d.regs above saved_registers words)
 
   above_there : (d : Data) → Called d → AreData above (above + 80) d.bytes
   above_there d called x low high =
-      let ends = numbers.ends in
-      let arguments = numbers.arguments in
-      called.there x (omega (arith, low)) (omega (arith, high, ends, arguments))
+      called.there x (omega arith) (omega arith)
 
   stored_data : (d : Data) → Called d → SameData d.bytes (stored d)
   stored_data d called x =
       let there = above_there d called in
-      let saved = numbers_data d.bytes 4 above (saved_values d) (λ y low high. there y low (omega (arith, high))) in
+      let saved = numbers_data d.bytes 4 above (saved_values d) (λ y low high. there y low (omega arith)) in
       numbers_data (saved_bytes above d) 4 (above + 48) (argument_values d)
-      (λ y low high. saved y ∙ there y (omega (arith, low)) (omega (arith, high))) x
+      (λ y low high. saved y ∙ there y (omega arith) (omega arith)) x
       ∙ saved x
 
   -- Arguments, as they stand then.
@@ -120,19 +116,17 @@ module _ (image : Fields) (code : Code) (site : Site) (is : IsImage image) (is_s
       let a = site.stack + 4 * (i - 8) in
       let place : frame + argument_offset image i ≡ a = place_stacked image site numbers i (ltb-false i 8 h) in
       let inside = place_inside image site numbers i few in
-      let ends = numbers.ends in
       ap (λ x. number_at (stored d) 4 x) place
-      ∙ number_at_same d.bytes (stored d) 4 a (λ x low high. stored_outside d x (inr (omega (arith, low, ends))))
+      ∙ number_at_same d.bytes (stored d) 4 a (λ x low high. stored_outside d x (inr (omega arith)))
       ∙ found (number_at d.bytes 4 a)
       (number_there d.bytes 4 a (λ x low high.
-      called.there x (omega (arith, low, ends)) (omega (arith, high, place, inside))))
+      called.there x (omega arith) (omega arith)))
       ∙ ap Some (same_number (number_at d.bytes 4 a))
 
   room_above : (x : ℕ) → IsOutsideRoom image site x → IsOutside above (above + 80) x
-  room_above x (inl low) = inl (omega (arith, low))
+  room_above x (inl low) = inl (omega arith)
   room_above x (inr high) =
-      let ends = numbers.ends in
-      inr (omega (arith, high, ends))
+      inr (omega arith)
 
   passed : (d : Data) → Called d → StandAsPassed image site (at_call d) (stored d)
   passed d called = record {
@@ -144,28 +138,20 @@ module _ (image : Fields) (code : Code) (site : Site) (is : IsImage image) (is_s
 
   entry_part : Runs z 21 entry_code Called (Entered above (entered_bytes above))
   entry_part =
-      let ends = numbers.ends in
-      let even = numbers.even in
-      let whole = numbers.whole in
-      let arguments = numbers.arguments in
-      let below = numbers.below in
       weaken_runs z {P' = Called} entry_code
-      (entry_runs z above (omega (arith, even, whole)) (omega (arith, ends, arguments, below))
-      (λ x low high. inl (omega (arith, low), omega (arith, high, ends))))
+      (entry_runs z above (omega arith) (omega arith)
+      (λ x low high. inl (omega arith, omega arith)))
       (λ d called.
       let stack = called.stack in
-      record { stack = stack ∙ omega (arith, ends); there = above_there d called })
+      record { stack = stack ∙ omega arith; there = above_there d called })
       (λ d t called entered. entered)
 
   frame_part : Runs z (frame_turns room) (frame_code room) (HasFrame frame room) (IsZeroFrame frame room)
   frame_part =
-      let ends = numbers.ends in
-      let arguments = numbers.arguments in
-      let below = numbers.below in
       promised_runs z (frame_code room)
-      (zero_allowed image site frame (frame + room) (omega arith) (omega (arith, ends)))
+      (zero_allowed image site frame (frame + room) (omega arith) (omega arith))
       (λ p there. frame_is_zeroed code p frame room there numbers.even numbers.whole
-      (omega (arith, ends, arguments, below)))
+      (omega arith))
 
   -- x2 is the frame's base, the frame is zeros, and the room above it holds what the entry has stored
   record IsFramed (d t : Data) : Type 0 where
@@ -176,14 +162,12 @@ module _ (image : Fields) (code : Code) (site : Site) (is : IsImage image) (is_s
 
   frame_begins : (d t : Data) → Called d → Entered above (entered_bytes above) d t → HasFrame frame room t
   frame_begins d t called entered =
-      let ends = numbers.ends in
-      let arguments = numbers.arguments in
       record {
         stack = entered.stack;
         there = λ x low high.
             ap (λ (b : ByteMap). is_some (b x)) entered.bytes
             ∙ stored_data d called x
-            ∙ called.there x low (omega (arith, high, ends, arguments));
+            ∙ called.there x low (omega arith);
       }
 
   framed : (d t u : Data) → Called d → Entered above (entered_bytes above) d t → IsZeroFrame frame room t u
@@ -192,8 +176,7 @@ module _ (image : Fields) (code : Code) (site : Site) (is : IsImage image) (is_s
     stack = zeroed.stack;
     untouched = λ r h.
         let few = untouched_few r h in
-        let near = few.0 in
-        zeroed.others r few.1 (λ e. omega (arith, near, e)) ∙ entered.others r few.1;
+        zeroed.others r few.1 (λ e. omega arith) ∙ entered.others r few.1;
     zeros = zeroed.zeroed.inside;
     outside = λ x outside. zeroed.zeroed.outside x outside ∙ ap (λ (b : ByteMap). b x) entered.bytes;
   }
@@ -241,26 +224,24 @@ module _ (image : Fields) (code : Code) (site : Site) (is : IsImage image) (is_s
       base = takes.others 2 (λ e. omega arith) (λ e. omega arith) (λ e. omega arith) (λ e. omega arith)
           ∙ frames.stack;
       frame_there = λ o inside.
-          let fits = numbers.holds in
           ap (λ (b : ByteMap). b (frame + o)) takes.bytes
           ∙ all_taken_is image site numbers (at_call d) t.bytes (zeros frame image.frame_bytes) 0 image.slots
           (frame + o) (omega arith) known is_site.arrays (framed_passed d t called frames)
-          (frames.zeros (frame + o) (omega arith) (omega (arith, inside, fits))
-          ∙ sym (zero_byte frame image.frame_bytes (frame + o) (omega arith) (omega (arith, inside))));
+          (frames.zeros (frame + o) (omega arith) (omega arith)
+          ∙ sym (zero_byte frame image.frame_bytes (frame + o) (omega arith) (omega arith)));
     }
 
     taken_untouched : (r : ℕ) → IsUntouched r → u.regs r ≡ d.regs r
     taken_untouched r h =
         let near = (untouched_few r h).0 in
-        takes.others r (λ e. omega (arith, near, e)) (λ e. omega (arith, near, e)) (λ e. omega (arith, near, e))
-        (λ e. omega (arith, near, e)) ∙ frames.untouched r h
+        takes.others r (λ e. omega arith) (λ e. omega arith) (λ e. omega arith)
+        (λ e. omega arith) ∙ frames.untouched r h
 
     room_there : AreData frame site.stack u.bytes
     room_there x low high =
-        let arguments = numbers.arguments in
         ap (λ (b : ByteMap). is_some (b x)) takes.bytes
         ∙ all_taken_data image site t.bytes 0 image.slots known (λ y from to. ap is_some (frames.zeros y from to)) x
-        ∙ framed_there d t called frames x low (omega (arith, high, arguments))
+        ∙ framed_there d t called frames x low (omega arith)
 
     is_entered : IsEntered image site (at_call d) (at (body_at image site) u)
     is_entered = record {
@@ -292,7 +273,7 @@ at_own site image s called = ap (λ p. at p (record { regs = s.regs; bytes = s.b
 pub enters : EnteringLeads
 enters image code site is is_site =
     let part = in_turns (call_setting image code site) (enter_code image) (sym (enter_turns_are image))
-    (enter_part image code site is is_site) site.entry (enter_placed image code site is_site) in
+    (enter_part image code site is is_site (room_numbers image code site is_site)) site.entry (enter_placed image code site is_site) in
     record {
       shown = part.shown;
       within = part.within;

@@ -21,8 +21,8 @@ target_is : (regs : ℕ → ℕ) (target : ℕ) → regs 1 ≡ target → target
     → register_target regs 1 0 ≡ target
 target_is regs target is below even =
     let e : sum_of (regs 1) (sign_extended 12 0) ≡ regs 1 + 0 = near_address (regs 1) 0 (omega arith)
-    (omega (arith, is, below)) in
-    omega (arith, e, is, even)
+    (omega arith) in
+    omega arith
 
 pub goes_back : (code : Code) (s : State) (target : ℕ) → IsAt code s.pc (JumpRegister 0 1 0) → s.regs 1 ≡ target
     → target < 2 ^ 32 → target % 4 ≡ 0

@@ -13,7 +13,7 @@ use Rattle.language.specs.declared.signature.Form.TheVariants.{SingleWord, Fixed
 use Rattle.language.specs.declared.signature.Kind.{Kind}
 use Rattle.language.specs.declared.signature.Kind.TheVariants.{Boolean}
 use Rattle.linked_calls.specs.Called.{IsOfCall, ReadsArray, ReadsAnArray, WritesArray, WritesAnArray}
-use Rattle.linked_calls.specs.Calls.{Site, IsSite, IsBesides, IsReadable, LiesWell, LieWell, room_base, arguments_end}
+use Rattle.linked_calls.specs.Calls.{Site, IsBesides, IsReadable, LiesWell, LieWell, room_base, arguments_end}
 use Rattle.linked_calls.specs.Copies.{AreApart, CanBeCopied, IsCopying}
 use Rattle.linked_calls.specs.FunctionCode.{argument_offset, array_bytes}
 use Rattle.linked_calls.specs.Stretches.{LiesIn}
@@ -21,8 +21,7 @@ use Rattle.linked_calls.specs.Words.{IsPutting}
 use Rattle.linked_calls.specs.Zeros.{IsStoreIn}
 use Rattle.linked_calls.proofs.AllArguments.{AreKnown, IsKnown, KnownArray, KnownWord, spot_at}
 use Rattle.linked_calls.proofs.CopyElements.{elements_fit, some_bytes}
-use Rattle.linked_calls.proofs.Rooms.{RoomNumbers, place_inside, room_numbers}
-use Rattle.rv_machine.specs.Machine.{Code}
+use Rattle.linked_calls.proofs.Rooms.{RoomNumbers, place_inside}
 use Rattle.rv_machine.specs.Sizes.{byte_count}
 use Rattle.rv_machine.specs.declared.memory.Size.{Size}
 use Rattle.rv_machine.specs.declared.memory.Size.TheVariants as sizes
@@ -38,8 +37,8 @@ array_fits kind n = omega arith
 
 -- and may begin wherever a word may
 element_aligned : (kind : Kind) (a : ℕ) → a % 4 ≡ 0 → a % element_bytes kind ≡ 0
-element_aligned Boolean a even = omega (arith, even)
-element_aligned kind a even = omega (arith, even)
+element_aligned Boolean a even = omega arith
+element_aligned kind a even = omega arith
 
 some_elements : (n : ℕ) → (nat_le 1 n && nat_le n most_elements) ≡ true → 0 < n
 some_elements n h = grind (arith, nat_tests)
@@ -49,12 +48,12 @@ small_access sizes.Byte = omega arith
 small_access size = omega arith
 
 beside : (a n low high at : ℕ) → low ≤ at → at + n ≤ high → IsBesides a n low high → AreApart n a at
-beside a n low high at from to (inl before) = inl (omega (arith, from, before))
-beside a n low high at from to (inr behind) = inr (omega (arith, to, behind))
+beside a n low high at from to (inl before) = inl (omega arith)
+beside a n low high at from to (inr behind) = inr (omega arith)
 
 both_beside : (a n low mid high : ℕ) → 0 < n → IsBesides a n low mid → IsBesides a n mid high → IsBesides a n low high
 both_beside a n low mid high some (inl below) other = inl below
-both_beside a n low mid high some (inr above) (inl below) = absurd (omega (arith, some, above, below))
+both_beside a n low mid high some (inr above) (inl below) = absurd (omega arith)
 both_beside a n low mid high some (inr above) (inr beyond) = inr beyond
 
 module _ (image : Fields) (site : Site) where
@@ -65,9 +64,7 @@ module _ (image : Fields) (site : Site) where
   zero_allowed low high from to None is = tt
   zero_allowed low high from to (Some (event.Load a size)) is = absurd is
   zero_allowed low high from to (Some (event.Store a size)) is =
-      let above = is.0 in
-      let below = is.1 in
-      inl (omega (arith, from, above), omega (arith, to, below))
+      inl (omega arith, omega arith)
   zero_allowed low high from to (Some (event.Div a b)) is = absurd is
   zero_allowed low high from to (Some (event.Mul a b)) is = absurd is
 
@@ -76,13 +73,11 @@ module _ (image : Fields) (site : Site) where
       → (o : Option Event) → IsPutting place slot o → IsOfCall image site o
   put_allowed place slot low up from to None is = tt
   put_allowed place slot low up from to (Some (event.Load a size)) is =
-      let at = is.0 in
       let small = small_access size in
-      inl (omega (arith, at, low), omega (arith, at, up, small))
+      inl (omega arith, omega arith)
   put_allowed place slot low up from to (Some (event.Store a size)) is =
-      let at = is.0 in
       let small = small_access size in
-      inl (omega (arith, at, from), omega (arith, at, to, small))
+      inl (omega arith, omega arith)
   put_allowed place slot low up from to (Some (event.Div a b)) is = absurd is
   put_allowed place slot low up from to (Some (event.Mul a b)) is = absurd is
 
@@ -93,16 +88,14 @@ module _ (image : Fields) (site : Site) where
   copy_allowed place n from to low up loads stores None is = tt
   copy_allowed place n from to low up loads stores (Some (event.Load a size)) (inl at) =
       let small = small_access size in
-      inl (omega (arith, at, low), omega (arith, at, up, small))
+      inl (omega arith, omega arith)
   copy_allowed place n from to low up loads stores (Some (event.Load a size)) (inr lies) = loads a size lies
   copy_allowed place n from to low up loads stores (Some (event.Store a size)) lies = stores a size lies
   copy_allowed place n from to low up loads stores (Some (event.Div a b)) is = absurd is
   copy_allowed place n from to low up loads stores (Some (event.Mul a b)) is = absurd is
 
-module _ (image : Fields) (code : Code) (site : Site) (is : IsImage image) (there : IsSite image code site) where
-  numbers : RoomNumbers image site
-  numbers = room_numbers image code site there
-
+module _ (image : Fields) (site : Site) (is : IsImage image) (lie_well : LieWell image site 0 image.slots)
+    (numbers : RoomNumbers image site) where
   abbrev frame : ℕ
   frame = room_base image site
 
@@ -110,48 +103,37 @@ module _ (image : Fields) (code : Code) (site : Site) (is : IsImage image) (ther
     word_known : slot.offset + 4 ≤ image.frame_bytes → KnownWord image site i slot
     word_known inside =
         let place = place_inside image site numbers i few in
-        let ends = numbers.ends in
-        let even = numbers.even in
-        let whole = numbers.whole in
-        let holds = numbers.holds in
-        let arguments = numbers.arguments in
-        let below = numbers.below in
         record {
           can = record {
-            frame_aligned = omega (arith, even);
-            slot_aligned = omega (arith, even, aligned);
-            place_ends = omega (arith, place, below);
-            slot_ends = omega (arith, inside, holds, ends, arguments, below);
+            frame_aligned = omega arith;
+            slot_aligned = omega arith;
+            place_ends = omega arith;
+            slot_ends = omega arith;
           };
           may = put_allowed image site (frame + argument_offset image i) (frame + slot.offset) (omega arith) place
-              (omega arith) (omega (arith, inside, holds, ends));
+              (omega arith) (omega arith);
           place_inside = place;
-          inside = omega (arith, inside, holds);
+          inside = omega arith;
         }
 
     module _ (some : 0 < slot.param.length) (ends_inside : slot.offset + array_bytes slot ≤ image.frame_bytes)
         (readable : IsReadable image site i slot) where
       slot_inside : frame + slot.offset + array_bytes slot ≤ site.stack
       slot_inside =
-          let ends = numbers.ends in
-          let holds = numbers.holds in
-          omega (arith, ends_inside, holds, ends)
+          omega arith
 
       can_copy : CanBeCopied image slot (spot_at image site i)
       can_copy =
           let place = place_inside image site numbers i few in
-          let even = numbers.even in
           let inside = slot_inside in
-          let arguments = numbers.arguments in
-          let below = numbers.below in
           record {
             some = some;
-            frame_aligned = omega (arith, even);
+            frame_aligned = omega arith;
             array_aligned = readable.aligned;
-            slot_aligned = element_aligned slot.param.kind (frame + slot.offset) (omega (arith, even, aligned));
-            place_ends = omega (arith, place, below);
+            slot_aligned = element_aligned slot.param.kind (frame + slot.offset) (omega arith);
+            place_ends = omega arith;
             array_ends = readable.ends;
-            slot_ends = omega (arith, inside, arguments, below);
+            slot_ends = omega arith;
             apart = beside (site.pointers i) (array_bytes slot) frame site.stack (frame + slot.offset) (omega arith)
                 inside readable.beside_room;
           }
@@ -161,17 +143,14 @@ module _ (image : Fields) (code : Code) (site : Site) (is : IsImage image) (ther
       array_known reads =
           let place = place_inside image site numbers i few in
           let inside = slot_inside in
-          let holds = numbers.holds in
           record {
             can = can_copy;
             may_take = copy_allowed image site (frame + argument_offset image i) (array_bytes slot) (site.pointers i)
                 (frame + slot.offset) (omega arith) place (λ a size lies. inr (reads a size lies))
                 (λ a size lies.
-                let from = lies.0 in
-                let to = lies.1 in
-                inl (omega (arith, from), omega (arith, to, inside)));
+                inl (omega arith, omega arith));
             place_inside = place;
-            inside = omega (arith, ends_inside, holds);
+            inside = omega arith;
           }
 
       may_hand : ((a : ℕ) (size : Size) → WritesArray site i slot MutableArray a size
@@ -180,20 +159,17 @@ module _ (image : Fields) (code : Code) (site : Site) (is : IsImage image) (ther
           (site.pointers i) o → IsOfCall image site o
       may_hand writes =
           let inside = slot_inside in
-          let arguments = numbers.arguments in
           copy_allowed image site (frame + argument_offset image i) (array_bytes slot) (frame + slot.offset)
           (site.pointers i) (omega arith) (place_inside image site numbers i few)
           (λ a size lies.
-          let from = lies.0 in
-          let to = lies.1 in
-          inl (omega (arith, from), omega (arith, to, inside, arguments)))
+          inl (omega arith, omega arith))
           (λ a size lies. inr (writes a size lies))
 
     array_ends : slot.offset + 4 * array_words slot.param.kind slot.param.length ≤ image.frame_bytes
         → slot.offset + array_bytes slot ≤ image.frame_bytes
     array_ends ends =
         let fits = array_fits slot.param.kind slot.param.length in
-        omega (arith, ends, fits)
+        omega arith
 
     known : (form : Form) → is_length form slot.param.length ≡ true
         → slot.offset + slot_bytes form slot.param.kind slot.param.length ≤ image.frame_bytes
@@ -212,7 +188,7 @@ module _ (image : Fields) (code : Code) (site : Site) (is : IsImage image) (ther
           known = array_known some (array_ends ends) lies.readable reads;
           may_hand = may_hand some (array_ends ends) lies.readable writes;
           beside = both_beside (site.pointers i) (array_bytes slot) frame site.stack (arguments_end image site)
-              (omega (arith, one, fit)) lies.readable.beside_room lies.beside_arguments;
+              (omega arith) lies.readable.beside_room lies.beside_arguments;
         }
 
   known_from : (i low : ℕ) (slots : List Slot) → i + length slots ≡ length image.slots → AreSlots low slots
@@ -223,13 +199,13 @@ module _ (image : Fields) (code : Code) (site : Site) (is : IsImage image) (ther
       → AreKnown image site i slots
   known_from i low [] count are ends lie reads writes = tt
   known_from i low (slot ∷ slots) count are ends lie reads writes = (
-    known i (omega (arith, count)) slot are.0.aligned slot.param.form are.0.length ends.0 lie.0
+    known i (omega arith) slot are.0.aligned slot.param.form are.0.length ends.0 lie.0
         (λ a size h. reads a size (inl h)) (λ a size h. writes a size (inl h)),
-    known_from (i + 1) (slot_end slot) slots (omega (arith, count)) are.1 ends.1 lie.1
+    known_from (i + 1) (slot_end slot) slots (omega arith) are.1 ends.1 lie.1
         (λ a size h. reads a size (inr h)) (λ a size h. writes a size (inr h)),
   )
 
   -- all of them
   pub all_known : AreKnown image site 0 image.slots
-  all_known = known_from 0 0 image.slots (omega arith) is.slots is.slots_inside there.arrays (λ a size h. h)
+  all_known = known_from 0 0 image.slots (omega arith) is.slots is.slots_inside lie_well (λ a size h. h)
       (λ a size h. h)

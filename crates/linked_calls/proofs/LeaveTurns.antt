@@ -54,7 +54,7 @@ module _ (image : Fields) where
   last_turns_are : turns_of lasts ≡ last_turns image
   last_turns_are =
       let e = length-append (constant_code 5 (frame_room image)) (Register Add 5 5 2 ∷ []) in
-      omega (arith, e)
+      omega arith
 
   pub leave_turns_are : leave_turns image ≡ length (result_code image.returned) +
       (outputs_turns image 0 image.slots + last_turns image)

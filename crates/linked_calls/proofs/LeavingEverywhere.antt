@@ -54,12 +54,13 @@ last_place : (image : Fields) (site : Site)
 last_place image site =
     let count = function_length image in
     let last = length-append (front image) (JumpRegister 0 1 0 ∷ []) in
-    omega (arith, count, last)
+    omega arith
 
 grouped : (x r w c : List Instr) → x ++ (r ++ w ++ c) ≡ x ++ r ++ w ++ c
-grouped x r w c = sym (append_assoc x (r ++ w) c) ∙ ap (λ (is : List Instr). is ++ c) (sym (append_assoc x r w))
+grouped x r w c = simp append_assoc
 
-module _ (image : Fields) (code : Code) (site : Site) (is : IsImage image) (at_site : IsSite image code site) where
+module _ (image : Fields) (code : Code) (site : Site) (is : IsImage image) (at_site : IsSite image code site)
+    (numbers : RoomNumbers image site) where
   abbrev z : Setting
   z = call_setting image code site
 
@@ -69,11 +70,8 @@ module _ (image : Fields) (code : Code) (site : Site) (is : IsImage image) (at_s
   abbrev end : ℕ
   end = arguments_end image site
 
-  numbers : RoomNumbers image site
-  numbers = room_numbers image code site at_site
-
   known : AreKnown image site 0 image.slots
-  known = all_known image code site is at_site
+  known = all_known image site is at_site.arrays numbers
 
   -- room and arguments are data, and the arrays are ready
   abbrev Starts : Data → Type 0
@@ -88,12 +86,8 @@ module _ (image : Fields) (code : Code) (site : Site) (is : IsImage image) (at_s
       → IsOfCall image site o
   load_allowed offset inside None load = tt
   load_allowed offset inside (Some (event.Load a size)) load =
-      let place = load.0 in
       let small = small_access size in
-      let ends = numbers.ends in
-      let holds = numbers.holds in
-      let arguments = numbers.arguments in
-      inl (omega (arith, place), omega (arith, place, inside, small, ends, holds, arguments))
+      inl (omega arith, omega arith)
   load_allowed offset inside (Some (event.Store a size)) load = absurd load
   load_allowed offset inside (Some (event.Div a b)) load = absurd load
   load_allowed offset inside (Some (event.Mul a b)) load = absurd load
@@ -106,21 +100,15 @@ module _ (image : Fields) (code : Code) (site : Site) (is : IsImage image) (at_s
   result_runs None low slot inside =
       sets_runs z 10 (Immediate Addi 10 0 0 ∷ []) [] refl tt (λ s begins. tt) (λ s begins. refl) (λ s. refl)
   result_runs (Some slot) low is_slot inside =
-      let ends = numbers.ends in
-      let holds = numbers.holds in
-      let arguments = numbers.arguments in
-      let below = numbers.below in
-      let even = numbers.even in
-      let aligned = is_slot.aligned in
       weaken_runs z {P' = Starts} {R' = Sets 10 (λ s. result_of s.bytes (Some slot))} (result_code (Some slot))
       (promised_runs z (result_code (Some slot)) {Before = HasResult slot base} {After = IsReturned slot base}
       (load_allowed slot.offset inside)
-      (λ p there. result_is_handed_back z.code p slot base there (omega (arith, even, aligned))
-      (omega (arith, inside, ends, holds, arguments, below))))
+      (λ p there. result_is_handed_back z.code p slot base there (omega arith)
+      (omega arith)))
       (λ s begins. record {
         stack = begins.stack;
-        slot_there = λ x l h. begins.there x (omega (arith, l))
-            (omega (arith, h, inside, ends, holds, arguments));
+        slot_there = λ x l h. begins.there x (omega arith)
+            (omega arith);
       })
       (λ s t begins returned. record { there = returned.result; others = returned.others; same = returned.bytes })
 
@@ -176,22 +164,20 @@ module _ (image : Fields) (code : Code) (site : Site) (is : IsImage image) (at_s
   front_runs : Runs z front_turns (front image) Starts Front
   front_runs =
       let ends = numbers.ends in
-      let arguments = numbers.arguments in
-      let below = numbers.below in
       let room = frame_room image in
       let first = result_code image.returned ++ results_code image 0 image.slots in
       let rest = restore_code room ++ wipe_code ++ clear_registers_code scratch_registers in
       as_code z (first ++ rest) (front image)
       (grouped first (restore_code room) wipe_code (clear_registers_code scratch_registers))
       (then_runs z {P = Starts} {S = Front} first rest handed_runs
-      (lasts_run z base room numbers.even numbers.whole (omega (arith, ends, arguments, below))
-      (λ x low high. inl (omega (arith, low), omega (arith, high, ends, arguments)))
-      (zero_allowed image site base (base + (room + 80)) (omega arith) (omega (arith, ends))))
+      (lasts_run z base room numbers.even numbers.whole (omega arith)
+      (λ x low high. inl (omega arith, omega arith))
+      (zero_allowed image site base (base + (room + 80)) (omega arith) (omega arith)))
       (λ s t begins handed. record {
         stack = handed.others 2 (λ e. omega arith) (λ e. omega arith) (λ e. omega arith) (λ e. omega arith)
             (λ e. omega arith) ∙ begins.stack;
         there = λ x low high.
-            let under : x < end = omega (arith, high, ends, arguments) in
+            let under : x < end = omega arith in
             ap (λ (b : ByteMap). is_some (b x)) handed.bytes ∙ ap is_some (in_room s.bytes x low under)
             ∙ begins.there x low under;
       })
@@ -221,10 +207,8 @@ module _ (image : Fields) (code : Code) (site : Site) (is : IsImage image) (at_s
   still_saved : (regs : ℕ → ℕ) (bytes : ByteMap) → AreSaved bytes regs (saved_at image site) saved_registers
       → AreSaved (left_bytes bytes) regs (saved_at image site) saved_registers
   still_saved regs bytes saved =
-      let ends = numbers.ends in
-      let arguments = numbers.arguments in
       saved_same bytes (left_bytes bytes) regs (saved_at image site) saved_registers
-      (λ x low high. in_room bytes x (omega (arith, low)) (omega (arith, high, ends, arguments))) saved
+      (λ x low high. in_room bytes x (omega arith) (omega arith)) saved
 
   left : (regs : ℕ → ℕ) (s : State) (t : Data) → CanLeave image site regs s → Front (data_of s) t
       → IsLeft image site regs s.bytes (results_in base image s.bytes)
@@ -250,7 +234,7 @@ module _ (image : Fields) (code : Code) (site : Site) (is : IsImage image) (at_s
   turns_counted : suc front_turns ≡ leave_turns image
   turns_counted =
       let all = leave_turns_are image in
-      omega (arith, all)
+      omega arith
 
   leaves_here : Leaves image code site
   leaves_here =
@@ -277,4 +261,4 @@ module _ (image : Fields) (code : Code) (site : Site) (is : IsImage image) (at_s
       }
 
 pub leaves : LeavesEverywhere
-leaves image code site is at_site = leaves_here image code site is at_site
+leaves image code site is at_site = leaves_here image code site is at_site (room_numbers image code site at_site)

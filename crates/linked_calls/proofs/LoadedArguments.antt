@@ -54,9 +54,9 @@ module _ (image : Fields) (site : Site) (numbers : RoomNumbers image site) (s : 
       let frame = room_base image site in
       let arg = argument_of site s i slot form in
       let next = taken image site bytes i slot form in
-      all_taken_is next (with_argument frame other slot arg) (i + 1) slots x (omega (arith, count)) known.1 lie.1
+      all_taken_is next (with_argument frame other slot arg) (i + 1) slots x (omega arith) known.1 lie.1
       (still_passed image site numbers s bytes next
       (λ y outside. taken_outside image site bytes i slot form y known.0 outside) passed)
       (ap (λ (given : Arg). with_argument frame bytes slot given x)
-      (argument_is bytes i slot form (omega (arith, count)) passed lie.0)
+      (argument_is bytes i slot form (omega arith) passed lie.0)
       ∙ put_agree frame bytes other slot arg x same)

@@ -52,29 +52,26 @@ module _ (z : Setting) (one other : ℕ) (small : (one < 32) × (other < 32)) (b
     goes_back : register d.regs one ≢ register d.regs other
         → Leads z.code 1 (at (end_of p) d) (branch_shown p) (at p d)
     goes_back differ =
-        let even = there.0 in
-        let below = there.1 in
-        let target = back p (length body) some few (omega (arith, below)) in
+        let target = back p (length body) some few (omega arith) in
         let taken : holds Bne (register d.regs one) (register d.regs other) ≡ true =
         ap not (ne_eqb (register d.regs one) (register d.regs other) differ) in
         subst (λ t. Leads z.code 1 (at (end_of p) d) (branch_shown p) t)
         (moved (end_of p) _ d ∙ ap (λ q. at q d) target)
         (branch_leads z.code (at (end_of p) d) Bne one other (2 ^ 12 - 2 * length body)
-        (stands z.code (end_of p) branch [] there (small.0, small.1, omega (arith, some)) (at (end_of p) d) refl)
-        taken (ap (λ x. x % 4) target ∙ omega (arith, even)))
+        (stands z.code (end_of p) branch [] there (small.0, small.1, omega arith) (at (end_of p) d) refl)
+        taken (ap (λ x. x % 4) target ∙ omega arith))
 
     -- they do not
     goes_on : register d.regs one ≡ register d.regs other
         → Leads z.code 1 (at (end_of p) d) (branch_shown p) (at (end_of p + 4) d)
     goes_on same =
-        let below = there.1 in
-        let next : (end_of p + 4) % 2 ^ 32 ≡ end_of p + 4 = omega (arith, below) in
+        let next : (end_of p + 4) % 2 ^ 32 ≡ end_of p + 4 = omega arith in
         let untaken : holds Bne (register d.regs one) (register d.regs other) ≡ false =
         ap not (eq-eqb (register d.regs one) (register d.regs other) same) in
         subst (λ t. Leads z.code 1 (at (end_of p) d) (branch_shown p) t)
         (moved (end_of p) _ d ∙ ap (λ q. at q d) next)
         (branch_passes z.code (at (end_of p) d) Bne one other (2 ^ 12 - 2 * length body)
-        (stands z.code (end_of p) branch [] there (small.0, small.1, omega (arith, some)) (at (end_of p) d) refl)
+        (stands z.code (end_of p) branch [] there (small.0, small.1, omega arith) (at (end_of p) d) refl)
         untaken)
 
   -- What holds of a state after i of k rounds is said of it and of the state before the first (Inv i).
@@ -88,9 +85,9 @@ module _ (z : Setting) (one other : ℕ) (small : (one < 32) × (other < 32)) (b
         (λ d t. (s : Data) → Inv i s d → Inv k s t)
     rounds zero i last p placed =
         let there = Placed-right z.code p body (branch ∷ []) placed in
-        let a = round i (omega (arith, last)) p (Placed-left z.code p body (branch ∷ []) placed) in
+        let a = round i (omega arith) p (Placed-left z.code p body (branch ∷ []) placed) in
         let e = length-append body (branch ∷ []) in
-        let is : suc i ≡ k = omega (arith, last) in
+        let is : suc i ≡ k = omega arith in
         record {
           shown = a.shown ++ branch_shown p;
           within = All-append (λ (o : Observation). z.allowed o.event) a.shown (branch_shown p) a.within
@@ -100,7 +97,7 @@ module _ (z : Setting) (one other : ℕ) (small : (one < 32) × (other < 32)) (b
               let done = λ (s : Data) (inv : Inv i s d). subst (λ (j : ℕ). Inv j s run.end) is (run.done s inv) in
               record {
                 end = run.end;
-                leads = leads_as z.code (at p d) (a.shown ++ branch_shown p) run.end (omega arith) (omega (arith, e))
+                leads = leads_as z.code (at p d) (a.shown ++ branch_shown p) run.end (omega arith) (omega arith)
                     (Leads-append run.leads
                     (goes_on p there run.end (over given.0 run.end (done given.0 given.1))));
                 done = done;
@@ -108,8 +105,8 @@ module _ (z : Setting) (one other : ℕ) (small : (one < 32) × (other < 32)) (b
         }
     rounds (suc left) i last p placed =
         let there = Placed-right z.code p body (branch ∷ []) placed in
-        let a = round i (omega (arith, last)) p (Placed-left z.code p body (branch ∷ []) placed) in
-        let b = rounds left (suc i) (omega (arith, last)) p placed in
+        let a = round i (omega arith) p (Placed-left z.code p body (branch ∷ []) placed) in
+        let b = rounds left (suc i) (omega arith) p placed in
         let rest = branch_shown p ++ b.shown in
         record {
           shown = a.shown ++ rest;
@@ -125,7 +122,7 @@ module _ (z : Setting) (one other : ℕ) (small : (one < 32) × (other < 32)) (b
                 leads = leads_as z.code (at p d) (a.shown ++ rest) again.end (omega arith) refl
                     (Leads-append run.leads
                     (Leads-append
-                    (goes_back p there run.end (more (suc i) given.0 run.end (omega (arith, last)) inv))
+                    (goes_back p there run.end (more (suc i) given.0 run.end (omega arith) inv))
                     again.leads));
                 done = λ s held. again.done s (run.done s held);
               };
@@ -136,8 +133,8 @@ module _ (z : Setting) (one other : ℕ) (small : (one < 32) × (other < 32)) (b
         → ((s : Data) → Before s → Inv 0 s s) → ((s t : Data) → Before s → Inv k s t → After s t)
         → Runs z (k * suc n) (until_equal one other body) Before After
     loop positive begins ends =
-        let e : suc (k - 1) ≡ k = omega (arith, positive) in
+        let e : suc (k - 1) ≡ k = omega arith in
         weaken_runs z (until_equal one other body)
         (in_turns z (until_equal one other body) (ap (λ x. x * suc n) e)
-        (rounds (k - 1) 0 (omega (arith, positive))))
+        (rounds (k - 1) 0 (omega arith)))
         (λ s given. (s, begins s given)) (λ s t given run. ends s t given (run s (begins s given)))

@@ -24,7 +24,8 @@ use Rattle.linked_calls.specs.Does.{Data}
 use Rattle.linked_calls.specs.FunctionCode.{stores_code, loads_code}
 use Rattle.linked_calls.specs.Stretches.{AreData}
 use Rattle.linked_calls.proofs.Below.{AreFit, AreMet, after, after_all, are_straight, both_left, both_right}
-use Rattle.linked_calls.proofs.Below.{far_address, is_some-with_number, lower_fits, near_address, number_or_zero, parts, register-at}
+use Rattle.linked_calls.proofs.Below.{far_address, is_some-with_number, lower_fits, near_address, number_or_zero, parts}
+use Rattle.linked_calls.proofs.Below.{register-at}
 use Rattle.linked_calls.proofs.Below.{register_kept, unwritten, upper_fits, written}
 use Rattle.linked_calls.proofs.Bytes.{number_there}
 use Rattle.linked_calls.proofs.Pieces.{Setting, Runs, straight_runs, then_runs}
@@ -108,7 +109,7 @@ module _ (z : Setting) (base offset : ℕ) (even : (base + offset) % 4 ≡ 0) (b
       let far = Upper Lui r (upper_part offset) ∷ Register Add r r 2 ∷ Load Lw r r (lower_part offset) ∷ [] in
       by_near z offset (Load Lw r 2 offset ∷ []) far
       (λ near. sets_runs z r (Load Lw r 2 offset ∷ []) ((base + offset) ∷ [])
-      (simp (eq-eqb r r refl, lt-ltb r 32 few, lt-ltb offset 4096 (omega (arith, near))))
+      (simp (eq-eqb r r refl, lt-ltb r 32 few, lt-ltb offset 4096 (omega arith)))
       (record { even = even; allowed = allowed }, tt) (λ s has. (near_met near s has, tt))
       (λ s has. written s.regs r _ nonzero ∙ same_number (number_at s.bytes 4 (base + offset))) (λ s. refl))
       (sets_runs z r far ((base + offset) ∷ [])
@@ -137,7 +138,7 @@ module _ (z : Setting) (base offset : ℕ) (even : (base + offset) % 4 ≡ 0) (b
       ) in
       by_near z offset (Store Sw 5 2 offset ∷ []) far
       (λ near. straight_runs z (λ q. q == 28) (Store Sw 5 2 offset ∷ []) ((base + offset) ∷ [])
-      (simp (lt-ltb offset 4096 (omega (arith, near)))) (record { even = even; allowed = allowed }, tt)
+      (simp (lt-ltb offset 4096 (omega arith))) (record { even = even; allowed = allowed }, tt)
       (λ s has. (near_met near s has, tt)) (λ s has. record { written = refl; others = λ q h. refl }))
       (straight_runs z (λ q. q == 28) far ((base + offset) ∷ []) plain (record { even = even; allowed = allowed }, tt)
       (λ s has. (far_met 28 (λ e. omega arith) (λ e. omega arith) s has, tt))
@@ -155,8 +156,8 @@ module _ (z : Setting) (r n : ℕ) (few : r < 32) (nonzero : r ≢ 0) (below : n
       let far = Upper Lui r (upper_part n) ∷ Immediate Addi r r (lower_part n) ∷ [] in
       by_near z n (Immediate Addi r 0 n ∷ []) far
       (λ near. sets_runs z r (Immediate Addi r 0 n ∷ []) []
-      (simp (eq-eqb r r refl, lt-ltb r 32 few, lt-ltb n 4096 (omega (arith, near)))) tt (λ s given. tt)
-      (λ s given. written s.regs r _ nonzero ∙ near_address 0 n near (omega (arith, below)) ∙ omega arith)
+      (simp (eq-eqb r r refl, lt-ltb r 32 few, lt-ltb n 4096 (omega arith))) tt (λ s given. tt)
+      (λ s given. written s.regs r _ nonzero ∙ near_address 0 n near (omega arith) ∙ omega arith)
       (λ s. refl))
       (sets_runs z r far []
       (simp (
@@ -184,8 +185,8 @@ module _ (z : Setting) (r n : ℕ) (few : r < 32) (nonzero : r ≢ 0) (below : n
       (λ s given. tt) (λ s given. written s.regs r _ nonzero) (λ s. refl))
       (λ s t given one. tt)
       (λ s t u given one two. record {
-        there = two.there
-            ∙ ap₂ sum_of (register-at t.regs r nonzero ∙ one.there) (register-at t.regs o nonzero' ∙ one.others o apart);
+        there = two.there ∙ ap₂ sum_of (register-at t.regs r nonzero ∙ one.there)
+            (register-at t.regs o nonzero' ∙ one.others o apart);
         others = λ q h. two.others q h ∙ one.others q h;
         same = two.same ∙ one.same;
       })
@@ -225,17 +226,17 @@ module _ (z : Setting) (base : ℕ) (few : base < 32) where
       rw (
         both_left (nat_lt r 32) (are_registers rs) registers,
         lt-ltb base 32 few,
-        lt-ltb offset 4096 (omega (arith, near)),
+        lt-ltb offset 4096 (omega arith),
       )
-      (stores_plain (offset + 4) rs (both_right (nat_lt r 32) (are_registers rs) registers) (omega (arith, near)))
+      (stores_plain (offset + 4) rs (both_right (nat_lt r 32) (are_registers rs) registers) (omega arith))
 
   stores_fit : (offset a : ℕ) (rs : List ℕ) → a % 4 ≡ 0 → MayStore z 4 Word a (a + 4 * length rs)
       → AreFit z.allowed (stores_code base offset rs) (words_at a rs)
   stores_fit offset a [] even may = tt
   stores_fit offset a (r ∷ rs) even may = (
     record { even = even; allowed = may a (omega arith) (omega arith) },
-    stores_fit (offset + 4) (a + 4) rs (omega (arith, even))
-        (λ x low high. may x (omega (arith, low)) (omega (arith, high))),
+    stores_fit (offset + 4) (a + 4) rs (omega arith)
+        (λ x low high. may x (omega arith) (omega arith)),
   )
 
   stores_met : (offset a : ℕ) (rs : List ℕ) (d : Data) → offset + 4 * length rs ≤ 2048 → a + 4 * length rs ≤ 2 ^ 32
@@ -243,17 +244,17 @@ module _ (z : Setting) (base : ℕ) (few : base < 32) where
   stores_met offset a [] d near below begins = tt
   stores_met offset a (r ∷ rs) d near below begins =
       let root = begins.root in
-      let here = number_there d.bytes 4 a (λ x low high. begins.there x low (omega (arith, high))) in (
+      let here = number_there d.bytes 4 a (λ x low high. begins.there x low (omega arith)) in (
         record {
-          address = near_address (register d.regs base) offset (omega (arith, near)) (omega (arith, below, root))
+          address = near_address (register d.regs base) offset (omega arith) (omega arith)
               ∙ root;
           data_there = here;
         },
-        stores_met (offset + 4) (a + 4) rs (after (Store Sw r base offset) a d) (omega (arith, near))
-            (omega (arith, below)) (record {
-              root = omega (arith, root);
+        stores_met (offset + 4) (a + 4) rs (after (Store Sw r base offset) a d) (omega arith)
+            (omega arith) (record {
+              root = omega arith;
               there = λ x low high. is_some-with_number d.bytes 4 a (register d.regs r) x here
-                  ∙ begins.there x (omega (arith, low)) (omega (arith, high));
+                  ∙ begins.there x (omega arith) (omega arith);
             }),
       )
 
@@ -287,8 +288,8 @@ loads_fit : (z : Setting) (offset a : ℕ) (rs : List ℕ) → a % 4 ≡ 0 → M
 loads_fit z offset a [] even may = tt
 loads_fit z offset a (r ∷ rs) even may = (
   record { even = even; allowed = may a (omega arith) (omega arith) },
-  loads_fit z (offset + 4) (a + 4) rs (omega (arith, even))
-      (λ x low high. may x (omega (arith, low)) (omega (arith, high))),
+  loads_fit z (offset + 4) (a + 4) rs (omega arith)
+      (λ x low high. may x (omega arith) (omega arith)),
 )
 
 other_first : (b c : Bool) → cond b false c ≡ true → (b ≡ false) × (c ≡ true)
@@ -304,11 +305,11 @@ loads_met offset a (r ∷ rs) d others root near below there =
     let next = after (Load Lw r 5 offset) a d in
     let kept : next.regs 5 ≡ d.regs 5 = unwritten d.regs r _ 5 (eqb-false 5 r each.0) in (
       record {
-        address = near_address (d.regs 5) offset (omega (arith, near)) (omega (arith, below, root)) ∙ root;
-        data_there = number_there d.bytes 4 a (λ x low high. there x low (omega (arith, high)));
+        address = near_address (d.regs 5) offset (omega arith) (omega arith) ∙ root;
+        data_there = number_there d.bytes 4 a (λ x low high. there x low (omega arith));
       },
-      loads_met (offset + 4) (a + 4) rs next each.1 (omega (arith, kept, root)) (omega (arith, near))
-          (omega (arith, below)) (λ x low high. there x (omega (arith, low)) (omega (arith, high))),
+      loads_met (offset + 4) (a + 4) rs next each.1 (omega arith) (omega arith)
+          (omega arith) (λ x low high. there x (omega arith) (omega arith)),
     )
 
 -- registers from words; of each it is known what it has then
@@ -322,5 +323,4 @@ loads_runs z a rs plain others even near below may begins done =
     straight_runs z (λ q. true) (loads_code 5 0 rs) (words_at a rs) plain (loads_fit z 0 a rs even may)
     (λ s given.
     let begin = begins s given in
-    let root = begin.0 in
-    loads_met 0 a rs s others (omega (arith, root)) (omega (arith, near)) below begin.1) done
+    loads_met 0 a rs s others (omega arith) (omega arith) below begin.1) done

@@ -21,8 +21,8 @@ array_outside image site i slot readable x from to = by readable.beside_room
   where
     by : (site.pointers i + array_bytes slot ≤ room_base image site) ⊎ (site.stack ≤ site.pointers i)
         → IsOutsideRoom image site x
-    by (inl low) = inl (omega (arith, low, to))
-    by (inr high) = inr (omega (arith, high, from))
+    by (inl low) = inl (omega arith)
+    by (inr high) = inr (omega arith)
 
 -- each argument's word at its place, and nothing changed outside the room
 pub record StandAsPassed (image : Fields) (site : Site) (s : State) (bytes : ByteMap) : Type 0 where
@@ -37,7 +37,7 @@ pub still_passed : (image : Fields) (site : Site) → RoomNumbers image site →
 still_passed image site numbers s old new same passed = record {
   raw = λ i few.
       number_at_same old new 4 (room_base image site + argument_offset image i)
-      (λ x low high. same x (inr (omega (arith, low))))
+      (λ x low high. same x (inr (omega arith)))
       ∙ passed.raw i few;
   outside = λ x outside. same x (outside_frame image site numbers x outside) ∙ passed.outside x outside;
 }
@@ -63,6 +63,6 @@ module _ (image : Fields) (site : Site) (s : State) (bytes : ByteMap)
       → ArePassed site s i slots → AreReady image site bytes i slots
   all_ready i [] count lie are = tt
   all_ready i (slot ∷ slots) count lie are = (
-    ready i slot slot.param.form (omega (arith, count)) lie.0 are.0,
-    all_ready (i + 1) slots (omega (arith, count)) lie.1 are.1,
+    ready i slot slot.param.form (omega arith) lie.0 are.0,
+    all_ready (i + 1) slots (omega arith) lie.1 are.1,
   )

@@ -1,6 +1,7 @@
 -- Pieces of code, wherever they stand: an exact number of turns, and one list for all states that they may begin in, of
 -- allowed accesses alone. So what follows in a list is known before any state is given, which is equal leakage.
-use Rattle.std.proofs.Common.{◌≡◌, ℕ, ◌+◌, ◌*◌, Bool, true, List, [], ◌∷◌, ◌++◌, length, Option, None, subst, arith, refl}
+use Rattle.std.proofs.Common.{◌≡◌, ℕ, ◌+◌, ◌*◌, Bool, true, List, [], ◌∷◌, ◌++◌, length, Option, None, subst, arith}
+use Rattle.std.proofs.Common.{refl}
 use Rattle.std.proofs.Common.{length-append}
 use Rattle.std.proofs.lemmas.List.Elements.{All-append}
 use Rattle.rv_code.specs.declared.instructions.Instr.{Instr}
@@ -65,7 +66,7 @@ module _ (z : Setting) where
             let second = b.runs first.end (link s first.end given first.done) in
             record {
               end = second.end;
-              leads = leads_as z.code (at p s) (a.shown ++ b.shown) second.end refl (omega (arith, e))
+              leads = leads_as z.code (at p s) (a.shown ++ b.shown) second.end refl (omega arith)
                   (Leads-append first.leads second.leads);
               done = both s first.end second.end given first.done second.done;
             };

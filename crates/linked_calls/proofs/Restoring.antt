@@ -60,13 +60,12 @@ module _ (z : Setting) (frame room : ℕ) (even : frame % 16 ≡ 0) (whole : roo
 
   rooted : (s t : Data) → s.regs 2 ≡ frame → Sets 5 (λ s. sum_of room (s.regs 2)) s t → t.regs 5 ≡ frame + room
   rooted s t stack sets =
-      let there = sets.there in
-      omega (arith, there, stack, below)
+      omega arith
 
   back_runs : Runs z 12 (loads_code 5 0 saved_registers) AtSaved (Restored (frame + room))
   back_runs =
       loads_runs z {P = AtSaved} {R = Restored (frame + room)} (frame + room) saved_registers refl refl
-      (omega (arith, even, whole)) (omega arith) (omega (arith, below)) may (λ s at. (at.root, at.there))
+      (omega arith) (omega arith) (omega arith) may (λ s at. (at.root, at.there))
       (λ s at.
       let t = after_all (loads_code 5 0 saved_registers) (words_at (frame + room) saved_registers) s in
       record {
@@ -85,12 +84,12 @@ module _ (z : Setting) (frame room : ℕ) (even : frame % 16 ≡ 0) (whole : roo
       as_code z (top ++ loads) (constant_code 5 room ++ Register Add 5 5 2 ∷ loads)
       (append_assoc (constant_code 5 room) (Register Add 5 5 2 ∷ []) loads)
       (then_runs z {P = BeginsLast} {S = Restored (frame + room)} top loads
-      (sum_runs z 5 room (omega arith) (λ e. omega arith) (omega (arith, below)) 2 (omega arith) (λ e. omega arith)
+      (sum_runs z 5 room (omega arith) (λ e. omega arith) (omega arith) 2 (omega arith) (λ e. omega arith)
       (λ e. omega arith)) back_runs
       (λ s t begins sets. record {
         root = rooted s t begins.stack sets;
         there = λ x l h. ap (λ (b : ByteMap). is_some (b x)) sets.same
-            ∙ begins.there x (omega (arith, l)) (omega (arith, h));
+            ∙ begins.there x (omega arith) (omega arith);
       })
       (λ s t u begins sets restored. record {
         root = restored.root;
@@ -113,7 +112,7 @@ module _ (z : Setting) (frame room : ℕ) (even : frame % 16 ≡ 0) (whole : roo
       let root = restored.root in
       let kept = λ (q : ℕ) (none : (q ≢ 5) × Unit {0}). sets.others q none.0 in
       record {
-        root = sets.there ∙ omega (arith, root, below);
+        root = sets.there ∙ omega arith;
         saved = λ regs saved. still_same (5 ∷ []) u.regs t.regs regs kept saved_registers refl
             (restored.saved regs saved);
         others_same = still_same (5 ∷ []) u.regs t.regs s.regs kept others refl restored.others_same;
@@ -132,7 +131,7 @@ module _ (z : Setting) (frame room : ℕ) (even : frame % 16 ≡ 0) (whole : roo
   wiped_runs =
       then_runs z {P = BeginsLast} {S = Wiped} (restore_code room) wipe_code ended_runs
       (promised_runs z wipe_code {Before = HasRoom frame (room + 80)} {After = IsWiped frame (room + 80)} stores
-      (λ p there. room_is_wiped z.code p frame (room + 80) there even (omega (arith, whole)) (omega arith) below))
+      (λ p there. room_is_wiped z.code p frame (room + 80) there even (omega arith) (omega arith) below))
       (λ s t begins restored. record {
         stack = restored.others_same.1.0 ∙ begins.stack;
         top = restored.root;

@@ -21,11 +21,9 @@ pub record RoomNumbers (image : Fields) (site : Site) : Type 0 where
 
 pub room_numbers : (image : Fields) (code : Code) (site : Site) → IsSite image code site → RoomNumbers image site
 room_numbers image code site is =
-    let aligned = is.stack_aligned in
-    let room = is.room in
     record {
-      ends = omega (arith, room);
-      even = omega (arith, room, aligned);
+      ends = omega arith;
+      even = omega arith;
       whole = omega arith;
       holds = omega arith;
       arguments = omega arith;
@@ -37,19 +35,16 @@ module _ (image : Fields) (site : Site) (numbers : RoomNumbers image site) where
   pub place_inside : (i : ℕ) → i < length image.slots
       → room_base image site + argument_offset image i + 4 ≤ arguments_end image site
   place_inside i few =
-      let ends = numbers.ends in
-      omega (arith, ends, few)
+      omega arith
 
   -- one that no register holds is the caller's own
   pub place_stacked : (i : ℕ) → 8 ≤ i → room_base image site + argument_offset image i ≡ site.stack + 4 * (i - 8)
   place_stacked i many =
-      let ends = numbers.ends in
-      omega (arith, ends, many)
+      omega arith
 
   -- what lies outside the room lies outside the frame
   pub outside_frame : (x : ℕ) → IsOutsideRoom image site x
       → IsOutside (room_base image site) (saved_at image site) x
   outside_frame x (inl low) = inl low
   outside_frame x (inr high) =
-      let ends = numbers.ends in
-      inr (omega (arith, ends, high))
+      inr (omega arith)

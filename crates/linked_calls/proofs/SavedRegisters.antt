@@ -16,7 +16,7 @@ tails : (x y : ℕ) (xs ys : List ℕ) → x ∷ xs ≡ y ∷ ys → xs ≡ ys
 tails x y xs ys e = cc
 
 word_whole : (v : ℕ) → v < 2 ^ 32 → v % 256 ^ 4 ≡ v
-word_whole v below = omega (arith, below)
+word_whole v below = omega arith
 
 -- words that are stored stand there
 pub stored_are_saved : (bytes : ByteMap) (regs : ℕ → ℕ) (a : ℕ) (rs : List ℕ) → ((r : ℕ) → regs r < 2 ^ 32)
@@ -45,8 +45,8 @@ pub saved_same : (old new : ByteMap) (regs : ℕ → ℕ) (a : ℕ) (rs : List �
     → ((x : ℕ) → a ≤ x → x < a + 4 * length rs → new x ≡ old x) → AreSaved old regs a rs → AreSaved new regs a rs
 saved_same old new regs a [] same saved = tt
 saved_same old new regs a (r ∷ rs) same saved = (
-  number_at_same old new 4 a (λ x low high. same x low (omega (arith, high))) ∙ saved.0,
-  saved_same old new regs (a + 4) rs (λ x low high. same x (omega (arith, low)) (omega (arith, high))) saved.1,
+  number_at_same old new 4 a (λ x low high. same x low (omega arith)) ∙ saved.0,
+  saved_same old new regs (a + 4) rs (λ x low high. same x (omega arith) (omega arith)) saved.1,
 )
 
 -- so many registers, from one on
@@ -57,7 +57,7 @@ registers_from r (suc n) = r ∷ registers_from (r + 1) n
 -- one of them
 pub saved_one : (bytes : ByteMap) (regs : ℕ → ℕ) (a r n i : ℕ) → i < n → AreSaved bytes regs a (registers_from r n)
     → number_at bytes 4 (a + 4 * i) ≡ Some (regs (r + i))
-saved_one bytes regs a r zero i few saved = absurd (omega (arith, few))
+saved_one bytes regs a r zero i few saved = absurd (omega arith)
 saved_one bytes regs a r (suc n) zero few saved =
     let e : a + 4 * 0 ≡ a = omega arith in
     let f : r ≡ r + 0 = omega arith in
@@ -65,5 +65,5 @@ saved_one bytes regs a r (suc n) zero few saved =
 saved_one bytes regs a r (suc n) (suc i) few saved =
     let e : a + 4 * suc i ≡ a + 4 + 4 * i = omega arith in
     let f : r + 1 + i ≡ r + suc i = omega arith in
-    ap (λ x. number_at bytes 4 x) e ∙ saved_one bytes regs (a + 4) (r + 1) n i (omega (arith, few)) saved.1
+    ap (λ x. number_at bytes 4 x) e ∙ saved_one bytes regs (a + 4) (r + 1) n i (omega arith) saved.1
     ∙ ap (λ q. Some (regs q)) f

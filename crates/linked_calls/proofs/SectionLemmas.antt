@@ -5,7 +5,7 @@ use Rattle.std.proofs.lemmas.List.{append_assoc, append-nil}
 use Rattle.codegen.specs.Anywhere.{body_words}
 use Rattle.codegen.specs.expression_code.TermCode.{constant_code}
 use Rattle.linked_calls.specs.Convention.{stack_register, link_register, saved_registers, scratch_registers}
-use Rattle.linked_calls.specs.FunctionCode.{above_frame, frame_room, frame_code, entry_code, argument_code}
+use Rattle.linked_calls.specs.FunctionCode.{frame_room, frame_code, entry_code, argument_code}
 use Rattle.linked_calls.specs.FunctionCode.{arguments_code, enter_code, result_code, results_code, restore_code}
 use Rattle.linked_calls.specs.FunctionCode.{wipe_code, clear_registers_code, leave_code, copy_out_code}
 use Rattle.linked_calls.specs.FunctionCode.{function_words, until_equal, added, zeros_code, loads_code}
@@ -92,13 +92,10 @@ wiped = wipe_code ++ (clear_registers_code scratch_registers ++ JumpRegister 0 l
 tail_code_of : (image : Fields) → code_of image tail ≡ restore_code (frame_room image) ++ wiped
 tail_code_of image =
     let room = constant_code 5 (frame_room image) in
-    append_assoc room (Register Add 5 5 stack_register ∷ [])
-    (loads_code 5 0 saved_registers ++ (added 5 above_frame ∷ wiped))
-    ∙ sym (append_assoc (room ++ loaded) (added 5 above_frame ∷ []) wiped
-    ∙ append_assoc room loaded (added 5 above_frame ∷ wiped))
+    simp append_assoc
 
 five : (a b c d e : List Instr) → a ++ b ++ c ++ d ++ e ≡ a ++ (b ++ (c ++ (d ++ e)))
-five a b c d e = append_assoc (a ++ b ++ c) d e ∙ append_assoc (a ++ b) c (d ++ e) ∙ append_assoc a b (c ++ (d ++ e))
+five a b c d e = simp append_assoc
 
 pub leave_code_of : (image : Fields) → code_of image (leave_sections image) ≡ leave_code image
 leave_code_of image =

@@ -71,7 +71,7 @@ module _ (image : Fields) (code : Code) (site : Site) (is : IsSite image code si
       let words = body_words image.words in
       let a = length-append (enter_words image) words in
       let b = length-map (enter_code image) word_of in
-      let e : site.entry + 4 * length (enter_words image ++ words) ≡ leave_at image site = omega (arith, a, b) in
+      let e : site.entry + 4 * length (enter_words image ++ words) ≡ leave_at image site = omega arith in
       placed code (leave_at image site) (leave_code image)
       (subst (λ q. Stand code q (leave_words image)) e
       (stand_then code site.entry (enter_words image ++ words) (leave_words image) all_stand))

@@ -24,7 +24,7 @@ module _ (image : Fields) (site : Site) (numbers : RoomNumbers image site) (old 
       let fits = place_inside image site numbers i few in
       record {
         pointer = number_at_same old new 4 (room_base image site + argument_offset image i)
-            (λ x low high. same x (omega (arith, low)) (omega (arith, high, fits))) ∙ ready.pointer;
+            (λ x low high. same x (omega arith) (omega arith)) ∙ ready.pointer;
         array = λ x low high. data_same x ∙ ready.array x low high;
       }
 
@@ -38,8 +38,8 @@ module _ (image : Fields) (site : Site) (numbers : RoomNumbers image site) (old 
       → AreReady image site old i slots → AreReady image site new i slots
   stay_ready i [] count ready = tt
   stay_ready i (slot ∷ slots) count ready = (
-    stays_ready i slot slot.param.form (omega (arith, count)) ready.0,
-    stay_ready (i + 1) slots (omega (arith, count)) ready.1,
+    stays_ready i slot slot.param.form (omega arith) ready.0,
+    stay_ready (i + 1) slots (omega arith) ready.1,
   )
 
 -- the same arrays put into two maps that agree at an address

@@ -109,7 +109,6 @@ pub word_is_taken : WordIsTaken
 word_is_taken code start image slot frame i there can =
     let kind = slot.param.kind in
     let offset = argument_offset image i in
-    let aligned = can.frame_aligned in
     let z : Setting = record {
       code = code;
       allowed = IsPutting (frame + offset) (frame + slot.offset);
@@ -119,10 +118,10 @@ word_is_taken code start image slot frame i there can =
     let a = length-append (load_code 5 offset ++ meant_code 5 kind) (store_code 5 slot.offset) in
     let b = length-append (load_code 5 offset) (meant_code 5 kind) in
     weaken_runs z {P' = HasWordArgument image slot frame i} {R' = IsPut image slot frame i} is
-    (in_turns z is (omega (arith, a, b))
+    (in_turns z is (omega arith)
     (as_code z (load_code 5 offset ++ put_code z kind frame offset slot.offset) is
     (sym (append_assoc (load_code 5 offset) (meant_code 5 kind) (store_code 5 slot.offset)))
-    (word_runs z kind frame offset slot.offset (omega (arith, aligned)) can.place_ends (refl, refl) can.slot_aligned
+    (word_runs z kind frame offset slot.offset (omega arith) can.place_ends (refl, refl) can.slot_aligned
     can.slot_ends (refl, refl))))
     (λ s has. record {
       stack = has.stack;

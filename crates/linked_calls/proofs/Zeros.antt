@@ -58,8 +58,8 @@ module _ (code : Code) (bottom room : ℕ) (even : bottom % 16 ≡ 0) (whole : r
   zeros_run : (a : ℕ) → a % 16 ≡ 0 → bottom ≤ a → a + 16 ≤ top
       → Runs z 4 zeros_code (BeginsStores 2 0 a 4) (Stores a (0 ∷ 0 ∷ 0 ∷ 0 ∷ []))
   zeros_run a aligned from to =
-      stores_runs z 2 (omega arith) 0 a (0 ∷ 0 ∷ 0 ∷ 0 ∷ []) refl (omega (arith, aligned)) (omega arith)
-      (omega (arith, to, below)) (λ x low high. (omega (arith, from, low), omega (arith, to, high)))
+      stores_runs z 2 (omega arith) 0 a (0 ∷ 0 ∷ 0 ∷ 0 ∷ []) refl (omega arith) (omega arith)
+      (omega arith) (λ x low high. (omega arith, omega arith))
 
   block_down : (a : ℕ) → a % 16 ≡ 0 → bottom ≤ a → a + 16 ≤ top
       → Runs z 5 down_code (HasBlock (a + 16) a) (Block a a)
@@ -69,18 +69,15 @@ module _ (code : Code) (bottom room : ℕ) (even : bottom % 16 ≡ 0) (whole : r
       (sets_runs z 2 (added 2 (4096 - 16) ∷ []) [] refl tt (λ s has. tt) (λ s has. refl) (λ s. refl))
       (zeros_run a aligned from to)
       (λ s t has sets.
-      let stack = has.stack in
-      let moved = sets.there in
       record {
-        root = omega (arith, moved, stack, to, below);
+        root = omega arith;
         there = subst (λ (b : ByteMap). AreData a (a + 16) b) (sym sets.same) has.there;
       })
       (λ s t u has sets stores.
       let stack = has.stack in
-      let moved = sets.there in
       let kept = ap (λ (regs : ℕ → ℕ). regs 2) stores.regs in
       record {
-        stack = kept ∙ omega (arith, moved, stack, to, below);
+        stack = kept ∙ omega arith;
         bytes = stores.bytes ∙ ap (λ (b : ByteMap). with_numbers b 4 a (zeros_of 4)) sets.same;
         others = λ q h. ap (λ (regs : ℕ → ℕ). regs q) stores.regs ∙ sets.others q h;
       })
@@ -90,16 +87,15 @@ module _ (code : Code) (bottom room : ℕ) (even : bottom % 16 ≡ 0) (whole : r
       then_runs z {P = HasBlock a a} {R' = Sets 2 (λ s. sum_of (s.regs 2) 16)} {S = Block a (a + 16)} zeros_code
       (added 2 16 ∷ [])
       (weaken_runs z {P' = HasBlock a a} {R' = Stores a (0 ∷ 0 ∷ 0 ∷ 0 ∷ [])} zeros_code (zeros_run a aligned from to)
-      (λ s has. let stack = has.stack in record { root = omega (arith, stack); there = has.there })
+      (λ s has. record { root = omega arith; there = has.there })
       (λ s t has stores. stores))
       (sets_runs z {P = λ s. Unit {0}} 2 (added 2 16 ∷ []) [] refl tt (λ s given. tt) (λ s given. refl) (λ s. refl))
       (λ s t has stores. tt)
       (λ s t u has stores sets.
       let stack = has.stack in
-      let moved = sets.there in
       let kept = ap (λ (regs : ℕ → ℕ). regs 2) stores.regs in
       record {
-        stack = omega (arith, moved, kept, stack, to, below);
+        stack = omega arith;
         bytes = sets.same ∙ stores.bytes;
         others = λ q h. sets.others q h ∙ ap (λ (regs : ℕ → ℕ). regs q) stores.regs;
       })
@@ -117,7 +113,7 @@ module _ (code : Code) (bottom room : ℕ) (even : bottom % 16 ≡ 0) (whole : r
   has_block : (x stop low high a : ℕ) (s d : Data) → bottom ≤ a → a + 16 ≤ top → Zeroing x stop low high s d
       → HasBlock x a d
   has_block x stop low high a s d from to held =
-      record { stack = held.stack; there = λ y l h. held.there y (omega (arith, from, l)) (omega (arith, to, h)) }
+      record { stack = held.stack; there = λ y l h. held.there y (omega arith) (omega arith) }
 
   one_more : (x stop low high a next low' high' : ℕ) (s d t : Data) → bottom ≤ a → a + 16 ≤ top → Block a next d t
       → Zeroing x stop low high s d
@@ -165,36 +161,32 @@ module _ (code : Code) (bottom room : ℕ) (even : bottom % 16 ≡ 0) (whole : r
       (λ i. Zeroing (down_at i) bottom (down_at i) top)
       (λ i few.
       let a = down_at (suc i) in
-      let next : a + 16 ≡ down_at i = omega (arith, few, whole) in
-      weaken_runs z down_code
-      (block_down a (omega (arith, even, few, whole)) (omega (arith, few, whole)) (omega (arith, few, whole)))
+      let from : bottom ≤ a = omega arith in
+      let next : a + 16 ≡ down_at i = omega arith in
+      let to : a + 16 ≤ top = omega arith in
+      weaken_runs z down_code (block_down a (omega arith) from to)
       (λ d given. subst (λ x. HasBlock x a d) (sym next)
-      (has_block (down_at i) bottom (down_at i) top a given.0 d (omega (arith, few, whole)) (omega (arith, few, whole)) given.1))
+      (has_block (down_at i) bottom (down_at i) top a given.0 d from to given.1))
       (λ d t given block s held.
-      one_more (down_at i) bottom (down_at i) top a a a top s d t (omega (arith, few, whole)) (omega (arith, few, whole)) block
-      held
-      (λ zeroed. zeros_down a (down_at i) top s.bytes d.bytes t.bytes (omega (arith, next)) (omega arith) held.zeroed
+      one_more (down_at i) bottom (down_at i) top a a a top s d t from to block held
+      (λ zeroed. zeros_down a (down_at i) top s.bytes d.bytes t.bytes (omega arith) (omega arith) held.zeroed
       (subst (λ x. AreZeroed a x d.bytes t.bytes) next zeroed))))
       (λ i s d few held same.
-      let stack = held.stack in
-      let last = held.last in
-      omega (arith, stack, last, same, few, whole))
+      omega arith)
       (λ s d held.
       let stack = held.stack in
       let last = held.last in
-      omega (arith, stack, last, whole))
-      (omega (arith, positive, whole))
-      (λ s begins.
-      let first : top ≡ down_at 0 = omega arith in
-      record {
-        stack = begins.stack ∙ first;
+      omega arith)
+      (omega arith)
+      (λ s begins. record {
+        stack = begins.stack ∙ omega arith;
         last = begins.last;
         there = begins.there;
-        zeroed = subst (λ x. AreZeroed x top s.bytes s.bytes) first (no_zeros top s.bytes);
+        zeroed = no_zeros (down_at 0) top s.bytes (omega arith);
         others = λ q h. refl;
       })
       (λ s t begins held.
-      let end : down_at blocks ≡ bottom = omega (arith, whole) in
+      let end : down_at blocks ≡ bottom = omega arith in
       record {
         stack = held.stack ∙ end;
         zeroed = subst (λ x. AreZeroed x top s.bytes t.bytes) end held.zeroed;
@@ -207,36 +199,31 @@ module _ (code : Code) (bottom room : ℕ) (even : bottom % 16 ≡ 0) (whole : r
       (loop z 2 5 (omega arith, omega arith) up_code (omega arith) (omega arith) blocks
       (λ i. Zeroing (up_at i) top bottom (up_at i))
       (λ i few.
-      let next : up_at i + 16 ≡ up_at (suc i) = omega arith in
-      weaken_runs z up_code
-      (block_up (up_at i) (omega (arith, even)) (omega arith) (omega (arith, few, whole)))
-      (λ d given. has_block (up_at i) top bottom (up_at i) (up_at i) given.0 d (omega arith) (omega (arith, few, whole)) given.1)
+      let a = up_at i in
+      let to : a + 16 ≤ top = omega arith in
+      let next : a + 16 ≡ up_at (suc i) = omega arith in
+      weaken_runs z up_code (block_up a (omega arith) (omega arith) to)
+      (λ d given. has_block a top bottom a a given.0 d (omega arith) to given.1)
       (λ d t given block s held.
       subst (λ x. Zeroing x top bottom x s t) next
-      (one_more (up_at i) top bottom (up_at i) (up_at i) (up_at i + 16) bottom (up_at i + 16) s d t (omega arith)
-      (omega (arith, few, whole)) block held
-      (λ zeroed. zeros_up bottom (up_at i) (up_at i + 16) s.bytes d.bytes t.bytes (omega arith) (omega arith) held.zeroed
-      zeroed))))
+      (one_more a top bottom a a (a + 16) bottom (a + 16) s d t (omega arith) to block held
+      (zeros_up bottom a (a + 16) s.bytes d.bytes t.bytes (omega arith) (omega arith) held.zeroed))))
       (λ i s d few held same.
-      let stack = held.stack in
-      let last = held.last in
-      omega (arith, stack, last, same, few, whole))
+      omega arith)
       (λ s d held.
       let stack = held.stack in
       let last = held.last in
-      omega (arith, stack, last, whole))
-      (omega (arith, positive, whole))
-      (λ s has.
-      let first : bottom ≡ up_at 0 = omega arith in
-      record {
-        stack = has.stack ∙ first;
+      omega arith)
+      (omega arith)
+      (λ s has. record {
+        stack = has.stack ∙ omega arith;
         last = has.top;
         there = has.there;
-        zeroed = subst (λ x. AreZeroed bottom x s.bytes s.bytes) first (no_zeros bottom s.bytes);
+        zeroed = no_zeros bottom (up_at 0) s.bytes (omega arith);
         others = λ q h. refl;
       })
       (λ s t has held.
-      let end : up_at blocks ≡ top = omega (arith, whole) in
+      let end : up_at blocks ≡ top = omega arith in
       record {
         stack = held.stack ∙ end;
         zeroed = subst (λ x. AreZeroed bottom x s.bytes t.bytes) end held.zeroed;
@@ -250,7 +237,7 @@ module _ (code : Code) (bottom room : ℕ) (even : bottom % 16 ≡ 0) (whole : r
       (HasFrame bottom room) (Sets 5 (λ s. difference_of (s.regs 2) room))
   based_runs =
       then_runs z {R' = Sets 5 (λ s. difference_of (s.regs 2) (s.regs 5))} (constant_code 5 room)
-      (Register Sub 5 2 5 ∷ []) (constant_runs z 5 room (omega arith) (λ e. omega arith) (omega (arith, below)))
+      (Register Sub 5 2 5 ∷ []) (constant_runs z 5 room (omega arith) (λ e. omega arith) (omega arith))
       (sets_runs z {P = λ s. Unit {0}} 5 (Register Sub 5 2 5 ∷ []) [] refl tt (λ s given. tt) (λ s given. refl)
       (λ s. refl))
       (λ s t has one. tt)
@@ -271,7 +258,7 @@ module _ (code : Code) (bottom room : ℕ) (even : bottom % 16 ≡ 0) (whole : r
       let moved = sets.there in
       record {
         stack = sets.others 2 (λ e. omega arith) ∙ stack;
-        last = moved ∙ omega (arith, stack, below);
+        last = moved ∙ omega arith;
         there = subst (λ (b : ByteMap). AreData bottom top b) (sym sets.same) has.there;
       })
       (λ s t u has sets ends. record {
@@ -289,16 +276,15 @@ frame_is_zeroed code start bottom room there even whole below = by (room == 0) r
         (IsStoreIn bottom (bottom + room)) (HasFrame bottom room) (IsZeroFrame bottom room)
     by true none here =
         let no_room : room ≡ 0 = eqb-true room 0 none in
-        let same : bottom + room ≡ bottom = omega (arith, no_room) in
         no_code (storing code bottom room) {P = HasFrame bottom room} {R = IsZeroFrame bottom room}
         (λ s has. record {
-          stack = has.stack ∙ same;
-          zeroed = subst (λ x. AreZeroed bottom x s.bytes s.bytes) (sym same) (no_zeros bottom s.bytes);
+          stack = has.stack ∙ omega arith;
+          zeroed = no_zeros bottom (bottom + room) s.bytes (omega arith);
           others = λ q h k. refl;
         }) start tt
     by false some here =
         let differ = eqb-false room 0 some in
-        let positive : 0 < room = omega (arith, differ) in
+        let positive : 0 < room = omega arith in
         as_code (storing code bottom room)
         ((constant_code 5 room ++ Register Sub 5 2 5 ∷ []) ++ until_equal 2 5 down_code) (some_frame room)
         (append_assoc (constant_code 5 room) (Register Sub 5 2 5 ∷ []) (until_equal 2 5 down_code))
