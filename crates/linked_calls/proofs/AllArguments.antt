@@ -29,6 +29,7 @@ use Rattle.linked_calls.proofs.Copies.{array_is_taken}
 use Rattle.linked_calls.proofs.EnterTurns.{arguments_turns}
 use Rattle.linked_calls.proofs.Pieces.{Runs, Setting, no_code, promised_runs, then_runs, weaken_runs}
 use Rattle.linked_calls.proofs.Rooms.{IsOutside, RoomNumbers}
+use Rattle.linked_calls.proofs.SameRegisters.{IsNone, same_beside}
 use Rattle.linked_calls.proofs.Staying.{stay_ready}
 use Rattle.linked_calls.proofs.Words.{word_is_taken}
 use Rattle.rv_machine.specs.Bytes.{ByteMap}
@@ -39,10 +40,17 @@ use Rattle.rv_machine.specs.declared.observation.Event.{Event}
 abbrev pub call_setting : Fields → Code → Site → Setting
 call_setting image code site = record { code = code; allowed = IsOfCall image site; silent = tt }
 
--- the bytes are those that a function gives, and the registers that no argument's code writes are as before
+-- what the code of arguments and arrays writes
+abbrev pub taken_registers : List ℕ
+taken_registers = 5 ∷ 6 ∷ 7 ∷ 28 ∷ []
+
+-- the bytes are those that a function gives, and no other register has changed
 pub record Takes (goal : Data → ByteMap) (s t : Data) : Type 0 where
   pub bytes : t.bytes ≡ goal s
-  pub others : (q : ℕ) → q ≢ 5 → q ≢ 6 → q ≢ 7 → q ≢ 28 → t.regs q ≡ s.regs q
+  pub others : (q : ℕ) → IsNone taken_registers q → t.regs q ≡ s.regs q
+
+pub still_base : (goal : Data → ByteMap) (s t : Data) → Takes goal s t → t.regs 2 ≡ s.regs 2
+still_base goal s t takes = (same_beside taken_registers t.regs s.regs takes.others (2 ∷ []) refl).0
 
 -- An argument at its slot.
 
@@ -209,7 +217,10 @@ module _ (image : Fields) (site : Site) where
           array_there = begins.ready.array;
           slot_there = λ x l h. begins.there x (omega arith) (omega arith);
         })
-        (λ s t begins taken. record { bytes = taken.bytes; others = taken.others })
+        (λ s t begins taken. record {
+          bytes = taken.bytes;
+          others = λ q none. taken.others q none.0 none.1.0 none.1.1.0 none.1.1.1.0;
+        })
 
     argument_runs : (i : ℕ) (slot : Slot) (form : Form) → IsKnown i slot form
         → Runs z (argument_turns image i slot form) (argument_code image i slot form)
@@ -227,7 +238,7 @@ module _ (image : Fields) (site : Site) where
           argument_there = λ x l h. begins.there x (omega arith) (omega arith);
           slot_there = λ x l h. begins.there x (omega arith) (omega arith);
         })
-        (λ s t begins put. record { bytes = put.bytes; others = λ q g h k l. put.others q g l })
+        (λ s t begins put. record { bytes = put.bytes; others = λ q none. put.others q none.0 none.1.1.1.0 })
     argument_runs i slot FixedArray known = array_runs i slot known
     argument_runs i slot MutableArray known = array_runs i slot known.known
 
@@ -235,7 +246,7 @@ module _ (image : Fields) (site : Site) where
     pub arguments_runs : (i : ℕ) (slots : List Slot) → i + length slots ≡ length image.slots → AreKnown i slots
         → Runs z (arguments_turns image i slots) (arguments_code image i slots)
         (Begins (λ bytes. AreReady image site bytes i slots)) (Takes (λ s. all_taken s.bytes i slots))
-    arguments_runs i [] count known = no_code z (λ s begins. record { bytes = refl; others = λ q g h k l. refl })
+    arguments_runs i [] count known = no_code z (λ s begins. record { bytes = refl; others = λ q none. refl })
     arguments_runs i (slot ∷ slots) count known =
         let form = slot.param.form in
         let under = room in
@@ -249,8 +260,7 @@ module _ (image : Fields) (site : Site) where
         (λ s t begins takes.
         let same = taken_data s.bytes i slot form known.0 (λ x l h. begins.there x l (omega arith)) in
         record {
-          stack = takes.others 2 (λ e. omega arith) (λ e. omega arith) (λ e. omega arith) (λ e. omega arith)
-              ∙ begins.stack;
+          stack = still_base _ s t takes ∙ begins.stack;
           there = λ x l h. ap (λ (b : ByteMap). is_some (b x)) takes.bytes ∙ same x ∙ begins.there x l h;
           ready = subst (λ (b : ByteMap). AreReady image site b (i + 1) slots) (sym takes.bytes)
               (stay_ready image site numbers s.bytes (taken s.bytes i slot form)
@@ -259,5 +269,5 @@ module _ (image : Fields) (site : Site) where
         })
         (λ s t u begins takes more. record {
           bytes = more.bytes ∙ ap (λ (b : ByteMap). all_taken b (i + 1) slots) takes.bytes;
-          others = λ q g h k l. more.others q g h k l ∙ takes.others q g h k l;
+          others = λ q none. more.others q none ∙ takes.others q none;
         })

@@ -14,7 +14,7 @@ use Rattle.linked_calls.specs.Calls.{Site, IsBesides, room_base, arguments_end}
 use Rattle.linked_calls.specs.Copies.{HasArray, IsHandedBack, elements_at}
 use Rattle.linked_calls.specs.FunctionCode.{array_bytes, copy_out_code, results_code}
 use Rattle.linked_calls.specs.Stretches.{AreData}
-use Rattle.linked_calls.proofs.AllArguments.{AreKnown, Begins, IsKnown, Takes, call_setting, spot_at}
+use Rattle.linked_calls.proofs.AllArguments.{AreKnown, Begins, IsKnown, Takes, call_setting, spot_at, still_base}
 use Rattle.linked_calls.proofs.Between.{AreReady, IsReady}
 use Rattle.linked_calls.proofs.Bytes.{SameData, numbers_above, numbers_below, numbers_count, numbers_data, numbers_same}
 use Rattle.linked_calls.proofs.Copies.{array_is_handed_back}
@@ -53,8 +53,8 @@ module _ (image : Fields) (code : Code) (site : Site) (numbers : RoomNumbers ima
   output_runs : (i : ℕ) (slot : Slot) (form : Form) → IsKnown image site i slot form
       → Runs z (output_turns image i slot form) (copy_out_code image i slot form)
       (Begins image site (λ bytes. IsReady image site bytes i slot form)) (Takes (λ s. handed s.bytes i slot form))
-  output_runs i slot SingleWord known = no_code z (λ s begins. record { bytes = refl; others = λ q g h k l. refl })
-  output_runs i slot FixedArray known = no_code z (λ s begins. record { bytes = refl; others = λ q g h k l. refl })
+  output_runs i slot SingleWord known = no_code z (λ s begins. record { bytes = refl; others = λ q none. refl })
+  output_runs i slot FixedArray known = no_code z (λ s begins. record { bytes = refl; others = λ q none. refl })
   output_runs i slot MutableArray known =
       weaken_runs z {P' = Begins image site (λ bytes. IsReady image site bytes i slot MutableArray)}
       {R' = Takes (λ s. handed s.bytes i slot MutableArray)} (copy_out_code image i slot MutableArray)
@@ -67,7 +67,10 @@ module _ (image : Fields) (code : Code) (site : Site) (numbers : RoomNumbers ima
         array_there = begins.ready.array;
         slot_there = λ x l h. begins.there x (omega arith) (omega arith);
       })
-      (λ s t begins back. record { bytes = back.bytes; others = back.others })
+      (λ s t begins back. record {
+        bytes = back.bytes;
+        others = λ q none. back.others q none.0 none.1.0 none.1.1.0 none.1.1.1.0;
+      })
 
   -- Only arrays change, and what is data stays data.
 
@@ -154,7 +157,7 @@ module _ (image : Fields) (code : Code) (site : Site) (numbers : RoomNumbers ima
   handed_runs : (i : ℕ) (slots : List Slot) → i + length slots ≡ length image.slots → AreKnown image site i slots
       → Runs z (outputs_turns image i slots) (results_code image i slots)
       (Begins image site (λ bytes. AreReady image site bytes i slots)) (Takes (λ s. all_handed s.bytes i slots))
-  handed_runs i [] count known = no_code z (λ s begins. record { bytes = refl; others = λ q g h k l. refl })
+  handed_runs i [] count known = no_code z (λ s begins. record { bytes = refl; others = λ q none. refl })
   handed_runs i (slot ∷ slots) count known =
       let form = slot.param.form in
       then_runs z (copy_out_code image i slot form) (results_code image (i + 1) slots)
@@ -167,8 +170,7 @@ module _ (image : Fields) (code : Code) (site : Site) (numbers : RoomNumbers ima
       (λ s t begins takes.
       let same = handed_data s.bytes i slot form begins.ready.0 in
       record {
-        stack = takes.others 2 (λ e. omega arith) (λ e. omega arith) (λ e. omega arith) (λ e. omega arith)
-            ∙ begins.stack;
+        stack = still_base _ s t takes ∙ begins.stack;
         there = λ x l h. ap (λ (b : ByteMap). is_some (b x)) takes.bytes ∙ same x ∙ begins.there x l h;
         ready = subst (λ (b : ByteMap). AreReady image site b (i + 1) slots) (sym takes.bytes)
             (stay_ready image site numbers s.bytes (handed s.bytes i slot form)
@@ -177,7 +179,7 @@ module _ (image : Fields) (code : Code) (site : Site) (numbers : RoomNumbers ima
       })
       (λ s t u begins takes more. record {
         bytes = more.bytes ∙ ap (λ (b : ByteMap). all_handed b (i + 1) slots) takes.bytes;
-        others = λ q g h k l. more.others q g h k l ∙ takes.others q g h k l;
+        others = λ q none. more.others q none ∙ takes.others q none;
       })
 
   -- the outcome of each, as the slots hold it at the beginning

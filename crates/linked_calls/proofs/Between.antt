@@ -3,7 +3,7 @@
 use Rattle.std.specs.Prelude.{◌⊎◌, sum}
 use Rattle.std.proofs.Common.{◌≡◌, ℕ, suc, ◌+◌, ◌-◌, ◌*◌, ◌%◌, ◌^◌, ◌<◌, ◌≤◌, List, [], ◌∷◌, length, map, All, Some}
 use Rattle.std.proofs.Common.{None}
-use Rattle.codegen.specs.Anywhere.{IsLoaded, IsUntouched, body_words}
+use Rattle.codegen.specs.Anywhere.{IsLoaded, body_words}
 use Rattle.codegen.specs.Loaded.{results_in}
 use Rattle.codegen.specs.image_fields.Fields.{Fields, IsImage}
 use Rattle.codegen.specs.declared.image_fields.slot.Slot.{Slot}
@@ -15,6 +15,7 @@ use Rattle.linked_calls.specs.Convention.{saved_registers}
 use Rattle.linked_calls.specs.FunctionCode.{enter_code, function_words, frame_room, argument_offset, array_bytes}
 use Rattle.linked_calls.specs.Sections.{enter_sections, leave_sections, section_turns}
 use Rattle.linked_calls.specs.Stretches.{AreData}
+use Rattle.linked_calls.proofs.SameRegisters.{AreSame}
 use Rattle.rv_machine.specs.Bytes.{ByteMap, number_at}
 use Rattle.rv_machine.specs.Leakage.{Leads}
 use Rattle.rv_machine.specs.Machine.{State, Code, Turn, goes_on, observed, moved_to}
@@ -37,6 +38,10 @@ leave_turns image = sum (map (section_turns image) (leave_sections image))
 abbrev pub AreSaved : ByteMap → (ℕ → ℕ) → ℕ → List ℕ → Type 0
 AreSaved bytes regs a [] = Unit {0}
 AreSaved bytes regs a (r ∷ rs) = (number_at bytes 4 a ≡ Some (regs r)) × AreSaved bytes regs (a + 4) rs
+
+-- ra, gp and tp, which neither the body nor the code around it touches
+abbrev pub untouched_registers : List ℕ
+untouched_registers = 1 ∷ 3 ∷ 4 ∷ []
 
 -- the caller's registers, above the frame
 abbrev pub saved_at : Fields → Site → ℕ
@@ -68,7 +73,7 @@ IsOutsideRoom image site x = (x < room_base image site) ⊎ (site.stack ≤ x)
 pub record IsEntered (image : Fields) (site : Site) (s t : State) : Type 0 where
   pub at_body : t.pc ≡ body_at image site
   pub loaded : IsLoaded image (room_base image site) (arguments_of image site s) t
-  pub untouched : (r : ℕ) → IsUntouched r → t.regs r ≡ s.regs r
+  pub untouched : AreSame t.regs s.regs untouched_registers
   pub saved : AreSaved t.bytes s.regs (saved_at image site) saved_registers
   pub ready : AreReady image site t.bytes 0 image.slots
   pub outside : (x : ℕ) → IsOutsideRoom image site x → t.bytes x ≡ s.bytes x
@@ -96,7 +101,7 @@ pub record CanLeave (image : Fields) (site : Site) (regs : ℕ → ℕ) (s : Sta
   pub at_leave : s.pc ≡ leave_at image site
   pub base : s.regs 2 ≡ room_base image site
   pub stack : regs 2 ≡ site.stack
-  pub untouched : (r : ℕ) → IsUntouched r → s.regs r ≡ regs r
+  pub untouched : AreSame s.regs regs untouched_registers
   pub words : (r : ℕ) → regs r < 2 ^ 32
   pub saved : AreSaved s.bytes regs (saved_at image site) saved_registers
   pub there : AreData (room_base image site) (arguments_end image site) s.bytes

@@ -1,7 +1,7 @@
 -- The whole call: the code before the body, the body, and the code behind it, one after another.
 use Rattle.std.specs.Prelude.{sum, is_some}
 use Rattle.std.proofs.Common.{◌≡◌, ℕ, suc, ◌+◌, ◌-◌, ◌<◌, ◌≤◌, true, List, ◌++◌, map, Option, Some, None, inl}
-use Rattle.std.proofs.Common.{inr, ⊎_elim, sym, ap, ◌∙◌, subst, arith}
+use Rattle.std.proofs.Common.{inr, ⊎_elim, refl, sym, ap, ◌∙◌, subst, arith}
 use Rattle.std.proofs.lemmas.Bool.{cases_lt}
 use Rattle.std.proofs.lemmas.List.{map-append}
 use Rattle.std.proofs.lemmas.List.Elements.{All-append}
@@ -22,8 +22,10 @@ use Rattle.linked_calls.specs.Sections.{enter_sections, leave_sections, section_
 use Rattle.linked_calls.specs.Stretches.{AreData}
 use Rattle.linked_calls.proofs.Between.{IsOutsideRoom, body_at, saved_at, enter_turns, leave_turns, Enters}
 use Rattle.linked_calls.proofs.Between.{EntersFrom, EnteringLeads, CanLeave, Leaves, LeavesFrom, LeavesEverywhere}
+use Rattle.linked_calls.proofs.Between.{untouched_registers}
 use Rattle.linked_calls.proofs.Bytes.{SameData}
 use Rattle.linked_calls.proofs.Rooms.{room_numbers}
+use Rattle.linked_calls.proofs.SameRegisters.{same_then}
 use Rattle.linked_calls.proofs.SavedRegisters.{saved_same}
 use Rattle.linked_calls.proofs.Standing.{body_stands}
 use Rattle.linked_calls.proofs.Staying.{arrays_agree, stay_ready}
@@ -134,7 +136,9 @@ module _ (image : Fields) (code : Code) (site : Site) (is : IsSite image code si
     at_leave = run.behind;
     base = run.base;
     stack = called.stack;
-    untouched = λ r which. run.untouched r which ∙ entered.entered.untouched r which;
+    untouched = same_then run.end.regs entered.end.regs s.regs untouched_registers
+        (run.untouched 1 (inl refl), (run.untouched 3 (inr (inl refl)), (run.untouched 4 (inr (inr refl)), tt)))
+        entered.entered.untouched;
     words = called.words;
     saved = saved_same entered.end.bytes run.end.bytes s.regs (saved_at image site) saved_registers
         (λ x low high. same_above x low) entered.entered.saved;

@@ -1,7 +1,7 @@
 -- The code before the body leads from a state in which the function is called to one in which its body is loaded.
 use Rattle.std.specs.Prelude.{is_some}
 use Rattle.std.proofs.Common.{◌≡◌, ◌≢◌, ℕ, ◌+◌, ◌-◌, ◌*◌, ◌^◌, ◌<◌, ◌≤◌, Bool, true, false, nat_lt, if◌then◌else◌}
-use Rattle.std.proofs.Common.{List, ◌++◌, length, map, Some, inl, inr, ⊎_elim, refl, sym, ap, ◌∙◌}
+use Rattle.std.proofs.Common.{List, [], ◌∷◌, ◌++◌, length, map, Some, inl, inr, ⊎_elim, refl, sym, ap, ◌∙◌}
 use Rattle.std.proofs.Common.{subst, arith}
 use Rattle.std.proofs.lemmas.Bool.{cases_lt, ltb-false, ltb-true}
 use Rattle.codegen.specs.Anywhere.{IsLoaded, IsUntouched}
@@ -15,10 +15,10 @@ use Rattle.linked_calls.specs.FunctionCode.{argument_offset}
 use Rattle.linked_calls.specs.Stretches.{AreData}
 use Rattle.linked_calls.specs.Zeros.{HasFrame, IsZeroFrame, frame_turns}
 use Rattle.linked_calls.proofs.AllArguments.{AreKnown, Begins, Takes, all_taken, all_taken_data, all_taken_outside}
-use Rattle.linked_calls.proofs.AllArguments.{arguments_runs, call_setting}
+use Rattle.linked_calls.proofs.AllArguments.{arguments_runs, call_setting, still_base, taken_registers}
 use Rattle.linked_calls.proofs.Below.{found, number_at_same}
 use Rattle.linked_calls.proofs.Between.{AreReady, AreSaved, EnteringLeads, IsEntered, IsOutsideRoom, body_at}
-use Rattle.linked_calls.proofs.Between.{enter_turns, saved_at}
+use Rattle.linked_calls.proofs.Between.{enter_turns, saved_at, untouched_registers}
 use Rattle.linked_calls.proofs.Bytes.{SameData, number_there, numbers_above, numbers_below, numbers_data, zero_byte}
 use Rattle.linked_calls.proofs.EnterTurns.{arguments_turns, enter_turns_are}
 use Rattle.linked_calls.proofs.Entering.{Entered, entered_bytes, entry_runs, saved_bytes}
@@ -28,6 +28,7 @@ use Rattle.linked_calls.proofs.Parts.{same_number}
 use Rattle.linked_calls.proofs.Passed.{StandAsPassed, all_ready, still_passed}
 use Rattle.linked_calls.proofs.Pieces.{Runs, Setting, in_turns, promised_runs, then_runs, weaken_runs}
 use Rattle.linked_calls.proofs.Rooms.{IsOutside, RoomNumbers, place_inside, place_stacked, room_numbers}
+use Rattle.linked_calls.proofs.SameRegisters.{AreSame, same_beside, still_same}
 use Rattle.linked_calls.proofs.SavedRegisters.{stored_are_saved, saved_same, saved_one}
 use Rattle.linked_calls.proofs.Standing.{enter_placed}
 use Rattle.linked_calls.proofs.Zeros.{frame_is_zeroed}
@@ -35,12 +36,6 @@ use Rattle.rv_machine.specs.Bytes.{ByteMap, number_at, zeros}
 use Rattle.rv_machine.specs.Leakage.{Leads}
 use Rattle.rv_machine.specs.Machine.{State, Code}
 use Rattle.rv_machine.specs.Registers.{register}
-
--- ra, gp and tp are neither sp nor any that entering writes
-untouched_few : (r : ℕ) → IsUntouched r → (r < 5) × (r ≢ 2)
-untouched_few r (inl e) = (omega arith, λ h. omega arith)
-untouched_few r (inr (inl e)) = (omega arith, λ h. omega arith)
-untouched_few r (inr (inr e)) = (omega arith, λ h. omega arith)
 
 module _ (image : Fields) (code : Code) (site : Site) (is : IsImage image) (is_site : IsSite image code site)
     (numbers : RoomNumbers image site) where
@@ -156,7 +151,7 @@ module _ (image : Fields) (code : Code) (site : Site) (is : IsImage image) (is_s
   -- x2 is the frame's base, the frame is zeros, and the room above it holds what the entry has stored
   record IsFramed (d t : Data) : Type 0 where
     stack : t.regs 2 ≡ frame
-    untouched : (r : ℕ) → IsUntouched r → t.regs r ≡ d.regs r
+    untouched : AreSame t.regs d.regs untouched_registers
     zeros : (x : ℕ) → frame ≤ x → x < above → t.bytes x ≡ Some 0
     outside : (x : ℕ) → IsOutside frame above x → t.bytes x ≡ stored d x
 
@@ -174,9 +169,9 @@ module _ (image : Fields) (code : Code) (site : Site) (is : IsImage image) (is_s
       → IsFramed d u
   framed d t u called entered zeroed = record {
     stack = zeroed.stack;
-    untouched = λ r h.
-        let few = untouched_few r h in
-        zeroed.others r few.1 (λ e. omega arith) ∙ entered.others r few.1;
+    untouched = still_same (2 ∷ 5 ∷ []) u.regs t.regs d.regs (λ q none. zeroed.others q none.0 none.1.0)
+        untouched_registers refl
+        (same_beside (2 ∷ []) t.regs d.regs (λ q none. entered.others q none.0) untouched_registers refl);
     zeros = zeroed.zeroed.inside;
     outside = λ x outside. zeroed.zeroed.outside x outside ∙ ap (λ (b : ByteMap). b x) entered.bytes;
   }
@@ -221,8 +216,7 @@ module _ (image : Fields) (code : Code) (site : Site) (is : IsImage image) (is_s
 
     taken_loaded : IsLoaded image frame (arguments_of image site (at_call d)) (at (body_at image site) u)
     taken_loaded = record {
-      base = takes.others 2 (λ e. omega arith) (λ e. omega arith) (λ e. omega arith) (λ e. omega arith)
-          ∙ frames.stack;
+      base = still_base _ t u takes ∙ frames.stack;
       frame_there = λ o inside.
           ap (λ (b : ByteMap). b (frame + o)) takes.bytes
           ∙ all_taken_is image site numbers (at_call d) t.bytes (zeros frame image.frame_bytes) 0 image.slots
@@ -230,12 +224,6 @@ module _ (image : Fields) (code : Code) (site : Site) (is : IsImage image) (is_s
           (frames.zeros (frame + o) (omega arith) (omega arith)
           ∙ sym (zero_byte frame image.frame_bytes (frame + o) (omega arith) (omega arith)));
     }
-
-    taken_untouched : (r : ℕ) → IsUntouched r → u.regs r ≡ d.regs r
-    taken_untouched r h =
-        let near = (untouched_few r h).0 in
-        takes.others r (λ e. omega arith) (λ e. omega arith) (λ e. omega arith)
-        (λ e. omega arith) ∙ frames.untouched r h
 
     room_there : AreData frame site.stack u.bytes
     room_there x low high =
@@ -247,7 +235,8 @@ module _ (image : Fields) (code : Code) (site : Site) (is : IsImage image) (is_s
     is_entered = record {
       at_body = refl;
       loaded = taken_loaded;
-      untouched = taken_untouched;
+      untouched = still_same taken_registers u.regs t.regs d.regs takes.others untouched_registers refl
+          frames.untouched;
       saved = saved_same (stored d) u.bytes d.regs above saved_registers (λ x low high. taken_outside x (inr low))
           (stored_saved d called.words);
       ready = all_ready image site (at_call d) u.bytes taken_passed 0 image.slots (omega arith) is_site.arrays
@@ -273,7 +262,8 @@ at_own site image s called = ap (λ p. at p (record { regs = s.regs; bytes = s.b
 pub enters : EnteringLeads
 enters image code site is is_site =
     let part = in_turns (call_setting image code site) (enter_code image) (sym (enter_turns_are image))
-    (enter_part image code site is is_site (room_numbers image code site is_site)) site.entry (enter_placed image code site is_site) in
+    (enter_part image code site is is_site (room_numbers image code site is_site)) site.entry
+    (enter_placed image code site is_site) in
     record {
       shown = part.shown;
       within = part.within;

@@ -25,11 +25,11 @@ use Rattle.linked_calls.specs.FunctionCode.{results_code, restore_code, wipe_cod
 use Rattle.linked_calls.specs.Sections.{block_turns}
 use Rattle.linked_calls.specs.Words.{HasResult, IsReturned, IsLoadOf}
 use Rattle.linked_calls.specs.Stretches.{AreData, AreZeroed}
-use Rattle.linked_calls.proofs.AllArguments.{AreKnown, Begins, call_setting}
+use Rattle.linked_calls.proofs.AllArguments.{AreKnown, Begins, call_setting, taken_registers}
 use Rattle.linked_calls.proofs.AllResults.{all_handed_apart, all_handed_are, results_runs}
 use Rattle.linked_calls.proofs.Below.{Placed-left, Placed-right}
 use Rattle.linked_calls.proofs.Between.{AreReady, AreSaved, CanLeave, Leaves, LeavesEverywhere, leave_at, leave_turns}
-use Rattle.linked_calls.proofs.Between.{saved_at}
+use Rattle.linked_calls.proofs.Between.{saved_at, untouched_registers}
 use Rattle.linked_calls.proofs.GoingBack.{goes_back}
 use Rattle.linked_calls.proofs.KnownArguments.{all_known, small_access, zero_allowed}
 use Rattle.linked_calls.proofs.LeaveTurns.{outputs_turns, leave_turns_are}
@@ -37,7 +37,7 @@ use Rattle.linked_calls.proofs.Parts.{Sets, sets_runs}
 use Rattle.linked_calls.proofs.Pieces.{Runs, Setting, as_code, promised_runs, then_runs, weaken_runs}
 use Rattle.linked_calls.proofs.Restoring.{lasts_run}
 use Rattle.linked_calls.proofs.Rooms.{RoomNumbers, room_numbers}
-use Rattle.linked_calls.proofs.SameRegisters.{AreSame, all_same, same_beside, same_then}
+use Rattle.linked_calls.proofs.SameRegisters.{IsNone, AreSame, all_same, same_beside, same_then}
 use Rattle.linked_calls.proofs.SavedRegisters.{saved_same}
 use Rattle.linked_calls.proofs.Standing.{function_length, leave_placed}
 use Rattle.linked_calls.proofs.Words.{result_is_handed_back}
@@ -125,7 +125,7 @@ module _ (image : Fields) (code : Code) (site : Site) (is : IsImage image) (at_s
   record Handed (s t : Data) : Type 0 where
     result : t.regs 10 ≡ result_of s.bytes image.returned
     bytes : t.bytes ≡ left_bytes s.bytes
-    others : (q : ℕ) → q ≢ 10 → q ≢ 5 → q ≢ 6 → q ≢ 7 → q ≢ 28 → t.regs q ≡ s.regs q
+    others : (q : ℕ) → IsNone (10 ∷ taken_registers) q → t.regs q ≡ s.regs q
 
   handed_runs : Runs z (length (result_code image.returned) + outputs_turns image 0 image.slots)
       (result_code image.returned ++ results_code image 0 image.slots) Starts Handed
@@ -139,17 +139,16 @@ module _ (image : Fields) (code : Code) (site : Site) (is : IsImage image) (at_s
         ready = subst (λ (b : ByteMap). AreReady image site b 0 image.slots) (sym sets.same) begins.ready;
       })
       (λ s t u begins sets takes. record {
-        result = takes.others 10 (λ e. omega arith) (λ e. omega arith) (λ e. omega arith) (λ e. omega arith)
-            ∙ sets.there;
+        result = (same_beside taken_registers u.regs t.regs takes.others (10 ∷ []) refl).0 ∙ sets.there;
         bytes = takes.bytes ∙ ap left_bytes sets.same;
-        others = λ q g h k l m. takes.others q h k l m ∙ sets.others q g;
+        others = λ q none. takes.others q none.1 ∙ sets.others q none.0;
       })
 
   -- All but the last instruction.
 
   record Front (s t : Data) : Type 0 where
     result : t.regs 10 ≡ result_of s.bytes image.returned
-    kept : AreSame t.regs s.regs (1 ∷ 3 ∷ 4 ∷ [])
+    kept : AreSame t.regs s.regs untouched_registers
     stack : t.regs 2 ≡ site.stack
     saved : (regs : ℕ → ℕ) → AreSaved (left_bytes s.bytes) regs (saved_at image site) saved_registers
         → AreSame t.regs regs saved_registers
@@ -174,8 +173,7 @@ module _ (image : Fields) (code : Code) (site : Site) (is : IsImage image) (at_s
       (λ x low high. inl (omega arith, omega arith))
       (zero_allowed image site base (base + (room + 80)) (omega arith) (omega arith)))
       (λ s t begins handed. record {
-        stack = handed.others 2 (λ e. omega arith) (λ e. omega arith) (λ e. omega arith) (λ e. omega arith)
-            (λ e. omega arith) ∙ begins.stack;
+        stack = (same_beside (10 ∷ taken_registers) t.regs s.regs handed.others (2 ∷ []) refl).0 ∙ begins.stack;
         there = λ x low high.
             let under : x < end = omega arith in
             ap (λ (b : ByteMap). is_some (b x)) handed.bytes ∙ ap is_some (in_room s.bytes x low under)
@@ -183,11 +181,9 @@ module _ (image : Fields) (code : Code) (site : Site) (is : IsImage image) (at_s
       })
       (λ s t u begins handed lasts. record {
         result = lasts.others_same.1.1.1.0 ∙ handed.result;
-        kept = same_then u.regs t.regs s.regs (1 ∷ 3 ∷ 4 ∷ [])
+        kept = same_then u.regs t.regs s.regs untouched_registers
             (lasts.others_same.0, (lasts.others_same.1.0, (lasts.others_same.1.1.0, tt)))
-            (same_beside (10 ∷ 5 ∷ 6 ∷ 7 ∷ 28 ∷ []) t.regs s.regs
-            (λ q none. handed.others q none.0 none.1.0 none.1.1.0 none.1.1.1.0 none.1.1.1.1.0)
-            (1 ∷ 3 ∷ 4 ∷ []) refl);
+            (same_beside (10 ∷ taken_registers) t.regs s.regs handed.others untouched_registers refl);
         stack = lasts.stack ∙ ends;
         saved = λ regs saved. lasts.saved regs
             (subst (λ (b : ByteMap). AreSaved b regs (base + room) saved_registers) (sym handed.bytes) saved);
@@ -214,13 +210,11 @@ module _ (image : Fields) (code : Code) (site : Site) (is : IsImage image) (at_s
       → IsLeft image site regs s.bytes (results_in base image s.bytes)
       (at (leave_at image site + 4 * length (front image)) t)
   left regs s t can done =
-      let first = done.kept.0 ∙ can.untouched 1 (inl refl) in
-      let third = done.kept.1.0 ∙ can.untouched 3 (inr (inl refl)) in
-      let fourth = done.kept.1.1.0 ∙ can.untouched 4 (inr (inr refl)) in
+      let kept = same_then t.regs s.regs regs untouched_registers done.kept can.untouched in
       let saved = done.saved regs (still_saved regs s.bytes can.saved) in
       record {
         result = done.result;
-        kept = all_same t.regs regs kept_registers (first, (done.stack ∙ sym can.stack, (third, (fourth, saved))));
+        kept = all_same t.regs regs kept_registers (kept.0, (done.stack ∙ sym can.stack, (kept.1.0, (kept.1.1.0, saved))));
         cleared = done.cleared;
         memory = done.zeroed;
       }
@@ -255,7 +249,7 @@ module _ (image : Fields) (code : Code) (site : Site) (is : IsImage image) (at_s
               leads = subst (λ (x : State). Leads code front_turns x one.shown last) there a.leads;
               at_last = last_place image site;
               left = left regs s a.end can a.done;
-              goes_back = λ even. goes_back code last (regs 1) last_at (a.done.kept.0 ∙ can.untouched 1 (inl refl))
+              goes_back = λ even. goes_back code last (regs 1) last_at (a.done.kept.0 ∙ can.untouched.0)
                   (can.words 1) even;
             };
       }

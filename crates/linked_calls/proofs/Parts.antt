@@ -243,11 +243,10 @@ module _ (z : Setting) (base : ℕ) (few : base < 32) where
       → BeginsStores base offset a (length rs) d → AreMet (stores_code base offset rs) (words_at a rs) d
   stores_met offset a [] d near below begins = tt
   stores_met offset a (r ∷ rs) d near below begins =
-      let root = begins.root in
       let here = number_there d.bytes 4 a (λ x low high. begins.there x low (omega arith)) in (
         record {
           address = near_address (register d.regs base) offset (omega arith) (omega arith)
-              ∙ root;
+              ∙ begins.root;
           data_there = here;
         },
         stores_met (offset + 4) (a + 4) rs (after (Store Sw r base offset) a d) (omega arith)

@@ -74,7 +74,6 @@ module _ (code : Code) (bottom room : ℕ) (even : bottom % 16 ≡ 0) (whole : r
         there = subst (λ (b : ByteMap). AreData a (a + 16) b) (sym sets.same) has.there;
       })
       (λ s t u has sets stores.
-      let stack = has.stack in
       let kept = ap (λ (regs : ℕ → ℕ). regs 2) stores.regs in
       record {
         stack = kept ∙ omega arith;
@@ -92,7 +91,6 @@ module _ (code : Code) (bottom room : ℕ) (even : bottom % 16 ≡ 0) (whole : r
       (sets_runs z {P = λ s. Unit {0}} 2 (added 2 16 ∷ []) [] refl tt (λ s given. tt) (λ s given. refl) (λ s. refl))
       (λ s t has stores. tt)
       (λ s t u has stores sets.
-      let stack = has.stack in
       let kept = ap (λ (regs : ℕ → ℕ). regs 2) stores.regs in
       record {
         stack = omega arith;
@@ -171,12 +169,8 @@ module _ (code : Code) (bottom room : ℕ) (even : bottom % 16 ≡ 0) (whole : r
       one_more (down_at i) bottom (down_at i) top a a a top s d t from to block held
       (λ zeroed. zeros_down a (down_at i) top s.bytes d.bytes t.bytes (omega arith) (omega arith) held.zeroed
       (subst (λ x. AreZeroed a x d.bytes t.bytes) next zeroed))))
-      (λ i s d few held same.
-      omega arith)
-      (λ s d held.
-      let stack = held.stack in
-      let last = held.last in
-      omega arith)
+      (λ i s d few held same. omega arith)
+      (λ s d held. omega arith)
       (omega arith)
       (λ s begins. record {
         stack = begins.stack ∙ omega arith;
@@ -208,12 +202,8 @@ module _ (code : Code) (bottom room : ℕ) (even : bottom % 16 ≡ 0) (whole : r
       subst (λ x. Zeroing x top bottom x s t) next
       (one_more a top bottom a a (a + 16) bottom (a + 16) s d t (omega arith) to block held
       (zeros_up bottom a (a + 16) s.bytes d.bytes t.bytes (omega arith) (omega arith) held.zeroed))))
-      (λ i s d few held same.
-      omega arith)
-      (λ s d held.
-      let stack = held.stack in
-      let last = held.last in
-      omega arith)
+      (λ i s d few held same. omega arith)
+      (λ s d held. omega arith)
       (omega arith)
       (λ s has. record {
         stack = has.stack ∙ omega arith;
