@@ -198,8 +198,7 @@ module _ (image : Fields) (site : Site) where
     z = call_setting image code site
 
     room : saved_at image site ≤ arguments_end image site
-    room =
-        omega arith
+    room = omega arith
 
     array_runs : (i : ℕ) (slot : Slot) → KnownArray i slot
         → Runs z (argument_turns image i slot FixedArray) (argument_code image i slot FixedArray)

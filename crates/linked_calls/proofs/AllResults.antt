@@ -53,8 +53,6 @@ module _ (image : Fields) (code : Code) (site : Site) (numbers : RoomNumbers ima
   output_runs : (i : ℕ) (slot : Slot) (form : Form) → IsKnown image site i slot form
       → Runs z (output_turns image i slot form) (copy_out_code image i slot form)
       (Begins image site (λ bytes. IsReady image site bytes i slot form)) (Takes (λ s. handed s.bytes i slot form))
-  output_runs i slot SingleWord known = no_code z (λ s begins. record { bytes = refl; others = λ q none. refl })
-  output_runs i slot FixedArray known = no_code z (λ s begins. record { bytes = refl; others = λ q none. refl })
   output_runs i slot MutableArray known =
       weaken_runs z {P' = Begins image site (λ bytes. IsReady image site bytes i slot MutableArray)}
       {R' = Takes (λ s. handed s.bytes i slot MutableArray)} (copy_out_code image i slot MutableArray)
@@ -71,12 +69,12 @@ module _ (image : Fields) (code : Code) (site : Site) (numbers : RoomNumbers ima
         bytes = back.bytes;
         others = λ q none. back.others q none.0 none.1.0 none.1.1.0 none.1.1.1.0;
       })
+  output_runs i slot form known = no_code z (λ s begins. record { bytes = refl; others = λ q none. refl })
 
   -- Only arrays change, and what is data stays data.
 
   outcome_count : (bytes : ByteMap) (slot : Slot) → length (outcome_at bytes slot) ≡ slot.param.length
-  outcome_count bytes slot =
-      numbers_count bytes (element_bytes slot.param.kind) (base + slot.offset) slot.param.length
+  outcome_count bytes slot = numbers_count bytes (element_bytes slot.param.kind) (base + slot.offset) slot.param.length
 
   array_apart : (bytes : ByteMap) (i : ℕ) (slot : Slot) (x : ℕ)
       → IsBesides (site.pointers i) (array_bytes slot) base end → base ≤ x → x < end
@@ -91,19 +89,17 @@ module _ (image : Fields) (code : Code) (site : Site) (numbers : RoomNumbers ima
 
   handed_apart : (bytes : ByteMap) (i : ℕ) (slot : Slot) (form : Form) (x : ℕ) → IsKnown image site i slot form
       → base ≤ x → x < end → handed bytes i slot form x ≡ bytes x
-  handed_apart bytes i slot SingleWord x known low up = refl
-  handed_apart bytes i slot FixedArray x known low up = refl
   handed_apart bytes i slot MutableArray x known low up = array_apart bytes i slot x known.beside low up
+  handed_apart bytes i slot form x known low up = refl
 
   handed_data : (bytes : ByteMap) (i : ℕ) (slot : Slot) (form : Form) → IsReady image site bytes i slot form
       → SameData bytes (handed bytes i slot form)
-  handed_data bytes i slot SingleWord ready x = refl
-  handed_data bytes i slot FixedArray ready x = refl
   handed_data bytes i slot MutableArray ready x =
       let n = element_bytes slot.param.kind in
       numbers_data bytes n (site.pointers i) (outcome_at bytes slot)
       (subst (λ k. AreData (site.pointers i) (site.pointers i + n * k) bytes)
       (sym (outcome_count bytes slot)) ready.array) x
+  handed_data bytes i slot form ready x = refl
 
   pub all_handed_apart : (bytes : ByteMap) (i : ℕ) (slots : List Slot) (x : ℕ) → AreKnown image site i slots
       → base ≤ x → x < end → all_handed bytes i slots x ≡ bytes x
@@ -117,12 +113,11 @@ module _ (image : Fields) (code : Code) (site : Site) (numbers : RoomNumbers ima
   module _ (old new : ByteMap) (same : (x : ℕ) → base ≤ x → x < end → new x ≡ old x) where
     one_same : (i : ℕ) (slot : Slot) (form : Form) → IsKnown image site i slot form
         → array_in base new form slot ≡ array_in base old form slot
-    one_same i slot SingleWord known = refl
-    one_same i slot FixedArray known = refl
     one_same i slot MutableArray known =
         ap (λ (vs : List ℕ). vs ∷ [])
         (numbers_same old new (element_bytes slot.param.kind) (base + slot.offset) slot.param.length
         (λ x l h. same x (omega arith) (omega arith)))
+    one_same i slot form known = refl
 
     arrays_same : (i : ℕ) (slots : List Slot) → AreKnown image site i slots
         → arrays_in base new slots ≡ arrays_in base old slots

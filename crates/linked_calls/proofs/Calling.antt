@@ -41,8 +41,7 @@ use Rattle.rv_machine.specs.declared.observation.Observation.{Observation}
 -- the frame lies in the room
 frame_below : (image : Fields) (code : Code) (site : Site) → IsSite image code site
     → room_base image site + image.frame_bytes ≤ site.stack
-frame_below image code site is =
-    omega arith
+frame_below image code site is = omega arith
 
 is_placed : (image : Fields) (code : Code) (site : Site) → IsSite image code site
     → IsPlaced image code (body_at image site) (room_base image site)
@@ -66,8 +65,7 @@ inside_is_of_call image code site is (Some (Load a size)) inside =
 inside_is_of_call image code site is (Some (Store a size)) inside =
     let below = frame_below image code site is in
     inl (inside.0, omega arith)
-inside_is_of_call image code site is (Some (Div a b)) inside = tt
-inside_is_of_call image code site is (Some (Mul a b)) inside = tt
+inside_is_of_call image code site is (Some event) inside = tt
 
 -- Turns.
 

@@ -49,8 +49,7 @@ stored_too above a made rs s t u values entered stores = record {
 module _ (z : Setting) (above : ℕ) (even : above % 16 ≡ 0) (below : above + 80 < 2 ^ 32)
     (may : MayStore z 4 Word above (above + 80)) where
   lowered : (s t : Data) → BeginsCall above s → t.regs 2 ≡ sum_of (s.regs 2) 4294967216 → t.regs 2 ≡ above
-  lowered s t begins moved =
-      omega arith
+  lowered s t begins moved = omega arith
 
   saved_runs : Runs z 13 ((added 2 (4096 - 80) ∷ []) ++ stores_code 2 0 saved_registers) (BeginsCall above)
       (Entered above (saved_bytes above))

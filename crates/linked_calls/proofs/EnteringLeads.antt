@@ -86,8 +86,7 @@ module _ (image : Fields) (code : Code) (site : Site) (is : IsImage image) (is_s
       (stored_are_saved d.bytes d.regs above saved_registers words)
 
   above_there : (d : Data) → Called d → AreData above (above + 80) d.bytes
-  above_there d called x low high =
-      called.there x (omega arith) (omega arith)
+  above_there d called x low high = called.there x (omega arith) (omega arith)
 
   stored_data : (d : Data) → Called d → SameData d.bytes (stored d)
   stored_data d called x =
@@ -120,8 +119,7 @@ module _ (image : Fields) (code : Code) (site : Site) (is : IsImage image) (is_s
 
   room_above : (x : ℕ) → IsOutsideRoom image site x → IsOutside above (above + 80) x
   room_above x (inl low) = inl (omega arith)
-  room_above x (inr high) =
-      inr (omega arith)
+  room_above x (inr high) = inr (omega arith)
 
   passed : (d : Data) → Called d → StandAsPassed image site (at_call d) (stored d)
   passed d called = record {

@@ -62,11 +62,8 @@ module _ (image : Fields) (site : Site) where
   pub zero_allowed : (low high : ℕ) → room_base image site ≤ low → high ≤ site.stack
       → (o : Option Event) → IsStoreIn low high o → IsOfCall image site o
   zero_allowed low high from to None is = tt
-  zero_allowed low high from to (Some (event.Load a size)) is = absurd is
-  zero_allowed low high from to (Some (event.Store a size)) is =
-      inl (omega arith, omega arith)
-  zero_allowed low high from to (Some (event.Div a b)) is = absurd is
-  zero_allowed low high from to (Some (event.Mul a b)) is = absurd is
+  zero_allowed low high from to (Some (event.Store a size)) is = inl (omega arith, omega arith)
+  zero_allowed low high from to (Some e) is = absurd is
 
   put_allowed : (place slot : ℕ) → room_base image site ≤ place → place + 4 ≤ arguments_end image site
       → room_base image site ≤ slot → slot + 4 ≤ site.stack
@@ -78,8 +75,7 @@ module _ (image : Fields) (site : Site) where
   put_allowed place slot low up from to (Some (event.Store a size)) is =
       let small = small_access size in
       inl (omega arith, omega arith)
-  put_allowed place slot low up from to (Some (event.Div a b)) is = absurd is
-  put_allowed place slot low up from to (Some (event.Mul a b)) is = absurd is
+  put_allowed place slot low up from to (Some e) is = absurd is
 
   copy_allowed : (place n from to : ℕ) → room_base image site ≤ place → place + 4 ≤ arguments_end image site
       → ((a : ℕ) (size : Size) → LiesIn from (from + n) a size → IsOfCall image site (Some (event.Load a size)))
@@ -91,8 +87,7 @@ module _ (image : Fields) (site : Site) where
       inl (omega arith, omega arith)
   copy_allowed place n from to low up loads stores (Some (event.Load a size)) (inr lies) = loads a size lies
   copy_allowed place n from to low up loads stores (Some (event.Store a size)) lies = stores a size lies
-  copy_allowed place n from to low up loads stores (Some (event.Div a b)) is = absurd is
-  copy_allowed place n from to low up loads stores (Some (event.Mul a b)) is = absurd is
+  copy_allowed place n from to low up loads stores (Some e) is = absurd is
 
 module _ (image : Fields) (site : Site) (is : IsImage image) (lie_well : LieWell image site 0 image.slots)
     (numbers : RoomNumbers image site) where
@@ -119,8 +114,7 @@ module _ (image : Fields) (site : Site) (is : IsImage image) (lie_well : LieWell
     module _ (some : 0 < slot.param.length) (ends_inside : slot.offset + array_bytes slot ≤ image.frame_bytes)
         (readable : IsReadable image site i slot) where
       slot_inside : frame + slot.offset + array_bytes slot ≤ site.stack
-      slot_inside =
-          omega arith
+      slot_inside = omega arith
 
       can_copy : CanBeCopied image slot (spot_at image site i)
       can_copy =

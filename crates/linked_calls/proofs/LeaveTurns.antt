@@ -38,9 +38,8 @@ module _ (image : Fields) where
 
   array_turns_are : (i : ℕ) (slot : Slot) (form : Form)
       → turns_of (array_section i slot form) ≡ output_turns image i slot form
-  array_turns_are i slot SingleWord = refl
-  array_turns_are i slot FixedArray = refl
   array_turns_are i slot MutableArray = omega arith
+  array_turns_are i slot form = refl
 
   arrays_turns_are : (i : ℕ) (slots : List Slot) → turns_of (array_sections i slots) ≡ outputs_turns image i slots
   arrays_turns_are i [] = refl

@@ -88,9 +88,7 @@ module _ (image : Fields) (code : Code) (site : Site) (is : IsImage image) (at_s
   load_allowed offset inside (Some (event.Load a size)) load =
       let small = small_access size in
       inl (omega arith, omega arith)
-  load_allowed offset inside (Some (event.Store a size)) load = absurd load
-  load_allowed offset inside (Some (event.Div a b)) load = absurd load
-  load_allowed offset inside (Some (event.Mul a b)) load = absurd load
+  load_allowed offset inside (Some e) load = absurd load
 
   result_runs : (returned : Option ResultSlot) (low : ℕ)
       → IfSome returned (λ (slot : ResultSlot). IsResultSlot low slot)

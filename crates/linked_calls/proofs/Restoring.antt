@@ -59,8 +59,7 @@ module _ (z : Setting) (frame room : ℕ) (even : frame % 16 ≡ 0) (whole : roo
     there : AreData (frame + room) (frame + room + 48) s.bytes
 
   rooted : (s t : Data) → s.regs 2 ≡ frame → Sets 5 (λ s. sum_of room (s.regs 2)) s t → t.regs 5 ≡ frame + room
-  rooted s t stack sets =
-      omega arith
+  rooted s t stack sets = omega arith
 
   back_runs : Runs z 12 (loads_code 5 0 saved_registers) AtSaved (Restored (frame + room))
   back_runs =

@@ -34,17 +34,14 @@ module _ (image : Fields) (site : Site) (numbers : RoomNumbers image site) where
   -- an argument's word lies in the room or among those on the stack
   pub place_inside : (i : ℕ) → i < length image.slots
       → room_base image site + argument_offset image i + 4 ≤ arguments_end image site
-  place_inside i few =
-      omega arith
+  place_inside i few = omega arith
 
   -- one that no register holds is the caller's own
   pub place_stacked : (i : ℕ) → 8 ≤ i → room_base image site + argument_offset image i ≡ site.stack + 4 * (i - 8)
-  place_stacked i many =
-      omega arith
+  place_stacked i many = omega arith
 
   -- what lies outside the room lies outside the frame
   pub outside_frame : (x : ℕ) → IsOutsideRoom image site x
       → IsOutside (room_base image site) (saved_at image site) x
   outside_frame x (inl low) = inl low
-  outside_frame x (inr high) =
-      inr (omega arith)
+  outside_frame x (inr high) = inr (omega arith)

@@ -65,10 +65,9 @@ enter_code_of image =
 
 array_code_of : (image : Fields) (i : ℕ) (slot : Slot) (form : Form) → slot.param.form ≡ form
     → code_of image (array_section i slot form) ≡ copy_out_code image i slot form
-array_code_of image i slot SingleWord is = refl
-array_code_of image i slot FixedArray is = refl
 array_code_of image i slot MutableArray is =
     append-nil (copy_out_code image i slot slot.param.form) ∙ ap (copy_out_code image i slot) is
+array_code_of image i slot form is = refl
 
 arrays_code_of : (image : Fields) (i : ℕ) (slots : List Slot)
     → code_of image (array_sections i slots) ≡ results_code image i slots

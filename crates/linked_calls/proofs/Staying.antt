@@ -31,8 +31,7 @@ module _ (image : Fields) (site : Site) (numbers : RoomNumbers image site) (old 
   stays_ready : (i : ℕ) (slot : Slot) (form : Form) → i < length image.slots → IsReady image site old i slot form
       → IsReady image site new i slot form
   stays_ready i slot SingleWord few ready = tt
-  stays_ready i slot FixedArray few ready = array_stays i slot few ready
-  stays_ready i slot MutableArray few ready = array_stays i slot few ready
+  stays_ready i slot form few ready = array_stays i slot few ready
 
   pub stay_ready : (i : ℕ) (slots : List Slot) → i + length slots ≡ length image.slots
       → AreReady image site old i slots → AreReady image site new i slots

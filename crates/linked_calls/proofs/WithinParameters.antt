@@ -24,9 +24,7 @@ truth_small false = omega arith
 
 meant_within : (kind : Kind) (raw : ℕ) → meant kind raw ≤ greatest_of kind
 meant_within Boolean raw = truth_small (not (raw == 0))
-meant_within Uint8 raw = omega arith
-meant_within Uint16 raw = omega arith
-meant_within Uint32 raw = omega arith
+meant_within kind raw = omega arith
 
 all_meant : (kind : Kind) (raws : List ℕ) → All (λ word. word ≤ greatest_of kind) (map (meant kind) raws)
 all_meant kind raws = All-map (λ word. word ≤ greatest_of kind) (meant kind) raws
@@ -39,16 +37,12 @@ module _ (site : Site) (s : State) where
   values_within : (i : ℕ) (slot : Slot) (form : Form)
       → All (λ word. word ≤ greatest_of slot.param.kind) (words_of (argument_of site s i slot form))
   values_within i slot SingleWord = all_meant slot.param.kind (raw_argument site s i ∷ [])
-  values_within i slot FixedArray = all_meant slot.param.kind (elements i slot)
-  values_within i slot MutableArray = all_meant slot.param.kind (elements i slot)
+  values_within i slot form = all_meant slot.param.kind (elements i slot)
 
   shape_within : (i : ℕ) (slot : Slot) (form : Form)
       → HasShape form slot.param.length (argument_of site s i slot form)
   shape_within i slot SingleWord = tt
-  shape_within i slot FixedArray =
-      length-map (elements i slot) (meant slot.param.kind)
-      ∙ numbers_count s.bytes (element_bytes slot.param.kind) (site.pointers i) slot.param.length
-  shape_within i slot MutableArray =
+  shape_within i slot form =
       length-map (elements i slot) (meant slot.param.kind)
       ∙ numbers_count s.bytes (element_bytes slot.param.kind) (site.pointers i) slot.param.length
 

@@ -43,8 +43,7 @@ same_put Uint32 bytes a raw = sym (with_number_cut bytes 4 a raw)
 
 meant_runs : (z : Setting) (kind : Kind)
     → Runs z (length (meant_code 5 kind)) (meant_code 5 kind) (λ s. Unit {0}) (Sets 5 (λ s. cut kind (s.regs 5)))
-meant_runs z Boolean =
-    sets_runs z 5 (meant_code 5 Boolean) [] refl tt (λ s given. tt) (λ s given. refl) (λ s. refl)
+meant_runs z Boolean = sets_runs z 5 (meant_code 5 Boolean) [] refl tt (λ s given. tt) (λ s given. refl) (λ s. refl)
 meant_runs z kind = sets_runs z 5 (meant_code 5 kind) [] refl tt (λ s given. tt) (λ s given. refl) (λ s. refl)
 
 module _ (z : Setting) (kind : Kind) (frame offset target : ℕ) where
