@@ -1,7 +1,7 @@
 -- All arguments, taken one after another: each is read from where it was at the call, since only the frame is
 -- written.
 use Rattle.std.specs.Prelude.{is_some}
-use Rattle.std.proofs.Common.{◌≡◌, ◌≢◌, ℕ, ◌+◌, ◌*◌, ◌≤◌, List, [], ◌∷◌, length, map, Option, inl, inr, refl}
+use Rattle.std.proofs.Common.{◌≡◌, ℕ, ◌+◌, ◌*◌, ◌≤◌, List, [], ◌∷◌, length, map, Option, inl, inr, refl}
 use Rattle.std.proofs.Common.{sym, ap, ◌∙◌, subst, arith}
 use Rattle.std.proofs.lemmas.List.{length-map}
 use Rattle.codegen.specs.Loaded.{with_argument, word_in}
@@ -24,7 +24,7 @@ use Rattle.linked_calls.specs.Stretches.{AreData}
 use Rattle.linked_calls.specs.Words.{CanBePut, HasWordArgument, IsPut, IsPutting}
 use Rattle.linked_calls.proofs.Below.{is_some-with_number, with_number_above, with_number_below}
 use Rattle.linked_calls.proofs.Between.{AreReady, IsReady, saved_at}
-use Rattle.linked_calls.proofs.Bytes.{SameData, number_there, numbers_above, numbers_below, numbers_count, numbers_data}
+use Rattle.linked_calls.proofs.Bytes.{SameData, number_there, numbers_above, numbers_below, numbers_count, is_some-with_numbers}
 use Rattle.linked_calls.proofs.Copies.{array_is_taken}
 use Rattle.linked_calls.proofs.EnterTurns.{arguments_turns}
 use Rattle.linked_calls.proofs.Pieces.{Runs, Setting, no_code, promised_runs, then_runs, weaken_runs}
@@ -75,7 +75,7 @@ put_data : (frame : ℕ) (bytes : ByteMap) (slot : Slot) (arg : Arg)
 put_data frame bytes slot (Word word) there x =
     is_some-with_number bytes 4 (frame + slot.offset) word x (number_there bytes 4 (frame + slot.offset) there)
 put_data frame bytes slot (Array words) there x =
-    numbers_data bytes (element_bytes slot.param.kind) (frame + slot.offset) words there x
+    is_some-with_numbers bytes (element_bytes slot.param.kind) (frame + slot.offset) words there x
 
 module _ (image : Fields) (site : Site) where
   -- where the i-th argument points

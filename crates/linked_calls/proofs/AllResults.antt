@@ -16,7 +16,7 @@ use Rattle.linked_calls.specs.FunctionCode.{array_bytes, copy_out_code, results_
 use Rattle.linked_calls.specs.Stretches.{AreData}
 use Rattle.linked_calls.proofs.AllArguments.{AreKnown, Begins, IsKnown, Takes, call_setting, spot_at, still_base}
 use Rattle.linked_calls.proofs.Between.{AreReady, IsReady}
-use Rattle.linked_calls.proofs.Bytes.{SameData, numbers_above, numbers_below, numbers_count, numbers_data, numbers_same}
+use Rattle.linked_calls.proofs.Bytes.{SameData, numbers_above, numbers_below, numbers_count, is_some-with_numbers, numbers_same}
 use Rattle.linked_calls.proofs.Copies.{array_is_handed_back}
 use Rattle.linked_calls.proofs.LeaveTurns.{output_turns, outputs_turns}
 use Rattle.linked_calls.proofs.Pieces.{Runs, Setting, no_code, promised_runs, then_runs, weaken_runs}
@@ -96,7 +96,7 @@ module _ (image : Fields) (code : Code) (site : Site) (numbers : RoomNumbers ima
       → SameData bytes (handed bytes i slot form)
   handed_data bytes i slot MutableArray ready x =
       let n = element_bytes slot.param.kind in
-      numbers_data bytes n (site.pointers i) (outcome_at bytes slot)
+      is_some-with_numbers bytes n (site.pointers i) (outcome_at bytes slot)
       (subst (λ k. AreData (site.pointers i) (site.pointers i + n * k) bytes)
       (sym (outcome_count bytes slot)) ready.array) x
   handed_data bytes i slot form ready x = refl

@@ -1,34 +1,21 @@
 -- Bytes: data that stays data, numbers put one after another, and stretches of zeros.
 use Rattle.std.specs.Prelude.{◌⊎◌, is_some, unwrap_or, not}
 use Rattle.std.proofs.Common.{◌≡◌, ◌≢◌, ℕ, zero, suc, ◌+◌, ◌*◌, ◌/◌, ◌%◌, ◌^◌, ◌<◌, ◌≤◌, true, ◌&&◌, ◌==◌, cond}
-use Rattle.std.proofs.Common.{nat_le, nat_lt, List, [], ◌∷◌, ◌++◌, length, Option, Some, None, inl, inr, ⊎_elim, refl}
-use Rattle.std.proofs.Common.{sym, ap, ap₂}
+use Rattle.std.proofs.Common.{nat_le, nat_lt, List, [], ◌∷◌, ◌++◌, length, Some, None, inl, inr, ⊎_elim, refl}
+use Rattle.std.proofs.Common.{sym, ap, ap₂, add-one}
 use Rattle.std.proofs.Common.{◌∙◌, subst, arith}
 use Rattle.std.proofs.Math.Arith.{mod-mul}
 use Rattle.std.proofs.Math.Nat.{pow-suc}
 use Rattle.std.proofs.lemmas.Bool.{cases_eq, cases_lt}
 use Rattle.std.proofs.lemmas.Bool.Decides.{nat_tests}
-use Rattle.rv_machine.specs.Bytes.{ByteMap, joined, number_at, with_byte, with_number, zeros}
-use Rattle.linked_calls.proofs.Below.{number_at-zero, number_at-suc, number_at_same, with_number-zero}
+use Rattle.rv_machine.specs.Bytes.{ByteMap, number_at, with_byte, with_number, zeros}
+use Rattle.linked_calls.proofs.Below.{numbers_at-more, number_at_same, with_number-zero}
 use Rattle.linked_calls.proofs.Below.{with_number-suc, with_number_below, with_number_above, with_byte_same}
-use Rattle.linked_calls.proofs.Below.{with_byte_other, is_some-with_number}
+use Rattle.linked_calls.proofs.Below.{with_byte_other}
+pub use Rattle.linked_calls.proofs.Below.{is_some-with_numbers, number_there}
 pub use Rattle.linked_calls.specs.Stretches.{AreData, AreZeroed}
 use Rattle.codegen.specs.Loaded.{with_numbers, numbers_at}
 use Rattle.word.specs.Operators.{word_of}
-
-is_some-joined : (a b : Option ℕ) → is_some (joined a b) ≡ (is_some a && is_some b)
-is_some-joined (Some x) (Some y) = refl
-is_some-joined (Some x) None = refl
-is_some-joined None b = refl
-
--- a number is there where each of its bytes is
-pub number_there : (bytes : ByteMap) (n a : ℕ) → AreData a (a + n) bytes → is_some (number_at bytes n a) ≡ true
-number_there bytes zero a there = ap is_some (number_at-zero bytes a)
-number_there bytes (suc n) a there =
-    let rest = number_there bytes n (a + 1) (λ x low high. there x (omega arith) (omega arith)) in
-    ap is_some (number_at-suc bytes n a)
-    ∙ (is_some-joined (bytes a) (number_at bytes n (a + 1))
-    ∙ ap₂ (λ x y. x && y) (there a (omega arith) (omega arith)) rest)
 
 -- a store of equal numbers where two maps agree
 pub with_number_agree : (one other : ByteMap) (n a v x : ℕ) → one x ≡ other x
@@ -129,13 +116,7 @@ number_beside bytes n at vs m a (inr behind) =
 -- one more is read, and one more is put
 pub numbers_more : (bytes : ByteMap) (n a k : ℕ)
     → numbers_at bytes n a (suc k) ≡ numbers_at bytes n a k ++ unwrap_or (number_at bytes n (a + n * k)) 0 ∷ []
-numbers_more bytes n a zero =
-    let e : a + n * 0 ≡ a = omega arith in
-    ap (λ x. unwrap_or (number_at bytes n x) 0 ∷ []) (sym e)
-numbers_more bytes n a (suc k) =
-    let e : a + n + n * k ≡ a + n * suc k = omega arith in
-    ap (λ (vs : List ℕ). unwrap_or (number_at bytes n a) 0 ∷ vs) (numbers_more bytes n (a + n) k
-    ∙ ap (λ x. numbers_at bytes n (a + n) k ++ unwrap_or (number_at bytes n x) 0 ∷ []) e)
+numbers_more bytes n a k = ap (numbers_at bytes n a) (sym (add-one k)) ∙ sym (numbers_at-more bytes n a k)
 
 pub numbers_then : (bytes : ByteMap) (n at : ℕ) (vs : List ℕ) (v : ℕ)
     → with_numbers bytes n at (vs ++ v ∷ []) ≡ with_number (with_numbers bytes n at vs) n (at + n * length vs) v
@@ -150,17 +131,6 @@ numbers_then bytes n at (u ∷ vs) v =
 -- the same addresses are data
 abbrev pub SameData : ByteMap → ByteMap → Type 0
 SameData old new = (x : ℕ) → is_some (new x) ≡ is_some (old x)
-
--- also under numbers of data
-pub numbers_data : (bytes : ByteMap) (n at : ℕ) (vs : List ℕ) → AreData at (at + n * length vs) bytes
-    → SameData bytes (with_numbers bytes n at vs)
-numbers_data bytes n at [] there x = refl
-numbers_data bytes n at (v ∷ vs) there x =
-    let first = number_there bytes n at (λ y low high. there y low (omega arith)) in
-    numbers_data (with_number bytes n at v) n (at + n) vs
-    (λ y low high. is_some-with_number bytes n at v y first
-    ∙ there y (omega arith) (omega arith)) x
-    ∙ is_some-with_number bytes n at v x first
 
 -- Zeros.
 

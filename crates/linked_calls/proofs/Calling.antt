@@ -33,7 +33,7 @@ use Rattle.linked_calls.proofs.WithinParameters.{arguments_within}
 use Rattle.linked_calls.proofs.Below.{Leads-append}
 use Rattle.rv_machine.specs.Machine.{State, Code}
 use Rattle.rv_machine.specs.declared.observation.Event.{Event}
-use Rattle.rv_machine.specs.declared.observation.Event.TheVariants.{Load, Store, Div, Mul}
+use Rattle.rv_machine.specs.declared.observation.Event.TheVariants.{Load, Store}
 use Rattle.rv_machine.specs.declared.observation.Observation.{Observation}
 
 -- Places.

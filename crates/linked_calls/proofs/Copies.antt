@@ -25,7 +25,7 @@ use Rattle.linked_calls.specs.FunctionCode.{until_equal}
 use Rattle.linked_calls.specs.Sections.{element_turns}
 use Rattle.linked_calls.specs.Stretches.{AreData}
 use Rattle.linked_calls.proofs.Below.{number_or_zero, register_kept}
-use Rattle.linked_calls.proofs.Bytes.{number_beside, number_there, numbers_count, numbers_data, numbers_more}
+use Rattle.linked_calls.proofs.Bytes.{number_beside, number_there, numbers_count, is_some-with_numbers, numbers_more}
 use Rattle.linked_calls.proofs.Bytes.{numbers_then}
 use Rattle.linked_calls.proofs.CopyElements.{Reached, chosen, copied_code, copied_value, copy_fit, copy_leaves}
 use Rattle.linked_calls.proofs.CopyElements.{copy_length, copy_made, copy_met, copy_plain, copy_works, element_even}
@@ -173,7 +173,7 @@ module _ (code : Code) (image : Fields) (slot : Slot) (spot : Pointed) (can : Ca
         let some = some_bytes kind in
         let ends = to_ends in
         let done = count s.bytes i in
-        let same = numbers_data s.bytes n to (map (copied_value inward kind) (numbers_at s.bytes n from i))
+        let same = is_some-with_numbers s.bytes n to (map (copied_value inward kind) (numbers_at s.bytes n from i))
         (λ x low high. held.begins.to_there x low (omega (arith, subst (λ c. x < to + n * c) done high, fits))) in
         record {
           is = is ∙ omega arith;

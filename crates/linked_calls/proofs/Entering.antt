@@ -7,7 +7,7 @@ use Rattle.linked_calls.specs.Convention.{saved_registers, argument_registers}
 use Rattle.linked_calls.specs.Does.{Data}
 use Rattle.linked_calls.specs.FunctionCode.{added, entry_code, stores_code}
 use Rattle.linked_calls.specs.Stretches.{AreData}
-use Rattle.linked_calls.proofs.Bytes.{numbers_data}
+use Rattle.linked_calls.proofs.Bytes.{is_some-with_numbers}
 use Rattle.linked_calls.proofs.Parts.{MayStore, Stores, sets_runs, stores_runs}
 use Rattle.linked_calls.proofs.Pieces.{Runs, Setting, then_runs}
 use Rattle.linked_calls.proofs.SameRegisters.{same_beside, values_same}
@@ -83,7 +83,7 @@ module _ (z : Setting) (above : ℕ) (even : above % 16 ≡ 0) (below : above + 
       record {
         root = omega arith;
         there = λ x l h. ap (λ (b : ByteMap). is_some (b x)) saved.bytes
-            ∙ numbers_data s.bytes 4 above (map (λ r. register s.regs r) saved_registers)
+            ∙ is_some-with_numbers s.bytes 4 above (map (λ r. register s.regs r) saved_registers)
             (λ y low high. begins.there y low (omega arith)) x
             ∙ begins.there x (omega arith) (omega arith);
       })

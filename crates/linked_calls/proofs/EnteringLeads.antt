@@ -1,10 +1,10 @@
 -- The code before the body leads from a state in which the function is called to one in which its body is loaded.
 use Rattle.std.specs.Prelude.{is_some}
-use Rattle.std.proofs.Common.{◌≡◌, ◌≢◌, ℕ, ◌+◌, ◌-◌, ◌*◌, ◌^◌, ◌<◌, ◌≤◌, Bool, true, false, nat_lt, if◌then◌else◌}
+use Rattle.std.proofs.Common.{◌≡◌, ℕ, ◌+◌, ◌-◌, ◌*◌, ◌^◌, ◌<◌, ◌≤◌, Bool, true, false, nat_lt, if◌then◌else◌}
 use Rattle.std.proofs.Common.{List, [], ◌∷◌, ◌++◌, length, map, Some, inl, inr, ⊎_elim, refl, sym, ap, ◌∙◌}
 use Rattle.std.proofs.Common.{subst, arith}
 use Rattle.std.proofs.lemmas.Bool.{cases_lt, ltb-false, ltb-true}
-use Rattle.codegen.specs.Anywhere.{IsLoaded, IsUntouched}
+use Rattle.codegen.specs.Anywhere.{IsLoaded}
 use Rattle.codegen.specs.Loaded.{word_in}
 use Rattle.codegen.specs.image_fields.Fields.{Fields, IsImage}
 use Rattle.linked_calls.specs.Calls.{Site, IsSite, IsCalled, room_base, arguments_end, arguments_of}
@@ -19,7 +19,7 @@ use Rattle.linked_calls.proofs.AllArguments.{arguments_runs, call_setting, still
 use Rattle.linked_calls.proofs.Below.{found, number_at_same}
 use Rattle.linked_calls.proofs.Between.{AreReady, AreSaved, EnteringLeads, IsEntered, IsOutsideRoom, body_at}
 use Rattle.linked_calls.proofs.Between.{enter_turns, saved_at, untouched_registers}
-use Rattle.linked_calls.proofs.Bytes.{SameData, number_there, numbers_above, numbers_below, numbers_data, zero_byte}
+use Rattle.linked_calls.proofs.Bytes.{SameData, number_there, numbers_above, numbers_below, is_some-with_numbers, zero_byte}
 use Rattle.linked_calls.proofs.EnterTurns.{arguments_turns, enter_turns_are}
 use Rattle.linked_calls.proofs.Entering.{Entered, entered_bytes, entry_runs, saved_bytes}
 use Rattle.linked_calls.proofs.KnownArguments.{all_known, zero_allowed}
@@ -91,8 +91,8 @@ module _ (image : Fields) (code : Code) (site : Site) (is : IsImage image) (is_s
   stored_data : (d : Data) → Called d → SameData d.bytes (stored d)
   stored_data d called x =
       let there = above_there d called in
-      let saved = numbers_data d.bytes 4 above (saved_values d) (λ y low high. there y low (omega arith)) in
-      numbers_data (saved_bytes above d) 4 (above + 48) (argument_values d)
+      let saved = is_some-with_numbers d.bytes 4 above (saved_values d) (λ y low high. there y low (omega arith)) in
+      is_some-with_numbers (saved_bytes above d) 4 (above + 48) (argument_values d)
       (λ y low high. saved y ∙ there y (omega arith) (omega arith)) x
       ∙ saved x
 

@@ -18,7 +18,7 @@ use Rattle.linked_calls.specs.declared.section.Section.TheVariants.{ClearedRegis
 use Rattle.codegen.specs.image_fields.Fields.{Fields}
 use Rattle.codegen.specs.declared.image_fields.slot.Slot.{Slot}
 use Rattle.language.specs.declared.signature.Form.{Form}
-use Rattle.language.specs.declared.signature.Form.TheVariants.{SingleWord, FixedArray, MutableArray}
+use Rattle.language.specs.declared.signature.Form.TheVariants.{MutableArray}
 use Rattle.rv_code.specs.Words.{word_of}
 use Rattle.rv_code.specs.declared.instructions.Instr.{Instr}
 use Rattle.rv_code.specs.declared.instructions.Instr.TheVariants.{Register, JumpRegister}

@@ -9,9 +9,9 @@ use Rattle.codegen.specs.image_fields.Fields.{Fields}
 use Rattle.codegen.specs.declared.image_fields.slot.Slot.{Slot}
 use Rattle.language.specs.Size.{element_bytes}
 use Rattle.language.specs.declared.signature.Form.{Form}
-use Rattle.language.specs.declared.signature.Form.TheVariants.{SingleWord, FixedArray, MutableArray}
+use Rattle.language.specs.declared.signature.Form.TheVariants.{SingleWord}
 use Rattle.language.specs.declared.signature.Kind.{Kind}
-use Rattle.language.specs.declared.signature.Kind.TheVariants.{Boolean, Uint8, Uint16, Uint32}
+use Rattle.language.specs.declared.signature.Kind.TheVariants.{Boolean}
 use Rattle.linked_calls.specs.Calls.{Site, raw_argument, argument_of, arguments_from, arguments_of}
 use Rattle.linked_calls.specs.Meant.{meant}
 use Rattle.linked_calls.proofs.Bytes.{numbers_count}

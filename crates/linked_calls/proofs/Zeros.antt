@@ -17,7 +17,7 @@ use Rattle.linked_calls.specs.FunctionCode.{added, until_equal, wipe_code, zeros
 use Rattle.linked_calls.specs.Sections.{block_turns}
 use Rattle.linked_calls.specs.Stretches.{AreData, AreZeroed}
 use Rattle.linked_calls.specs.Zeros.{FrameIsZeroed, HasFrame, HasRoom, IsStoreIn, IsWiped, IsZeroFrame, RoomIsWiped}
-use Rattle.linked_calls.proofs.Bytes.{no_zeros, numbers_data, zeroed_words, zeros_down, zeros_of, zeros_up}
+use Rattle.linked_calls.proofs.Bytes.{no_zeros, is_some-with_numbers, zeroed_words, zeros_down, zeros_of, zeros_up}
 use Rattle.linked_calls.proofs.Loops.{loop}
 use Rattle.linked_calls.proofs.Parts.{BeginsStores, Sets, Stores, constant_runs, sets_runs, stores_runs}
 use Rattle.linked_calls.proofs.Pieces.{Runs, Setting, as_code, in_turns, no_code, placed, then_runs, weaken_runs}
@@ -121,7 +121,7 @@ module _ (code : Code) (bottom room : ℕ) (even : bottom % 16 ≡ 0) (whole : r
     stack = block.stack;
     last = block.others 5 (λ e. omega arith) ∙ held.last;
     there = λ y l h. ap (λ (b : ByteMap). is_some (b y)) block.bytes
-        ∙ numbers_data d.bytes 4 a (zeros_of 4) (has_block x stop low high a s d from to held).there y
+        ∙ is_some-with_numbers d.bytes 4 a (zeros_of 4) (has_block x stop low high a s d from to held).there y
         ∙ held.there y l h;
     zeroed = joined (subst (λ (b : ByteMap). AreZeroed a (a + 16) d.bytes b) (sym block.bytes)
         (zeroed_words d.bytes a 4));
