@@ -38,33 +38,22 @@ use Rattle.rv_machine.specs.declared.observation.Observation.{Observation}
 
 -- Places.
 
--- the frame lies in the room
-frame_below : (image : Fields) (code : Code) (site : Site) → IsSite image code site
-    → room_base image site + image.frame_bytes ≤ site.stack
-frame_below image code site is = omega arith
-
 is_placed : (image : Fields) (code : Code) (site : Site) → IsSite image code site
     → IsPlaced image code (body_at image site) (room_base image site)
-is_placed image code site is =
-    let below = frame_below image code site is in
-    record {
-      observed = is.observed;
-      words = body_stands image code site is;
-      frame_aligned = omega arith;
-      frame_ends = omega arith;
-    }
+is_placed image code site is = record {
+  observed = is.observed;
+  words = body_stands image code site is;
+  frame_aligned = omega arith;
+  frame_ends = omega arith;
+}
 
 -- Accesses.
 
 inside_is_of_call : (image : Fields) (code : Code) (site : Site) → IsSite image code site
     → (event : Option Event) → IsInside (room_base image site) image.frame_bytes event → IsOfCall image site event
 inside_is_of_call image code site is None inside = tt
-inside_is_of_call image code site is (Some (Load a size)) inside =
-    let below = frame_below image code site is in
-    inl (inside.0, omega arith)
-inside_is_of_call image code site is (Some (Store a size)) inside =
-    let below = frame_below image code site is in
-    inl (inside.0, omega arith)
+inside_is_of_call image code site is (Some (Load a size)) inside = inl (inside.0, omega arith)
+inside_is_of_call image code site is (Some (Store a size)) inside = inl (inside.0, omega arith)
 inside_is_of_call image code site is (Some event) inside = tt
 
 -- Turns.
@@ -86,17 +75,12 @@ module _ (image : Fields) (code : Code) (site : Site) (is : IsSite image code si
     (before : List Observation) (entered : EntersFrom image code site before s)
     (list : List Observation) (run : BodyRun image code (body_at image site) (room_base image site) entered.end
     list) where
-  beside_above : (x : ℕ) → saved_at image site ≤ x → IsBeside image (room_base image site) x
-  beside_above x above = inr (omega arith)
-
   same_above : (x : ℕ) → saved_at image site ≤ x → run.end.bytes x ≡ entered.end.bytes x
-  same_above x above = run.beside x (beside_above x above)
+  same_above x above = run.beside x (inr (omega arith))
 
   beside_room : (x : ℕ) → IsOutsideRoom image site x → IsBeside image (room_base image site) x
   beside_room x (inl low) = inl low
-  beside_room x (inr high) =
-      let below = frame_below image code site is in
-      inr (omega arith)
+  beside_room x (inr high) = inr (omega arith)
 
   -- what lies outside the room is as it was at the call
   same_outside : (x : ℕ) → IsOutsideRoom image site x → run.end.bytes x ≡ s.bytes x
@@ -116,7 +100,6 @@ module _ (image : Fields) (code : Code) (site : Site) (is : IsSite image code si
       (λ (low : room_base image site ≤ x).
       ⊎_elim
       (λ (high : x < room_base image site + image.frame_bytes).
-      let below = frame_below image code site is in
       in_frame x low high ∙ sym (entered.entered.there x low (omega arith)))
       (λ (above : room_base image site + image.frame_bytes ≤ x). ap is_some (run.beside x (inr above)))
       (cases_lt x (room_base image site + image.frame_bytes)))

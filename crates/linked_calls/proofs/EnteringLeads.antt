@@ -113,8 +113,7 @@ module _ (image : Fields) (code : Code) (site : Site) (is : IsImage image) (is_s
       ap (λ x. number_at (stored d) 4 x) place
       ∙ number_at_same d.bytes (stored d) 4 a (λ x low high. stored_outside d x (inr (omega arith)))
       ∙ found (number_at d.bytes 4 a)
-      (number_there d.bytes 4 a (λ x low high.
-      called.there x (omega arith) (omega arith)))
+      (number_there d.bytes 4 a (λ x low high. called.there x (omega arith) (omega arith)))
       ∙ ap Some (same_number (number_at d.bytes 4 a))
 
   room_above : (x : ℕ) → IsOutsideRoom image site x → IsOutside above (above + 80) x
@@ -132,19 +131,14 @@ module _ (image : Fields) (code : Code) (site : Site) (is : IsImage image) (is_s
   entry_part : Runs z 21 entry_code Called (Entered above (entered_bytes above))
   entry_part =
       weaken_runs z {P' = Called} entry_code
-      (entry_runs z above (omega arith) (omega arith)
-      (λ x low high. inl (omega arith, omega arith)))
-      (λ d called.
-      let stack = called.stack in
-      record { stack = stack ∙ omega arith; there = above_there d called })
+      (entry_runs z above (omega arith) (omega arith) (λ x low high. inl (omega arith, omega arith)))
+      (λ d called. record { stack = omega arith; there = above_there d called })
       (λ d t called entered. entered)
 
   frame_part : Runs z (frame_turns room) (frame_code room) (HasFrame frame room) (IsZeroFrame frame room)
   frame_part =
-      promised_runs z (frame_code room)
-      (zero_allowed image site frame (frame + room) (omega arith) (omega arith))
-      (λ p there. frame_is_zeroed code p frame room there numbers.even numbers.whole
-      (omega arith))
+      promised_runs z (frame_code room) (zero_allowed image site frame (frame + room) (omega arith) (omega arith))
+      (λ p there. frame_is_zeroed code p frame room there numbers.even numbers.whole (omega arith))
 
   -- x2 is the frame's base, the frame is zeros, and the room above it holds what the entry has stored
   record IsFramed (d t : Data) : Type 0 where

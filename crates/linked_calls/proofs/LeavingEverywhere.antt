@@ -101,12 +101,10 @@ module _ (image : Fields) (code : Code) (site : Site) (is : IsImage image) (at_s
       weaken_runs z {P' = Starts} {R' = Sets 10 (λ s. result_of s.bytes (Some slot))} (result_code (Some slot))
       (promised_runs z (result_code (Some slot)) {Before = HasResult slot base} {After = IsReturned slot base}
       (load_allowed slot.offset inside)
-      (λ p there. result_is_handed_back z.code p slot base there (omega arith)
-      (omega arith)))
+      (λ p there. result_is_handed_back z.code p slot base there (omega arith) (omega arith)))
       (λ s begins. record {
         stack = begins.stack;
-        slot_there = λ x l h. begins.there x (omega arith)
-            (omega arith);
+        slot_there = λ x l h. begins.there x (omega arith) (omega arith);
       })
       (λ s t begins returned. record { there = returned.result; others = returned.others; same = returned.bytes })
 
@@ -212,7 +210,8 @@ module _ (image : Fields) (code : Code) (site : Site) (is : IsImage image) (at_s
       let saved = done.saved regs (still_saved regs s.bytes can.saved) in
       record {
         result = done.result;
-        kept = all_same t.regs regs kept_registers (kept.0, (done.stack ∙ sym can.stack, (kept.1.0, (kept.1.1.0, saved))));
+        kept = all_same t.regs regs kept_registers
+            (kept.0, (done.stack ∙ sym can.stack, (kept.1.0, (kept.1.1.0, saved))));
         cleared = done.cleared;
         memory = done.zeroed;
       }

@@ -58,9 +58,6 @@ module _ (z : Setting) (frame room : ℕ) (even : frame % 16 ≡ 0) (whole : roo
     root : s.regs 5 ≡ frame + room
     there : AreData (frame + room) (frame + room + 48) s.bytes
 
-  rooted : (s t : Data) → s.regs 2 ≡ frame → Sets 5 (λ s. sum_of room (s.regs 2)) s t → t.regs 5 ≡ frame + room
-  rooted s t stack sets = omega arith
-
   back_runs : Runs z 12 (loads_code 5 0 saved_registers) AtSaved (Restored (frame + room))
   back_runs =
       loads_runs z {P = AtSaved} {R = Restored (frame + room)} (frame + room) saved_registers refl refl
@@ -86,7 +83,7 @@ module _ (z : Setting) (frame room : ℕ) (even : frame % 16 ≡ 0) (whole : roo
       (sum_runs z 5 room (omega arith) (λ e. omega arith) (omega arith) 2 (omega arith) (λ e. omega arith)
       (λ e. omega arith)) back_runs
       (λ s t begins sets. record {
-        root = rooted s t begins.stack sets;
+        root = omega arith;
         there = λ x l h. ap (λ (b : ByteMap). is_some (b x)) sets.same
             ∙ begins.there x (omega arith) (omega arith);
       })
@@ -108,7 +105,6 @@ module _ (z : Setting) (frame room : ℕ) (even : frame % 16 ≡ 0) (whole : roo
       (sets_runs z 5 (added 5 80 ∷ []) [] refl tt (λ s given. tt) (λ s given. refl) (λ s. refl))
       (λ s t begins restored. tt)
       (λ s t u begins restored sets.
-      let root = restored.root in
       let kept = λ (q : ℕ) (none : (q ≢ 5) × Unit {0}). sets.others q none.0 in
       record {
         root = sets.there ∙ omega arith;

@@ -68,8 +68,7 @@ module _ (code : Code) (bottom room : ℕ) (even : bottom % 16 ≡ 0) (whole : r
       (added 2 (4096 - 16) ∷ []) zeros_code
       (sets_runs z 2 (added 2 (4096 - 16) ∷ []) [] refl tt (λ s has. tt) (λ s has. refl) (λ s. refl))
       (zeros_run a aligned from to)
-      (λ s t has sets.
-      record {
+      (λ s t has sets. record {
         root = omega arith;
         there = subst (λ (b : ByteMap). AreData a (a + 16) b) (sym sets.same) has.there;
       })
@@ -182,7 +181,7 @@ module _ (code : Code) (bottom room : ℕ) (even : bottom % 16 ≡ 0) (whole : r
       (λ s t begins held.
       let end : down_at blocks ≡ bottom = omega arith in
       record {
-        stack = held.stack ∙ end;
+        stack = omega arith;
         zeroed = subst (λ x. AreZeroed x top s.bytes t.bytes) end held.zeroed;
         others = held.others;
       }))
@@ -215,7 +214,7 @@ module _ (code : Code) (bottom room : ℕ) (even : bottom % 16 ≡ 0) (whole : r
       (λ s t has held.
       let end : up_at blocks ≡ top = omega arith in
       record {
-        stack = held.stack ∙ end;
+        stack = omega arith;
         zeroed = subst (λ x. AreZeroed bottom x s.bytes t.bytes) end held.zeroed;
         others = held.others;
       }))
@@ -243,12 +242,9 @@ module _ (code : Code) (bottom room : ℕ) (even : bottom % 16 ≡ 0) (whole : r
   frame_runs =
       then_runs z {P = HasFrame bottom room} {S = IsZeroFrame bottom room}
       (constant_code 5 room ++ Register Sub 5 2 5 ∷ []) (until_equal 2 5 down_code) based_runs down_runs
-      (λ s t has sets.
-      let stack = has.stack in
-      let moved = sets.there in
-      record {
-        stack = sets.others 2 (λ e. omega arith) ∙ stack;
-        last = moved ∙ omega arith;
+      (λ s t has sets. record {
+        stack = sets.others 2 (λ e. omega arith) ∙ has.stack;
+        last = omega arith;
         there = subst (λ (b : ByteMap). AreData bottom top b) (sym sets.same) has.there;
       })
       (λ s t u has sets ends. record {
