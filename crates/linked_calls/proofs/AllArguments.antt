@@ -24,7 +24,8 @@ use Rattle.linked_calls.specs.Stretches.{AreData}
 use Rattle.linked_calls.specs.Words.{CanBePut, HasWordArgument, IsPut, IsPutting}
 use Rattle.linked_calls.proofs.Below.{is_some-with_number, with_number_above, with_number_below}
 use Rattle.linked_calls.proofs.Between.{AreReady, IsReady, saved_at}
-use Rattle.linked_calls.proofs.Bytes.{SameData, number_there, numbers_above, numbers_below, numbers_count, is_some-with_numbers}
+use Rattle.linked_calls.proofs.Bytes.{SameData, number_there, numbers_above, numbers_below, numbers_count}
+use Rattle.linked_calls.proofs.Bytes.{is_some-with_numbers}
 use Rattle.linked_calls.proofs.Copies.{array_is_taken}
 use Rattle.linked_calls.proofs.EnterTurns.{arguments_turns}
 use Rattle.linked_calls.proofs.Pieces.{Runs, Setting, no_code, promised_runs, then_runs, weaken_runs}

@@ -16,7 +16,8 @@ use Rattle.linked_calls.specs.FunctionCode.{array_bytes, copy_out_code, results_
 use Rattle.linked_calls.specs.Stretches.{AreData}
 use Rattle.linked_calls.proofs.AllArguments.{AreKnown, Begins, IsKnown, Takes, call_setting, spot_at, still_base}
 use Rattle.linked_calls.proofs.Between.{AreReady, IsReady}
-use Rattle.linked_calls.proofs.Bytes.{SameData, numbers_above, numbers_below, numbers_count, is_some-with_numbers, numbers_same}
+use Rattle.linked_calls.proofs.Bytes.{SameData, numbers_above, numbers_below, numbers_count, is_some-with_numbers}
+use Rattle.linked_calls.proofs.Bytes.{numbers_same}
 use Rattle.linked_calls.proofs.Copies.{array_is_handed_back}
 use Rattle.linked_calls.proofs.LeaveTurns.{output_turns, outputs_turns}
 use Rattle.linked_calls.proofs.Pieces.{Runs, Setting, no_code, promised_runs, then_runs, weaken_runs}

@@ -1,17 +1,15 @@
 -- Bytes: data that stays data, numbers put one after another, and stretches of zeros.
 use Rattle.std.specs.Prelude.{◌⊎◌, is_some, unwrap_or, not}
-use Rattle.std.proofs.Common.{◌≡◌, ◌≢◌, ℕ, zero, suc, ◌+◌, ◌*◌, ◌/◌, ◌%◌, ◌^◌, ◌<◌, ◌≤◌, true, ◌&&◌, ◌==◌, cond}
-use Rattle.std.proofs.Common.{nat_le, nat_lt, List, [], ◌∷◌, ◌++◌, length, Some, None, inl, inr, ⊎_elim, refl}
-use Rattle.std.proofs.Common.{sym, ap, ap₂, add-one}
-use Rattle.std.proofs.Common.{◌∙◌, subst, arith}
+use Rattle.std.proofs.Common.{◌≡◌, ◌≢◌, ℕ, zero, suc, ◌+◌, ◌*◌, ◌/◌, ◌%◌, ◌^◌, ◌<◌, ◌≤◌, true, ◌&&◌, ◌==◌, cond, nat_le}
+use Rattle.std.proofs.Common.{nat_lt, List, [], ◌∷◌, ◌++◌, length, Some, None, inl, inr, ⊎_elim, refl, sym, ap, ap₂}
+use Rattle.std.proofs.Common.{add-one, ◌∙◌, subst, arith}
 use Rattle.std.proofs.Math.Arith.{mod-mul}
 use Rattle.std.proofs.Math.Nat.{pow-suc}
 use Rattle.std.proofs.lemmas.Bool.{cases_eq, cases_lt}
 use Rattle.std.proofs.lemmas.Bool.Decides.{nat_tests}
 use Rattle.rv_machine.specs.Bytes.{ByteMap, number_at, with_byte, with_number, zeros}
-use Rattle.linked_calls.proofs.Below.{numbers_at-more, number_at_same, with_number-zero}
-use Rattle.linked_calls.proofs.Below.{with_number-suc, with_number_below, with_number_above, with_byte_same}
-use Rattle.linked_calls.proofs.Below.{with_byte_other}
+use Rattle.linked_calls.proofs.Below.{numbers_at-more, number_at_same, with_number-zero, with_number-suc}
+use Rattle.linked_calls.proofs.Below.{with_number_below, with_number_above, with_byte_same, with_byte_other}
 pub use Rattle.linked_calls.proofs.Below.{is_some-with_numbers, number_there}
 pub use Rattle.linked_calls.specs.Stretches.{AreData, AreZeroed}
 use Rattle.codegen.specs.Loaded.{with_numbers, numbers_at}

@@ -7,8 +7,7 @@ use Rattle.codegen.specs.expression_code.TermCode.{constant_code}
 use Rattle.codegen.specs.image_fields.Fields.{Fields}
 use Rattle.codegen.specs.declared.image_fields.slot.Slot.{Slot}
 use Rattle.linked_calls.specs.FunctionCode.{frame_room}
-use Rattle.linked_calls.specs.Sections.{frame_sections, argument_sections, section_turns, block_turns}
-use Rattle.linked_calls.specs.Sections.{argument_turns}
+use Rattle.linked_calls.specs.Sections.{frame_sections, argument_sections, section_turns, block_turns, argument_turns}
 use Rattle.linked_calls.specs.Zeros.{frame_turns}
 use Rattle.linked_calls.specs.declared.section.Section.{Section}
 use Rattle.linked_calls.specs.declared.section.Section.TheVariants.{RoomAboveFrame, SavedRegisters, ArgumentRegisters}

@@ -1,7 +1,6 @@
 -- The entry: room above the frame, and the caller's registers and the arguments in it.
 use Rattle.std.specs.Prelude.{is_some}
-use Rattle.std.proofs.Common.{◌≡◌, ◌≢◌, ℕ, ◌+◌, ◌-◌, ◌%◌, ◌^◌, ◌<◌, List, [], ◌∷◌, ◌++◌, map, refl}
-use Rattle.std.proofs.Common.{ap, ap₂, ◌∙◌, arith}
+use Rattle.std.proofs.Common.{◌≡◌, ◌≢◌, ℕ, ◌+◌, ◌-◌, ◌%◌, ◌^◌, ◌<◌, List, [], ◌∷◌, ◌++◌, map, refl, ap, ap₂, ◌∙◌, arith}
 use Rattle.codegen.specs.Loaded.{with_numbers}
 use Rattle.linked_calls.specs.Convention.{saved_registers, argument_registers}
 use Rattle.linked_calls.specs.Does.{Data}

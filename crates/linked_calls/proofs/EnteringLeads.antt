@@ -1,8 +1,7 @@
 -- The code before the body leads from a state in which the function is called to one in which its body is loaded.
 use Rattle.std.specs.Prelude.{is_some}
-use Rattle.std.proofs.Common.{◌≡◌, ℕ, ◌+◌, ◌-◌, ◌*◌, ◌^◌, ◌<◌, ◌≤◌, Bool, true, false, nat_lt, if◌then◌else◌}
-use Rattle.std.proofs.Common.{List, [], ◌∷◌, ◌++◌, length, map, Some, inl, inr, ⊎_elim, refl, sym, ap, ◌∙◌}
-use Rattle.std.proofs.Common.{subst, arith}
+use Rattle.std.proofs.Common.{◌≡◌, ℕ, ◌+◌, ◌-◌, ◌*◌, ◌^◌, ◌<◌, ◌≤◌, Bool, true, false, nat_lt, if◌then◌else◌, List, []}
+use Rattle.std.proofs.Common.{◌∷◌, ◌++◌, length, map, Some, inl, inr, ⊎_elim, refl, sym, ap, ◌∙◌, subst, arith}
 use Rattle.std.proofs.lemmas.Bool.{cases_lt, ltb-false, ltb-true}
 use Rattle.codegen.specs.Anywhere.{IsLoaded}
 use Rattle.codegen.specs.Loaded.{word_in}
@@ -19,7 +18,8 @@ use Rattle.linked_calls.proofs.AllArguments.{arguments_runs, call_setting, still
 use Rattle.linked_calls.proofs.Below.{found, number_at_same}
 use Rattle.linked_calls.proofs.Between.{AreReady, AreSaved, EnteringLeads, IsEntered, IsOutsideRoom, body_at}
 use Rattle.linked_calls.proofs.Between.{enter_turns, saved_at, untouched_registers}
-use Rattle.linked_calls.proofs.Bytes.{SameData, number_there, numbers_above, numbers_below, is_some-with_numbers, zero_byte}
+use Rattle.linked_calls.proofs.Bytes.{SameData, number_there, numbers_above, numbers_below, is_some-with_numbers}
+use Rattle.linked_calls.proofs.Bytes.{zero_byte}
 use Rattle.linked_calls.proofs.EnterTurns.{arguments_turns, enter_turns_are}
 use Rattle.linked_calls.proofs.Entering.{Entered, entered_bytes, entry_runs, saved_bytes}
 use Rattle.linked_calls.proofs.KnownArguments.{all_known, zero_allowed}

@@ -25,8 +25,7 @@ use Rattle.linked_calls.specs.FunctionCode.{stores_code, loads_code}
 use Rattle.linked_calls.specs.Stretches.{AreData}
 use Rattle.linked_calls.proofs.Below.{AreFit, AreMet, after, after_all, are_straight, both_left, both_right}
 use Rattle.linked_calls.proofs.Below.{far_address, is_some-with_number, lower_fits, near_address, number_or_zero, parts}
-use Rattle.linked_calls.proofs.Below.{register-at}
-use Rattle.linked_calls.proofs.Below.{register_kept, unwritten, upper_fits, written}
+use Rattle.linked_calls.proofs.Below.{register-at, register_kept, unwritten, upper_fits, written}
 use Rattle.linked_calls.proofs.Bytes.{number_there}
 use Rattle.linked_calls.proofs.Pieces.{Setting, Runs, straight_runs, then_runs}
 

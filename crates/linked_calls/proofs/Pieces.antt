@@ -1,8 +1,7 @@
 -- Pieces of code, wherever they stand: an exact number of turns, and one list for all states that they may begin in, of
 -- allowed accesses alone. So what follows in a list is known before any state is given, which is equal leakage.
 use Rattle.std.proofs.Common.{◌≡◌, ℕ, ◌+◌, ◌*◌, Bool, true, List, [], ◌∷◌, ◌++◌, length, Option, None, subst, arith}
-use Rattle.std.proofs.Common.{refl}
-use Rattle.std.proofs.Common.{length-append}
+use Rattle.std.proofs.Common.{refl, length-append}
 use Rattle.std.proofs.lemmas.List.Elements.{All-append}
 use Rattle.rv_code.specs.declared.instructions.Instr.{Instr}
 use Rattle.rv_machine.specs.Leakage.{Leads}
