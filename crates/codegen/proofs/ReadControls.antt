@@ -1,17 +1,16 @@
 -- What a program reads is kept in its optimised code: each place that reads a control value gives it some weight.
 use Rattle.std.proofs.Common.{◌≡◌, ℕ, ◌+◌, ◌<◌, ◌≤◌, ◌==◌, Bool, true, false, List, length, Option, None, Some}
-use Rattle.std.proofs.Common.{slice_index, min, nat_lt, ne_eqb, refl, ap, subst, ◌∙◌, arith, unwrap_or}
-use Rattle.std.proofs.Common.{replicate}
+use Rattle.std.proofs.Common.{slice_index, min, nat_lt, ne_eqb, refl, ap, subst, ◌∙◌, arith, unwrap_or, replicate}
 use Rattle.std.proofs.lemmas.List.{get_or-set_other, get_or-set_same}
 use Rattle.std.proofs.lemmas.Option.{slice_get-map, slice_get-get_or, slice_get_past}
 use Rattle.branch_removal.specs.Straight as straight
 use Rattle.codegen.proofs.Language.{StraightBlock, StraightProgram, StraightTree, first, nothing}
 use Rattle.codegen.proofs.Logic.{eqb-true, eqb-false, nat_tests, option_map}
 use Rattle.codegen.proofs.Machine.{AllReadKept, IsKeptWithin, ReadsKept, is_unread}
-use Rattle.codegen.proofs.WeightLengths.{all_read_length, read_length, used_length}
 use Rattle.codegen.specs.private.Homes.{word_homes}
 use Rattle.branch_removal.specs.Uses.{greatest_weight, used, weight_inside}
 use Rattle.codegen.specs.private.Uses.{control_weights_of, controls_read_by, controls_read_by_all, used_within}
+use Rattle.codegen.proofs.WeightLengths.{all_read_keep, used_length}
 
 -- a control value has some weight
 abbrev Weighs : List ℕ → ℕ → Type 0
@@ -42,33 +41,15 @@ used_stays n x c weights below weighs = by_test (c == x) refl
           get_or-set_other weights x c (min (slice_index weights x + n) greatest_weight) 0 (eqb-false c x other),
         )
 
-within_stays : (n : ℕ) (within : Option ℕ) (c : ℕ) (weights : List ℕ) → c < length weights → Weighs weights c
-    → Weighs (used_within n within weights) c
-within_stays n None c weights below weighs = weighs
-within_stays n (Some x) c weights below weighs = used_stays n x c weights below weighs
+-- so what has weight, where it has a number at all, has weight behind each use
+abbrev HasWeight : ℕ → List ℕ → Type 0
+HasWeight c weights = c < length weights → Weighs weights c
 
-mutual
-  stays : (n : ℕ) (s : StraightTree) (c : ℕ) (weights : List ℕ) → c < length weights → Weighs weights c
-      → Weighs (controls_read_by n s weights) c
-  stays n (straight.set within x value) c weights below weighs = within_stays n within c weights below weighs
-  stays n (straight.array x size values) c weights below weighs = weighs
-  stays n (straight.put within place x size index value) c weights below weighs =
-      within_stays n within c weights below weighs
-  stays n (straight.take control within condition) c weights below weighs =
-      within_stays n within c weights below weighs
-  stays n (straight.branch condition accepted otherwise) c weights below weighs =
-      let more = all_read_length n accepted weights in
-      all_stay n otherwise c (controls_read_by_all n accepted weights) (omega (arith, below, more))
-      (all_stay n accepted c weights below weighs)
-  stays n (straight.repeats x low high body) c weights below weighs =
-      all_stay (weight_inside n) body c weights below weighs
-
-  all_stay : (n : ℕ) (b : StraightBlock) (c : ℕ) (weights : List ℕ) → c < length weights → Weighs weights c
-      → Weighs (controls_read_by_all n b weights) c
-  all_stay n nothing c weights below weighs = weighs
-  all_stay n (first s rest) c weights below weighs =
-      let more = read_length n s weights in
-      all_stay n rest c (controls_read_by n s weights) (omega (arith, below, more)) (stays n s c weights below weighs)
+weight_kept : (c n x : ℕ) (weights : List ℕ) → HasWeight c weights → HasWeight c (used n x weights)
+weight_kept c n x weights has below =
+    let same = used_length n x weights in
+    let inside : c < length weights = omega (arith, below, same) in
+    used_stays n x c weights inside (has inside)
 
 -- So what is read is kept, where what has some weight in the end is, and what has no number here is.
 module _ (p : StraightProgram) where
@@ -77,7 +58,7 @@ module _ (p : StraightProgram) where
 
   -- what has weight among these is kept
   abbrev Keeps : List ℕ → Type 0
-  Keeps weights = (c : ℕ) → (c < length weights → Weighs weights c) → IsKept c
+  Keeps weights = (c : ℕ) → HasWeight c weights → IsKept c
 
   within_here : (n : ℕ) (within : Option ℕ) (weights : List ℕ) → 0 < n → Keeps (used_within n within weights)
       → IsKeptWithin (word_homes p) within
@@ -95,11 +76,9 @@ module _ (p : StraightProgram) where
         within_here n within weights some keeps
     kept n (straight.take control within condition) weights some keeps = within_here n within weights some keeps
     kept n (straight.branch condition accepted otherwise) weights some keeps =
-        let between = controls_read_by_all n accepted weights in
-        let more = all_read_length n otherwise between in (
+        let between = controls_read_by_all n accepted weights in (
           all_kept n accepted weights some
-              (λ c weighs. keeps c (λ below. all_stay n otherwise c between (omega (arith, below, more))
-              (weighs (omega (arith, below, more))))),
+              (λ c has. keeps c (all_read_keep (HasWeight c) (weight_kept c) n otherwise {weights = between} has)),
           all_kept n otherwise between some keeps,
         )
     kept n (straight.repeats x low high body) weights some keeps =
@@ -109,11 +88,9 @@ module _ (p : StraightProgram) where
         → AllReadKept (word_homes p) b
     all_kept n nothing weights some keeps = tt
     all_kept n (first s rest) weights some keeps =
-        let between = controls_read_by n s weights in
-        let more = all_read_length n rest between in (
+        let between = controls_read_by n s weights in (
           kept n s weights some
-              (λ c weighs. keeps c (λ below. all_stay n rest c between (omega (arith, below, more))
-              (weighs (omega (arith, below, more))))),
+              (λ c has. keeps c (all_read_keep (HasWeight c) (weight_kept c) n rest {weights = between} has)),
           all_kept n rest between some keeps,
         )
 

@@ -1,11 +1,11 @@
--- How many weights there are: one for each word, however it is used.
-use Rattle.std.proofs.Common.{◌≡◌, ℕ, ◌+◌, List, [], ◌∷◌, length, length-append, Option, None, Some, refl, ◌∙◌, arith}
+-- What holds of weights however words are used: so there is one for each word.
+use Rattle.std.proofs.Common.{◌≡◌, ℕ, ◌+◌, List, [], ◌∷◌, length, length-append, Option, None, Some, ◌∙◌, arith}
 use Rattle.std.proofs.Common.{replicate}
 use Rattle.branch_removal.specs.Straight as straight
 use Rattle.codegen.proofs.Language.{StraightBlock, StraightProgram, StraightTree, TermTree, first, nothing}
 use Rattle.codegen.proofs.Logic.{length-replicate, length-set}
-use Rattle.branch_removal.specs.Uses.{used, used_by, used_by_all, used_in, used_in_result, used_in_terms}
-use Rattle.branch_removal.specs.Uses.{weight_inside, weights_of}
+use Rattle.branch_removal.specs.Uses.{used, used_by, used_by_all, used_in, used_in_result, used_in_terms, weight_inside}
+use Rattle.branch_removal.specs.Uses.{weights_of}
 use Rattle.codegen.specs.private.Uses.{control_weights_of, controls_read_by, controls_read_by_all, used_within}
 use Rattle.codegen.specs.private.Uses.{word_weights_of}
 use Rattle.inline.specs.Flat as flat
@@ -13,80 +13,74 @@ use Rattle.inline.specs.Flat as flat
 pub used_length : (weight x : ℕ) (weights : List ℕ) → length (used weight x weights) ≡ length weights
 used_length weight x weights = length-set weights x _
 
-in_length : (weight : ℕ) (e : TermTree) (weights : List ℕ) → length (used_in weight e weights) ≡ length weights
-in_length weight (flat.number value kind) weights = refl
-in_length weight (flat.truth value) weights = refl
-in_length weight (flat.variable x) weights = used_length weight x weights
-in_length weight (flat.prefix operator width e) weights = in_length weight e weights
-in_length weight (flat.binary place operator width left right) weights =
-    in_length weight right (used_in weight left weights) ∙ in_length weight left weights
-in_length weight (flat.rotate width e amount) weights = in_length weight e weights
-in_length weight (flat.convert kind e) weights = in_length weight e weights
-in_length weight (flat.select condition accepted otherwise) weights =
-    in_length weight otherwise (used_in weight accepted (used_in weight condition weights))
-    ∙ (in_length weight accepted (used_in weight condition weights) ∙ in_length weight condition weights)
-in_length weight (flat.element place x size index) weights = in_length weight index weights
+-- What each use of a word keeps, all uses keep.
+module _ (P : List ℕ → Type 0) (kept : (n x : ℕ) (weights : List ℕ) → P weights → P (used n x weights)) where
+  in_keeps : (n : ℕ) (e : TermTree) {weights : List ℕ} → P weights → P (used_in n e weights)
+  in_keeps n (flat.number value kind) h = h
+  in_keeps n (flat.truth value) h = h
+  in_keeps n (flat.variable x) h = kept n x _ h
+  in_keeps n (flat.prefix operator width e) h = in_keeps n e h
+  in_keeps n (flat.binary place operator width left right) h = in_keeps n right (in_keeps n left h)
+  in_keeps n (flat.rotate width e amount) h = in_keeps n e h
+  in_keeps n (flat.convert kind e) h = in_keeps n e h
+  in_keeps n (flat.select condition accepted otherwise) h =
+      in_keeps n otherwise (in_keeps n accepted (in_keeps n condition h))
+  in_keeps n (flat.element place x size index) h = in_keeps n index h
 
-terms_length : (weight : ℕ) (es : List TermTree) (weights : List ℕ)
-    → length (used_in_terms weight es weights) ≡ length weights
-terms_length weight [] weights = refl
-terms_length weight (e ∷ es) weights =
-    terms_length weight es (used_in weight e weights) ∙ in_length weight e weights
+  terms_keep : (n : ℕ) (es : List TermTree) {weights : List ℕ} → P weights → P (used_in_terms n es weights)
+  terms_keep n [] h = h
+  terms_keep n (e ∷ es) h = terms_keep n es (in_keeps n e h)
 
-mutual
-  by_length : (weight : ℕ) (s : StraightTree) (weights : List ℕ) → length (used_by weight s weights) ≡ length weights
-  by_length weight (straight.set within x value) weights =
-      used_length weight x (used_in weight value weights) ∙ in_length weight value weights
-  by_length weight (straight.array x size values) weights = terms_length weight values weights
-  by_length weight (straight.put within place x size index value) weights =
-      in_length weight value (used_in weight index weights) ∙ in_length weight index weights
-  by_length weight (straight.take control within condition) weights = in_length weight condition weights
-  by_length weight (straight.branch condition accepted otherwise) weights =
-      all_length weight otherwise (used_by_all weight accepted (used_in weight condition weights))
-      ∙ (all_length weight accepted (used_in weight condition weights) ∙ in_length weight condition weights)
-  by_length weight (straight.repeats x low high body) weights =
-      let inside = weight_inside weight in
-      all_length inside body (used inside x (used_in weight high (used_in weight low weights)))
-      ∙ (used_length inside x (used_in weight high (used_in weight low weights))
-      ∙ (in_length weight high (used_in weight low weights) ∙ in_length weight low weights))
+  result_keeps : (value : Option TermTree) {weights : List ℕ} → P weights → P (used_in_result value weights)
+  result_keeps None h = h
+  result_keeps (Some value) h = in_keeps 1 value h
 
-  all_length : (weight : ℕ) (b : StraightBlock) (weights : List ℕ)
-      → length (used_by_all weight b weights) ≡ length weights
-  all_length weight nothing weights = refl
-  all_length weight (first s rest) weights =
-      all_length weight rest (used_by weight s weights) ∙ by_length weight s weights
+  mutual
+    by_keeps : (n : ℕ) (s : StraightTree) {weights : List ℕ} → P weights → P (used_by n s weights)
+    by_keeps n (straight.set within x value) h = kept n x _ (in_keeps n value h)
+    by_keeps n (straight.array x size values) h = terms_keep n values h
+    by_keeps n (straight.put within place x size index value) h = in_keeps n value (in_keeps n index h)
+    by_keeps n (straight.take control within condition) h = in_keeps n condition h
+    by_keeps n (straight.branch condition accepted otherwise) h =
+        all_keep n otherwise (all_keep n accepted (in_keeps n condition h))
+    by_keeps n (straight.repeats x low high body) h =
+        all_keep (weight_inside n) body (kept (weight_inside n) x _ (in_keeps n high (in_keeps n low h)))
 
-result_length : (value : Option TermTree) (weights : List ℕ) → length (used_in_result value weights) ≡ length weights
-result_length None weights = refl
-result_length (Some value) weights = in_length 1 value weights
+    all_keep : (n : ℕ) (b : StraightBlock) {weights : List ℕ} → P weights → P (used_by_all n b weights)
+    all_keep n nothing h = h
+    all_keep n (first s rest) h = all_keep n rest (by_keeps n s h)
 
-within_length : (weight : ℕ) (within : Option ℕ) (weights : List ℕ)
-    → length (used_within weight within weights) ≡ length weights
-within_length weight None weights = refl
-within_length weight (Some control) weights = used_length _ control weights
+  -- of control values too
 
-mutual
-  pub read_length : (weight : ℕ) (s : StraightTree) (weights : List ℕ)
-      → length (controls_read_by weight s weights) ≡ length weights
-  read_length weight (straight.set within x value) weights = within_length weight within weights
-  read_length weight (straight.array x size values) weights = refl
-  read_length weight (straight.put within place x size index value) weights = within_length weight within weights
-  read_length weight (straight.take control within condition) weights = within_length weight within weights
-  read_length weight (straight.branch condition accepted otherwise) weights =
-      all_read_length weight otherwise (controls_read_by_all weight accepted weights)
-      ∙ all_read_length weight accepted weights
-  read_length weight (straight.repeats x low high body) weights =
-      all_read_length (weight_inside weight) body weights
+  within_keeps : (n : ℕ) (within : Option ℕ) {weights : List ℕ} → P weights → P (used_within n within weights)
+  within_keeps n None h = h
+  within_keeps n (Some control) h = kept n control _ h
 
-  pub all_read_length : (weight : ℕ) (b : StraightBlock) (weights : List ℕ)
-      → length (controls_read_by_all weight b weights) ≡ length weights
-  all_read_length weight nothing weights = refl
-  all_read_length weight (first s rest) weights =
-      all_read_length weight rest (controls_read_by weight s weights) ∙ read_length weight s weights
+  mutual
+    pub read_keeps : (n : ℕ) (s : StraightTree) {weights : List ℕ} → P weights → P (controls_read_by n s weights)
+    read_keeps n (straight.set within x value) h = within_keeps n within h
+    read_keeps n (straight.array x size values) h = h
+    read_keeps n (straight.put within place x size index value) h = within_keeps n within h
+    read_keeps n (straight.take control within condition) h = within_keeps n within h
+    read_keeps n (straight.branch condition accepted otherwise) h =
+        all_read_keep n otherwise (all_read_keep n accepted h)
+    read_keeps n (straight.repeats x low high body) h = all_read_keep (weight_inside n) body h
+
+    pub all_read_keep : (n : ℕ) (b : StraightBlock) {weights : List ℕ} → P weights
+        → P (controls_read_by_all n b weights)
+    all_read_keep n nothing h = h
+    all_read_keep n (first s rest) h = all_read_keep n rest (read_keeps n s h)
+
+-- so their count is kept
+length_kept : (k n x : ℕ) (weights : List ℕ) → length weights ≡ k → length (used n x weights) ≡ k
+length_kept k n x weights is = used_length n x weights ∙ is
 
 pub word_weights_length : (p : StraightProgram) → length (word_weights_of p) ≡ length p.declared + p.controls
 word_weights_length p =
-    let variables = result_length p.value (used_by_all 1 p.body (replicate (length p.declared) 0))
-    ∙ (all_length 1 p.body (replicate (length p.declared) 0) ∙ length-replicate (length p.declared) 0) in
-    let controls = all_read_length 1 p.body (replicate p.controls 0) ∙ length-replicate p.controls 0 in
+    let n = length p.declared in
+    let variables = result_keeps (λ weights. length weights ≡ n) (length_kept n) p.value
+    {weights = used_by_all 1 p.body (replicate n 0)} (all_keep (λ weights. length weights ≡ n) (length_kept n) 1 p.body
+    {weights = replicate n 0} (length-replicate n 0)) in
+    let controls = all_read_keep (λ weights. length weights ≡ p.controls) (length_kept p.controls) 1 p.body
+    {weights = replicate p.controls 0} (length-replicate p.controls 0) in
     omega (arith, length-append (weights_of p) (control_weights_of p), variables, controls)
