@@ -7,19 +7,13 @@ use Rattle.codegen.proofs.control_uses.+counts.Goals as goal
 
 pub count_by-count_by_all-requires : goal.count_by-count_by_all-requires
 count_by-count_by_all-requires t c =
-    search (
-      rules,
-      accepted_smaller c.in-Branch.accepted c.in-Branch.otherwise c.in-Branch.is
-          c.deref.ensures.value refl,
-    )
+    let b = c.in-Branch in
+    search (rules, accepted_smaller b.accepted b.otherwise b.is c.deref.ensures.value refl)
 
 pub count_by-count_by_all-requires-in-Branch : goal.count_by-count_by_all-requires-in-Branch
 count_by-count_by_all-requires-in-Branch t c =
-    search (
-      rules,
-      otherwise_smaller c.in-Branch.accepted c.in-Branch.otherwise c.in-Branch.is refl
-          c.deref-in-Branch.ensures.value,
-    )
+    let b = c.in-Branch in
+    search (rules, otherwise_smaller b.accepted b.otherwise b.is refl c.deref-in-Branch.ensures.value)
 
 pub count_by-count_by_all-requires-in-Repeat : goal.count_by-count_by_all-requires-in-Repeat
 count_by-count_by_all-requires-in-Repeat t c =

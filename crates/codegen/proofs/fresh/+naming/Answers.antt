@@ -7,19 +7,13 @@ use Rattle.codegen.specs.private.Fresh.{any_names, names}
 
 pub names-any_names-requires : goal.names-any_names-requires
 names-any_names-requires t c =
-    search (
-      rules,
-      accepted_smaller c.in-Branch.accepted c.in-Branch.otherwise c.in-Branch.is
-          c.deref-else-names_in-2.ensures.value refl,
-    )
+    let b = c.in-Branch in
+    search (rules, accepted_smaller b.accepted b.otherwise b.is c.deref-else-names_in-2.ensures.value refl)
 
 pub names-any_names-requires-else-any_names : goal.names-any_names-requires-else-any_names
 names-any_names-requires-else-any_names t c =
-    search (
-      rules,
-      otherwise_smaller c.in-Branch.accepted c.in-Branch.otherwise c.in-Branch.is refl
-          c.deref-else-any_names.ensures.value,
-    )
+    let b = c.in-Branch in
+    search (rules, otherwise_smaller b.accepted b.otherwise b.is refl c.deref-else-any_names.ensures.value)
 
 pub names-any_names-requires-else-names_in-4 : goal.names-any_names-requires-else-names_in-4
 names-any_names-requires-else-names_in-4 t c =

@@ -5,44 +5,27 @@ use Rattle.codegen.proofs.StatementCode.{body_smaller, item_here, smaller_here, 
 use Rattle.codegen.proofs.heights.+depths.Goals as goal
 
 pub depth_in-greatest_depth-requires : goal.depth_in-greatest_depth-requires
-depth_in-greatest_depth-requires t c = (
-  search (
-    rules,
-    accepted_smaller c.in-Branch.accepted c.in-Branch.otherwise c.in-Branch.is c.deref.ensures.value
-        refl,
-  ),
-  omega (
-    arith,
-    ap depth_in (tree_of_branch c.in-Branch.accepted c.in-Branch.otherwise c.in-Branch.is
-        c.deref.ensures.value refl),
-    c.requires,
-  ),
-)
+depth_in-greatest_depth-requires t c =
+    let b = c.in-Branch in
+    let tree = ap depth_in (tree_of_branch b.accepted b.otherwise b.is c.deref.ensures.value refl) in (
+      search (rules, accepted_smaller b.accepted b.otherwise b.is c.deref.ensures.value refl),
+      omega (arith, tree, c.requires),
+    )
 
 pub depth_in-greatest_depth-requires-in-Branch : goal.depth_in-greatest_depth-requires-in-Branch
-depth_in-greatest_depth-requires-in-Branch t c = (
-  search (
-    rules,
-    otherwise_smaller c.in-Branch.accepted c.in-Branch.otherwise c.in-Branch.is refl
-        c.deref-in-Branch.ensures.value,
-  ),
-  omega (
-    arith,
-    ap depth_in (tree_of_branch c.in-Branch.accepted c.in-Branch.otherwise c.in-Branch.is refl
-        c.deref-in-Branch.ensures.value),
-    c.requires,
-  ),
-)
+depth_in-greatest_depth-requires-in-Branch t c =
+    let b = c.in-Branch in
+    let tree = ap depth_in (tree_of_branch b.accepted b.otherwise b.is refl c.deref-in-Branch.ensures.value) in (
+      search (rules, otherwise_smaller b.accepted b.otherwise b.is refl c.deref-in-Branch.ensures.value),
+      omega (arith, tree, c.requires),
+    )
 
 pub depth_in-greatest_depth-requires-in-Repeat : goal.depth_in-greatest_depth-requires-in-Repeat
-depth_in-greatest_depth-requires-in-Repeat t c = (
-  search (rules, body_smaller c.in-Repeat.body c.in-Repeat.is c.deref-in-Repeat.ensures.value),
-  omega (
-    arith,
-    ap depth_in (tree_of_loop c.in-Repeat.body c.in-Repeat.is c.deref-in-Repeat.ensures.value),
-    c.requires,
-  ),
-)
+depth_in-greatest_depth-requires-in-Repeat t c =
+    let tree = ap depth_in (tree_of_loop c.in-Repeat.body c.in-Repeat.is c.deref-in-Repeat.ensures.value) in (
+      search (rules, body_smaller c.in-Repeat.body c.in-Repeat.is c.deref-in-Repeat.ensures.value),
+      omega (arith, tree, c.requires),
+    )
 
 pub depth_in-overflow_add-result : goal.depth_in-overflow_add-result
 depth_in-overflow_add-result t c =

@@ -5,44 +5,27 @@ use Rattle.codegen.proofs.StatementCode.{body_smaller, item_here, smaller_here, 
 use Rattle.codegen.proofs.heights.+heights.Goals as goal
 
 pub height_in-greatest_height-requires : goal.height_in-greatest_height-requires
-height_in-greatest_height-requires t c = (
-  search (
-    rules,
-    accepted_smaller c.in-Branch.accepted c.in-Branch.otherwise c.in-Branch.is
-        c.deref-in-Branch.ensures.value refl,
-  ),
-  omega (
-    arith,
-    ap height_in (tree_of_branch c.in-Branch.accepted c.in-Branch.otherwise c.in-Branch.is
-        c.deref-in-Branch.ensures.value refl),
-    c.requires,
-  ),
-)
+height_in-greatest_height-requires t c =
+    let b = c.in-Branch in
+    let tree = ap height_in (tree_of_branch b.accepted b.otherwise b.is c.deref-in-Branch.ensures.value refl) in (
+      search (rules, accepted_smaller b.accepted b.otherwise b.is c.deref-in-Branch.ensures.value refl),
+      omega (arith, tree, c.requires),
+    )
 
 pub height_in-greatest_height-requires-in-Branch : goal.height_in-greatest_height-requires-in-Branch
-height_in-greatest_height-requires-in-Branch t c = (
-  search (
-    rules,
-    otherwise_smaller c.in-Branch.accepted c.in-Branch.otherwise c.in-Branch.is refl
-        c.deref-in-Branch-2.ensures.value,
-  ),
-  omega (
-    arith,
-    ap height_in (tree_of_branch c.in-Branch.accepted c.in-Branch.otherwise c.in-Branch.is refl
-        c.deref-in-Branch-2.ensures.value),
-    c.requires,
-  ),
-)
+height_in-greatest_height-requires-in-Branch t c =
+    let b = c.in-Branch in
+    let tree = ap height_in (tree_of_branch b.accepted b.otherwise b.is refl c.deref-in-Branch-2.ensures.value) in (
+      search (rules, otherwise_smaller b.accepted b.otherwise b.is refl c.deref-in-Branch-2.ensures.value),
+      omega (arith, tree, c.requires),
+    )
 
 pub height_in-greatest_height-requires-in-Repeat : goal.height_in-greatest_height-requires-in-Repeat
-height_in-greatest_height-requires-in-Repeat t c = (
-  search (rules, body_smaller c.in-Repeat.body c.in-Repeat.is c.deref-in-Repeat.ensures.value),
-  omega (
-    arith,
-    ap height_in (tree_of_loop c.in-Repeat.body c.in-Repeat.is c.deref-in-Repeat.ensures.value),
-    c.requires,
-  ),
-)
+height_in-greatest_height-requires-in-Repeat t c =
+    let tree = ap height_in (tree_of_loop c.in-Repeat.body c.in-Repeat.is c.deref-in-Repeat.ensures.value) in (
+      search (rules, body_smaller c.in-Repeat.body c.in-Repeat.is c.deref-in-Repeat.ensures.value),
+      omega (arith, tree, c.requires),
+    )
 
 pub height_in-returns-in-Branch : goal.height_in-returns-in-Branch
 height_in-returns-in-Branch t c =

@@ -7,18 +7,13 @@ use Rattle.codegen.specs.private.Loops.{any_sets, sets}
 
 pub sets-any_sets-requires : goal.sets-any_sets-requires
 sets-any_sets-requires t c =
-    search (
-      rules,
-      accepted_smaller c.in-Branch.accepted c.in-Branch.otherwise c.in-Branch.is c.deref.ensures.value refl,
-    )
+    let b = c.in-Branch in
+    search (rules, accepted_smaller b.accepted b.otherwise b.is c.deref.ensures.value refl)
 
 pub sets-any_sets-requires-else-any_sets : goal.sets-any_sets-requires-else-any_sets
 sets-any_sets-requires-else-any_sets t c =
-    search (
-      rules,
-      otherwise_smaller c.in-Branch.accepted c.in-Branch.otherwise c.in-Branch.is refl
-          c.deref-else-any_sets.ensures.value,
-    )
+    let b = c.in-Branch in
+    search (rules, otherwise_smaller b.accepted b.otherwise b.is refl c.deref-else-any_sets.ensures.value)
 
 pub sets-any_sets-requires-else-counter-variable : goal.sets-any_sets-requires-else-counter-variable
 sets-any_sets-requires-else-counter-variable t c =

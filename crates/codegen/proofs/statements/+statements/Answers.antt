@@ -1,39 +1,27 @@
 use Rattle.std.proofs.Common.{rules, ◌≡◌, ◌++◌, length, List, refl, sym, ap, ◌∙◌, subst, arith, IfErr, OnOk}
 use Rattle.branch_removal.specs.Straight.{straight_block}
 use Rattle.codegen.proofs.Machine.{Instr, HasPlace, IsFar}
-use Rattle.codegen.proofs.StatementCode.{tree_of_branch, accepted_smaller, otherwise_smaller, arms_within}
-use Rattle.codegen.proofs.StatementCode.{branch_is, tree_of_loop, body_smaller, body_within, loop_is, item_here}
-use Rattle.codegen.proofs.StatementCode.{smaller_here, placed_here, emitted, for_part, part_here}
+use Rattle.codegen.proofs.StatementCode.{tree_of_branch, accepted_smaller, otherwise_smaller, arms_within, branch_is}
+use Rattle.codegen.proofs.StatementCode.{tree_of_loop, body_smaller, body_within, loop_is, item_here, smaller_here}
+use Rattle.codegen.proofs.StatementCode.{placed_here, emitted, for_part, part_here}
 use Rattle.codegen.specs.private.Loops.{any_sets}
 use Rattle.codegen.proofs.statements.+statements.Goals as goal
 
 pub statement-statements-requires : goal.statement-statements-requires
 statement-statements-requires t c =
     let f = c.args.layout.now in
+    let b = c.in-Branch in
     let placed = subst (HasPlace f.declared f.allocation f.controls f.depths c.args.depth)
-    (tree_of_branch c.in-Branch.accepted c.in-Branch.otherwise c.in-Branch.is c.deref-in-Branch.ensures.value
-    refl) c.requires.placed in (
-      search (
-        rules,
-        accepted_smaller c.in-Branch.accepted c.in-Branch.otherwise c.in-Branch.is
-            c.deref-in-Branch.ensures.value refl,
-      ),
-      placed.1,
-    )
+    (tree_of_branch b.accepted b.otherwise b.is c.deref-in-Branch.ensures.value refl) c.requires.placed in
+    (search (rules, accepted_smaller b.accepted b.otherwise b.is c.deref-in-Branch.ensures.value refl), placed.1)
 
 pub statement-statements-requires-in-Branch : goal.statement-statements-requires-in-Branch
 statement-statements-requires-in-Branch t c =
     let f = c.args.layout.now in
+    let b = c.in-Branch in
     let placed = subst (HasPlace f.declared f.allocation f.controls f.depths c.args.depth)
-    (tree_of_branch c.in-Branch.accepted c.in-Branch.otherwise c.in-Branch.is refl
-    c.deref-in-Branch-2.ensures.value) c.requires.placed in (
-      search (
-        rules,
-        otherwise_smaller c.in-Branch.accepted c.in-Branch.otherwise c.in-Branch.is refl
-            c.deref-in-Branch-2.ensures.value,
-      ),
-      placed.2,
-    )
+    (tree_of_branch b.accepted b.otherwise b.is refl c.deref-in-Branch-2.ensures.value) c.requires.placed in
+    (search (rules, otherwise_smaller b.accepted b.otherwise b.is refl c.deref-in-Branch-2.ensures.value), placed.2)
 
 pub statement-statements-requires-in-Repeat : goal.statement-statements-requires-in-Repeat
 statement-statements-requires-in-Repeat t c =
@@ -54,9 +42,8 @@ statement-returns-in_ok-branch-in-Branch-clause-code t c =
     (c.as_slice-in-Branch.ensures.value
     ∙ emitted c.in_ok-statements-in-Branch-2.ensures.code c.new-other.ensures.items))
 
-pub statement-returns-in_ok-statements-in-Repeat-clause-code :
-    goal.statement-returns-in_ok-statements-in-Repeat-clause-code
-statement-returns-in_ok-statements-in-Repeat-clause-code t c =
+pub statement-returns-in_ok-statements-in-Repeat : goal.statement-returns-in_ok-statements-in-Repeat
+statement-returns-in_ok-statements-in-Repeat t c =
     let f = c.args.layout.now in
     let same = c.deref-in-Repeat-2.ensures.value ∙ sym c.deref-in-Repeat.ensures.value in
     let code = loop_is c.in-Repeat.body c.in-Repeat.is c.deref-in-Repeat.ensures.value f.declared f.allocation
@@ -65,21 +52,11 @@ statement-returns-in_ok-statements-in-Repeat-clause-code t c =
     ∙ emitted c.in_ok-statements-in-Repeat.ensures.code c.new-turn.ensures.items)
     c.any_sets.result
     (c.any_sets.ensures ∙ ap (λ body. any_sets c.in-Repeat.counter (straight_block body)) same) in
-    subst (λ (l : List Instr). OnOk c.repeat.result (c.repeat.new.code.items ≡ c.args.code.now.items ++ l)) code
-    c.repeat.ensures.code
-
-pub statement-returns-in_ok-statements-in-Repeat-clause-far :
-    goal.statement-returns-in_ok-statements-in-Repeat-clause-far
-statement-returns-in_ok-statements-in-Repeat-clause-far t c =
-    let f = c.args.layout.now in
-    let same = c.deref-in-Repeat-2.ensures.value ∙ sym c.deref-in-Repeat.ensures.value in
-    let code = loop_is c.in-Repeat.body c.in-Repeat.is c.deref-in-Repeat.ensures.value f.declared f.allocation
-    f.controls f.depths c.args.depth
-    (c.as_slice-in-Repeat.ensures.value
-    ∙ emitted c.in_ok-statements-in-Repeat.ensures.code c.new-turn.ensures.items)
-    c.any_sets.result
-    (c.any_sets.ensures ∙ ap (λ body. any_sets c.in-Repeat.counter (straight_block body)) same) in
-    subst (λ (l : List Instr). IfErr c.repeat.result (IsFar (length l))) code c.repeat.ensures.far
+    record {
+      code = subst (λ (l : List Instr). OnOk c.repeat.result (c.repeat.new.code.items ≡ c.args.code.now.items ++ l)) code
+          c.repeat.ensures.code;
+      far = subst (λ (l : List Instr). IfErr c.repeat.result (IsFar (length l))) code c.repeat.ensures.far;
+    }
 
 pub statements-statement-requires : goal.statements-statement-requires
 statements-statement-requires t c =
@@ -98,52 +75,41 @@ pub statement-returns-in_err-statements-in-Branch-clause-far :
     goal.statement-returns-in_err-statements-in-Branch-clause-far
 statement-returns-in_err-statements-in-Branch-clause-far t c =
     let f = c.args.layout.now in
-    for_part _ _ _ c.from_residual-in_err-statements-in-Branch.ensures.1
-    c.in_err-statements-in-Branch.ensures.far
-    (omega (
-      arith,
-      arms_within c.in-Branch.accepted c.in-Branch.otherwise c.in-Branch.is c.deref-in-Branch.ensures.value refl
-          f.declared f.allocation f.controls f.depths c.args.depth refl refl,
-    ))
+    let b = c.in-Branch in
+    let within = arms_within b.accepted b.otherwise b.is c.deref-in-Branch.ensures.value refl f.declared f.allocation
+    f.controls f.depths c.args.depth refl refl in
+    for_part _ _ _ c.from_residual-in_err-statements-in-Branch.ensures.1 c.in_err-statements-in-Branch.ensures.far
+    (omega (arith, within))
 
 pub statement-returns-in_err-statements-in-Branch-2-clause-far :
     goal.statement-returns-in_err-statements-in-Branch-2-clause-far
 statement-returns-in_err-statements-in-Branch-2-clause-far t c =
     let f = c.args.layout.now in
-    for_part _ _ _ c.from_residual-in_err-statements-in-Branch-2.ensures.1
-    c.in_err-statements-in-Branch-2.ensures.far
-    (omega (
-      arith,
-      arms_within c.in-Branch.accepted c.in-Branch.otherwise c.in-Branch.is c.deref-in-Branch.ensures.value
-          c.deref-in-Branch-2.ensures.value f.declared f.allocation f.controls f.depths c.args.depth refl refl,
-    ))
+    let b = c.in-Branch in
+    let within = arms_within b.accepted b.otherwise b.is c.deref-in-Branch.ensures.value
+    c.deref-in-Branch-2.ensures.value f.declared f.allocation f.controls f.depths c.args.depth refl refl in
+    for_part _ _ _ c.from_residual-in_err-statements-in-Branch-2.ensures.1 c.in_err-statements-in-Branch-2.ensures.far
+    (omega (arith, within))
 
 pub statement-returns-in_err-reach-in-Branch-clause-far : goal.statement-returns-in_err-reach-in-Branch-clause-far
 statement-returns-in_err-reach-in-Branch-clause-far t c =
     let f = c.args.layout.now in
-    for_part _ _ _ c.from_residual-in_err-reach-in-Branch.ensures.1
-    c.in_err-reach-in-Branch.ensures.far
-    (omega (
-      arith,
-      c.len.ensures,
-      c.len-in-Branch.ensures,
-      arms_within c.in-Branch.accepted c.in-Branch.otherwise c.in-Branch.is c.deref-in-Branch.ensures.value
-          c.deref-in-Branch-2.ensures.value f.declared f.allocation f.controls f.depths c.args.depth
-          (emitted c.in_ok-statements-in-Branch.ensures.code c.new-one.ensures.items)
-          (emitted c.in_ok-statements-in-Branch-2.ensures.code c.new-other.ensures.items),
-    ))
+    let b = c.in-Branch in
+    let within = arms_within b.accepted b.otherwise b.is c.deref-in-Branch.ensures.value
+    c.deref-in-Branch-2.ensures.value f.declared f.allocation f.controls f.depths c.args.depth
+    (emitted c.in_ok-statements-in-Branch.ensures.code c.new-one.ensures.items)
+    (emitted c.in_ok-statements-in-Branch-2.ensures.code c.new-other.ensures.items) in
+    for_part _ _ _ c.from_residual-in_err-reach-in-Branch.ensures.1 c.in_err-reach-in-Branch.ensures.far
+    (omega (arith, c.len.ensures, c.len-in-Branch.ensures, within))
 
 pub statement-returns-in_err-statements-in-Repeat-clause-far :
     goal.statement-returns-in_err-statements-in-Repeat-clause-far
 statement-returns-in_err-statements-in-Repeat-clause-far t c =
     let f = c.args.layout.now in
-    for_part _ _ _ c.from_residual-in_err-statements-in-Repeat.ensures.1
-    c.in_err-statements-in-Repeat.ensures.far
-    (omega (
-      arith,
-      body_within c.in-Repeat.body c.in-Repeat.is c.deref-in-Repeat.ensures.value f.declared f.allocation f.controls
-          f.depths c.args.depth refl,
-    ))
+    let within = body_within c.in-Repeat.body c.in-Repeat.is c.deref-in-Repeat.ensures.value f.declared f.allocation
+    f.controls f.depths c.args.depth refl in
+    for_part _ _ _ c.from_residual-in_err-statements-in-Repeat.ensures.1 c.in_err-statements-in-Repeat.ensures.far
+    (omega (arith, within))
 
 pub statements-returns-in_err-statement-clause-far : goal.statements-returns-in_err-statement-clause-far
 statements-returns-in_err-statement-clause-far t c =
