@@ -1,20 +1,18 @@
 -- The code of a branch on what is public.
-use Rattle.std.proofs.Common.{◌≡◌, ◌≢◌, ℕ, ◌+◌, ◌*◌, ◌^◌, ◌<◌, ◌≤◌, ◌==◌, ◌&&◌, Bool, true, false, cond, List, []}
-use Rattle.std.proofs.Common.{◌∷◌, ◌++◌, length, refl, sym, ap, subst, arith, ne_eqb}
+use Rattle.std.proofs.Common.{◌≡◌, ◌≢◌, ℕ, ◌+◌, ◌*◌, ◌^◌, ◌<◌, ◌≤◌, ◌==◌, ◌&&◌, Bool, true, false, cond, List, ◌++◌}
+use Rattle.std.proofs.Common.{length, refl, sym, ap, subst, arith, ne_eqb}
 use Rattle.std.proofs.lemmas.Bool.{and_parts, ltb-true}
 use Rattle.codegen.proofs.ComparedRuns.{condition_runs, passes, test_is}
-use Rattle.codegen.proofs.Language.{HasType, StraightBlock, StraightState, TermTree, WordType, after, after_all}
-use Rattle.codegen.proofs.Language.{branch, path_along, path_at, term_nodes, types_of, value_in}
-use Rattle.codegen.proofs.Logic.{as_code, base_of, branching_at, by_mark, condition_kind, gives, Known, Ready, Runs}
-use Rattle.codegen.proofs.Logic.{seq, Setting, setting, Still}
+use Rattle.codegen.proofs.Language.{HasType, StraightBlock, StraightState, TermTree, WordType, after, after_all, branch}
+use Rattle.codegen.proofs.Language.{path_along, path_at, term_nodes, types_of, value_in}
+use Rattle.codegen.proofs.Logic.{base_of, branching_at, by_mark, condition_kind, gives, Known, Ready, Runs, seq}
+use Rattle.codegen.proofs.Logic.{Setting, setting, Still}
 use Rattle.codegen.proofs.Machine.{branch_code, branching_code, condition_code, height_of, Instr, read_code}
 use Rattle.codegen.proofs.Machine.{read_register, slots_to, test_of, unless_code}
 use Rattle.codegen.proofs.Slots.{hidden_by, hidden_kept, hidden_then, read_runs, read_source, ready_still, ready_valued}
 use Rattle.codegen.proofs.Slots.{Shown}
-use Rattle.codegen.specs.declared.jumping.Test.{Test}
 use Rattle.codegen.specs.private.Compared.{is_short_arm}
 use Rattle.codegen.proofs.program_logic_lemmas.Tests.{unless_at}
-use Rattle.codegen.specs.program_logic.Tests as logic
 use Rattle.rv_machine.specs.Machine as machine
 
 -- the condition is known
@@ -26,11 +24,6 @@ record Tested (z : Setting) (condition : TermTree) (env : StraightState) (s : ma
 record Decided (z : Setting) (condition : TermTree) (env : StraightState) (s : machine.State) : Type 0 where
   ready : Ready z env s
   decides : passes (test_of z.allocation condition) s.regs ≡ (value_in env.variables condition == 0)
-
-unless_is : (test : Test) (xs ys : List Instr)
-    → unless_code test xs ys ≡ logic.unless_code test.test test.left test.right xs ys
-unless_is test xs [] = refl
-unless_is test xs (y ∷ ys) = refl
 
 module _ (z : Setting) (depth : ℕ) (condition : TermTree) (word : WordType) (accepted otherwise : StraightBlock)
     (m n : ℕ) {xs ys : List Instr}
@@ -104,9 +97,7 @@ module _ (z : Setting) (depth : ℕ) (condition : TermTree) (word : WordType) (a
   unless_runs short =
       let test = test_of z.allocation condition in
       let is = test_is z condition in
-      as_code (ap (λ (code : List Instr). condition_code z.declared z.allocation (base_of z) condition ++ code)
-      (unless_is test xs ys))
-      (gives
+      gives
       (λ env s t fine ready done. record {
         ready = done.second.ready;
         hidden = hidden_then z depth s done.middle t (hidden_kept z depth s done.middle within done.first.kept)
@@ -126,7 +117,7 @@ module _ (z : Setting) (depth : ℕ) (condition : TermTree) (word : WordType) (a
       (λ env s t none known still. ready_still z env s t known.given.ready still)
       (λ env s t u none known still done. second_arm env s t u none still done)
       one two v (λ env s known. known.is)))
-      (λ env s t ready done. record { ready = done.ready; decides = done.decides })))
+      (λ env s t ready done. record { ready = done.ready; decides = done.decides }))
 
   pub branching_runs : Branches (branching_code z.declared z.allocation (base_of z) condition xs ys)
   branching_runs = by_test (z.allocation.immediates && is_short_arm xs) refl
