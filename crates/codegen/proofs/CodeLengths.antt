@@ -3,59 +3,47 @@ use Rattle.std.proofs.Common.{ℕ, ◌+◌, ◌*◌, ◌≤◌, nat_lt, List, []
 use Rattle.std.proofs.Common.{length-append, ◌≡◌, ◌<◌, ◌==◌, Bool, true, false, slice_get, cond}
 use Rattle.codegen.proofs.Language.{statement_nodes, block_nodes, StraightTree, set, array, put, take, branch, repeats}
 use Rattle.codegen.proofs.Language.{StraightBlock, nothing, first, FlatVariable, TermTree, array_as, term_nodes}
-use Rattle.codegen.proofs.Language.{terms_nodes, declared_words, Kind}
+use Rattle.codegen.proofs.Language.{terms_nodes, declared_words, Kind, element_bytes, array_words, IsTyped, AreTyped}
+use Rattle.codegen.proofs.Language.{types_but, types_of, AllSuit, HasCount, HasType, Boolean, WordType, Profile}
 use Rattle.codegen.proofs.BranchLengths.{branching_spans}
 use Rattle.codegen.proofs.LoopLengths.{repeat_spans}
 pub use Rattle.codegen.proofs.WordLengths.{assign_length}
 use Rattle.codegen.proofs.WordLengths.{read_length, stored_length, value_length}
 use Rattle.codegen.specs.private.Loops.{any_sets}
-use Rattle.codegen.proofs.Language.{element_bytes, array_words, IsTyped, AreTyped, types_but, types_of, AllSuit}
-use Rattle.codegen.proofs.Language.{HasCount, HasType, Boolean, WordType, Profile}
-use Rattle.codegen.specs.private.Emitted.{gives_zero, read_register, stored_register, stored_value}
+use Rattle.codegen.specs.private.Emitted.{gives_zero, read_register, stored_register, stored_value, set_code}
+use Rattle.codegen.specs.private.Emitted.{set_under_code, taken_code, kept_code, join_code, element_store_code}
+use Rattle.codegen.specs.private.Emitted.{clear_code, array_code, fill_code, into_element_code, statement_code}
+use Rattle.codegen.specs.private.Emitted.{block_code, index_code, put_code, put_element_code, put_under_code}
+use Rattle.codegen.specs.private.Emitted.{put_under_near_code}
 use Rattle.codegen.specs.private.Erased.{erase_under_code}
-use Rattle.codegen.specs.private.Emitted.{set_code, set_under_code, taken_code, kept_code, join_code, masks_code}
-use Rattle.codegen.specs.private.Emitted.{unless_unread, element_store_code, clear_code}
-use Rattle.codegen.specs.private.Emitted.{array_code, fill_code, into_element_code, statement_code, block_code}
-use Rattle.branch_removal.specs.Heights.{height_of_all}
-use Rattle.codegen.specs.private.Emitted.{index_code}
-use Rattle.branch_removal.specs.Heights.{height_in, height_in_all, depth_in, depth_in_all}
-use Rattle.codegen.specs.private.Emitted.{put_code, put_element_code, put_under_code, put_under_near_code}
-use Rattle.codegen.proofs.Machine.{AreNear, far, ArePlacedTerms, control_location, HasPlace, HavePlaces}
-use Rattle.codegen.proofs.Machine.{register_of, variable_offset}
-use Rattle.codegen.proofs.Machine.{next_offset, temporaries_offset, kind_at, near_element, height_of, Instr, slots_to}
-use Rattle.codegen.proofs.Machine.{Allocation, InRegister, InSlot, Location, variable_location}
+use Rattle.branch_removal.specs.Heights.{height_of_all, height_in, height_in_all, depth_in, depth_in_all}
+use Rattle.codegen.proofs.Machine.{AreNear, far, ArePlacedTerms, control_location, HasPlace, HavePlaces, register_of}
+use Rattle.codegen.proofs.Machine.{variable_offset, next_offset, temporaries_offset, kind_at, near_element, height_of}
+use Rattle.codegen.proofs.Machine.{Instr, slots_to, Allocation, InRegister, InSlot, Location, variable_location}
+use Rattle.codegen.proofs.Machine.{unless_unread}
 use Rattle.codegen.specs.private.Placed.{IsPlaced}
 use Rattle.codegen.proofs.StoredValues.{stored_nodes}
 use Rattle.codegen.proofs.Logic.{code_length, fetch_length, height, one_of, load_length, store_length, constant_length}
-use Rattle.codegen.proofs.Logic.{address_length, ends_before_result, typed_within}
-use Rattle.codegen.proofs.Logic.{typed_among}
-use Rattle.codegen.proofs.Logic.{none-some, slice_get_within}
+use Rattle.codegen.proofs.Logic.{address_length, ends_before_result, typed_within, typed_among, none-some}
+use Rattle.codegen.proofs.Logic.{slice_get_within}
 
 -- Pieces.
 
-masks_length : (x y : Bool) (a b r : ℕ) → length (masks_code x y a b r) ≤ 2
-masks_length true true a b r = omega arith
-masks_length true false a b r = omega arith
-masks_length false true a b r = omega arith
-masks_length false false a b r = omega arith
+unless_length : (x : Bool) (i : Instr) → length (unless_unread x (i ∷ [])) ≤ 1
+unless_length true i = omega arith
+unless_length false i = omega arith
 
 join_length : (x y : Bool) (a b k : ℕ) → length (join_code x y a b k) ≤ 2
-join_length true true a b k = one_of (a == k) _ _ 2 (omega arith) (omega arith)
-join_length true false a b k = one_of (a == k) _ _ 2 (omega arith) (omega arith)
-join_length false true a b k = one_of (a == k) _ _ 2 (omega arith) (omega arith)
-join_length false false a b k = one_of (a == k) _ _ 2 (omega arith) (omega arith)
+join_length x y a b k =
+    let e = length-append {A = Instr} in
+    one_of (a == k) _ _ 2 (omega (arith, e, unless_length)) (omega (arith, e, unless_length))
 
 taken_length : (declared : List FlatVariable) (allocation : Allocation) (x y : Bool) (a b r : ℕ) (within : Option ℕ)
     → length (taken_code declared allocation x y a b r within) ≤ 7
-taken_length declared allocation x y a b r None = omega (arith, masks_length x y a b r)
+taken_length declared allocation x y a b r None = omega (arith, length-append {A = Instr}, unless_length)
 taken_length declared allocation x y a b r (Some control) =
-    omega (
-      arith,
-      length-append {A = Instr},
-      masks_length x y 7 5 r,
-      fetch_length (control_location declared allocation control) 6,
-      join_length x y a b (register_of (control_location declared allocation control) 6),
-    )
+    let l = control_location declared allocation control in
+    omega (arith, length-append {A = Instr}, unless_length, fetch_length l 6, join_length x y a b (register_of l 6))
 
 kept_length : (x : Bool) (l : Location) (r : ℕ) → length (unless_unread x (kept_code l r)) ≤ 3
 kept_length true l r = omega arith
@@ -109,14 +97,12 @@ put_length declared allocation free (Some c) x index value =
     (omega (arith, length-append {A = Instr}, read_length, fetch_length, address_length))
 
 set_under_length : (r : ℕ) (l control : Location) → length (set_under_code r l control) ≤ 12
-set_under_length r (InRegister home) control = simp length-append (omega (arith, fetch_length control 7))
-set_under_length r (InSlot o) control =
-    simp length-append (omega (arith, load_length 6 o, fetch_length control 7, store_length 5 o))
+set_under_length r (InRegister home) control = simp length-append (omega (arith, fetch_length))
+set_under_length r (InSlot o) control = simp length-append (omega (arith, load_length, fetch_length, store_length))
 
 erase_under_length : (l control : Location) → length (erase_under_code l control) ≤ 11
-erase_under_length (InRegister home) control = simp length-append (omega (arith, fetch_length control 7))
-erase_under_length (InSlot o) control =
-    simp length-append (omega (arith, load_length 6 o, fetch_length control 7, store_length 5 o))
+erase_under_length (InRegister home) control = simp length-append (omega (arith, fetch_length))
+erase_under_length (InSlot o) control = simp length-append (omega (arith, load_length, fetch_length, store_length))
 
 set_length : (declared : List FlatVariable) (allocation : Allocation) (free : ℕ) (within : Option ℕ) (l : Location)
     (e : TermTree) → length (set_code declared allocation free within l e) ≤ 32 * (1 + term_nodes e)

@@ -7,14 +7,12 @@ use Rattle.codegen.proofs.Language.{array, branch, first, FlatVariable, nothing,
 use Rattle.codegen.proofs.Language.{StraightBlock, StraightTree, take, TermTree}
 use Rattle.codegen.proofs.Logic.{none-some}
 use Rattle.codegen.proofs.Machine.{branching_code, condition_code, failing, home_count, operands_or, right_code}
-use Rattle.codegen.proofs.Machine.{right_register, test_of, test_or}
-use Rattle.codegen.proofs.Machine.{Allocation, AllReadKept, at_home, block_code, control_location, home_of, InRegister}
-use Rattle.codegen.proofs.Machine.{InSlot}
-use Rattle.codegen.proofs.Machine.{into_code, Location, next_offset, put_element_code}
-use Rattle.codegen.proofs.Machine.{read_code, read_register, ReadsKept, set_code, statement_code, temporaries_offset}
-use Rattle.codegen.proofs.Machine.{result_offset}
-use Rattle.codegen.proofs.Machine.{assign_code, fill_code, home_of_term, IsKeptWithin, result_code, taken_code}
-use Rattle.codegen.proofs.Machine.{unless_home, variable_location, variable_offset, kind_at, Instr}
+use Rattle.codegen.proofs.Machine.{right_register, test_of, test_or, Allocation, AllReadKept, at_home, block_code}
+use Rattle.codegen.proofs.Machine.{control_location, home_of, InRegister, InSlot, into_code, Location, next_offset}
+use Rattle.codegen.proofs.Machine.{put_element_code, read_code, read_register, ReadsKept, set_code, statement_code}
+use Rattle.codegen.proofs.Machine.{temporaries_offset, result_offset, assign_code, fill_code, home_of_term}
+use Rattle.codegen.proofs.Machine.{IsKeptWithin, result_code, taken_code, unless_home, variable_location}
+use Rattle.codegen.proofs.Machine.{variable_offset, kind_at, Instr}
 use Rattle.codegen.specs.private.Compared.{against_zero}
 use Rattle.codegen.specs.private.Fresh.{any_names, homes_but, names, names_in, names_in_any, names_in_result}
 use Rattle.codegen.proofs.StoredValues.{stored_alike}
@@ -77,10 +75,6 @@ home_but a left_out x =
 pub home_kept : (a : Allocation) (left_out : ℕ → Bool) (x : ℕ) → left_out x ≡ false
     → home_of (but a left_out).homes x ≡ home_of a.homes x
 home_kept a left_out x stays = home_but a left_out x ∙ ap (λ b. if b then None else home_of a.homes x) stays
-
-pub home_left_out : (a : Allocation) (left_out : ℕ → Bool) (x : ℕ) → left_out x ≡ true
-    → home_of (but a left_out).homes x ≡ None
-home_left_out a left_out x out = home_but a left_out x ∙ ap (λ b. if b then None else home_of a.homes x) out
 
 -- one that there is left is the one that there was
 pub home_was : (a : Allocation) (left_out : ℕ → Bool) (x home : ℕ) → home_of (but a left_out).homes x ≡ Some home
@@ -174,11 +168,11 @@ module _ (declared : List FlatVariable) (a : Allocation) (left_out : ℕ → Boo
         into_same free d place e spares,
       ) refl
   into_same free d place (flat.element source x size index) spares =
-      let one = λ (y : ℕ) (out : left_out y ≡ true). (or_parts (x == y) (names_in y index) (spares y out)).1 in
+      let one = λ (y : ℕ) (out : left_out y ≡ true). (or_parts _ _ (spares y out)).1 in
       rw (at_home_same index one, operand_same free place index one, into_same free (own place) place index one) refl
   into_same free d place (flat.binary source operator width left right) spares =
-      let one = λ (y : ℕ) (out : left_out y ≡ true). (or_parts (names_in y left) (names_in y right) (spares y out)).0 in
-      let two = λ (y : ℕ) (out : left_out y ≡ true). (or_parts (names_in y left) (names_in y right) (spares y out)).1 in
+      let one = λ (y : ℕ) (out : left_out y ≡ true). (or_parts _ _ (spares y out)).0 in
+      let two = λ (y : ℕ) (out : left_out y ≡ true). (or_parts _ _ (spares y out)).1 in
       rw (
         at_home_same left one,
         at_home_same right two,
@@ -190,8 +184,7 @@ module _ (declared : List FlatVariable) (a : Allocation) (left_out : ℕ → Boo
         into_same free (own (place + 1)) (place + 1) right two,
       ) refl
   into_same free d place (flat.select condition accepted otherwise) spares =
-      let parts = λ (y : ℕ) (out : left_out y ≡ true). neither_of_three (names_in y condition) (names_in y accepted)
-      (names_in y otherwise) (spares y out) in
+      let parts = λ (y : ℕ) (out : left_out y ≡ true). neither_of_three _ _ _ (spares y out) in
       let one = λ (y : ℕ) (out : left_out y ≡ true). (parts y out).0 in
       let two = λ (y : ℕ) (out : left_out y ≡ true). (parts y out).1 in
       let three = λ (y : ℕ) (out : left_out y ≡ true). (parts y out).2 in
@@ -245,8 +238,8 @@ module _ (declared : List FlatVariable) (a : Allocation) (left_out : ℕ → Boo
       → fill_code declared b free kind o es ≡ fill_code declared a free kind o es
   fill_same free kind o [] spares = refl
   fill_same free kind o (e ∷ es) spares =
-      let one = λ (y : ℕ) (out : left_out y ≡ true). (or_parts (names_in y e) (names_in_any y es) (spares y out)).0 in
-      let two = λ (y : ℕ) (out : left_out y ≡ true). (or_parts (names_in y e) (names_in_any y es) (spares y out)).1 in
+      let one = λ (y : ℕ) (out : left_out y ≡ true). (or_parts _ _ (spares y out)).0 in
+      let two = λ (y : ℕ) (out : left_out y ≡ true). (or_parts _ _ (spares y out)).1 in
       ap₂ ◌++◌ (into_element_same free kind o (stored_value a kind e) (stored_spares kind e one))
       (fill_same free kind (o + element_bytes kind) es two)
 
@@ -292,8 +285,8 @@ module _ (declared : List FlatVariable) (a : Allocation) (left_out : ℕ → Boo
   condition_same : (free : ℕ) (e : TermTree) → Spares (λ y. names_in y e)
       → condition_code declared b free e ≡ condition_code declared a free e
   condition_same free (flat.binary place operator width left right) spares =
-      let one = λ (y : ℕ) (out : left_out y ≡ true). (or_parts (names_in y left) (names_in y right) (spares y out)).0 in
-      let two = λ (y : ℕ) (out : left_out y ≡ true). (or_parts (names_in y left) (names_in y right) (spares y out)).1 in
+      let one = λ (y : ℕ) (out : left_out y ≡ true). (or_parts _ _ (spares y out)).0 in
+      let two = λ (y : ℕ) (out : left_out y ≡ true). (or_parts _ _ (spares y out)).1 in
       ap₂ (operands_or (failing operator))
       (read_same free 5 0 (flat.binary place operator width left right) spares)
       (ap₂ (λ (front back : List Instr). front ++ back) (read_same free 5 0 left one) (right_same free right two))
@@ -301,8 +294,8 @@ module _ (declared : List FlatVariable) (a : Allocation) (left_out : ℕ → Boo
 
   test_same : (e : TermTree) → Spares (λ y. names_in y e) → test_of b e ≡ test_of a e
   test_same (flat.binary place operator width left right) spares =
-      let one = λ (y : ℕ) (out : left_out y ≡ true). (or_parts (names_in y left) (names_in y right) (spares y out)).0 in
-      let two = λ (y : ℕ) (out : left_out y ≡ true). (or_parts (names_in y left) (names_in y right) (spares y out)).1 in
+      let one = λ (y : ℕ) (out : left_out y ≡ true). (or_parts _ _ (spares y out)).0 in
+      let two = λ (y : ℕ) (out : left_out y ≡ true). (or_parts _ _ (spares y out)).1 in
       ap₂ (test_or (failing operator) (against_zero 5)) (register_same 5 left one) (right_register_same right two)
   test_same e spares = ap against_zero (register_same 5 e spares)
 
@@ -336,18 +329,17 @@ module _ (declared : List FlatVariable) (a : Allocation) (left_out : ℕ → Boo
       pub statement_same : (depth : ℕ) (s : StraightTree) → Spares (λ y. names y s)
           → statement_code declared b controls depths depth s ≡ statement_code declared a controls depths depth s
       statement_same depth (set within x value) spares =
-          let one = λ (y : ℕ) (out : left_out y ≡ true). (or_parts (x == y) (names_in y value) (spares y out)).0 in
-          let two = λ (y : ℕ) (out : left_out y ≡ true). (or_parts (x == y) (names_in y value) (spares y out)).1 in
+          let one = λ (y : ℕ) (out : left_out y ≡ true). (or_parts _ _ (spares y out)).0 in
+          let two = λ (y : ℕ) (out : left_out y ≡ true). (or_parts _ _ (spares y out)).1 in
           let free = temporaries_offset declared controls depths in
           ap (λ l. set_code declared b free within l value) (location_same x one)
           ∙ set_same free within (variable_location declared a x) value two
       statement_same depth (array x size []) spares = refl
       statement_same depth (array x size (e ∷ es)) spares =
           fill_same (temporaries_offset declared controls depths) (kind_at declared x) (variable_offset declared x)
-          (e ∷ es) (λ y out. (or_parts (x == y) (names_in_any y (e ∷ es)) (spares y out)).1)
+          (e ∷ es) (λ y out. (or_parts _ _ (spares y out)).1)
       statement_same depth (put within place x size index value) spares =
-          let parts = λ (y : ℕ) (out : left_out y ≡ true). neither_of_three (x == y) (names_in y index)
-          (names_in y value) (spares y out) in
+          let parts = λ (y : ℕ) (out : left_out y ≡ true). neither_of_three _ _ _ (spares y out) in
           put_same (temporaries_offset declared controls depths) within x index value (λ y out. (parts y out).1)
           (λ y out. (parts y out).2)
       statement_same depth (take c within condition) spares =
@@ -359,16 +351,14 @@ module _ (declared : List FlatVariable) (a : Allocation) (left_out : ℕ → Boo
             taken_same _ _ _ _ _ within,
           ) refl
       statement_same depth (branch condition accepted otherwise) spares =
-          let parts = λ (y : ℕ) (out : left_out y ≡ true). neither_of_three (names_in y condition)
-          (any_names y accepted) (any_names y otherwise) (spares y out) in
+          let parts = λ (y : ℕ) (out : left_out y ≡ true). neither_of_three _ _ _ (spares y out) in
           let free = temporaries_offset declared controls depths in
           ap₂ (branching_code declared b free condition) (block_same depth accepted (λ y out. (parts y out).1))
           (block_same depth otherwise (λ y out. (parts y out).2))
           ∙ branching_same free condition (block_code declared a controls depths depth accepted)
           (block_code declared a controls depths depth otherwise) (λ y out. (parts y out).0)
       statement_same depth (repeats x low high body) spares =
-          let parts = λ (y : ℕ) (out : left_out y ≡ true). neither_of_four (x == y) (names_in y low)
-          (names_in y high) (any_names y body) (spares y out) in
+          let parts = λ (y : ℕ) (out : left_out y ≡ true). neither_of_four _ _ _ _ (spares y out) in
           let free = temporaries_offset declared controls depths in
           let next = next_offset declared controls depth in
           let own = block_code declared a controls depths (depth + 1) body in
@@ -383,8 +373,8 @@ module _ (declared : List FlatVariable) (a : Allocation) (left_out : ℕ → Boo
       block_same depth nothing spares = refl
       block_same depth (first s rest) spares =
           ap₂ (λ (front back : List Instr). front ++ back)
-          (statement_same depth s (λ y out. (or_parts (names y s) (any_names y rest) (spares y out)).0))
-          (block_same depth rest (λ y out. (or_parts (names y s) (any_names y rest) (spares y out)).1))
+          (statement_same depth s (λ y out. (or_parts _ _ (spares y out)).0))
+          (block_same depth rest (λ y out. (or_parts _ _ (spares y out)).1))
 
   -- What is read is kept.
 

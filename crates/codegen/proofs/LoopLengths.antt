@@ -1,13 +1,13 @@
 -- How long the code of a loop is, by that of its body.
-use Rattle.std.proofs.Common.{ℕ, ◌+◌, ◌*◌, ◌≤◌, ◌<◌, Bool, true, false, cond, List, ◌++◌}
-use Rattle.std.proofs.Common.{length, Option, None, Some, arith, length-append}
+use Rattle.std.proofs.Common.{ℕ, ◌+◌, ◌*◌, ◌≤◌, ◌<◌, Bool, true, false, cond, List, ◌++◌, length, Option, None, Some}
+use Rattle.std.proofs.Common.{arith, length-append}
 use Rattle.codegen.proofs.Language.{FlatVariable, TermTree, term_nodes}
 use Rattle.codegen.proofs.Logic.{load_length, move_length, store_length}
-use Rattle.codegen.proofs.Machine.{AreNear, far, Allocation, Instr, Location, bounds_code, count_code}
-use Rattle.codegen.proofs.Machine.{into_code, read_code, read_register, test_code}
+use Rattle.codegen.proofs.Machine.{AreNear, far, Allocation, Instr, Location, bounds_code, count_code, into_code}
+use Rattle.codegen.proofs.Machine.{read_code, read_register, test_code}
 use Rattle.codegen.proofs.WordLengths.{assign_length, put_word_length, read_length, value_length}
-use Rattle.codegen.specs.private.Loops.{below_number_code, counting_home, guarded_code, is_below}
-use Rattle.codegen.specs.private.Loops.{loop_from, repeat_code, short_number, to_word_code, turns_code}
+use Rattle.codegen.specs.private.Loops.{below_number_code, counting_home, guarded_code, is_below, loop_from}
+use Rattle.codegen.specs.private.Loops.{repeat_code, short_number, to_word_code, turns_code}
 
 -- as long as a body, and so many instructions more at most
 abbrev pub Spans : List Instr → ℕ → List Instr → Type 0
@@ -25,51 +25,29 @@ module _ (declared : List FlatVariable) (allocation : Allocation) (next free : �
         assign_length declared allocation free high (next + 4),
       )
 
-  turns_spans : (h : ℕ) (test : List Instr) → Spans body (length test + 3) (turns_code h test body)
-  turns_spans h test =
-      let e = length-append {A = Instr} in
-      (omega (arith, e), omega (arith, e))
-
-  guarded_spans : (b h r : ℕ) (test : List Instr) → Spans body (length test + 7) (guarded_code b h r test body)
-  guarded_spans b h r test =
-      let e = length-append {A = Instr} in
-      let m = move_length h r in
-      (omega (arith, e), omega (arith, e, m))
-
-  certain_spans : (h : ℕ) (low : TermTree) (bound : ℕ) → Spans body (16 * term_nodes low + 9)
-      (into_code declared allocation free h 0 low ++ turns_code h (below_number_code 5 h bound) body)
-  certain_spans h low bound =
-      let e = length-append (into_code declared allocation free h 0 low)
-      (turns_code h (below_number_code 5 h bound) body) in
-      let t = turns_spans h (below_number_code 5 h bound) in
-      (omega (arith, e, t.0), omega (arith, e, t.1, value_length declared allocation free h 0 low))
-
-  read_spans : (h : ℕ) (low : TermTree) (bound : ℕ) → Spans body (16 * term_nodes low + 9)
-      (read_code declared allocation free 5 0 low ++ (below_number_code 6 (read_register allocation 5 low) bound
-      ++ guarded_code 6 h (read_register allocation 5 low) (below_number_code 5 h bound) body))
-  read_spans h low bound =
-      let r = read_register allocation 5 low in
-      let rest = guarded_code 6 h r (below_number_code 5 h bound) body in
-      let e = length-append (read_code declared allocation free 5 0 low) (below_number_code 6 r bound ++ rest) in
-      let t = guarded_spans 6 h r (below_number_code 5 h bound) in
-      (omega (arith, e, t.0), omega (arith, e, t.1, read_length declared allocation free 5 0 low))
-
   number_spans : (h : ℕ) (low : TermTree) (bound : ℕ) (b : Bool) → Spans body (16 * term_nodes low + 9)
       (cond b (into_code declared allocation free h 0 low ++ turns_code h (below_number_code 5 h bound) body)
       (read_code declared allocation free 5 0 low ++ (below_number_code 6 (read_register allocation 5 low) bound
       ++ guarded_code 6 h (read_register allocation 5 low) (below_number_code 5 h bound) body)))
-  number_spans h low bound true = certain_spans h low bound
-  number_spans h low bound false = read_spans h low bound
+  number_spans h low bound true =
+      let e = length-append {A = Instr} in
+      (omega (arith, e), omega (arith, e, value_length declared allocation free h 0 low))
+  number_spans h low bound false =
+      let e = length-append {A = Instr} in
+      let m = move_length h (read_register allocation 5 low) in
+      (omega (arith, e), omega (arith, e, m, read_length declared allocation free 5 0 low))
 
-  to_word_spans : (counter : Location) (home : Option ℕ) → Spans body 20 (to_word_code next counter body home)
-  to_word_spans counter None =
+  word_spans : (counter : Location) (low high : TermTree) (home : Option ℕ)
+      → Spans body (16 * term_nodes low + 16 * term_nodes high + 26)
+      (bounds_code declared allocation next free low high ++ to_word_code next counter body home)
+  word_spans counter low high None =
       let e = length-append {A = Instr} in
       let p = put_word_length 6 counter in
-      (omega (arith, e), omega (arith, e, load_length, store_length, p))
-  to_word_spans counter (Some h) =
+      (omega (arith, e), omega (arith, e, bounds_length low high, load_length, store_length, p))
+  word_spans counter low high (Some h) =
       let e = length-append {A = Instr} in
       let m = move_length h 6 in
-      (omega (arith, e), omega (arith, e, load_length, m))
+      (omega (arith, e), omega (arith, e, bounds_length low high, load_length, m))
 
   from_spans : (counter : Location) (low high : TermTree) (home bound : Option ℕ)
       → Spans body (16 * term_nodes low + 16 * term_nodes high + 26)
@@ -77,18 +55,8 @@ module _ (declared : List FlatVariable) (allocation : Allocation) (next free : �
   from_spans counter low high (Some h) (Some bound) =
       let t = number_spans h low bound (is_below bound low) in
       (t.0, omega (arith, t.1))
-  from_spans counter low high (Some h) None =
-      let t = to_word_spans counter (Some h) in
-      let e = length-append (bounds_code declared allocation next free low high)
-      (to_word_code next counter body (Some h)) in
-      let b = bounds_length low high in
-      (omega (arith, e, t.0), omega (arith, e, t.1, b))
-  from_spans counter low high None bound =
-      let t = to_word_spans counter None in
-      let e = length-append (bounds_code declared allocation next free low high)
-      (to_word_code next counter body None) in
-      let b = bounds_length low high in
-      (omega (arith, e, t.0), omega (arith, e, t.1, b))
+  from_spans counter low high (Some h) None = word_spans counter low high (Some h)
+  from_spans counter low high None bound = word_spans counter low high None
 
   pub repeat_spans : (counter : Location) (low high : TermTree) (is_set : Bool)
       → Spans body (16 * term_nodes low + 16 * term_nodes high + 26)

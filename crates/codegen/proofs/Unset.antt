@@ -1,22 +1,12 @@
 -- A variable that statements do not set holds behind them what it held before.
-use Rattle.std.proofs.Common.{◌≡◌, ℕ, zero, suc, ◌+◌, ◌-◌, ◌==◌, ◌||◌, Bool, true, false, cond, if◌then◌else◌}
-use Rattle.std.proofs.Common.{List, []}
-use Rattle.std.proofs.Common.{◌∷◌, refl, sym, ap, ◌∙◌}
-use Rattle.std.proofs.lemmas.Bool.{eqb-false, ne_eqb}
-use Rattle.codegen.proofs.Language.{StraightTree, set, array, put, take, branch, repeats, StraightBlock, nothing}
-use Rattle.codegen.proofs.Language.{first, StraightState, with_variable, counted, after, after_all, holds, turns}
-use Rattle.codegen.proofs.Language.{value_in, Values}
+use Rattle.std.proofs.Common.{◌≡◌, ℕ, zero, suc, ◌+◌, ◌-◌, ◌==◌, Bool, true, false, cond, if◌then◌else◌, List, [], ◌∷◌}
+use Rattle.std.proofs.Common.{refl, sym, ap, ◌∙◌}
+use Rattle.std.proofs.lemmas.Bool.{eqb-false, ne_eqb, or_parts}
+use Rattle.codegen.proofs.Language.{StraightTree, set, array, put, take, branch, repeats, StraightBlock, nothing, first}
+use Rattle.codegen.proofs.Language.{StraightState, with_variable, counted, after, after_all, holds, turns, value_in}
+use Rattle.codegen.proofs.Language.{Values}
 use Rattle.codegen.specs.private.Loops.{any_sets, sets}
 use Rattle.inline.specs.FlatMeaning.{with_value}
-
--- neither of two
-none_left : (a b : Bool) → (a || b) ≡ false → a ≡ false
-none_left false b h = refl
-none_left true b h = h
-
-none_right : (a b : Bool) → (a || b) ≡ false → b ≡ false
-none_right false b h = h
-none_right true b h = absurd cc
 
 beside : (m : Values) (x y : ℕ) (l : List ℕ) → (x == y) ≡ false → with_value m x l y ≡ m y
 beside m x y l apart = ap (λ b. cond b l (m y)) (ne_eqb y x (λ e. eqb-false x y apart (sym e)))
@@ -46,17 +36,17 @@ mutual
   left_alone (take control within condition) y unset s = refl
   left_alone (branch condition accepted otherwise) y unset s =
       either (value_in s.variables condition == 0) (after_all s otherwise) (after_all s accepted) s y
-      (all_left_alone otherwise y (none_right (any_sets y accepted) (any_sets y otherwise) unset) s)
-      (all_left_alone accepted y (none_left (any_sets y accepted) (any_sets y otherwise) unset) s)
+      (all_left_alone otherwise y (or_parts _ _ unset).1 s)
+      (all_left_alone accepted y (or_parts _ _ unset).0 s)
   left_alone (repeats x low high body) y unset s =
       turns_keep (λ i t. after_all (counted x i t) body) y
-      (λ i t. all_left_alone body y (none_right (x == y) (any_sets y body) unset) (counted x i t)
-      ∙ beside t.variables x y (i ∷ []) (none_left (x == y) (any_sets y body) unset))
+      (λ i t. all_left_alone body y (or_parts _ _ unset).1 (counted x i t)
+      ∙ beside t.variables x y (i ∷ []) (or_parts _ _ unset).0)
       (value_in s.variables high - value_in s.variables low) (value_in s.variables low) s
 
   pub all_left_alone : (body : StraightBlock) (y : ℕ) → any_sets y body ≡ false → (s : StraightState)
       → (after_all s body).variables y ≡ s.variables y
   all_left_alone nothing y unset s = refl
   all_left_alone (first statement rest) y unset s =
-      all_left_alone rest y (none_right (sets y statement) (any_sets y rest) unset) (after s statement)
-      ∙ left_alone statement y (none_left (sets y statement) (any_sets y rest) unset) s
+      all_left_alone rest y (or_parts _ _ unset).1 (after s statement)
+      ∙ left_alone statement y (or_parts _ _ unset).0 s
