@@ -1,31 +1,24 @@
 -- The arguments, loaded: what the variables hold, and what lies in the slots; and what the slots hold in the end.
-use Rattle.std.proofs.Common.{◌≡◌, ◌⊎◌, inl, inr, ℕ, zero, suc, ◌+◌, ◌*◌, ◌%◌, ◌^◌, ◌<◌, ◌≤◌, true, false, List, []}
-use Rattle.std.proofs.Common.{◌∷◌, ◌++◌, length, map, take, drop, replicate, Option, None, Some, is_some, slice_get}
+use Rattle.std.proofs.Common.{◌≡◌, ◌⊎◌, inl, inr, ℕ, zero, suc, ◌+◌, ◌*◌, ◌^◌, ◌<◌, ◌≤◌, true, false, List, [], ◌∷◌}
+use Rattle.std.proofs.Common.{◌++◌, length, map, take, drop, replicate, Option, None, Some, is_some, slice_get}
 use Rattle.std.proofs.Common.{slice_index, refl, sym, ap, ap₂, ◌∙◌, subst, arith, unwrap_or}
 use Rattle.codegen.proofs.Machine.{result_offset, control_offset, slots_from, variable_offset, with_numbers}
 use Rattle.codegen.proofs.Machine.{with_argument, with_arguments, word_in, numbers_at, array_in, arrays_in, ByteMap}
 use Rattle.codegen.proofs.Machine.{number_at, with_number, zeros, State, result_slot}
 use Rattle.codegen.proofs.Language.{AreWithin, IsWithin, HasShape, greatest_of, words_of, FlatVariable, Fits, IsHeld}
 use Rattle.codegen.proofs.Language.{IsWithinKind, numbers_in, declaration_of, TermTree, given, Values, value_in}
-use Rattle.codegen.proofs.Language.{array_of, arrays_from, declared_words, types_of, Types, IsResult, Form}
-use Rattle.codegen.proofs.Language.{SingleWord}
+use Rattle.codegen.proofs.Language.{array_of, arrays_from, declared_words, types_of, Types, IsResult, Form, SingleWord}
 use Rattle.codegen.proofs.Language.{FixedArray, MutableArray, Kind, Boolean, Label, Param, WordType, Arg, Word, Array}
 use Rattle.codegen.proofs.Language.{element_bytes, array_words, bits_of, Profile}
 use Rattle.codegen.proofs.Logic.{length-replicate, take-append-drop, All-replicate, number_at_same, place_within}
-use Rattle.codegen.proofs.Slots.{Laid}
 use Rattle.codegen.proofs.Logic.{same_Some, none-some, bytes_by, bytes_of, place_of, Setting, place_ends, option_map}
+use Rattle.codegen.proofs.Slots.{Laid, cut_number}
 use Rattle.inline.specs.FlatSize as flat_size
 use Rattle.codegen.proofs.Numbers.{numbers_beside, number_data, numbers_data, numbers_there, zero_byte, zero_number}
 
 greatest : (kind : Kind) (v : ℕ) → v ≤ greatest_of kind → v < 2 ^ bits_of kind
 greatest Boolean v h = omega (arith, h)
 greatest kind v h = omega (arith, h)
-
-kept_whole : (kind : Kind) (elements : Option ℕ) (v : ℕ) → v ≤ greatest_of kind → v % 256 ^ bytes_by kind elements ≡ v
-kept_whole Boolean None v h = omega (arith, h)
-kept_whole kind None v h = omega (arith, h)
-kept_whole Boolean (Some n) v h = omega (arith, h)
-kept_whole kind (Some n) v h = omega (arith, h)
 
 in_words : (word : WordType) (elements : Option ℕ)
     → bytes_by word.kind elements * numbers_in elements ≤ 4 * flat_size.words_by word elements
@@ -71,7 +64,7 @@ module _ (frame : ℕ) where
       let at : frame + (low + bytes_of d * i) ≡ frame + low + bytes_of d * i = omega arith in
       ap₂ (λ (b : ByteMap) a. number_at b (bytes_of d) a) (h.1 bytes low) at
       ∙ numbers_there bytes (bytes_of d) (frame + low) (words_of arg) i
-      (λ j less. kept_whole p.kind d.elements (slice_index (words_of arg) j) (within.values j 0 less))
+      (λ j less. cut_number p.kind d.elements _ (greatest p.kind (slice_index (words_of arg) j) (within.values j 0 less)))
       (omega (arith, below, long))
 
   -- and end with its words

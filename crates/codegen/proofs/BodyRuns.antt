@@ -3,16 +3,17 @@
 use Rattle.std.proofs.Common.{◌≡◌, ℕ, ◌+◌, ◌*◌, List, [], ◌∷◌, ◌++◌, length, map, drop, Some, slice_get, slice_index}
 use Rattle.std.proofs.Common.{◌≤◌, length-append, is_some, refl, sym, ap, ap₂, ◌∙◌, subst, arith, None, Option}
 use Rattle.codegen.proofs.Language.{AreWithin, StraightProgram, StraightState, after_all, path_along, outcome_of}
-use Rattle.codegen.proofs.Language.{path_of, FlatVariable, types_of, Path, AreFine, seen, Arg, Profile}
-use Rattle.codegen.proofs.Language.{declaration_of}
+use Rattle.codegen.proofs.Language.{path_of, FlatVariable, types_of, Path, AreFine, seen, Arg, Profile, declaration_of}
 use Rattle.codegen.proofs.Language.{Param, WordType}
-use Rattle.codegen.proofs.Logic.{length-map, All-append, option_map, setting as pieces_of}
+use Rattle.codegen.proofs.Logic.{length-map, All-append, option_map, setting as pieces_of, bytes_of, place_of, Setting}
+use Rattle.codegen.proofs.Logic.{seen_by, Straight, Steps, Runs, cheaper, All-one, Placed, Placed-left, Placed-right}
+use Rattle.codegen.proofs.Logic.{Halts-after, ecall_halts}
 use Rattle.branch_removal.specs.StraightMeaning.{start as start_of}
 use Rattle.codegen.proofs.Machine.{body_words, Stand, IsPlaced, IsLoaded, RunsBehind, IsFollowedIn, loaded_at}
-use Rattle.codegen.proofs.Machine.{results_in, code_at, depth_in_all, most_words, program_code}
-use Rattle.codegen.proofs.Machine.{image_of, result_slot, HasRoom, variable_offset, slots_from, Instr}
-use Rattle.codegen.proofs.Machine.{word_of, Observation, number_at, Leads, Halts, Code, IsAt, IsInside, AreBases}
-use Rattle.codegen.proofs.Machine.{Allocation, body_of, IsFitting, IsFollowed, IsGenerated, Ecall, type_in, Slot}
+use Rattle.codegen.proofs.Machine.{results_in, code_at, depth_in_all, most_words, program_code, image_of, result_slot}
+use Rattle.codegen.proofs.Machine.{HasRoom, variable_offset, slots_from, Instr, word_of, Observation, number_at, Leads}
+use Rattle.codegen.proofs.Machine.{Halts, Code, IsAt, IsInside, AreBases, Allocation, body_of, IsFitting, IsFollowed}
+use Rattle.codegen.proofs.Machine.{IsGenerated, Ecall, type_in, Slot}
 use Rattle.codegen.proofs.Arguments.{loaded, parameters_first, LiesAt, arrays_are, returned_is}
 use Rattle.codegen.proofs.SetRuns.{steps_of_result}
 use Rattle.codegen.proofs.Standing.{words_alone, body_words_before, placed_alone, leads_among, stand_placed, placed}
@@ -20,9 +21,6 @@ use Rattle.codegen.proofs.FreshRuns.{Ended, program_runs}
 use Rattle.codegen.specs.private.Fresh.{starts_fresh}
 use Rattle.std.proofs.lemmas.Bool.{and_parts, ltb-true}
 use Rattle.codegen.proofs.Slots.{Laid, laid_same}
-use Rattle.codegen.proofs.Logic.{bytes_of, place_of, Setting, seen_by, Straight, Steps, Runs}
-use Rattle.codegen.proofs.Logic.{cheaper, All-one, Placed, Placed-left, Placed-right, Halts-after}
-use Rattle.codegen.proofs.Logic.{ecall_halts}
 use Rattle.rv_code.specs.declared.instructions.Instr.TheVariants as instr
 use Rattle.rv_machine.specs.Machine as machine
 use Rattle.codegen.proofs.ImageLemmas.{room_frame}

@@ -1,22 +1,20 @@
 -- The code that makes an array of zeros.
 use Rattle.std.proofs.Common.{◌≡◌, ◌≢◌, ⊎_elim, ℕ, zero, suc, ◌+◌, ◌*◌, ◌%◌, ◌<◌, ◌≤◌, ◌⊎◌, inl, inr, true, List, []}
 use Rattle.std.proofs.Common.{◌∷◌, ◌++◌, length, replicate, Some, refl, sym, ap, ap₂, ◌∙◌, arith, length-append}
-use Rattle.codegen.proofs.Machine.{clear_code, statement_code, loop_code, with_numbers, variable_offset}
-use Rattle.codegen.proofs.Machine.{constant_code}
-use Rattle.codegen.proofs.Machine.{Instr, Addi, Add, Sub, Sw, ByteMap, number_at, with_number, sum_of}
-use Rattle.codegen.proofs.Machine.{difference_of, with_register}
+use Rattle.codegen.proofs.Machine.{clear_code, statement_code, loop_code, with_numbers, variable_offset, constant_code}
+use Rattle.codegen.proofs.Machine.{Instr, Addi, Add, Sub, Sw, ByteMap, number_at, with_number, sum_of, difference_of}
+use Rattle.codegen.proofs.Machine.{with_register}
 use Rattle.codegen.proofs.Language.{FlatVariable, array_as, path_of_turns, Path, array, StraightState, with_variable}
 use Rattle.codegen.proofs.Language.{after, IsFilled, Kind, Boolean, array_words, terms_nodes}
-use Rattle.codegen.proofs.Logic.{cases_eq, cases_lt, length-replicate}
+use Rattle.codegen.proofs.Logic.{cases_eq, cases_lt, length-replicate, with_number-suc, with_byte_same, with_byte_other}
+use Rattle.codegen.proofs.Logic.{registers_after, only_computes, is_free, computing_within, frame_runs, plain_append}
+use Rattle.codegen.proofs.Logic.{after_append, constant_plain, constant_after, constant_length, kind_known, HeldAt}
+use Rattle.codegen.proofs.Logic.{Held, held_regs, frame_there, bytes_of, place_of, place_within, ends_before_result}
+use Rattle.codegen.proofs.Logic.{Setting, setting, none, none_low, Runs, Still, looping, never, quiet, weaken, gives}
+use Rattle.codegen.proofs.Logic.{cheaper, along, as_code, Ready, number_same, HomesKept, homes_by, homes_computed}
+use Rattle.codegen.proofs.Logic.{homes_then, is_scratch, scratch_low, unwritten}
 use Rattle.rv_code.specs.declared.instructions.Instr.TheVariants as instr
 use Rattle.rv_machine.specs.Machine as machine
-use Rattle.codegen.proofs.Logic.{with_number-suc, with_byte_same, with_byte_other, registers_after, only_computes}
-use Rattle.codegen.proofs.Logic.{is_free, computing_within, frame_runs, plain_append, after_append, constant_plain}
-use Rattle.codegen.proofs.Logic.{constant_after, constant_length, kind_known, HeldAt, Held, held_regs, frame_there}
-use Rattle.codegen.proofs.Logic.{bytes_of, place_of, place_within, ends_before_result, Setting, setting, none}
-use Rattle.codegen.proofs.Logic.{none_low, Runs, Still, looping, never, quiet, weaken, gives, cheaper, along, as_code}
-use Rattle.codegen.proofs.Logic.{Ready, number_same, HomesKept, homes_by, homes_computed, homes_then, is_scratch}
-use Rattle.codegen.proofs.Logic.{scratch_low, unwritten}
 use Rattle.codegen.proofs.Arguments.{zero_at, held_zeros}
 use Rattle.codegen.proofs.Numbers.{numbers_beside, zero_number}
 use Rattle.codegen.proofs.Slots.{Shown, ready_changed}

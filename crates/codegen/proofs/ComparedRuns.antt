@@ -8,7 +8,7 @@ use Rattle.codegen.proofs.Logic.{Ready, register-at, Runs, same_Some, seq, Setti
 use Rattle.codegen.proofs.Machine.{between, condition_code, failing, gives_zero, height_of, operands_code, operands_or}
 use Rattle.codegen.proofs.Machine.{read_code, read_register, right_code, right_register, slots_to, test_of, test_or}
 use Rattle.codegen.proofs.PairRuns.{FirstRead, second_runs}
-use Rattle.codegen.proofs.Slots.{read_runs, read_source, ready_valued, stored_zero}
+use Rattle.codegen.proofs.Slots.{read_runs, read_source, ready_valued}
 use Rattle.codegen.specs.declared.comparing.Comparison.{Comparison}
 use Rattle.codegen.specs.declared.jumping.Test.{Test}
 use Rattle.codegen.specs.private.Compared.{against_zero}
@@ -23,6 +23,7 @@ use Rattle.rv_machine.specs.Effects.{holds}
 use Rattle.rv_machine.specs.Machine as machine
 use Rattle.rv_machine.specs.Registers.{register}
 use Rattle.word.specs.declared.width.Width.{Width}
+use Rattle.codegen.proofs.expression_code_lemmas.NumberCode.{zero_known}
 
 -- Comparisons.
 
@@ -49,25 +50,19 @@ not_less a b = grind (arith, nat_tests)
 not_most : (a b : ℕ) → nat_lt b a ≡ (word_of (nat_le a b) == 0)
 not_most a b = grind (arith, nat_tests)
 
+fails_by : (operator : BinaryOperator) {c d : Comparison} → Some d ≡ Some c
+    → ((place : Place) (a b : ℕ) → marks_of place operator a b ≡ [])
+    → ((w : Width) (a b : ℕ) → are_passing d a b ≡ (operated operator w a b == 0)) → Fails operator c
+fails_by operator is quiet decides =
+    subst (Fails operator) (same_Some _ _ is) (record { quiet = quiet; decides = decides })
+
 fails : (operator : BinaryOperator) (c : Comparison) → failing operator ≡ Some c → Fails operator c
-fails Equal c is =
-    subst (Fails Equal) (same_Some _ c is)
-    (record { quiet = λ place a b. refl; decides = λ w a b. none_where (a == b) })
-fails Unequal c is =
-    subst (Fails Unequal) (same_Some _ c is)
-    (record { quiet = λ place a b. refl; decides = λ w a b. none_where_not (a == b) })
-fails Less c is =
-    subst (Fails Less) (same_Some _ c is)
-    (record { quiet = λ place a b. refl; decides = λ w a b. not_less a b })
-fails LessOrEqual c is =
-    subst (Fails LessOrEqual) (same_Some _ c is)
-    (record { quiet = λ place a b. refl; decides = λ w a b. not_most a b })
-fails Greater c is =
-    subst (Fails Greater) (same_Some _ c is)
-    (record { quiet = λ place a b. refl; decides = λ w a b. not_less b a })
-fails GreaterOrEqual c is =
-    subst (Fails GreaterOrEqual) (same_Some _ c is)
-    (record { quiet = λ place a b. refl; decides = λ w a b. not_most b a })
+fails Equal c is = fails_by Equal is (λ place a b. refl) (λ w a b. none_where (a == b))
+fails Unequal c is = fails_by Unequal is (λ place a b. refl) (λ w a b. none_where_not (a == b))
+fails Less c is = fails_by Less is (λ place a b. refl) (λ w a b. not_less a b)
+fails LessOrEqual c is = fails_by LessOrEqual is (λ place a b. refl) (λ w a b. not_most a b)
+fails Greater c is = fails_by Greater is (λ place a b. refl) (λ w a b. not_less b a)
+fails GreaterOrEqual c is = fails_by GreaterOrEqual is (λ place a b. refl) (λ w a b. not_most b a)
 fails operator c is = absurd (none-some c is)
 
 -- Tests of registers.
@@ -149,15 +144,14 @@ module _ (z : Setting) where
           (cond b [] (read_code z.declared z.allocation (base_of z) 6 1 right)) (FirstRead z left)
           (AreCompared left right (cond b 0 (read_register z.allocation 6 right)))
       by_zero true is =
-          let zero = stored_zero z z.allocation right is in
+          let zero = zero_known z.allocation right is in
           along (λ env. (known right 0 zero env.variables).1)
-          (cheaper {m = 0} (omega arith)
           (idle (λ env s first. record {
             ready = first.ready;
             left_there = read_there left 5 _ s.regs (omega arith) (omega arith) first.there;
             right_there = sym (known right 0 zero env.variables).0;
             kept = λ o below. refl;
-          })))
+          }))
       by_zero false is =
           gives
           (λ env s t fine first done. record {

@@ -1,25 +1,23 @@
 -- The code of a loop that counts in its counter's home, by its bounds.
 use Rattle.std.proofs.Common.{◌≡◌, ◌≢◌, ℕ, zero, suc, ◌+◌, ◌-◌, ◌*◌, ◌^◌, ◌<◌, ◌≤◌, ◌==◌, Bool, true, false, cond}
-use Rattle.std.proofs.Common.{nat_lt, List, [], ◌∷◌, ◌++◌, length, None, Some, slice_get, slice_index, refl}
-use Rattle.std.proofs.Common.{sym, ap, ◌∙◌, subst, arith, eq-eqb, ne_eqb, length-append, append-nil}
+use Rattle.std.proofs.Common.{nat_lt, List, [], ◌∷◌, ◌++◌, length, None, Some, slice_get, slice_index, refl, sym, ap}
+use Rattle.std.proofs.Common.{◌∙◌, subst, arith, eq-eqb, ne_eqb, length-append, append-nil}
 use Rattle.std.proofs.lemmas.Bool.{ltb-true}
 use Rattle.std.proofs.lemmas.Nat.{mul-le}
 use Rattle.codegen.proofs.CountingRuns.{Guarded, guarded_runs, home_high, home_low, turns_runs}
 use Rattle.codegen.proofs.Language.{TermTree, word_as, value_in, path_in, turns, path_of_turns, Path, bounded}
-use Rattle.codegen.proofs.Language.{term_nodes, types_of, HasType, counter_type, StraightBlock, repeats}
-use Rattle.codegen.proofs.Language.{StraightState}
+use Rattle.codegen.proofs.Language.{term_nodes, types_of, HasType, counter_type, StraightBlock, repeats, StraightState}
 use Rattle.codegen.proofs.Language.{counted, after, after_all, path_at, path_along, word_of, Values}
 use Rattle.codegen.proofs.LoopRuns.{AtLoop, bounds_runs, is_left, next, next_inside, test_runs}
-use Rattle.codegen.proofs.Logic.{lt-ltb, nat_tests, none-some, same_Some, HeldAt, Setting, setting, base_of}
-use Rattle.codegen.proofs.Logic.{Known, by_bounds, none, Runs, along, along_fit, seq, quietly, weaken, gives, cheaper}
-use Rattle.codegen.proofs.Logic.{never, Ready, HomesKept, home_beside, homes_moved, number_or_zero, take, does}
-use Rattle.codegen.proofs.Logic.{moves_run, registers_after, is_free, none_low, computing_within, kept_less}
-use Rattle.codegen.proofs.Logic.{unwritten}
+use Rattle.codegen.proofs.Logic.{lt-ltb, nat_tests, none-some, same_Some, HeldAt, Setting, setting, base_of, Known}
+use Rattle.codegen.proofs.Logic.{by_bounds, none, Runs, along, along_fit, seq, quietly, weaken, gives, cheaper, never}
+use Rattle.codegen.proofs.Logic.{Ready, HomesKept, home_beside, homes_moved, number_or_zero, take, does, moves_run}
+use Rattle.codegen.proofs.Logic.{registers_after, is_free, none_low, computing_within, kept_less, unwritten}
 use Rattle.codegen.proofs.Logic.{load_length}
 use Rattle.codegen.proofs.Machine.{bounds_code, test_code, home_of, height_of, read_code, read_register, Instr}
 use Rattle.codegen.proofs.Machine.{slots_to, ByteMap, number_at, into_code, Sltu}
-use Rattle.codegen.proofs.Slots.{Shown, Hidden, hidden_then, hidden_by, hidden_kept, hidden_number, ready_homed}
-use Rattle.codegen.proofs.Slots.{ready_valued, ready_with, read_runs, read_source, source_apart, homed_runs}
+use Rattle.codegen.proofs.Slots.{Shown, Hidden, hidden_then, hidden_by, hidden_kept, hidden_number, ready_valued}
+use Rattle.codegen.proofs.Slots.{ready_with, read_runs, read_source, source_apart, homed_runs}
 use Rattle.codegen.specs.private.Loops.{any_sets, below_number_code, below_word_code, guarded_code, is_below}
 use Rattle.codegen.specs.private.Loops.{short_number, to_number_code, turns_code}
 use Rattle.inline.specs.Flat.{number}
@@ -27,6 +25,7 @@ use Rattle.rv_code.specs.declared.instructions.Instr.TheVariants as instr
 use Rattle.rv_code.specs.declared.operations.ImmediateOperation.TheVariants.{Addi}
 use Rattle.rv_machine.specs.Effects.{sign_extended}
 use Rattle.rv_machine.specs.Machine as machine
+use Rattle.codegen.proofs.HomeWords.{ready_homed}
 
 -- Numbers as bounds.
 

@@ -4,17 +4,14 @@ use Rattle.std.proofs.Common.{◌≡◌, ◌≢◌, ℕ, zero, suc, ◌+◌, ◌
 use Rattle.std.proofs.Common.{nat_lt, List, [], ◌∷◌, ◌++◌, length, Some, slice_get, slice_index, refl, sym, ap, ◌∙◌}
 use Rattle.std.proofs.Common.{subst, arith, eq-eqb, ne_eqb, length-append}
 use Rattle.std.proofs.lemmas.Nat.{mul-le}
-use Rattle.codegen.proofs.Language.{word_as, turns, path_of_turns, counter_type, StraightBlock, StraightState}
-use Rattle.codegen.proofs.Language.{counted}
+use Rattle.codegen.proofs.Language.{word_as, turns, path_of_turns, counter_type, StraightBlock, StraightState, counted}
 use Rattle.codegen.proofs.Language.{after_all, path_along, Path, word_of}
 use Rattle.codegen.proofs.Machine.{home_of, Instr, ByteMap, sum_of, Addi}
-use Rattle.codegen.proofs.Logic.{eqb-true, lt-ltb, nat_tests, HeldAt, Setting, setting, base_of}
-use Rattle.codegen.proofs.Logic.{Runs, Still, quiet, quietly, weaken, gives, cheaper, beside, idle, never, Ready}
-use Rattle.codegen.proofs.Logic.{none}
-use Rattle.codegen.proofs.Logic.{HomesKept, IsHome, kept_by, registers_after, is_free, none_low, computing_within}
-use Rattle.codegen.proofs.Logic.{move_length}
-use Rattle.codegen.proofs.Slots.{Shown, Hidden, hidden_then, hidden_less, hidden_by, ready_homed, ready_same}
-use Rattle.codegen.proofs.Slots.{ready_still, ready_with}
+use Rattle.codegen.proofs.Logic.{eqb-true, lt-ltb, nat_tests, HeldAt, Setting, setting, base_of, Runs, Still, quiet}
+use Rattle.codegen.proofs.Logic.{quietly, weaken, gives, cheaper, beside, idle, never, Ready, none, HomesKept, IsHome}
+use Rattle.codegen.proofs.Logic.{kept_by, registers_after, is_free, none_low, computing_within, move_length}
+use Rattle.codegen.proofs.Slots.{Shown, Hidden, hidden_then, hidden_less, hidden_by, ready_same, ready_still}
+use Rattle.codegen.proofs.Slots.{ready_with}
 use Rattle.codegen.proofs.Unset.{all_left_alone}
 use Rattle.codegen.specs.private.Jumps.{again_code}
 use Rattle.codegen.specs.private.Loops.{any_sets, guarded_code, turns_code}
@@ -25,6 +22,7 @@ use Rattle.codegen.proofs.program_logic_lemmas.Loops.{repeating}
 use Rattle.rv_code.specs.declared.instructions.Instr.TheVariants as instr
 use Rattle.rv_code.specs.declared.operations.BranchTest.TheVariants.{Bne}
 use Rattle.rv_machine.specs.Machine as machine
+use Rattle.codegen.proofs.HomeWords.{ready_homed}
 
 one_below : (a b : ℕ) → a < b → word_of (nat_lt a b) ≡ 1
 one_below a b h = ap word_of (lt-ltb a b h)

@@ -22,13 +22,13 @@ use Rattle.rv_machine.specs.Registers.{register}
 use Rattle.codegen.specs.private.Emitted.{into_element_code, put_value_code}
 use Rattle.codegen.specs.private.StoredValues.{stored_value}
 use Rattle.codegen.proofs.StoredValues.{IsCutTo, stored_cut, stored_height, stored_nodes, stored_path}
-use Rattle.codegen.proofs.Elements.{ElementAccess, addressed_at, at_element, element_at, kind_is, put_at, store_bytes}
+use Rattle.codegen.proofs.Elements.{ElementAccess, addressed_at, at_element, element_at, kind_is, put_at, store_bytes, put_access}
 use Rattle.codegen.proofs.Elements.{stores, value_beside, value_source, put_by, Puts}
 
 -- One element, at a fixed place.
 
 -- what a register reads as into an element of a fixed place
-offered_element : (z : Setting) (r : ℕ) → IsOffered z r → (kind : Kind) (o : ℕ)
+pub offered_element : (z : Setting) (r : ℕ) → IsOffered z r → (kind : Kind) (o : ℕ)
     → o % element_bytes kind ≡ 0 → o + element_bytes kind ≤ z.size
     → Runs z 3 none (element_store_code r kind o) (Held z)
     (λ env s t. Wrote z (element_bytes kind) o (register s.regs r) s t)
@@ -95,22 +95,7 @@ module _ (z : Setting) (depth : ℕ) (place : Place) (x size : ℕ) (index value
   put_room = omega (arith, room, stored_height z.allocation kind value)
 
   abbrev access : ElementAccess z
-  access = record {
-    depth = depth;
-    within = within;
-    place = place;
-    x = x;
-    size = size;
-    word = typed.word;
-    mutable = typed.mutable;
-    known = typed.known;
-    index = index;
-    index_type = typed.index_type;
-    value = put_value;
-    own = is_cut.word;
-    value_type = is_cut.has_type;
-    room = put_room;
-  }
+  access = put_access z depth within place x size index typed put_value is_cut.word is_cut.has_type put_room
 
   abbrev number : StraightState → ℕ
   number env = value_in env.variables index

@@ -4,21 +4,21 @@ use Rattle.std.proofs.Common.{◌∷◌, ◌++◌, Option, None, Some, slice_get
 use Rattle.std.proofs.Common.{append_assoc, eq-eqb}
 use Rattle.std.proofs.lemmas.Bool.{true≢false}
 use Rattle.codegen.proofs.Language.{FlatVariable, StraightState, with_element, element_bytes, TermTree, array_as}
-use Rattle.codegen.proofs.Language.{term_nodes, value_in, path_in, types_of, indexed, WordType, Kind, Boolean}
-use Rattle.codegen.proofs.Language.{bits_of, Place, HasType, counter_type, holds, path_at, put}
-use Rattle.codegen.proofs.Logic.{register-at, lower_fits, Addressed, address_runs, steps_of}
-use Rattle.codegen.proofs.Logic.{kind_known, HomesKept, homes_by, HeldAt}
-use Rattle.codegen.proofs.Logic.{free_from, storing, place_of, place_even, place_before, place_ends, Setting, setting}
-use Rattle.codegen.proofs.Logic.{base_of, Known, by_index, none, Runs, seq, quiet, weaken, gives, as_code, Ready}
-use Rattle.codegen.proofs.Logic.{Wrote, ready_after, NearElement, near_known, known, never, along, cheaper, eqb-true}
-use Rattle.codegen.proofs.Machine.{store_by, slots_to, kind_at, Instr, variable_offset, home_of, lower_part}
-use Rattle.codegen.proofs.Machine.{store_size, address_of, byte_count, index_code, read_code, read_register}
-use Rattle.codegen.proofs.Machine.{height_of_put, address_code, with_number, code_by, near_element}
+use Rattle.codegen.proofs.Language.{term_nodes, value_in, path_in, indexed, WordType, Kind, Boolean, bits_of, Place}
+use Rattle.codegen.proofs.Language.{HasType, counter_type, holds, path_at, put, IsPut, types_of}
+use Rattle.codegen.proofs.Logic.{register-at, lower_fits, Addressed, address_runs, steps_of, kind_known, HomesKept}
+use Rattle.codegen.proofs.Logic.{homes_by, HeldAt, free_from, storing, place_of, place_even, place_before, place_ends}
+use Rattle.codegen.proofs.Logic.{Setting, setting, base_of, Known, by_index, none, Runs, seq, quiet, weaken, gives}
+use Rattle.codegen.proofs.Logic.{as_code, Ready, Wrote, ready_after, NearElement, near_known, known, never, along}
+use Rattle.codegen.proofs.Logic.{cheaper, eqb-true}
+use Rattle.codegen.proofs.Machine.{store_by, slots_to, kind_at, Instr, variable_offset, home_of, lower_part, store_size}
+use Rattle.codegen.proofs.Machine.{address_of, byte_count, index_code, read_code, read_register, height_of_put}
+use Rattle.codegen.proofs.Machine.{address_code, with_number, code_by, near_element}
 use Rattle.rv_code.specs.declared.instructions.Instr.TheVariants as instr
 use Rattle.rv_machine.specs.Machine as machine
 use Rattle.codegen.proofs.PairRuns.{FirstRead, second_runs}
-use Rattle.codegen.proofs.Slots.{Shown, ready_with, IsSource, read_runs, read_source, source_apart, Hidden}
-use Rattle.codegen.proofs.Slots.{hidden_then, hidden_by, hidden_kept, hidden_wrote, ready_put}
+use Rattle.codegen.proofs.Slots.{Shown, ready_with, IsSource, read_runs, read_source, source_apart, Hidden, hidden_then}
+use Rattle.codegen.proofs.Slots.{hidden_by, hidden_kept, hidden_wrote, ready_put}
 
 pub store_bytes : (kind : Kind) → byte_count (store_size (store_by kind)) ≡ element_bytes kind
 store_bytes Boolean = refl
@@ -42,6 +42,28 @@ pub record ElementAccess (z : Setting) : Type 0 where
   pub own : WordType
   pub value_type : HasType (types_of z.code.profile z.declared) value own
   pub room : base_of z + 4 * slots_to z.allocation.count (height_of_put index value) ≤ z.size
+
+-- that of a statement that puts one, where this is read for its value
+abbrev pub put_access : (z : Setting) (depth : ℕ) → depth ≤ z.depths → (place : Place) (x size : ℕ) (index : TermTree)
+    {value : TermTree} → IsPut z.code.profile z.declared x size index value → (e : TermTree) (own : WordType)
+    → HasType (types_of z.code.profile z.declared) e own
+    → base_of z + 4 * slots_to z.allocation.count (height_of_put index e) ≤ z.size → ElementAccess z
+put_access z depth within place x size index typed e own has room = record {
+  depth = depth;
+  within = within;
+  place = place;
+  x = x;
+  size = size;
+  word = typed.word;
+  mutable = typed.mutable;
+  known = typed.known;
+  index = index;
+  index_type = typed.index_type;
+  value = e;
+  own = own;
+  value_type = has;
+  room = room;
+}
 
 module _ (z : Setting) (access : ElementAccess z) where
   abbrev pub kind : Kind

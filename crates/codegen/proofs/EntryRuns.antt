@@ -1,13 +1,12 @@
 -- The code that begins a program: each home gets what lies in its word's slot.
 use Rattle.std.proofs.Common.{◌≡◌, ℕ, zero, suc, ◌+◌, ◌-◌, ◌*◌, ◌%◌, ◌<◌, ◌≤◌, Bool, true, false, cond, nat_lt}
-use Rattle.std.proofs.Common.{below_more, List, [], ◌∷◌, length, get_or}
-use Rattle.std.proofs.Common.{Option, None, Some, slice_get, slice_index, refl, sym, ap, ◌∙◌, subst, arith}
+use Rattle.std.proofs.Common.{below_more, List, [], ◌∷◌, length, get_or, Option, None, Some, slice_get, slice_index}
+use Rattle.std.proofs.Common.{refl, sym, ap, ◌∙◌, subst, arith}
 use Rattle.std.proofs.lemmas.Option.{slice_get-get_or}
 use Rattle.codegen.proofs.Language.{counter_type, FlatVariable, numbers_in, StraightState, word_as}
 use Rattle.codegen.proofs.Logic.{at_control, bytes_by, bytes_of, cheaper, gives, Holds, idle, lt-ltb, mask_of}
-use Rattle.codegen.proofs.Logic.{move_runs, nat_tests, none, none-some, slice_get_within}
-use Rattle.codegen.proofs.Logic.{number_or_zero, same_Some, place_ends, place_of, quiet, Ready, Runs, Setting, take}
-use Rattle.codegen.proofs.Logic.{unwritten, weaken, written}
+use Rattle.codegen.proofs.Logic.{move_runs, nat_tests, none, none-some, slice_get_within, number_or_zero, same_Some}
+use Rattle.codegen.proofs.Logic.{place_ends, place_of, quiet, Ready, Runs, Setting, take, unwritten, weaken, written}
 use Rattle.codegen.proofs.Machine.{ByteMap, control_offset, entry_code, home_count, home_of, load_code, number_at}
 use Rattle.codegen.proofs.Machine.{variable_offset, word_offset}
 use Rattle.codegen.proofs.Slots.{Laid, laid_same}
@@ -138,7 +137,7 @@ module _ (z : Setting) (within : length z.allocation.homes ≤ length z.declared
       (λ env s t. Entered (x + length rest) env t)
   from [] x are =
       let end : x ≡ x + 0 = omega arith in
-      cheaper {m = 0} (omega arith) (idle (λ env s entered. subst (λ n. Entered n env s) end entered))
+      idle (λ env s entered. subst (λ n. Entered n env s) end entered)
   from (None ∷ rest) x are =
       let end : x + 1 + length rest ≡ x + suc (length rest) = omega arith in
       let here : x ≡ x + 0 = omega arith in

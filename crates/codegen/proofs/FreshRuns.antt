@@ -1,26 +1,23 @@
 -- The code of a program whose variables need not all be at home at first: those that the first statement that names
 -- them sets and does not read, and which nothing loads. Until then their slots count, as if they had no homes.
-use Rattle.std.proofs.Common.{◌≡◌, ℕ, ◌+◌, ◌-◌, ◌*◌, ◌^◌, ◌<◌, ◌≤◌, ◌==◌, ◌&&◌, ◌||◌, ◌≢◌, not, Bool, true, false, cond}
-use Rattle.std.proofs.Common.{List, [], ◌∷◌, ◌++◌, length, length-append, append_assoc, Option, None, Some, slice_get}
-use Rattle.std.proofs.Common.{slice_index, refl, sym, ap, ◌∙◌, subst, arith, ne_eqb, if◌then◌else◌}
+use Rattle.std.proofs.Common.{◌≡◌, ℕ, ◌+◌, ◌-◌, ◌*◌, ◌<◌, ◌≤◌, ◌==◌, ◌&&◌, ◌||◌, not, Bool, true, false, List, ◌++◌}
+use Rattle.std.proofs.Common.{length, length-append, append_assoc, Option, None, Some, slice_get, slice_index, refl}
+use Rattle.std.proofs.Common.{sym, ap, ◌∙◌, subst, arith, ne_eqb, if◌then◌else◌, eq-eqb}
 use Rattle.std.proofs.lemmas.Bool.{and_left, or_from, or_parts, true≢false}
 use Rattle.codegen.proofs.EntryRuns.{entry_runs}
-use Rattle.codegen.proofs.FewerHomes.{but, home_but, home_kept, home_was, homes_fewer, into_same}
-use Rattle.codegen.proofs.FewerHomes.{reads_same, result_same, statement_same}
-use Rattle.codegen.proofs.Language.{after, after_all, AreTyped, block_work, first, Fits}
-use Rattle.codegen.proofs.Language.{bits_of, FlatVariable, IsResult, IsSet, IsTyped, nothing, numbers_in}
-use Rattle.codegen.proofs.Language.{path_along, path_at, set, statement_work}
+use Rattle.codegen.proofs.FewerHomes.{but, home_but, home_kept, home_was, homes_fewer, into_same, reads_same}
+use Rattle.codegen.proofs.FewerHomes.{result_same, statement_same}
+use Rattle.codegen.proofs.Language.{after, after_all, AreTyped, block_work, first, Fits, FlatVariable, IsResult, IsSet}
+use Rattle.codegen.proofs.Language.{IsTyped, nothing, numbers_in, path_along, path_at, set, statement_work}
 use Rattle.codegen.proofs.Language.{StraightBlock, StraightState, StraightTree, TermTree, types_of, value_in}
-use Rattle.codegen.proofs.Language.{value_nodes, with_variable, word_as, WordType}
-use Rattle.codegen.proofs.Logic.{After, along, as_code, at_control, base_of, Before, beside, bytes_of, cheaper}
-use Rattle.codegen.proofs.Logic.{eqb-false, eqb-true}
-use Rattle.codegen.proofs.Logic.{gives, HeldAt, Holds, home_beside, IsHome, Kept, kept_less, kept_number, mask_of}
-use Rattle.codegen.proofs.Logic.{none-some, place_of, quietly, Ready, Runs, same_Some, seq, Setting, slice_get_within}
-use Rattle.codegen.proofs.Logic.{Steps, variables_kept, weaken, fits_assigned, one_held}
-use Rattle.codegen.proofs.Machine.{Allocation, AllReadKept, at_home, block_code, control_location, control_offset}
-use Rattle.codegen.proofs.Machine.{depth_in, depth_in_all, entry_code, far, height_in, height_in_all, height_of}
-use Rattle.codegen.proofs.Machine.{home_count, home_of, InSlot, Instr, number_at, ReadsKept}
-use Rattle.codegen.proofs.Machine.{result_code, result_height, set_code, slots_to, statement_code, variable_offset}
+use Rattle.codegen.proofs.Language.{value_nodes, WordType}
+use Rattle.codegen.proofs.Logic.{After, along, as_code, base_of, Before, beside, bytes_of, cheaper, eqb-false, eqb-true}
+use Rattle.codegen.proofs.Logic.{gives, HeldAt, home_beside, kept_less, mask_of, place_of, quietly, Ready, Runs, seq}
+use Rattle.codegen.proofs.Logic.{Setting, Steps, weaken}
+use Rattle.codegen.proofs.Machine.{Allocation, AllReadKept, at_home, block_code, depth_in, depth_in_all, entry_code}
+use Rattle.codegen.proofs.Machine.{far, height_in, height_in_all, height_of, home_count, home_of, InSlot, Instr}
+use Rattle.codegen.proofs.Machine.{number_at, ReadsKept, result_code, result_height, set_code, slots_to, statement_code}
+use Rattle.codegen.proofs.Machine.{variable_offset}
 use Rattle.codegen.proofs.SetRuns.{result_runs, set_cost, steps_of_result}
 use Rattle.codegen.proofs.Arguments.{Left}
 use Rattle.codegen.proofs.Slots.{homed_runs, Laid, suits_fits}
@@ -28,6 +25,7 @@ use Rattle.codegen.proofs.StatementRuns.{statement_runs}
 use Rattle.codegen.specs.private.Fresh.{homes_but, is_fresh, names, names_in, names_in_result, sets_fresh}
 use Rattle.codegen.specs.expression_code.Allocation.{IsAllocation}
 use Rattle.rv_machine.specs.Machine as machine
+use Rattle.codegen.proofs.HomeWords.{with_homes, control_alike, ready_at_home}
 
 -- Fewer homes.
 
@@ -47,20 +45,8 @@ allocated_but declared a out allocated = record {
 }
 
 abbrev pub fewer : Setting → (ℕ → Bool) → Setting
-fewer z out = record {
-  code = z.code;
-  frame = z.frame;
-  size = z.size;
-  counts = z.counts;
-  declared = z.declared;
-  controls = z.controls;
-  depths = z.depths;
-  allocation = but z.allocation out;
-  allocated = allocated_but z.declared z.allocation out z.allocated;
-  even = z.even;
-  ends = z.ends;
-  room = z.room;
-}
+fewer z out =
+    with_homes z (but z.allocation out) (allocated_but z.declared z.allocation out z.allocated)
 
 -- a variable is none of those any more
 abbrev without : (ℕ → Bool) → ℕ → ℕ → Bool
@@ -117,115 +103,25 @@ module _ (z : Setting) where
 
   -- Ready with other homes.
 
-  -- the home of a control value is none of those
-  control_home : (out : ℕ → Bool) → ((y : ℕ) → out y ≡ true → y < length z.declared) → (c : ℕ)
-      → home_of (but a out).homes (length z.declared + c) ≡ home_of a.homes (length z.declared + c)
-  control_home out variables c = by_test (out (length z.declared + c)) refl
-    where
-      by_test : (b : Bool) → out (length z.declared + c) ≡ b
-          → home_of (but a out).homes (length z.declared + c) ≡ home_of a.homes (length z.declared + c)
-      by_test true is = absurd (omega (arith, variables (length z.declared + c) is))
-      by_test false is = home_kept a out (length z.declared + c) is
-
-  -- where a control value has its mask, it has it with other homes of variables
-  control_there : (one other : ℕ → Bool) → ((y : ℕ) → one y ≡ true → y < length z.declared)
-      → ((y : ℕ) → other y ≡ true → y < length z.declared) → (c v : ℕ) (s t : machine.State)
-      → ((home : ℕ) → home_of a.homes (length z.declared + c) ≡ Some home → t.regs home ≡ s.regs home)
-      → number_at t.bytes 4 (z.frame + control_offset z.declared c)
-      ≡ number_at s.bytes 4 (z.frame + control_offset z.declared c)
-      → Holds (fewer z one) (control_location z.declared (but a one) c) s v
-      → Holds (fewer z other) (control_location z.declared (but a other) c) t v
-  control_there one other in_one in_other c v s t homes slot there =
-      let same = control_home one in_one c in
-      let same' = control_home other in_other c in
-      at_control (fewer z other) c (λ l. Holds (fewer z other) l t v)
-      (λ home at.
-      let was : home_of a.homes (length z.declared + c) ≡ Some home = sym same' ∙ at in
-      homes home was
-      ∙ subst (λ l. Holds (fewer z one) l s v)
-      (ap (λ h. at_home h (InSlot (control_offset z.declared c))) (same ∙ was)) there)
-      (λ away.
-      let was : home_of a.homes (length z.declared + c) ≡ None = sym same' ∙ away in
-      slot
-      ∙ subst (λ l. Holds (fewer z one) l s v)
-      (ap (λ h. at_home h (InSlot (control_offset z.declared c))) (same ∙ was)) there)
-
   -- the same homes, otherwise left out
-  ready_alike : (one other : ℕ → Bool) → ((y : ℕ) → one y ≡ true → y < length z.declared)
-      → ((y : ℕ) → other y ≡ true → y < length z.declared)
-      → ((y : ℕ) → home_of (but a other).homes y ≡ home_of (but a one).homes y)
+  ready_alike : (one other : ℕ → Bool) → ((y : ℕ) → home_of (but a one).homes y ≡ home_of (but a other).homes y)
       → (env : StraightState) (s : machine.State) → Ready (fewer z one) env s → Ready (fewer z other) env s
-  ready_alike one other in_one in_other same env s ready = record {
+  ready_alike one other same env s ready = record {
     held = record { base = ready.held.base; data_there = ready.held.data_there };
     fits = ready.fits;
-    homes_there = λ y home d is at. ready.homes_there y home d is (sym (same y) ∙ at);
-    variables_there = λ y d i is away below. ready.variables_there y d i is (sym (same y) ∙ away) below;
-    controls_there = λ c below read. control_there one other in_one in_other c (mask_of (env.controls c)) s s
+    homes_there = λ y home d is at. ready.homes_there y home d is (same y ∙ at);
+    variables_there = λ y d i is away below. ready.variables_there y d i is (same y ∙ away) below;
+    controls_there = λ c below read. control_alike (fewer z other) (but a one)
+        (allocated_but z.declared a one z.allocated) c (mask_of (env.controls c)) s s (same (length z.declared + c))
         (λ home at. refl) refl (ready.controls_there c below read);
   }
 
-  -- a variable comes to its home
-  module _ (out : ℕ → Bool) (variables : (y : ℕ) → out y ≡ true → y < length z.declared) (x home v : ℕ)
-      (word : WordType) (mutable : Bool) (known : slice_get z.declared x ≡ Some (word_as word mutable))
-      (at : home_of a.homes x ≡ Some home) (fits : v < 2 ^ bits_of word.kind)
-      (env : StraightState) (s t : machine.State) (ready : Ready (fewer z out) env s) (held : HeldAt z t)
-      (kept : Kept z (base_of z) s t) (there : t.regs home ≡ v)
-      (others : (r : ℕ) → IsHome z.allocation.count r → r ≢ home → t.regs r ≡ s.regs r) where
-    abbrev rest : ℕ → Bool
-    rest = without out x
-
-    still_variables : (y : ℕ) → rest y ≡ true → y < length z.declared
-    still_variables y is = variables y (both_true (y == x) (out y) is).1
-
-    -- another one is left out as before
-    as_before : (y : ℕ) → (y == x) ≡ false → home_of (but a out).homes y ≡ home_of (but a rest).homes y
-    as_before y apart =
-        home_but a out y
-        ∙ (ap (λ b. if not b && out y then None else home_of a.homes y) (sym apart) ∙ sym (home_but a rest y))
-
-    own : (y other : ℕ) (d : FlatVariable) → slice_get z.declared y ≡ Some d
-        → home_of (but a rest).homes y ≡ Some other → (b : Bool) → (y == x) ≡ b
-        → t.regs other ≡ slice_index (cond b (v ∷ []) (env.variables y)) 0
-    own y other d is here true q =
-        let was = home_was a rest y other here in
-        let same = same_Some home other (sym at ∙ (ap (λ n. home_of a.homes n) (sym (eqb-true y x q)) ∙ was)) in
-        ap t.regs (sym same) ∙ there
-    own y other d is here false q =
-        let was = home_was a rest y other here in
-        others other (z.allocated.allowed y other was)
-        (λ same. eqb-false y x q (z.allocated.apart y x home (was ∙ ap Some same) at))
-        ∙ ready.homes_there y other d is (as_before y q ∙ here)
-
-    away_at : (y : ℕ) (d : FlatVariable) (i : ℕ) → slice_get z.declared y ≡ Some d
-        → home_of (but a rest).homes y ≡ None → i < numbers_in d.elements → (b : Bool) → (y == x) ≡ b
-        → number_at t.bytes (bytes_of d) (z.frame + place_of z.declared y d i)
-        ≡ Some (slice_index (cond b (v ∷ []) (env.variables y)) i)
-    away_at y d i is away below true q =
-        let off : rest y ≡ false = ap (λ b. not b && out y) q in
-        absurd (none-some home (sym away ∙ (home_kept a rest y off
-        ∙ (ap (λ n. home_of a.homes n) (eqb-true y x q) ∙ at))))
-    away_at y d i is away below false q =
-        variables_kept (fewer z out) (base_of z) env s t (omega arith) ready kept y d i is (as_before y q ∙ away) below
-
-    control_at : (c : ℕ) (other : ℕ) → home_of a.homes (length z.declared + c) ≡ Some other → other ≢ home
-    control_at c other here same =
-        let below = slice_get_within z.declared x _ known in
-        let one = z.allocated.apart (length z.declared + c) x home (here ∙ ap Some same) at in
-        omega (arith, below, one)
-
-    ready_acquired : Ready (fewer z rest) (with_variable env x (v ∷ [])) t
-    ready_acquired = record {
-      held = record { base = held.base; data_there = held.data_there };
-      fits = fits_assigned (types_of z.code.profile z.declared) env.variables x (v ∷ []) (word_as word mutable) known
-          (one_held word mutable v fits) ready.fits;
-      homes_there = λ y other d is here. own y other d is here (y == x) refl;
-      variables_there = λ y d i is away below. away_at y d i is away below (y == x) refl;
-      controls_there = λ c below read. control_there out rest variables still_variables c (mask_of (env.controls c)) s t
-          (λ other here. others other (z.allocated.allowed (length z.declared + c) other here)
-          (control_at c other here))
-          (kept_number z (base_of z) s t kept 4 (control_offset z.declared c) (omega (arith, below)))
-          (ready.controls_there c below read);
-    }
+  -- another variable than the one that comes to its home is left out as before
+  as_before : (out : ℕ → Bool) (x y : ℕ) → (y == x) ≡ false
+      → home_of (but a out).homes y ≡ home_of (but a (without out x)).homes y
+  as_before out x y apart =
+      home_but a out y
+      ∙ (ap (λ b. if not b && out y then None else home_of a.homes y) (sym apart) ∙ sym (home_but a (without out x) y))
 
   -- Statements.
 
@@ -271,7 +167,10 @@ module _ (z : Setting) where
         (λ env s t fine ready done.
         let v = value_in env.variables value in
         let fits = suits_fits z.code.profile z.declared typed.word value env.variables ready.fits typed.suits in
-        ready_acquired out variables x home v typed.word typed.mutable typed.known at fits env s t ready
+        let off : without out x x ≡ false = ap (λ b. not b && out x) (eq-eqb x x refl) in
+        ready_at_home (fewer z (without out x)) (but a out) (allocated_but z.declared a out z.allocated) refl x home v
+        typed.word typed.mutable typed.known (home_kept a (without out x) x off ∙ at)
+        (λ y apart. as_before out x y (ne_eqb y x apart)) fits env s t ready
         (record { base = done.held.base; data_there = done.held.data_there })
         (kept_less z base (base + 4 * (0 - a.count)) s t (omega arith) done.kept) done.there
         (λ r other apart. done.lower r (home_beside a.count 0 home r other.0 other.1 apart)))
@@ -284,8 +183,7 @@ module _ (z : Setting) where
         let rest = without out x in
         let fewer_variables = λ (y : ℕ) (is : rest y ≡ true). variables y (both_true (y == x) (out y) is).1 in
         weaken
-        (λ env s fine ready. ready_alike out rest variables fewer_variables
-        (λ y. same_homes y (y == x) refl) env s ready)
+        (λ env s fine ready. ready_alike out rest (λ y. same_homes y (y == x) refl) env s ready)
         (λ env s t fine ready done. done)
         (kept_runs rest fewer_variables (set None x value)
         (λ y is.
@@ -294,15 +192,13 @@ module _ (z : Setting) where
         (tt, typed) tt room (omega arith) few)
       where
         same_homes : (y : ℕ) (b : Bool) → (y == x) ≡ b
-            → home_of (but a (without out x)).homes y ≡ home_of (but a out).homes y
+            → home_of (but a out).homes y ≡ home_of (but a (without out x)).homes y
         same_homes y true q =
             let none_here : home_of a.homes y ≡ None = ap (λ n. home_of a.homes n) (eqb-true y x q) ∙ away in
-            home_but a (without out x) y
-            ∙ (none_left_out (without out x y) (home_of a.homes y) none_here
-            ∙ sym (home_but a out y ∙ none_left_out (out y) (home_of a.homes y) none_here))
-        same_homes y false q =
-            home_but a (without out x) y
-            ∙ (ap (λ b. if not b && out y then None else home_of a.homes y) q ∙ sym (home_but a out y))
+            home_but a out y
+            ∙ (none_left_out (out y) (home_of a.homes y) none_here
+            ∙ sym (home_but a (without out x) y ∙ none_left_out (without out x y) (home_of a.homes y) none_here))
+        same_homes y false q = as_before out x y q
 
     fresh_runs : length (code_of (set None x value)) < far → Steps_on out (without out x) (set None x value)
     fresh_runs few = by_home (home_of a.homes x) refl

@@ -1,28 +1,23 @@
 -- Straight code within the limits has room in a frame and in an image, and the fields of its image are allowed.
-use Rattle.std.proofs.Common.{◌≡◌, ℕ, suc, ◌+◌, ◌*◌, ◌%◌, ◌^◌, ◌<◌, ◌≤◌, true, List, [], ◌∷◌, length, map, All}
-use Rattle.std.proofs.Common.{Option, None, Some, IfSome, refl, sym, ap, subst, ◌∙◌, arith, length-append, zero, take}
+use Rattle.std.proofs.Common.{◌≡◌, ℕ, suc, ◌+◌, ◌*◌, ◌%◌, ◌^◌, ◌<◌, ◌≤◌, true, List, [], ◌∷◌, length, map, All, Option}
+use Rattle.std.proofs.Common.{None, Some, IfSome, refl, sym, ap, subst, ◌∙◌, arith, length-append, zero, take, Bool}
+use Rattle.std.proofs.Common.{if◌then◌else◌}
 use Rattle.std.proofs.lemmas.Bool.{lt-leb}
-use Rattle.std.proofs.Common.{Bool, if◌then◌else◌}
-use Rattle.codegen.proofs.Logic.{eq-eqb, le-leb, and_from, length-map, recursion_from_All, option_map}
-use Rattle.codegen.proofs.Logic.{parameter_words}
+use Rattle.codegen.proofs.Logic.{eq-eqb, le-leb, and_from, length-map, recursion_from_All, option_map, parameter_words}
 use Rattle.codegen.proofs.Logic.{load_length, none-some, typed_among, same_Some}
 use Rattle.std.specs.List.{AllByRecursion}
-use Rattle.codegen.proofs.Machine.{word_of, IsImage, AreSlots, IsResultSlot, is_length, slot_end, result_end}
-use Rattle.codegen.proofs.Machine.{slots_end}
-use Rattle.codegen.proofs.Machine.{Slot, ResultSlot, program_base, program_code, program_slots, result_slot}
-use Rattle.codegen.proofs.Machine.{image_of, image_within, most_words, step_limit, Fields}
-use Rattle.codegen.proofs.Machine.{result_code, slots_from, result_offset, HasRoom}
+use Rattle.codegen.proofs.Machine.{word_of, IsImage, AreSlots, IsResultSlot, is_length, slot_end, result_end, slots_end}
+use Rattle.codegen.proofs.Machine.{Slot, ResultSlot, program_base, program_code, program_slots, result_slot, image_of}
+use Rattle.codegen.proofs.Machine.{image_within, most_words, step_limit, Fields, result_code, slots_from, result_offset}
+use Rattle.codegen.proofs.Machine.{HasRoom, Allocation, depth_in_all, entry_code, HavePlaces, home_count, IsAmong}
+use Rattle.codegen.proofs.Machine.{IsFitting, AllReadKept, Instr, IsKeptWithin, plain, ReadsKept, word_offset}
 use Rattle.codegen.proofs.FewerHomes.{homes_fewer}
 use Rattle.codegen.specs.private.Fresh.{homes_but, starts_fresh}
-use Rattle.codegen.proofs.Machine.{Allocation, depth_in_all, entry_code, HavePlaces, home_count, IsAmong, IsFitting}
-use Rattle.codegen.proofs.Machine.{AllReadKept, Instr, IsKeptWithin, plain, ReadsKept, word_offset}
 use Rattle.branch_removal.specs.Straight as straight
-use Rattle.codegen.proofs.Language.{StraightBlock, StraightTree, first, nothing}
-use Rattle.codegen.proofs.Language.{StraightProgram, most_elements, Form, SingleWord, Kind, Boolean, Param, WordType}
-use Rattle.codegen.proofs.Language.{held_words, array_words, Profile, FlatVariable, declaration_of, TermTree}
-use Rattle.codegen.proofs.Language.{HasLength}
-use Rattle.codegen.proofs.Language.{declared_words, value_nodes, IsBounded, IsCounted, IsTypedStraight, types_of}
-use Rattle.codegen.proofs.Language.{IsResult}
+use Rattle.codegen.proofs.Language.{StraightBlock, StraightTree, first, nothing, StraightProgram, most_elements, Form}
+use Rattle.codegen.proofs.Language.{SingleWord, Kind, Boolean, Param, WordType, held_words, array_words, Profile}
+use Rattle.codegen.proofs.Language.{FlatVariable, declaration_of, TermTree, HasLength, declared_words, value_nodes}
+use Rattle.codegen.proofs.Language.{IsBounded, IsCounted, IsTypedStraight, types_of, IsResult}
 use Rattle.inline.specs.FlatSize.{words_of}
 use Rattle.codegen.proofs.CodeLengths.{assign_length, block_length, blocks_placed}
 

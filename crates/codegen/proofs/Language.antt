@@ -8,8 +8,8 @@ pub use Rattle.branch_removal.specs.Straight.{take}
 pub use Rattle.branch_removal.specs.StraightMeaning.{StraightState, after, after_all, counted, holds, outcome_of}
 pub use Rattle.branch_removal.specs.StraightMeaning.{path_along, path_at, path_of, value_at, with_controls}
 pub use Rattle.branch_removal.specs.StraightMeaning.{with_element, with_variable}
-pub use Rattle.branch_removal.specs.StraightTyping.{AreTyped, IsAmong, IsFilled, IsPut, IsSet, IsTyped}
-pub use Rattle.branch_removal.specs.StraightTyping.{IsTypedStraight, types_but}
+pub use Rattle.branch_removal.specs.StraightTyping.{AreTyped, IsAmong, IsFilled, IsPut, IsSet, IsTyped, IsTypedStraight}
+pub use Rattle.branch_removal.specs.StraightTyping.{types_but}
 pub use Rattle.branch_removal.specs.declared.straight.StraightStatement.{StraightStatement}
 pub use Rattle.inline.specs.Fitting.{Fits, IsHeld, IsWithinKind}
 pub use Rattle.inline.specs.Flat.{TermTree, array_as, declaration_of, numbers_in, term_tree, word_as}

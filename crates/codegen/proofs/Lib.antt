@@ -4,11 +4,12 @@ pub mod Machine
 pub mod Language
 pub mod Logic
 pub mod HiddenWords
+pub mod HomeWords
 pub mod Slots
 pub mod Masks
 pub mod Numbers
 pub mod SetRuns
-pub mod ErasedRuns
+pub mod UnderRuns
 pub mod TakeRuns
 pub mod StoredValues
 pub mod PairRuns

@@ -1,27 +1,26 @@
 -- The code of a loop.
-use Rattle.std.proofs.Common.{◌≡◌, ℕ, suc, ◌+◌, ◌-◌, ◌*◌, ◌%◌, ◌^◌, ◌<◌, ◌≤◌, Bool, true, false, nat_lt, List, []}
-use Rattle.std.proofs.Common.{◌∷◌, ◌++◌, length, Option, None, Some, slice_get, slice_index, refl, sym, ap, ap₂, ◌∙◌}
-use Rattle.std.proofs.Common.{subst, arith, inr, ◌≢◌, ◌==◌, cond, eq-eqb, ne_eqb}
+use Rattle.std.proofs.Common.{◌≡◌, ℕ, suc, ◌+◌, ◌-◌, ◌*◌, ◌%◌, ◌^◌, ◌<◌, ◌≤◌, Bool, true, false, nat_lt, List, [], ◌∷◌}
+use Rattle.std.proofs.Common.{◌++◌, length, Option, None, Some, slice_get, slice_index, refl, sym, ap, ap₂, ◌∙◌, subst}
+use Rattle.std.proofs.Common.{arith, inr, ◌≢◌, ◌==◌, cond, eq-eqb, ne_eqb}
 use Rattle.std.proofs.lemmas.Bool.Decides.{nat_tests}
 use Rattle.std.proofs.lemmas.Nat.{mul-le}
 use Rattle.codegen.proofs.Language.{TermTree, word_as, value_in, path_in, turns, path_of_turns, Path, bounded}
-use Rattle.codegen.proofs.Language.{term_nodes, types_of, HasType, counter_type, StraightBlock, repeats}
-use Rattle.codegen.proofs.Language.{StraightState, counted, after, after_all, path_at, path_along, word_of}
-use Rattle.codegen.proofs.Machine.{bounds_code, test_code, count_code, loop_code, variable_offset}
-use Rattle.codegen.proofs.Machine.{at_home, home_of, InSlot, next_offset, slots_to, assign_code}
-use Rattle.codegen.proofs.Machine.{store_code, variable_location, height_of, Instr, Addi, Sltu, Sw}
-use Rattle.codegen.proofs.Machine.{ByteMap, number_at, with_number, sum_of}
+use Rattle.codegen.proofs.Language.{term_nodes, types_of, HasType, counter_type, StraightBlock, repeats, StraightState}
+use Rattle.codegen.proofs.Language.{counted, after, after_all, path_at, path_along, word_of}
+use Rattle.codegen.proofs.Machine.{bounds_code, test_code, count_code, loop_code, variable_offset, at_home, home_of}
+use Rattle.codegen.proofs.Machine.{InSlot, next_offset, slots_to, assign_code, store_code, variable_location, height_of}
+use Rattle.codegen.proofs.Machine.{Instr, Addi, Sltu, Sw, ByteMap, number_at, with_number, sum_of}
 use Rattle.rv_code.specs.declared.instructions.Instr.TheVariants as instr
 use Rattle.rv_machine.specs.Machine as machine
 use Rattle.codegen.proofs.Logic.{lt-ltb, value_word, HeldAt, held_regs, take, put, does, moves_run, number_or_zero}
 use Rattle.codegen.proofs.Logic.{Setting, setting, base_of, Known, by_bounds, none, Runs, Still, looping, along_fit}
-use Rattle.codegen.proofs.Logic.{seq, quietly, weaken, gives, cheaper, as_code, beside, Kept, Ready, Wrote}
-use Rattle.codegen.proofs.Logic.{wrote_kept, wrote_there, kept_number, kept_less, kept_then, ready_below}
-use Rattle.codegen.proofs.Logic.{HomesKept, IsHome, homes_by, homes_moved, homes_then}
-use Rattle.codegen.proofs.Logic.{kept_by, registers_after}
+use Rattle.codegen.proofs.Logic.{seq, quietly, weaken, gives, cheaper, as_code, beside, Kept, Ready, Wrote, wrote_kept}
+use Rattle.codegen.proofs.Logic.{wrote_there, kept_number, kept_less, kept_then, ready_below, HomesKept, IsHome}
+use Rattle.codegen.proofs.Logic.{homes_by, homes_moved, homes_then, kept_by, registers_after}
 use Rattle.codegen.proofs.Slots.{Shown, ready_with, ready_behind, word_before, stored, assigned, Hidden, hidden_then}
 use Rattle.codegen.proofs.Slots.{hidden_less, hidden_by, hidden_wrote, hidden_beyond, hidden_number, other_number}
-use Rattle.codegen.proofs.Slots.{ready_homed, ready_set}
+use Rattle.codegen.proofs.Slots.{ready_set}
+use Rattle.codegen.proofs.HomeWords.{ready_homed}
 
 -- So many turns are left, the next of them for this number: both of the loop's words tell it.
 pub record Counts (z : Setting) (next left i : ℕ) (s : machine.State) : Type 0 where

@@ -7,19 +7,17 @@ pub use Rattle.codegen.specs.Loaded.{with_arguments, with_numbers, word_in}
 pub use Rattle.codegen.specs.private.Compared.{branching_code, condition_code, failing, right_code, right_register}
 pub use Rattle.codegen.specs.private.Compared.{between, operands_code, operands_or, test_of, test_or}
 pub use Rattle.codegen.specs.private.Emitted.{assign_code, block_code, bounds_code, clear_code, count_code}
-pub use Rattle.codegen.specs.private.Emitted.{element_store_code, fill_code}
-pub use Rattle.branch_removal.specs.Heights.{depth_in_all, height_of_all}
-pub use Rattle.codegen.specs.private.Emitted.{home_of_term, home_or, index_code, join_code, kept_code, masks_code}
-pub use Rattle.branch_removal.specs.Heights.{height_of_put}
-pub use Rattle.codegen.specs.private.Emitted.{merge_code, put_code, put_under_code, read_code, read_register}
-pub use Rattle.codegen.specs.private.Emitted.{set_code, set_under_code, statement_code, store_by, test_code}
-pub use Rattle.codegen.specs.private.Emitted.{taken_code, unless_home, unless_unread, put_element_code}
-pub use Rattle.codegen.specs.private.Emitted.{is_zero, put_under_near_code, stored_code, stored_register, gives_zero}
-pub use Rattle.branch_removal.specs.Heights.{depth_in, height_in, height_in_all}
+pub use Rattle.codegen.specs.private.Emitted.{element_store_code, fill_code, home_of_term, home_or, index_code}
+pub use Rattle.codegen.specs.private.Emitted.{join_code, kept_code, masks_code, merge_code, put_code, put_under_code}
+pub use Rattle.codegen.specs.private.Emitted.{read_code, read_register, set_code, set_under_code, statement_code}
+pub use Rattle.codegen.specs.private.Emitted.{store_by, test_code, taken_code, unless_home, unless_unread}
+pub use Rattle.codegen.specs.private.Emitted.{put_element_code, put_under_near_code, stored_code}
+pub use Rattle.codegen.specs.private.Emitted.{stored_register, gives_zero}
+pub use Rattle.branch_removal.specs.Heights.{depth_in_all, height_of_all, height_of_put, depth_in, height_in}
+pub use Rattle.branch_removal.specs.Heights.{height_in_all, program_height, result_height, height_of}
 pub use Rattle.codegen.specs.private.Generated.{body_of, entry_code, home_count, image_of, program_base, program_code}
-pub use Rattle.codegen.specs.private.Generated.{program_slots, result_code}
-pub use Rattle.branch_removal.specs.Heights.{program_height, result_height}
-pub use Rattle.codegen.specs.private.Generated.{image_within, most_words, result_slot, step_limit}
+pub use Rattle.codegen.specs.private.Generated.{program_slots, result_code, image_within, most_words, result_slot}
+pub use Rattle.codegen.specs.private.Generated.{step_limit}
 pub use Rattle.codegen.specs.private.Jumps.{AreNear, IsFar, branch_code, far, leave, loop_code, unless_code}
 pub use Rattle.codegen.specs.private.Placed.{ArePlacedTerms, HasPlace, HavePlaces}
 pub use Rattle.codegen.specs.private.Room.{HasRoom, IsFitting, frame_of}
@@ -30,15 +28,12 @@ pub use Rattle.codegen.specs.expression_code.Allocation.{Allocation, at_home, ho
 pub use Rattle.codegen.specs.expression_code.Allocation.{is_unread}
 pub use Rattle.codegen.specs.private.Reads.{AllReadKept, IsKeptWithin, ReadsKept}
 pub use Rattle.codegen.specs.expression_code.TermCode.{IsAmong, address_code, code_by, constant_code, fetch_code}
-pub use Rattle.codegen.specs.expression_code.TermCode.{into_code}
-pub use Rattle.branch_removal.specs.Heights.{height_of}
-pub use Rattle.codegen.specs.expression_code.TermCode.{kind_at, load_by, load_code, lower_part, near_element}
+pub use Rattle.codegen.specs.expression_code.TermCode.{into_code, kind_at, load_by, load_code, lower_part, near_element}
 pub use Rattle.codegen.specs.expression_code.TermCode.{store_code}
 pub use Rattle.codegen.specs.declared.expression_code.locations.Location.{Location}
 pub use Rattle.codegen.specs.declared.expression_code.locations.Location.TheVariants.{InRegister, InSlot}
 pub use Rattle.codegen.specs.image_fields.Fields.{AreSlots, Fields, IsImage, IsResultSlot, is_length, result_end}
-pub use Rattle.codegen.specs.image_fields.Fields.{slot_end}
-pub use Rattle.codegen.specs.image_fields.Fields.{slots_end, type_in}
+pub use Rattle.codegen.specs.image_fields.Fields.{slot_end, slots_end, type_in}
 pub use Rattle.codegen.specs.declared.image_fields.slot.ResultSlot.{ResultSlot}
 pub use Rattle.codegen.specs.declared.image_fields.slot.Slot.{Slot}
 pub use Rattle.rv_code.specs.Words.{word_of}

@@ -1,29 +1,17 @@
 -- Masks of control values: the registers that have them, how they come there and into their slots, and what is shown
 -- once both of a condition are set.
-use Rattle.std.proofs.Common.{◌≡◌, ℕ, ◌+◌, ◌^◌, ◌<◌, ◌≤◌, ◌==◌, ◌≢◌, Bool, true, false, cond}
-use Rattle.std.proofs.Common.{nat_lt, List, [], ◌∷◌, length, None, Some, refl}
-use Rattle.std.proofs.Common.{sym, ap, ◌∙◌, subst, arith, inl, inr, ◌⊎◌, ◌&&◌, not, Option}
+use Rattle.std.proofs.Common.{◌≡◌, ℕ, ◌+◌, ◌^◌, ◌<◌, ◌≤◌, ◌==◌, ◌≢◌, Bool, true, false, cond, nat_lt, List, [], ◌∷◌}
+use Rattle.std.proofs.Common.{length, None, Some, refl, sym, ap, ◌∙◌, subst, arith, inl, inr, ◌⊎◌, ◌&&◌, not, Option}
 use Rattle.std.proofs.lemmas.Bool.{true≢false}
-use Rattle.codegen.proofs.Machine.{control_offset, number_at}
-use Rattle.codegen.proofs.Machine.{at_home, control_location, fetch_code, home_or, InSlot}
-use Rattle.codegen.proofs.Machine.{is_unread, kept_code, read_register, register_of, unless_unread}
-use Rattle.codegen.proofs.Machine.{with_number, home_of, home_of_term, Instr, Sw}
-use Rattle.codegen.proofs.Language.{StraightState, with_controls}
-use Rattle.codegen.proofs.Language.{TermTree, WordType}
-use Rattle.codegen.proofs.Language.{types_of}
-use Rattle.codegen.proofs.Language.{HasType}
-use Rattle.codegen.proofs.Logic.{none-some, eqb-true, eqb-false}
-use Rattle.codegen.proofs.Logic.{at_control, control_stays, Fetched, fetch_runs, HasRoom, Holds}
-use Rattle.codegen.proofs.Logic.{move_runs, none, slice_get_within, unwritten, weaken}
-use Rattle.codegen.proofs.Logic.{HeldAt, mask_of}
-use Rattle.codegen.proofs.Logic.{apart}
-use Rattle.codegen.proofs.Logic.{Setting, base_of, Kept, Ready, Wrote, wrote_kept}
-use Rattle.codegen.proofs.Logic.{wrote_there, variables_kept}
-use Rattle.codegen.proofs.Logic.{HomesKept, IsHome}
-use Rattle.codegen.proofs.Logic.{homes_moved, kept_number}
-use Rattle.codegen.proofs.Logic.{home_there, is_free, idle, put}
-use Rattle.codegen.proofs.Logic.{Runs, cheaper, kept_less}
-use Rattle.codegen.proofs.Logic.{kept_then}
+use Rattle.codegen.proofs.Machine.{control_offset, number_at, at_home, control_location, fetch_code, home_or, InSlot}
+use Rattle.codegen.proofs.Machine.{is_unread, kept_code, read_register, register_of, unless_unread, with_number}
+use Rattle.codegen.proofs.Machine.{home_of, home_of_term, Instr, Sw}
+use Rattle.codegen.proofs.Language.{StraightState, with_controls, TermTree, WordType, types_of, HasType}
+use Rattle.codegen.proofs.Logic.{none-some, eqb-true, eqb-false, at_control, control_stays, Fetched, fetch_runs}
+use Rattle.codegen.proofs.Logic.{HasRoom, Holds, move_runs, none, slice_get_within, unwritten, weaken, HeldAt, mask_of}
+use Rattle.codegen.proofs.Logic.{apart, Setting, base_of, Kept, Ready, Wrote, wrote_kept, wrote_there, variables_kept}
+use Rattle.codegen.proofs.Logic.{HomesKept, IsHome, homes_moved, kept_number, home_there, is_free, idle, put, Runs}
+use Rattle.codegen.proofs.Logic.{kept_less, kept_then}
 use Rattle.rv_machine.specs.Machine as machine
 use Rattle.codegen.proofs.Slots.{Hidden, hidden_wrote, other_number}
 
@@ -78,12 +66,14 @@ module _ (z : Setting) where
       (fetch_runs z spare low high (λ env. mask_of (env.controls c)) (control_location z.declared z.allocation c)
       (at_control z c (HasRoom z) (λ home at. tt) (λ away. (omega arith, omega (arith, among, space)))))
 
-  -- no home is written by that
+  -- none of the first three temporaries is a home
+  pub home_apart : (q n : ℕ) → IsHome z.allocation.count q → n < 8 → q ≢ n
+  home_apart q n home low e = let some = z.allocated.some in omega (arith, some, home.0, low, e)
+
+  -- so no home is written by that
   pub fetched_homes : (r spare v : ℕ) (s t : machine.State) → (spare < 8) ⊎ (27 < spare) → Fetched z r spare v s t
       → HomesKept z s t
-  fetched_homes r spare v s t (inl low) fetched q home =
-      let some = z.allocated.some in
-      fetched.others q (λ e. omega (arith, some, home.0, e, low))
+  fetched_homes r spare v s t (inl low) fetched q home = fetched.others q (home_apart q spare home low)
   fetched_homes r spare v s t (inr high) fetched q home = fetched.others q (λ e. omega (arith, home.1, e, high))
 
   -- a control value's register, where it is one of the first three temporaries, is put into its slot, unless nothing
@@ -184,31 +174,29 @@ module _ (z : Setting) where
       (unless_unread (is_unread z.allocation c) (kept_code (control_location z.declared z.allocation c) r))
   mask_put c r v among ok = by_test (is_unread z.allocation c) refl
     where
+      untouched : (env : StraightState) (s : machine.State) → HeldAt z s
+          → (is_unread z.allocation c ≡ false → home_of z.allocation.homes (length z.declared + c) ≡ None
+          → number_at s.bytes 4 (z.frame + control_offset z.declared c) ≡ Some (v env))
+          → MaskPut c (v env) s s
+      untouched env s held there = record {
+        held = held;
+        others = λ q other. refl;
+        written = there;
+        apart = λ n x beside. refl;
+        lower = λ b below. refl;
+        hidden = λ depth b from to. refl;
+      }
+
       by_test : (b : Bool) → is_unread z.allocation c ≡ b
           → PutsMask c r v (unless_unread b (kept_code (control_location z.declared z.allocation c) r))
       by_test true unread =
-          cheaper {m = 0} (omega arith)
-          (idle (λ env s given. record {
-            held = given.0;
-            others = λ q other. refl;
-            written = λ read. absurd (true≢false (sym unread ∙ read));
-            apart = λ n x beside. refl;
-            lower = λ b below. refl;
-            hidden = λ depth b from to. refl;
-          }))
+          idle (λ env s given. untouched env s given.0 (λ read away. absurd (true≢false (sym unread ∙ read))))
       by_test false read =
           let o = control_offset z.declared c in
           let space = z.room in
           at_control z c (λ l. PutsMask c r v (kept_code l r))
-          (λ home at. cheaper {m = 0} (omega arith)
-          (idle (λ env s given. record {
-            held = given.0;
-            others = λ q other. refl;
-            written = λ is away. absurd (none-some home (sym away ∙ at));
-            apart = λ n x beside. refl;
-            lower = λ b below. refl;
-            hidden = λ depth b from to. refl;
-          })))
+          (λ home at.
+          idle (λ env s given. untouched env s given.0 (λ is away. absurd (none-some home (sym away ∙ at)))))
           (λ away. weaken
           (λ env s fine given. given.0)
           (λ env s t fine given moved.

@@ -1,12 +1,11 @@
 -- Numbers that are put one after another.
 use Rattle.std.proofs.Common.{◌≡◌, ◌≢◌, ⊎_elim, ◌⊎◌, inl, inr, ℕ, zero, suc, ◌+◌, ◌*◌, ◌/◌, ◌%◌, ◌^◌, ◌<◌, ◌≤◌, true}
-use Rattle.std.proofs.Common.{◌&&◌, cond, is_some, nat_le, nat_lt, List, [], ◌∷◌, length, Some, None, slice_index}
-use Rattle.std.proofs.Common.{refl, ap, ap₂, ◌∙◌, arith}
+use Rattle.std.proofs.Common.{◌&&◌, cond, is_some, nat_le, nat_lt, List, [], ◌∷◌, length, Some, None, slice_index, refl}
+use Rattle.std.proofs.Common.{ap, ap₂, ◌∙◌, arith}
 use Rattle.codegen.proofs.Machine.{ByteMap, joined, number_at, with_number, zeros, with_numbers}
-use Rattle.codegen.proofs.Logic.{cases_eq, nat_tests}
-use Rattle.codegen.proofs.Logic.{number_at_same, number_at-with_number, with_number-zero, with_number-suc}
-use Rattle.codegen.proofs.Logic.{with_byte_same, with_byte_other, number_at-zero, number_at-suc, with_number_below}
-use Rattle.codegen.proofs.Logic.{with_number_above}
+use Rattle.codegen.proofs.Logic.{cases_eq, nat_tests, number_at_same, number_at-with_number, with_number-zero}
+use Rattle.codegen.proofs.Logic.{with_number-suc, with_byte_same, with_byte_other, number_at-zero, number_at-suc}
+use Rattle.codegen.proofs.Logic.{with_number_below, with_number_above}
 
 -- bytes beside them are as they were
 pub numbers_beside : (bytes : ByteMap) (size at : ℕ) (vs : List ℕ) (x : ℕ) → (x < at) ⊎ (at + size * length vs ≤ x)

@@ -1,6 +1,5 @@
 -- Two operands that are read one after the other: where the second comes into its register, the first stays in its own.
-use Rattle.std.proofs.Common.{◌≡◌, ℕ, ◌+◌, ◌*◌, ◌≤◌, false, ◌⊎◌, inl, inr}
-use Rattle.std.proofs.Common.{ap, ◌∙◌, arith}
+use Rattle.std.proofs.Common.{◌≡◌, ℕ, ◌+◌, ◌*◌, ◌≤◌, false, ◌⊎◌, inl, inr, ap, ◌∙◌, arith}
 use Rattle.codegen.proofs.Language.{HasType, StraightState, TermTree, WordType, term_nodes, types_of, value_in}
 use Rattle.codegen.proofs.Logic.{base_of, home_beside, HomesKept, IsHome, Kept, nat_tests, place_target, Ready}
 use Rattle.codegen.proofs.Logic.{ready_after, Runs, Setting, steps_of, weaken, works_at}

@@ -7,8 +7,7 @@ use Rattle.codegen.proofs.Language.{repeats, after, after_all, path_at, path_alo
 use Rattle.codegen.proofs.Logic.{none-some, nat_tests, Setting, base_of, Runs, cheaper, Ready}
 use Rattle.codegen.proofs.LoopLengths.{turn_near}
 use Rattle.codegen.proofs.LoopRuns.{repeats_runs}
-use Rattle.codegen.proofs.Machine.{at_home, bounds_code, far, height_of, home_of, InSlot, Instr, next_offset}
-use Rattle.codegen.proofs.Machine.{slots_to}
+use Rattle.codegen.proofs.Machine.{at_home, bounds_code, far, height_of, home_of, InSlot, Instr, next_offset, slots_to}
 use Rattle.codegen.proofs.Machine.{variable_location, variable_offset}
 use Rattle.codegen.proofs.Slots.{Shown}
 use Rattle.codegen.specs.private.Loops.{any_sets, counting_home, loop_from, repeat_code, short_number}

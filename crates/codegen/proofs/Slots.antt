@@ -4,38 +4,30 @@ use Rattle.std.proofs.Common.{if◌then◌else◌, nat_lt, List, [], ◌∷◌, 
 use Rattle.std.proofs.Common.{sym, ap, ◌∙◌, subst, arith, inl, inr, ◌⊎◌, ◌&&◌, not, ne_eqb, Option, ◌++◌}
 use Rattle.std.specs.Prelude.{slice_set}
 use Rattle.codegen.proofs.Machine.{variable_offset, control_offset, next_offset, result_offset, ByteMap, number_at}
-use Rattle.codegen.proofs.Machine.{Allocation, assign_code, byte_count, control_location, home_of_term, home_or}
-use Rattle.codegen.proofs.Machine.{is_zero, read_code, read_register, store_size, stored_code, stored_register}
-use Rattle.codegen.proofs.Machine.{gives_zero, unless_home}
-use Rattle.codegen.proofs.Machine.{with_number, slots_to, height_of, home_of, into_code, store_code, Instr, Sw}
-use Rattle.codegen.proofs.Language.{StraightState, with_variable, with_element, FlatVariable}
-use Rattle.codegen.proofs.Language.{numbers_in}
-use Rattle.codegen.proofs.Language.{IsWithinKind, word_as, TermTree, term_nodes, Boolean, WordType, value_in}
-use Rattle.codegen.proofs.Language.{types_of}
-use Rattle.codegen.proofs.Language.{IsHeld, Fits, Kind, Uint32, bits_of, Values, HasType, Suits, Profile}
-use Rattle.codegen.proofs.Logic.{length-set, get_or-set_same, get_or-set_other, set-get_or, All-set}
-use Rattle.codegen.proofs.Logic.{none-some, same_Some, eqb-true, eqb-false, fits_assigned, one_held}
-use Rattle.codegen.proofs.Logic.{control_stays, controls_kept, Holds}
-use Rattle.codegen.proofs.Logic.{slice_get_within}
+use Rattle.codegen.proofs.Machine.{assign_code, byte_count, control_location, home_of_term, home_or, read_code}
+use Rattle.codegen.proofs.Machine.{read_register, store_size, stored_code, stored_register, gives_zero, unless_home}
+use Rattle.codegen.proofs.Machine.{with_number, slots_to, height_of, home_of, into_code, store_code, Instr, Sw, State}
+use Rattle.codegen.proofs.Language.{StraightState, with_variable, with_element, FlatVariable, numbers_in, IsWithinKind}
+use Rattle.codegen.proofs.Language.{word_as, TermTree, term_nodes, Boolean, WordType, value_in, types_of, IsHeld, Fits}
+use Rattle.codegen.proofs.Language.{Kind, Uint32, bits_of, Values, HasType, Suits, Profile}
+use Rattle.codegen.proofs.Logic.{length-set, get_or-set_same, get_or-set_other, set-get_or, All-set, none-some}
+use Rattle.codegen.proofs.Logic.{same_Some, eqb-true, eqb-false, controls_kept, Holds, number_at_apart}
+use Rattle.codegen.proofs.Logic.{number_at-with_number, HeldAt, mask_of, bytes_by, bytes_of, place_of, place_within}
+use Rattle.codegen.proofs.Logic.{ends_before_result, apart_from, elements_apart, Setting, base_of, Kept, Ready, Wrote}
+use Rattle.codegen.proofs.Logic.{wrote_kept, variables_kept, Before, After, Steps, Then, Still, steps_of, into_runs}
+use Rattle.codegen.proofs.Logic.{Held, held_regs, HomesKept, IsHome, ValuedIn, home_beside, home_target, homes_by}
+use Rattle.codegen.proofs.Logic.{homes_moved, kept_number, place_before, place_target, variables_home, is_free, idle}
+use Rattle.codegen.proofs.Logic.{lt-ltb, works_at, IsTarget, Leaves, put, then_moves, setting, Runs, gives, cheaper}
+use Rattle.codegen.proofs.Logic.{kept_less, kept_by, ready_below, along, home_allowed, home_there, known, move_runs}
+use Rattle.codegen.proofs.Logic.{none, quiet, ready_after, register-at, value_fits}
 use Rattle.inline.specs.FlatSize.{words_of}
-use Rattle.codegen.proofs.Logic.{number_at_apart, number_at-with_number, HeldAt, mask_of}
-use Rattle.codegen.proofs.Logic.{bytes_by, bytes_of, place_of, place_within, ends_before_result}
-use Rattle.codegen.proofs.Logic.{apart_from, elements_apart, Setting, base_of, Kept, Ready, Wrote, wrote_kept}
-use Rattle.codegen.proofs.Logic.{variables_kept, Before, After, Steps, Then, Still}
-use Rattle.codegen.proofs.Logic.{steps_of, into_runs, Held, held_regs, HomesKept, IsHome, ValuedIn, home_beside}
-use Rattle.codegen.proofs.Logic.{home_target, homes_by, homes_moved, kept_number, place_before}
-use Rattle.codegen.proofs.Logic.{place_target, variables_home, is_free, idle, lt-ltb, works_at, IsTarget, Leaves, put}
-use Rattle.codegen.proofs.Logic.{then_moves, setting, Runs, gives, cheaper, kept_less, kept_by, ready_below}
-use Rattle.codegen.proofs.Logic.{along, home_allowed, home_there, known, move_runs, none, quiet, ready_after}
-use Rattle.codegen.proofs.Logic.{register-at, value_fits}
 use Rattle.codegen.proofs.expression_code_lemmas.Logic.{emptied, put_code}
-use Rattle.codegen.specs.expression_code.NumberRows.{number_of}
 use Rattle.rv_code.specs.declared.operations.StoreOperation.{StoreOperation}
 use Rattle.rv_machine.specs.Registers.{register}
-use Rattle.std.proofs.lemmas.Bool.{false≢true}
 use Rattle.rv_machine.specs.Machine as machine
 pub use Rattle.codegen.proofs.HiddenWords.{Hidden, hidden_beyond, hidden_by, hidden_kept, hidden_less, hidden_number}
 pub use Rattle.codegen.proofs.HiddenWords.{hidden_then, hidden_wrote}
+use Rattle.codegen.proofs.expression_code_lemmas.NumberCode.{zero_known}
 
 -- what is written as a value of its kind is that value again
 pub cut_kind : (kind : Kind) (v : ℕ) → v < 2 ^ bits_of kind → v < 2 ^ 32
@@ -45,6 +37,11 @@ cut_kind kind v h = omega (arith, h)
 pub cut_element : (kind : Kind) (size v : ℕ) → v < 2 ^ bits_of kind → v % 256 ^ bytes_by kind (Some size) ≡ v
 cut_element Boolean size v h = omega (arith, h)
 cut_element kind size v h = omega (arith, h)
+
+pub cut_number : (kind : Kind) (elements : Option ℕ) (v : ℕ) → v < 2 ^ bits_of kind
+    → v % 256 ^ bytes_by kind elements ≡ v
+cut_number kind None v h = let word = cut_kind kind v h in omega (arith, word)
+cut_number kind (Some size) v h = cut_element kind size v h
 
 pub alone : (l : List ℕ) (v : ℕ) → length l ≡ 1 → slice_set l 0 v ≡ v ∷ []
 alone (x ∷ []) v one = refl
@@ -194,55 +191,6 @@ module _ (z : Setting) where
         (ready_put x 0 v v (word_as word mutable) known away (omega arith) fits env s t ready
         (subst (λ o. Wrote z 4 o v s t) first wrote) (omega (arith, small)))
 
-  -- no variable lives where a control value does
-  beside_controls : (x home : ℕ) → x < length z.declared → home_of z.allocation.homes x ≡ Some home
-      → (c other : ℕ) → home_of z.allocation.homes (length z.declared + c) ≡ Some other → other ≢ home
-  beside_controls x home below at c other here same =
-      let one = z.allocated.apart (length z.declared + c) x home (here ∙ ap Some same) at in
-      omega (arith, below, one)
-
-  -- a word is set that has a home
-  module _ (x home v : ℕ) (word : WordType) (mutable : Bool)
-      (known : slice_get z.declared x ≡ Some (word_as word mutable)) (at : home_of z.allocation.homes x ≡ Some home)
-      (fits : v < 2 ^ bits_of word.kind)
-      (env : StraightState) (s t : machine.State) (ready : Ready z env s) (held : HeldAt z t)
-      (kept : Kept z (base_of z) s t) (there : t.regs home ≡ v)
-      (others : (r : ℕ) → IsHome z.allocation.count r → r ≢ home → t.regs r ≡ s.regs r) where
-    own_at : (y other : ℕ) (e : FlatVariable) → slice_get z.declared y ≡ Some e
-        → home_of z.allocation.homes y ≡ Some other → (b : Bool) → (y == x) ≡ b
-        → t.regs other ≡ slice_index (cond b (v ∷ []) (env.variables y)) 0
-    own_at y other e is here true q =
-        let same = same_Some home other (sym at
-        ∙ (ap (λ n. home_of z.allocation.homes n) (sym (eqb-true y x q)) ∙ here)) in
-        ap t.regs (sym same) ∙ there
-    own_at y other e is here false q =
-        others other (z.allocated.allowed y other here)
-        (λ same. eqb-false y x q (z.allocated.apart y x home (here ∙ ap Some same) at))
-        ∙ ready.homes_there y other e is here
-
-    away_at : (y : ℕ) (e : FlatVariable) (j : ℕ) → slice_get z.declared y ≡ Some e
-        → home_of z.allocation.homes y ≡ None → j < numbers_in e.elements → (b : Bool) → (y == x) ≡ b
-        → number_at t.bytes (bytes_of e) (z.frame + place_of z.declared y e j)
-        ≡ Some (slice_index (cond b (v ∷ []) (env.variables y)) j)
-    away_at y e j is out more true q =
-        absurd (none-some home (sym out ∙ (ap (λ n. home_of z.allocation.homes n) (eqb-true y x q) ∙ at)))
-    away_at y e j is out more false q =
-        variables_kept z (base_of z) env s t (omega arith) ready kept y e j is out more
-
-    pub ready_homed : Ready z (with_variable env x (v ∷ [])) t
-    ready_homed = record {
-      held = held;
-      fits = fits_assigned (types_of z.code.profile z.declared) env.variables x (v ∷ []) (word_as word mutable) known
-          (one_held word mutable v fits) ready.fits;
-      homes_there = λ y other e is here. own_at y other e is here (y == x) refl;
-      variables_there = λ y e j is out more. away_at y e j is out more (y == x) refl;
-      controls_there = λ c among read. control_stays z c (mask_of (env.controls c)) s t
-          (λ other here. others other (z.allocated.allowed (length z.declared + c) other here)
-          (λ same. beside_controls x home (slice_get_within z.declared x _ known) at c other here same))
-          (kept_number z (base_of z) s t kept 4 (control_offset z.declared c) (omega (arith, among)))
-          (ready.controls_there c among read);
-    }
-
   -- a variable that is set to what it holds
   same_again : (x i : ℕ) (env : StraightState) (y : ℕ) (b : Bool) → (y == x) ≡ b
       → cond b (slice_set (env.variables x) i (slice_index (env.variables x) i)) (env.variables y) ≡ env.variables y
@@ -335,56 +283,43 @@ suits_fits profile declared word e m fits suits =
     (value_fits (types_of profile declared) m fits suits.has_type)
 
 module _ (z : Setting) where
-  -- A register has an expression's value, with the temporaries from a place on, and only these are written.
-  pub record ReadIn (e : TermTree) (r place : ℕ) (env : StraightState) (s t : machine.State) : Type 0 where
+  -- A register, or a home, has an expression's value, and only the temporaries from a place on are written.
+  pub record ReadIn (e : TermTree) (r place : ℕ) (h : Option ℕ) (env : StraightState) (s t : machine.State) :
+      Type 0 where
     pub held : HeldAt z t
-    pub there : t.regs (read_register z.allocation r e) ≡ value_in env.variables e
+    pub there : t.regs (home_or h r) ≡ value_in env.variables e
     pub kept : Kept z (base_of z) s t
     pub lower : Leaves (works_at z.allocation.count place r) s t
-
-  abbrev Reads : (e : TermTree) (r place : ℕ) → Option ℕ → Type 0
-  Reads e r place h = Runs z (16 * term_nodes e) (steps_of e)
-      (unless_home h (into_code z.declared z.allocation (base_of z) r place e)) (Ready z) (λ env s t. HeldAt z t
-      × (t.regs (home_or h r) ≡ value_in env.variables e) × Kept z (base_of z) s t
-      × Leaves (works_at z.allocation.count place r) s t)
-
-  reads_into : {e : TermTree} {word : WordType} (r place : ℕ) → IsTarget z.allocation.count place r
-      → HasType (types_of z.code.profile z.declared) e word
-      → base_of z + 4 * slots_to z.allocation.count (height_of e + place) ≤ z.size → Reads e r place None
-  reads_into r place target has room =
-      let count = z.allocation.count in
-      cheaper (omega arith)
-      (gives {P = Ready z}
-      (λ env s t fine ready done. (
-        done.held,
-        done.there,
-        kept_less z (base_of z) (base_of z + 4 * (place - count)) s t (omega arith) done.kept,
-        done.lower,
-      ))
-      (into_runs z (base_of z) (omega arith) (omega arith) has place r target room))
-
-  reads_at : {e : TermTree} {word : WordType} (r place : ℕ) → IsTarget z.allocation.count place r
-      → HasType (types_of z.code.profile z.declared) e word
-      → base_of z + 4 * slots_to z.allocation.count (height_of e + place) ≤ z.size
-      → Reads e r place (home_of_term z.allocation e)
-  reads_at {e = e} r place target has room = by_home (home_of_term z.allocation e) refl
-    where
-      by_home : (h : Option ℕ) → home_of_term z.allocation e ≡ h → Reads e r place h
-      by_home None at = reads_into r place target has room
-      by_home (Some home) at =
-          let home_is = home_there z has home at in
-          along (λ env. home_is.quiet env.variables)
-          (cheaper {m = 0} (omega arith)
-          (idle (λ env s ready. (ready.held, home_is.there env s ready, λ o below. refl, λ q h. refl))))
 
   pub reads : {e : TermTree} {word : WordType} (r place : ℕ) → IsTarget z.allocation.count place r
       → HasType (types_of z.code.profile z.declared) e word
       → base_of z + 4 * slots_to z.allocation.count (height_of e + place) ≤ z.size
       → Runs z (16 * term_nodes e) (steps_of e) (read_code z.declared z.allocation (base_of z) r place e) (Ready z)
-      (ReadIn e r place)
-  reads r place target has room =
-      gives (λ env s t fine ready done. record { held = done.0; there = done.1; kept = done.2; lower = done.3 })
-      (reads_at r place target has room)
+      (ReadIn e r place (home_of_term z.allocation e))
+  reads {e = e} r place target has room = by_home (home_of_term z.allocation e) refl
+    where
+      by_home : (h : Option ℕ) → home_of_term z.allocation e ≡ h
+          → Runs z (16 * term_nodes e) (steps_of e)
+          (unless_home h (into_code z.declared z.allocation (base_of z) r place e)) (Ready z) (ReadIn e r place h)
+      by_home None at =
+          cheaper (omega arith)
+          (gives {P = Ready z}
+          (λ env s t fine ready done. record {
+            held = done.held;
+            there = done.there;
+            kept = kept_less z (base_of z) (base_of z + 4 * (place - z.allocation.count)) s t (omega arith) done.kept;
+            lower = done.lower;
+          })
+          (into_runs z (base_of z) (omega arith) (omega arith) has place r target room))
+      by_home (Some home) at =
+          let home_is = home_there z has home at in
+          along (λ env. home_is.quiet env.variables)
+          (idle (λ env s ready. record {
+            held = ready.held;
+            there = home_is.there env s ready;
+            kept = λ o below. refl;
+            lower = λ q h. refl;
+          }))
 
   -- that of an expression that no temporary lives beside
   pub read_runs : {e : TermTree} {word : WordType} → HasType (types_of z.code.profile z.declared) e word
@@ -498,15 +433,6 @@ module _ (z : Setting) where
       by_test true = inl refl
       by_test false = inr (read_source z e 5 (omega arith) (omega arith))
 
-  -- an expression that is stored as 0 is that
-  pub stored_zero : (a : Allocation) (e : TermTree) → gives_zero a e ≡ true → number_of e ≡ Some 0
-  stored_zero a e is = by_test a.immediates (number_of e) refl is
-    where
-      by_test : (b : Bool) (m : Option ℕ) → number_of e ≡ m → (b && is_zero m) ≡ true → number_of e ≡ Some 0
-      by_test true (Some n) f same = f ∙ ap Some (eqb-true n 0 same)
-      by_test true None f same = absurd (false≢true same)
-      by_test false m f same = absurd (false≢true same)
-
   pub offered_runs : {e : TermTree} {word : WordType} → HasType (types_of z.code.profile z.declared) e word
       → base_of z + 4 * slots_to z.allocation.count (height_of e) ≤ z.size
       → Runs z (16 * term_nodes e) (steps_of e) (stored_code z.declared z.allocation (base_of z) e) (Ready z)
@@ -518,15 +444,14 @@ module _ (z : Setting) where
           (cond b [] (read_code z.declared z.allocation (base_of z) 5 0 e)) (Ready z)
           (Offered e (cond b 0 (read_register z.allocation 5 e)))
       by_test true is =
-          let zero = stored_zero z.allocation e is in
+          let zero = zero_known z.allocation e is in
           along (λ env. (known e 0 zero env.variables).1)
-          (cheaper {m = 0} (omega arith)
           (idle (λ env s ready. record {
             held = ready.held;
             there = sym (known e 0 zero env.variables).0;
             kept = λ o below. refl;
             homes = λ r home. refl;
-          })))
+          }))
       by_test false is =
           let source = read_source z e 5 (omega arith) (omega arith) in
           gives

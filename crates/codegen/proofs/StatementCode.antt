@@ -1,22 +1,19 @@
 -- The code of a statement that holds others, by the lists of its arms or its body.
-use Rattle.std.proofs.Common.{◌≡◌, ℕ, zero, suc, ◌+◌, ◌*◌, ◌≤◌, ◌<◌, ◌++◌, List, [], ◌∷◌, length, max, drop}
-use Rattle.std.proofs.Common.{Bool, length-append, Result, Ok, Err, IsErrAnd, IfErr}
-use Rattle.std.proofs.Common.{get_or, Vec, Global, refl, sym, ap, ap₂, ◌∙◌, subst, arith}
+use Rattle.std.proofs.Common.{◌≡◌, ℕ, zero, suc, ◌+◌, ◌*◌, ◌≤◌, ◌<◌, ◌++◌, List, [], ◌∷◌, length, max, drop, Bool}
+use Rattle.std.proofs.Common.{length-append, Result, Ok, Err, IsErrAnd, IfErr, get_or, Vec, Global, refl, sym, ap, ap₂}
+use Rattle.std.proofs.Common.{◌∙◌, subst, arith}
 use Rattle.std.proofs.lemmas.List.{drop_more}
 use mathlib.Core.Former.{Count}
-use Rattle.codegen.proofs.Language.{statement_nodes, block_nodes, StraightStatement, StraightTree, StraightBlock}
-use Rattle.codegen.proofs.Language.{first}
+use Rattle.codegen.proofs.Language.{statement_nodes, block_nodes, StraightStatement, StraightTree, StraightBlock, first}
 use Rattle.codegen.proofs.Language.{branch, repeats, straight_tree, straight_row, straight_block, FlatVariable, Term}
 use Rattle.codegen.proofs.Language.{term_tree}
 use Rattle.branch_removal.specs.declared.straight.StraightStatement as code
 use Rattle.codegen.proofs.BranchLengths.{branching_spans}
 use Rattle.codegen.proofs.LoopLengths.{repeat_spans}
-use Rattle.codegen.proofs.Machine.{statement_code, block_code, branching_code}
-use Rattle.codegen.proofs.Machine.{variable_location, next_offset, temporaries_offset, HasPlace}
+use Rattle.codegen.proofs.Machine.{statement_code, block_code, branching_code, variable_location, next_offset}
+use Rattle.codegen.proofs.Machine.{temporaries_offset, HasPlace, HavePlaces, IsFar, Allocation, Instr}
 use Rattle.codegen.specs.private.Loops.{any_sets, repeat_code}
-use Rattle.codegen.proofs.Machine.{HavePlaces, IsFar}
 use Rattle.codegen.specs.declared.unemitted.Unemitted.{Unemitted}
-use Rattle.codegen.proofs.Machine.{Allocation, Instr}
 
 rows : (n : _) (row : code.Row_of-StraightStatement n)
     → straight_row row ≡ straight_block (code.items-the_row-StraightStatement n row)

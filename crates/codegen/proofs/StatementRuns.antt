@@ -4,8 +4,7 @@ use Rattle.codegen.proofs.Language.{statement_work, block_work, StraightTree, se
 use Rattle.codegen.proofs.Language.{StraightBlock, nothing, first, after, after_all, path_at, path_along, IsTyped}
 use Rattle.codegen.proofs.Language.{AreTyped, labelled, Boolean, Public}
 use Rattle.codegen.proofs.Machine.{AllReadKept, ReadsKept, statement_code, block_code, height_in, height_in_all}
-use Rattle.codegen.proofs.Machine.{depth_in, depth_in_all}
-use Rattle.codegen.proofs.Machine.{far, next_offset, slots_to, Instr, variable_location}
+use Rattle.codegen.proofs.Machine.{depth_in, depth_in_all, far, next_offset, slots_to, Instr, variable_location}
 use Rattle.codegen.proofs.ElementRuns.{put_runs, fill_runs}
 use Rattle.codegen.proofs.ElementUnderRuns.{put_under_runs}
 use Rattle.codegen.proofs.LoopLengths.{repeat_spans}
@@ -14,11 +13,11 @@ use Rattle.codegen.proofs.RepeatRuns.{loops_run}
 use Rattle.codegen.specs.private.Loops.{any_sets}
 use Rattle.codegen.proofs.ClearRuns.{clear_runs}
 use Rattle.codegen.proofs.CodeLengths.{arms_near}
-use Rattle.codegen.proofs.ErasedRuns.{set_under_runs}
 use Rattle.codegen.proofs.SetRuns.{set_runs}
 use Rattle.codegen.proofs.TakeRuns.{take_runs}
 use Rattle.codegen.proofs.Slots.{Shown, hidden_then}
 use Rattle.codegen.proofs.Logic.{Setting, base_of, Runs, seq, gives, cheaper, beside, idle, height, Ready}
+use Rattle.codegen.proofs.UnderRuns.{set_under_runs}
 
 module _ (z : Setting) where
   mutual
@@ -33,7 +32,7 @@ module _ (z : Setting) where
     statement_runs depth (set None x value) typed read room within few =
         set_runs z depth x value typed.1 room (omega (arith, within))
     statement_runs depth (set (Some c) x value) typed read room within few =
-        set_under_runs z depth c x value typed.0 read typed.1 (omega (arith, within)) room
+        set_under_runs z depth (omega (arith, within)) c typed.0 read x value typed.1 room
     statement_runs depth (array x size []) typed read room within few =
         clear_runs z depth x size typed (omega (arith, within))
     statement_runs depth (array x size (e ∷ es)) typed read room within few =

@@ -1,7 +1,7 @@
 // Values of expressions, read where they are: one that has a home costs no instruction.
 
 ghost use Rattle.std.specs.Prelude.{◌≡◌, ◌++◌, ◌+◌, ◌*◌, ◌≤◌, length, IfOk, OnOk};
-ghost use Rattle.codegen.specs.private.Emitted.{assign_code, gives_zero, is_zero, read_code, read_register};
+ghost use Rattle.codegen.specs.private.Emitted.{assign_code, gives_zero, read_code, read_register};
 ghost use Rattle.codegen.specs.private.Emitted.{stored_code, stored_register};
 ghost use Rattle.codegen.specs.expression_code.Allocation.{slots_to};
 ghost use Rattle.codegen.specs.expression_code.Layout.{temporaries_offset};
@@ -37,21 +37,11 @@ pub fn read(
     }
 }
 
-/// Whether what is known is 0.
-fn is_zero(known: Option<u32>) -> bool
-    ensures { result ≡ is_zero known }
-{
-    match known {
-        Some(n) => n == 0,
-        None => false,
-    }
-}
-
 /// Whether an expression is the number 0, where numbers go into instructions.
 pub fn gives_zero(layout: &Layout<'_>, term: &Term) -> bool
     ensures { result ≡ gives_zero layout.now.allocation (term_tree term.now) }
 {
-    layout.immediates() && is_zero(number(term))
+    layout.immediates() && matches!(number(term), Some(0))
 }
 
 /// An expression that is stored: its register, once its code is there. x0 has 0 without any.

@@ -9,7 +9,7 @@ pub use Rattle.codegen.specs.private.Erased.{erase_code, erase_under_code}
 pub use Rattle.codegen.specs.private.Loops.{any_sets, bounds_code, count_code, repeat_code, sets, test_code}
 pub use Rattle.codegen.specs.private.StoredValues.{cuts, stored_value, uncut}
 pub use Rattle.codegen.specs.private.Words.{assign_code, home_of_term, home_or, put_word_code, read_code}
-pub use Rattle.codegen.specs.private.Words.{gives_zero, is_zero, read_register, stored_code, stored_register}
+pub use Rattle.codegen.specs.private.Words.{gives_zero, read_register, stored_code, stored_register}
 pub use Rattle.codegen.specs.private.Words.{unless_home}
 use Rattle.codegen.specs.expression_code.Allocation.{Allocation, is_unread, register_of}
 use Rattle.codegen.specs.expression_code.Layout.{variable_offset, variable_location, control_location, next_offset}

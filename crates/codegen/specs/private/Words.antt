@@ -1,7 +1,7 @@
 -- The instructions that are emitted for words: an expression's value is read where it is, and put where it belongs.
-use Rattle.std.specs.Prelude.{ℕ, ◌==◌, ◌&&◌, Bool, false, List, [], ◌++◌, Option, None, Some, if◌then◌else◌}
+use Rattle.std.specs.Prelude.{ℕ, Bool, List, [], ◌++◌, Option, None, Some, if◌then◌else◌}
 use Rattle.codegen.specs.expression_code.Allocation.{Allocation}
-use Rattle.codegen.specs.expression_code.NumberRows.{number_of}
+use Rattle.codegen.specs.expression_code.NumberRows.{chooses_zero}
 use Rattle.codegen.specs.expression_code.Registers.{zero_register, value_register}
 pub use Rattle.codegen.specs.expression_code.TermCode.{home_of_term}
 use Rattle.codegen.specs.expression_code.TermCode.{into_code, move_code, store_code}
@@ -34,13 +34,9 @@ read_register allocation register e = home_or (home_of_term allocation e) regist
 
 -- A value that is stored is read so, but for 0, which needs no code either: x0 has it.
 
-abbrev pub is_zero : Option ℕ → Bool
-is_zero None = false
-is_zero (Some n) = n == 0
-
 -- whether an expression is the number 0, where numbers go into instructions
 abbrev pub gives_zero : Allocation → TermTree → Bool
-gives_zero allocation e = allocation.immediates && is_zero (number_of e)
+gives_zero allocation e = chooses_zero allocation e
 
 abbrev pub stored_code : List FlatVariable → Allocation → ℕ → TermTree → List Instr
 stored_code declared allocation free e =
