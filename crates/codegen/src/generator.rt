@@ -22,7 +22,7 @@ use crate::expression_code::{
     Allocation, Layout, REGISTER_COUNT, WORD_BYTES, emit, offsets, slots,
 };
 use crate::fresh::starts_fresh;
-use crate::heights::{greatest_depth, program_height, temporary_registers};
+use crate::heights::{extent_of_all, program_height, temporary_registers};
 use crate::homes::word_homes;
 use crate::image_fields::{ImageFields, ResultSlot};
 use crate::reading::assign;
@@ -191,7 +191,7 @@ fn generate_with(
     ensures allowed { IfOk result (λ made. IfSome made IsImage) }
     ensures memory { IfErr result (λ refusal. IsWantOfMemory refusal.rule refusal.place) }
 {
-    let depths = greatest_depth(straight.body());
+    let depths = extent_of_all(straight.body()).depth;
     let declared = straight.declared();
     let offsets = offsets(alloc, declared)?;
     let layout = Layout::new(

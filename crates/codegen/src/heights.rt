@@ -28,65 +28,61 @@ fn height_of_all(values: &[Term]) -> u32
     greatest
 }
 
-/// How many temporaries a statement has at once at most, beside the first.
-#[cycle(heights)]
-fn height_in(statement: &StraightStatement) -> u32
-    requires { height_in (straight_tree statement.now) ≤ 6000 }
-    ensures { result ≡ height_in (straight_tree statement.now) }
+/// How many temporaries there are at once at most, beside the first, and how many loops stand in one another.
+#[derive(Clone, Copy, Debug)]
+pub struct Extent {
+    pub height: u32,
+    pub depth: u32,
+}
+
+/// That of a statement.
+#[cycle(extents)]
+fn extent_of(statement: &StraightStatement) -> Extent
+    requires height { height_in (straight_tree statement.now) ≤ 6000 }
+    requires depth { depth_in (straight_tree statement.now) ≤ 6000 }
+    ensures height { result.height ≡ height_in (straight_tree statement.now) }
+    ensures depth { result.depth ≡ depth_in (straight_tree statement.now) }
 {
-    match statement {
+    let height = match statement {
         StraightStatement::Set(_, _, value) => height(value),
         StraightStatement::Array(_, _, values) => height_of_all(values),
         StraightStatement::Put(_, _, _, _, index, value) => height(index).max(1 + height(value)),
         StraightStatement::Take(_, _, condition) => height(condition),
         StraightStatement::Branch(condition, accepted, otherwise) => {
-            height(condition).max(greatest_height(accepted).max(greatest_height(otherwise)))
+            let one = extent_of_all(accepted);
+            let other = extent_of_all(otherwise);
+            return Extent {
+                height: height(condition).max(one.height.max(other.height)),
+                depth: one.depth.max(other.depth),
+            };
         }
         StraightStatement::Repeat(_, low, high, body) => {
-            height(low).max(height(high)).max(greatest_height(body))
+            let turn = extent_of_all(body);
+            return Extent {
+                height: height(low).max(height(high)).max(turn.height),
+                depth: 1 + turn.depth,
+            };
         }
-    }
+    };
+    Extent { height, depth: 0 }
 }
 
-/// How many temporaries statements have at once at most, beside the first.
-#[cycle(heights)]
-pub fn greatest_height(statements: &[StraightStatement]) -> u32
-    requires { height_in_all (straight_block statements.now) ≤ 6000 }
-    ensures { result ≡ height_in_all (straight_block statements.now) }
+/// That of statements.
+#[cycle(extents)]
+pub fn extent_of_all(statements: &[StraightStatement]) -> Extent
+    requires height { height_in_all (straight_block statements.now) ≤ 6000 }
+    requires depth { depth_in_all (straight_block statements.now) ≤ 6000 }
+    ensures height { result.height ≡ height_in_all (straight_block statements.now) }
+    ensures depth { result.depth ≡ depth_in_all (straight_block statements.now) }
 {
-    let mut greatest = 0;
+    let mut height = 0;
+    let mut depth = 0;
     for statement in statements {
-        greatest = height_in(statement).max(greatest);
+        let one = extent_of(statement);
+        height = one.height.max(height);
+        depth = one.depth.max(depth);
     }
-    greatest
-}
-
-/// How many loops stand in one another at most in a statement.
-#[cycle(depths)]
-fn depth_in(statement: &StraightStatement) -> u32
-    requires { depth_in (straight_tree statement.now) ≤ 6000 }
-    ensures { result ≡ depth_in (straight_tree statement.now) }
-{
-    match statement {
-        StraightStatement::Branch(_, accepted, otherwise) => {
-            greatest_depth(accepted).max(greatest_depth(otherwise))
-        }
-        StraightStatement::Repeat(_, _, _, body) => 1 + greatest_depth(body),
-        _ => 0,
-    }
-}
-
-/// How many loops stand in one another at most in statements.
-#[cycle(depths)]
-pub fn greatest_depth(statements: &[StraightStatement]) -> u32
-    requires { depth_in_all (straight_block statements.now) ≤ 6000 }
-    ensures { result ≡ depth_in_all (straight_block statements.now) }
-{
-    let mut deepest = 0;
-    for statement in statements {
-        deepest = depth_in(statement).max(deepest);
-    }
-    deepest
+    Extent { height, depth }
 }
 
 /// How many temporaries a program has at once at most, beside the first.
@@ -99,7 +95,7 @@ pub fn program_height(straight: &Straight<'_>) -> u32
         Some(value) => height(value),
         None => 0,
     };
-    greatest_height(body).max(result)
+    extent_of_all(body).height.max(result)
 }
 
 /// How many temporaries have registers in optimised code: the others are for words.

@@ -1,15 +1,18 @@
 use Rattle.std.proofs.Common.{◌≡◌, ℕ, ◌≤◌, List, Option, Some, IfSome, length, ap, ap₂, sym, subst, ◌∙◌, arith}
-use Rattle.codegen.proofs.Machine.{Allocation, image_of, IsFitting, depth_in_all, IsGenerated, frame_of, Frame}
+use Rattle.codegen.proofs.Machine.{Allocation, image_of, IsFitting, depth_in_all, height_in_all, IsGenerated, frame_of, Frame}
 use Rattle.codegen.proofs.Machine.{temporaries_offset, Fields, Instr, most_words, program_code}
 use Rattle.codegen.proofs.BodyRuns.{is_generated}
 use Rattle.codegen.proofs.ImageLemmas.{room_frame, has_room, image_there}
 use Rattle.codegen.proofs.Language.{FlatVariable, StraightProgram, declared_words}
 use Rattle.codegen.proofs.generator.generate_with.Goals as goal
 
-pub greatest_depth-depths-requires : goal.greatest_depth-depths-requires
-greatest_depth-depths-requires c =
+pub extent_of_all-depths-requires : goal.extent_of_all-depths-requires
+extent_of_all-depths-requires c =
     let room = has_room c.args.straight.now c.body.ensures.kept.typed c.body.ensures.kept.bounded in
-    omega (arith, ap depth_in_all c.body.ensures.body, room.frame, room.nodes)
+    record {
+      height = omega (arith, ap height_in_all c.body.ensures.body, room.frame, room.nodes);
+      depth = omega (arith, ap depth_in_all c.body.ensures.body, room.frame, room.nodes);
+    }
 
 pub offsets-requires : goal.offsets-requires
 offsets-requires c =
@@ -27,9 +30,9 @@ new-layout-requires-clause-room c =
       depths = depths;
       allocation = a;
     } in
-    let depths = c.greatest_depth-depths.ensures ∙ ap depth_in_all c.body.ensures.body in
-    let laid : made c.declared-declared.result.now c.controls.result c.greatest_depth-depths.result ≡ frame_of a p =
-    ap (λ declared. made declared c.controls.result c.greatest_depth-depths.result) c.declared-declared.ensures
+    let depths = c.extent_of_all-depths.ensures.depth ∙ ap depth_in_all c.body.ensures.body in
+    let laid : made c.declared-declared.result.now c.controls.result c.extent_of_all-depths.result.depth ≡ frame_of a p =
+    ap (λ declared. made declared c.controls.result c.extent_of_all-depths.result.depth) c.declared-declared.ensures
     ∙ ap₂ (made p.declared) c.controls.ensures depths in
     let same = ap (λ (f : Frame). temporaries_offset f.declared f.controls f.depths) laid in
     omega (arith, same, room_frame a p (has_room p c.body.ensures.kept.typed c.body.ensures.kept.bounded))
@@ -56,8 +59,8 @@ pub code_within-requires : goal.code_within-requires
 code_within-requires c =
     let p = c.args.straight.now in
     let laid = laid_out c.args.allocation p c.declared-declared.result.now c.controls.result
-    c.greatest_depth-depths.result c.new-layout.result c.new-layout.ensures c.declared-declared.ensures
-    c.controls.ensures (c.greatest_depth-depths.ensures ∙ ap depth_in_all c.body.ensures.body) c.requires in
+    c.extent_of_all-depths.result.depth c.new-layout.result c.new-layout.ensures c.declared-declared.ensures
+    c.controls.ensures (c.extent_of_all-depths.ensures.depth ∙ ap depth_in_all c.body.ensures.body) c.requires in
     record {
       room = has_room p c.body.ensures.kept.typed c.body.ensures.kept.bounded;
       fitting = laid.0;
@@ -71,14 +74,14 @@ listed-requires-clause-room c =
 pub listed-requires-clause-fitting : goal.listed-requires-clause-fitting
 listed-requires-clause-fitting c =
     (laid_out c.args.allocation c.args.straight.now c.declared-declared.result.now c.controls.result
-    c.greatest_depth-depths.result c.new-layout.result c.new-layout.ensures c.declared-declared.ensures
-    c.controls.ensures (c.greatest_depth-depths.ensures ∙ ap depth_in_all c.body.ensures.body) c.requires).0
+    c.extent_of_all-depths.result.depth c.new-layout.result c.new-layout.ensures c.declared-declared.ensures
+    c.controls.ensures (c.extent_of_all-depths.ensures.depth ∙ ap depth_in_all c.body.ensures.body) c.requires).0
 
 pub listed-requires-clause-frame : goal.listed-requires-clause-frame
 listed-requires-clause-frame c =
     (laid_out c.args.allocation c.args.straight.now c.declared-declared.result.now c.controls.result
-    c.greatest_depth-depths.result c.new-layout.result c.new-layout.ensures c.declared-declared.ensures
-    c.controls.ensures (c.greatest_depth-depths.ensures ∙ ap depth_in_all c.body.ensures.body) c.requires).1
+    c.extent_of_all-depths.result.depth c.new-layout.result c.new-layout.ensures c.declared-declared.ensures
+    c.controls.ensures (c.extent_of_all-depths.ensures.depth ∙ ap depth_in_all c.body.ensures.body) c.requires).1
 
 of_some : {T : Type 0} (o : Option T) (x : T) (P : T → Type 0) → o ≡ Some x → IfSome o P → P x
 of_some o x P is both = subst (λ o. IfSome o P) is both
