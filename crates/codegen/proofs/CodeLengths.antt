@@ -17,10 +17,9 @@ use Rattle.codegen.specs.private.Emitted.{block_code, index_code, put_code, put_
 use Rattle.codegen.specs.private.Emitted.{put_under_near_code}
 use Rattle.codegen.specs.private.Erased.{erase_under_code}
 use Rattle.branch_removal.specs.Heights.{height_of_all, height_in, height_in_all, depth_in, depth_in_all}
-use Rattle.codegen.proofs.Machine.{AreNear, far, ArePlacedTerms, control_location, HasPlace, HavePlaces, register_of}
-use Rattle.codegen.proofs.Machine.{variable_offset, next_offset, temporaries_offset, kind_at, near_element, height_of}
-use Rattle.codegen.proofs.Machine.{Instr, slots_to, Allocation, InRegister, InSlot, Location, variable_location}
-use Rattle.codegen.proofs.Machine.{unless_unread}
+use Rattle.codegen.proofs.Machine.{ArePlacedTerms, control_location, HasPlace, HavePlaces, register_of, variable_offset}
+use Rattle.codegen.proofs.Machine.{next_offset, temporaries_offset, kind_at, near_element, height_of, Instr, slots_to}
+use Rattle.codegen.proofs.Machine.{Allocation, InRegister, InSlot, Location, variable_location, unless_unread}
 use Rattle.codegen.specs.private.Placed.{IsPlaced}
 use Rattle.codegen.proofs.StoredValues.{stored_nodes}
 use Rattle.codegen.proofs.Logic.{code_length, fetch_length, height, one_of, load_length, store_length, constant_length}
@@ -172,19 +171,6 @@ module _ (declared : List FlatVariable) (allocation : Allocation) (controls dept
     block_length depth nothing = omega arith
     block_length depth (first s rest) =
         omega (arith, length-append {A = Instr}, statement_length depth s, block_length depth rest)
-
--- so arms and turns of code that is not too long are no farther than a jump goes
-
-module _ (declared : List FlatVariable) (allocation : Allocation) (controls depths depth : ℕ) where
-  pub arms_near : (condition : TermTree) (accepted otherwise : StraightBlock)
-      → length (statement_code declared allocation controls depths depth (branch condition accepted otherwise)) < far
-      → AreNear (length (block_code declared allocation controls depths depth accepted))
-      (length (block_code declared allocation controls depths depth otherwise))
-  arms_near condition accepted otherwise few =
-      let spans = branching_spans declared allocation (temporaries_offset declared controls depths) condition
-      (block_code declared allocation controls depths depth accepted)
-      (block_code declared allocation controls depths depth otherwise) in
-      omega (arith, spans.0, few)
 
 -- Places.
 

@@ -22,8 +22,8 @@ use Rattle.rv_machine.specs.Registers.{register}
 use Rattle.codegen.specs.private.Emitted.{into_element_code, put_value_code}
 use Rattle.codegen.specs.private.StoredValues.{stored_value}
 use Rattle.codegen.proofs.StoredValues.{IsCutTo, stored_cut, stored_height, stored_nodes, stored_path}
-use Rattle.codegen.proofs.Elements.{ElementAccess, addressed_at, at_element, element_at, kind_is, put_at, store_bytes, put_access}
-use Rattle.codegen.proofs.Elements.{stores, value_beside, value_source, put_by, Puts}
+use Rattle.codegen.proofs.Elements.{ElementAccess, addressed_at, at_element, element_at, kind_is, put_at, store_bytes}
+use Rattle.codegen.proofs.Elements.{put_access, stores, value_beside, value_source, put_by, Puts}
 
 -- One element, at a fixed place.
 

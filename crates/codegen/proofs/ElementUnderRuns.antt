@@ -13,12 +13,11 @@ use Rattle.codegen.proofs.Machine.{read_register, height_of_put}
 use Rattle.rv_code.specs.declared.instructions.Instr.TheVariants as instr
 use Rattle.branch_removal.specs.Straight as straight
 use Rattle.codegen.proofs.Slots.{Shown, suits_fits, ready_with, read_source, source_apart, hidden_by}
-use Rattle.codegen.proofs.Masks.{mask_apart, mask_register, mask_small, mask_some}
+use Rattle.codegen.proofs.Masks.{mask_apart, mask_free, mask_register}
 use Rattle.codegen.proofs.Elements.{ElementAccess, addressed_at, at_element, away, kind_is, stores, value_beside}
 use Rattle.codegen.proofs.Elements.{value_source, put_by, Puts, put_access}
 use Rattle.codegen.proofs.ElementRuns.{offered_element}
 use Rattle.codegen.proofs.UnderRuns.{number_under, read_begun, merges}
-use Rattle.codegen.proofs.expression_code_lemmas.WorkRegisters.{IsFree}
 use Rattle.inline.specs.Fitting.{Fits}
 use Rattle.codegen.proofs.expression_code_lemmas.Moves.{written}
 
@@ -74,9 +73,6 @@ module _ (z : Setting) (depth : ℕ) (place : Place) (x size : ℕ) (index value
       (loading z rs field (place_at i) small fits (load_by kind) q low high
       (ap (λ m. place_at i % m) n ∙ place_even z.declared x array i) (omega (arith, h, n)))
 
-  mask_free : (spare : ℕ) → 4 < spare → spare < 32 → IsFree (mask_register z c spare)
-  mask_free spare low high = free_from (mask_register z c spare) (mask_some z c spare low) (mask_small z c spare high)
-
   -- at an index in a register
   under_far : Puts z access (Some c) value (index_code z.declared z.allocation (base_of z) index value
       ++ put_under_code (read_register z.allocation 5 index) (read_register z.allocation 6 value) control_at kind
@@ -105,7 +101,7 @@ module _ (z : Setting) (depth : ℕ) (place : Place) (x size : ℕ) (index value
       (λ regs after same aims. ap (λ b. sum_of b (sign_extended 12 (lower_part offset)))
       (same 5 (λ e. omega (arith, e)) (λ e. omega (arith, e)) (λ e. omega (arith, e))) ∙ aims)
       (old_runs i 5 (lower_part offset) 7 below (omega arith) (lower_fits offset) (omega arith) (omega arith))
-      (merges (λ q. q == 6) 6 6 7 k refl refl six six seven (mask_free 29 (omega arith) (omega arith))
+      (merges (λ q. q == 6) 6 6 7 k refl refl six six seven (mask_free z c 29 (omega arith) (omega arith))
       (λ e. omega (arith, e)) (mask_apart z c 29 6 (omega arith) (λ e. omega (arith, e))) r
       (free_from r (omega (arith, source.low)) (omega (arith, source.high))))
       (stores z access 6 (omega arith) (λ e. omega (arith, e)) i below)
@@ -148,7 +144,7 @@ module _ (z : Setting) (depth : ℕ) (place : Place) (x size : ℕ) (index value
       ))
       (λ env s t fine given done. done)
       (old_runs i 2 o 6 below (omega arith) (omega (arith, near)) (omega arith) (omega arith)))
-      (merges (λ q. q == 5) 5 5 6 k refl refl five five six (mask_free 7 (omega arith) (omega arith))
+      (merges (λ q. q == 5) 5 5 6 k refl refl five five six (mask_free z c 7 (omega arith) (omega arith))
       (λ e. omega (arith, e)) (mask_apart z c 7 5 (omega arith) (λ e. omega (arith, e))) r
       (free_from r source.low (omega (arith, source.high))))
       (weaken

@@ -7,12 +7,11 @@ use Rattle.codegen.proofs.Language.{array, branch, first, FlatVariable, nothing,
 use Rattle.codegen.proofs.Language.{StraightBlock, StraightTree, take, TermTree}
 use Rattle.codegen.proofs.Logic.{none-some}
 use Rattle.codegen.proofs.Machine.{branching_code, condition_code, failing, home_count, operands_or, right_code}
-use Rattle.codegen.proofs.Machine.{right_register, test_of, test_or, Allocation, AllReadKept, at_home, block_code}
-use Rattle.codegen.proofs.Machine.{control_location, home_of, InRegister, InSlot, into_code, Location, next_offset}
-use Rattle.codegen.proofs.Machine.{put_element_code, read_code, read_register, ReadsKept, set_code, statement_code}
-use Rattle.codegen.proofs.Machine.{temporaries_offset, result_offset, assign_code, fill_code, home_of_term}
-use Rattle.codegen.proofs.Machine.{IsKeptWithin, result_code, taken_code, unless_home, variable_location}
-use Rattle.codegen.proofs.Machine.{variable_offset, kind_at, Instr}
+use Rattle.codegen.proofs.Machine.{right_register, test_of, test_or, Allocation, at_home, block_code, control_location}
+use Rattle.codegen.proofs.Machine.{home_of, InRegister, InSlot, into_code, Location, next_offset, put_element_code}
+use Rattle.codegen.proofs.Machine.{read_code, read_register, set_code, statement_code, temporaries_offset}
+use Rattle.codegen.proofs.Machine.{result_offset, assign_code, fill_code, home_of_term, result_code, taken_code}
+use Rattle.codegen.proofs.Machine.{unless_home, variable_location, variable_offset, kind_at, Instr}
 use Rattle.codegen.specs.private.Compared.{against_zero}
 use Rattle.codegen.specs.private.Fresh.{any_names, homes_but, names, names_in, names_in_any, names_in_result}
 use Rattle.codegen.proofs.StoredValues.{stored_alike}
@@ -375,22 +374,3 @@ module _ (declared : List FlatVariable) (a : Allocation) (left_out : ℕ → Boo
           ap₂ (λ (front back : List Instr). front ++ back)
           (statement_same depth s (λ y out. (or_parts _ _ (spares y out)).0))
           (block_same depth rest (λ y out. (or_parts _ _ (spares y out)).1))
-
-  -- What is read is kept.
-
-  kept_within : (within : Option ℕ) → IsKeptWithin a within → IsKeptWithin b within
-  kept_within None kept = kept
-  kept_within (Some c) kept = kept
-
-  mutual
-    pub reads_same : (s : StraightTree) → ReadsKept a s → ReadsKept b s
-    reads_same (set within x value) read = kept_within within read
-    reads_same (array x size values) read = read
-    reads_same (put within place x size index value) read = kept_within within read
-    reads_same (take c within condition) read = kept_within within read
-    reads_same (branch condition accepted otherwise) read = (all_same accepted read.0, all_same otherwise read.1)
-    reads_same (repeats x low high body) read = all_same body read
-
-    all_same : (s : StraightBlock) → AllReadKept a s → AllReadKept b s
-    all_same nothing read = read
-    all_same (first s rest) read = (reads_same s read.0, all_same rest read.1)

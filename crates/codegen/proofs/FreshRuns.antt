@@ -5,8 +5,8 @@ use Rattle.std.proofs.Common.{length, length-append, append_assoc, Option, None,
 use Rattle.std.proofs.Common.{sym, ap, ◌∙◌, subst, arith, ne_eqb, if◌then◌else◌, eq-eqb}
 use Rattle.std.proofs.lemmas.Bool.{and_left, or_from, or_parts, true≢false}
 use Rattle.codegen.proofs.EntryRuns.{entry_runs}
-use Rattle.codegen.proofs.FewerHomes.{but, home_but, home_kept, home_was, homes_fewer, into_same, reads_same}
-use Rattle.codegen.proofs.FewerHomes.{result_same, statement_same}
+use Rattle.codegen.proofs.FewerHomes.{but, home_but, home_kept, home_was, homes_fewer, into_same, result_same}
+use Rattle.codegen.proofs.FewerHomes.{statement_same}
 use Rattle.codegen.proofs.Language.{after, after_all, AreTyped, block_work, first, Fits, FlatVariable, IsResult, IsSet}
 use Rattle.codegen.proofs.Language.{IsTyped, nothing, numbers_in, path_along, path_at, set, statement_work}
 use Rattle.codegen.proofs.Language.{StraightBlock, StraightState, StraightTree, TermTree, types_of, value_in}
@@ -139,7 +139,7 @@ module _ (z : Setting) where
   -- a statement that names none of those
   kept_runs : (out : ℕ → Bool) → ((y : ℕ) → out y ≡ true → y < length z.declared)
       → (s : StraightTree) → ((y : ℕ) → out y ≡ true → names y s ≡ false)
-      → IsTyped z.code.profile z.declared z.controls s → ReadsKept a s
+      → IsTyped z.code.profile z.declared z.controls s → ReadsKept a.unread s
       → base + 4 * slots_to a.count (height_in s) ≤ z.size → depth_in s ≤ z.depths
       → length (code_of s) < far → Steps_on out out s
   kept_runs out variables s unnamed typed read room within few =
@@ -147,7 +147,7 @@ module _ (z : Setting) where
       as_code (sym same)
       (gives (λ env s' t fine ready done. done.ready)
       (in_all out
-      (statement_runs (fewer z out) 0 s typed (reads_same z.declared a out variables s read) room
+      (statement_runs (fewer z out) 0 s typed read room
       (omega (arith, within)) (subst (λ (is : List Instr). length is < far) (sym same) few))))
 
   -- one of those is set
@@ -233,7 +233,7 @@ module _ (z : Setting) where
       stepped_on : (s : StraightTree) (rest : StraightBlock)
           → ((y : ℕ) → out y ≡ true → is_fresh y (first s rest) value ≡ true)
           → ((y : ℕ) → out y ≡ true → sets_fresh y s ≡ false)
-          → IsTyped z.code.profile z.declared z.controls s → ReadsKept a s
+          → IsTyped z.code.profile z.declared z.controls s → ReadsKept a.unread s
           → base + 4 * slots_to a.count (height_in s) ≤ z.size → depth_in s ≤ z.depths
           → length (code_of s) < far → Stepped out s rest
       stepped_on s rest fresh off typed read room within few =
@@ -248,7 +248,7 @@ module _ (z : Setting) where
 
       stepped : (s : StraightTree) (rest : StraightBlock)
           → ((y : ℕ) → out y ≡ true → is_fresh y (first s rest) value ≡ true)
-          → IsTyped z.code.profile z.declared z.controls s → ReadsKept a s
+          → IsTyped z.code.profile z.declared z.controls s → ReadsKept a.unread s
           → base + 4 * slots_to a.count (height_in s) ≤ z.size → depth_in s ≤ z.depths
           → length (code_of s) < far → Stepped out s rest
       stepped (set None x e) rest fresh typed read room within few = by_test (out x) refl
@@ -306,7 +306,7 @@ module _ (z : Setting) where
 
     behind_runs : (b : StraightBlock) (out : ℕ → Bool) → ((y : ℕ) → out y ≡ true → y < length z.declared)
         → ((y : ℕ) → out y ≡ true → is_fresh y b value ≡ true)
-        → AreTyped z.code.profile z.declared z.controls b → AllReadKept a b
+        → AreTyped z.code.profile z.declared z.controls b → AllReadKept a.unread b
         → base + 4 * slots_to a.count (height_in_all b) ≤ z.size → depth_in_all b ≤ z.depths
         → length (block_of b) < far → Behind b out
     behind_runs nothing out variables fresh typed read room within few =
@@ -335,7 +335,7 @@ module _ (z : Setting) where
     pub program_runs : (b : StraightBlock) (out : ℕ → Bool) → ((y : ℕ) → out y ≡ true → y < length z.declared)
         → ((y : ℕ) → out y ≡ true → is_fresh y b value ≡ true)
         → length a.homes ≤ length z.declared + z.controls
-        → AreTyped z.code.profile z.declared z.controls b → AllReadKept a b
+        → AreTyped z.code.profile z.declared z.controls b → AllReadKept a.unread b
         → base + 4 * slots_to a.count (height_in_all b) ≤ z.size → depth_in_all b ≤ z.depths
         → length (block_of b) < far
         → Runs z (3 * home_count a.homes + (32 * block_work z.counts b + 32 * value_nodes value))

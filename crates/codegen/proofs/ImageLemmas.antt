@@ -2,7 +2,6 @@
 use Rattle.std.proofs.Common.{◌≡◌, ℕ, suc, ◌+◌, ◌*◌, ◌%◌, ◌^◌, ◌<◌, ◌≤◌, true, List, [], ◌∷◌, length, map, All, Option}
 use Rattle.std.proofs.Common.{None, Some, IfSome, refl, sym, ap, subst, ◌∙◌, arith, length-append, zero, take, Bool}
 use Rattle.std.proofs.Common.{if◌then◌else◌}
-use Rattle.std.proofs.lemmas.Bool.{lt-leb}
 use Rattle.codegen.proofs.Logic.{eq-eqb, le-leb, and_from, length-map, recursion_from_All, option_map, parameter_words}
 use Rattle.codegen.proofs.Logic.{load_length, none-some, typed_among, same_Some}
 use Rattle.std.specs.List.{AllByRecursion}
@@ -122,7 +121,8 @@ entry_length : (declared : List FlatVariable) (x : ℕ) (homes : List (Option �
     → length (entry_code declared x homes) ≤ 3 * home_count homes
 entry_length declared x [] = omega arith
 entry_length declared x (None ∷ homes) = entry_length declared (x + 1) homes
-entry_length declared x (Some home ∷ homes) = simp length-append (omega (arith, load_length home (word_offset declared x), entry_length declared (x + 1) homes))
+entry_length declared x (Some home ∷ homes) =
+    simp length-append (omega (arith, load_length home (word_offset declared x), entry_length declared (x + 1) homes))
 
 -- of a program of no more nodes than its source
 pub program_length : (a : Allocation) (p : StraightProgram) → IsCounted p → IsFitting p a
@@ -153,12 +153,6 @@ module _ (a : Allocation) (p : StraightProgram) where
   image_there short =
       ap by_length (le-leb (length (map word_of (program_code a p))) (most_words p.nodes)
       (omega (arith, words_of_code, short)))
-
-  pub image_not_there : most_words p.nodes < length (program_code a p) → image_within a p ≡ None
-  unfolding by_length
-  image_not_there long =
-      ap by_length (lt-leb (length (map word_of (program_code a p))) (most_words p.nodes)
-      (omega (arith, words_of_code, long)))
 
 -- the fields that are generated for a program with room are allowed, whoever the observer is
 image_allowed : (a : Allocation) (p : StraightProgram) (profile : Profile) → HasRoom p → IsFitting p a
@@ -268,12 +262,12 @@ body_placed a p room =
 
 -- plain code keeps every control value
 
-plain_within : (within : Option ℕ) → IsKeptWithin plain within
+plain_within : (within : Option ℕ) → IsKeptWithin [] within
 plain_within None = tt
 plain_within (Some control) = refl
 
 mutual
-  plain_read : (s : StraightTree) → ReadsKept plain s
+  plain_read : (s : StraightTree) → ReadsKept [] s
   plain_read (straight.set within x value) = plain_within within
   plain_read (straight.array x size values) = tt
   plain_read (straight.put within place x size index value) = plain_within within
@@ -281,7 +275,7 @@ mutual
   plain_read (straight.branch condition accepted otherwise) = (plain_reads accepted, plain_reads otherwise)
   plain_read (straight.repeats x low high body) = plain_reads body
 
-  plain_reads : (b : StraightBlock) → AllReadKept plain b
+  plain_reads : (b : StraightBlock) → AllReadKept [] b
   plain_reads nothing = tt
   plain_reads (first s rest) = (plain_read s, plain_reads rest)
 

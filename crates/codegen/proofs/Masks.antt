@@ -7,11 +7,12 @@ use Rattle.codegen.proofs.Machine.{control_offset, number_at, at_home, control_l
 use Rattle.codegen.proofs.Machine.{is_unread, kept_code, read_register, register_of, unless_unread, with_number}
 use Rattle.codegen.proofs.Machine.{home_of, home_of_term, Instr, Sw}
 use Rattle.codegen.proofs.Language.{StraightState, with_controls, TermTree, WordType, types_of, HasType}
-use Rattle.codegen.proofs.Logic.{none-some, eqb-true, eqb-false, at_control, control_stays, Fetched, fetch_runs}
-use Rattle.codegen.proofs.Logic.{HasRoom, Holds, move_runs, none, slice_get_within, unwritten, weaken, HeldAt, mask_of}
-use Rattle.codegen.proofs.Logic.{apart, Setting, base_of, Kept, Ready, Wrote, wrote_kept, wrote_there, variables_kept}
-use Rattle.codegen.proofs.Logic.{HomesKept, IsHome, homes_moved, kept_number, home_there, is_free, idle, put, Runs}
-use Rattle.codegen.proofs.Logic.{kept_less, kept_then}
+use Rattle.codegen.proofs.Logic.{free_from, none-some, eqb-true, eqb-false, at_control, control_stays, Fetched}
+use Rattle.codegen.proofs.Logic.{fetch_runs, HasRoom, Holds, move_runs, none, slice_get_within, unwritten, weaken}
+use Rattle.codegen.proofs.Logic.{HeldAt, mask_of, apart, Setting, base_of, Kept, Ready, Wrote, wrote_kept, wrote_there}
+use Rattle.codegen.proofs.Logic.{variables_kept, HomesKept, IsHome, homes_moved, kept_number, home_there, is_free, idle}
+use Rattle.codegen.proofs.Logic.{put, Runs, kept_less, kept_then}
+use Rattle.codegen.proofs.expression_code_lemmas.WorkRegisters.{IsFree}
 use Rattle.rv_machine.specs.Machine as machine
 use Rattle.codegen.proofs.Slots.{Hidden, hidden_wrote, other_number}
 
@@ -44,15 +45,13 @@ module _ (z : Setting) where
       let is = z.allocated.allowed y home here in
       omega (arith, some, is.0, e, low))
 
-  pub mask_small : (c spare : ℕ) → spare < 32 → mask_register c spare < 32
-  mask_small c spare low =
-      at_control z c (λ l. register_of l spare < 32)
-      (λ home at. let is = z.allocated.allowed (length z.declared + c) home at in omega (arith, is.1)) (λ away. low)
-
-  pub mask_some : (c spare : ℕ) → 4 < spare → 4 < mask_register c spare
-  mask_some c spare low =
-      at_control z c (λ l. 4 < register_of l spare)
-      (λ home at. let is = z.allocated.allowed (length z.declared + c) home at in omega (arith, is.0)) (λ away. low)
+  -- code may work on it
+  pub mask_free : (c spare : ℕ) → 4 < spare → spare < 32 → IsFree (mask_register c spare)
+  mask_free c spare low high =
+      at_control z c (λ l. IsFree (register_of l spare))
+      (λ home at. let is = z.allocated.allowed (length z.declared + c) home at in
+      free_from home (omega (arith, is.0)) (omega (arith, is.1)))
+      (λ away. free_from spare low high)
 
   -- The mask of a control value in its register.
   pub mask_runs : (c spare : ℕ) → c < z.controls → is_unread z.allocation c ≡ false → 4 < spare → spare < 32

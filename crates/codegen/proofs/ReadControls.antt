@@ -8,6 +8,7 @@ use Rattle.codegen.proofs.Language.{StraightBlock, StraightProgram, StraightTree
 use Rattle.codegen.proofs.Logic.{eqb-true, eqb-false, nat_tests, option_map}
 use Rattle.codegen.proofs.Machine.{AllReadKept, IsKeptWithin, ReadsKept, is_unread}
 use Rattle.codegen.specs.private.Homes.{word_homes}
+use Rattle.codegen.specs.private.Reads.{unread_of}
 use Rattle.branch_removal.specs.Uses.{greatest_weight, used, weight_inside}
 use Rattle.codegen.specs.private.Uses.{control_weights_of, controls_read_by, controls_read_by_all, used_within}
 use Rattle.codegen.proofs.WeightLengths.{all_read_keep, used_length}
@@ -61,7 +62,7 @@ module _ (p : StraightProgram) where
   Keeps weights = (c : ℕ) → HasWeight c weights → IsKept c
 
   within_here : (n : ℕ) (within : Option ℕ) (weights : List ℕ) → 0 < n → Keeps (used_within n within weights)
-      → IsKeptWithin (word_homes p) within
+      → IsKeptWithin (unread_of p) within
   within_here n None weights some keeps = tt
   within_here n (Some x) weights some keeps =
       keeps x (λ below. let same = used_length n x weights in
@@ -69,7 +70,7 @@ module _ (p : StraightProgram) where
 
   mutual
     kept : (n : ℕ) (s : StraightTree) (weights : List ℕ) → 0 < n → Keeps (controls_read_by n s weights)
-        → ReadsKept (word_homes p) s
+        → ReadsKept (unread_of p) s
     kept n (straight.set within x value) weights some keeps = within_here n within weights some keeps
     kept n (straight.array x size values) weights some keeps = tt
     kept n (straight.put within place x size index value) weights some keeps =
@@ -85,7 +86,7 @@ module _ (p : StraightProgram) where
         all_kept (weight_inside n) body weights (omega (arith, some)) keeps
 
     all_kept : (n : ℕ) (b : StraightBlock) (weights : List ℕ) → 0 < n → Keeps (controls_read_by_all n b weights)
-        → AllReadKept (word_homes p) b
+        → AllReadKept (unread_of p) b
     all_kept n nothing weights some keeps = tt
     all_kept n (first s rest) weights some keeps =
         let between = controls_read_by n s weights in (
@@ -110,5 +111,5 @@ module _ (p : StraightProgram) where
           ap (λ (o : Option Bool). unwrap_or o false) (slice_get-map (λ w. w == 0) (control_weights_of p) c
           ∙ ap (option_map (λ w. w == 0)) (slice_get_past (control_weights_of p) c past))
 
-pub all_read_kept : (p : StraightProgram) → AllReadKept (word_homes p) p.body
+pub all_read_kept : (p : StraightProgram) → AllReadKept (unread_of p) p.body
 all_read_kept p = all_kept p 1 p.body (replicate p.controls 0) (omega arith) (weighed p)

@@ -12,7 +12,8 @@ use Rattle.codegen.proofs.BranchRuns.{branching_runs}
 use Rattle.codegen.proofs.RepeatRuns.{loops_run}
 use Rattle.codegen.specs.private.Loops.{any_sets}
 use Rattle.codegen.proofs.ClearRuns.{clear_runs}
-use Rattle.codegen.proofs.CodeLengths.{arms_near}
+use Rattle.codegen.proofs.BranchLengths.{branching_spans}
+use Rattle.codegen.proofs.Machine.{AreNear}
 use Rattle.codegen.proofs.SetRuns.{set_runs}
 use Rattle.codegen.proofs.TakeRuns.{take_runs}
 use Rattle.codegen.proofs.Slots.{Shown, hidden_then}
@@ -23,7 +24,7 @@ module _ (z : Setting) where
   mutual
     -- a well-typed statement for which there is room, in so many loops
     pub statement_runs : (depth : ℕ) (s : StraightTree) → IsTyped z.code.profile z.declared z.controls s
-        → ReadsKept z.allocation s
+        → ReadsKept z.allocation.unread s
         → base_of z + 4 * slots_to z.allocation.count (height_in s) ≤ z.size → depth + depth_in s ≤ z.depths
         → length (statement_code z.declared z.allocation z.controls z.depths depth s) < far
         → Runs z (32 * statement_work z.counts s) (λ env. path_at env s)
@@ -44,7 +45,10 @@ module _ (z : Setting) where
     statement_runs depth (take c enclosing condition) typed read room within few =
         take_runs z depth c enclosing condition typed.2.0 typed.0 typed.2.1 room (omega (arith, within)) typed.1 read
     statement_runs depth (branch condition accepted otherwise) typed read room within few =
-        let near = arms_near z.declared z.allocation z.controls z.depths depth condition accepted otherwise few in
+        let xs = block_code z.declared z.allocation z.controls z.depths depth accepted in
+        let ys = block_code z.declared z.allocation z.controls z.depths depth otherwise in
+        let spans = branching_spans z.declared z.allocation (base_of z) condition xs ys in
+        let near : AreNear (length xs) (length ys) = omega (arith, spans.0, few) in
         cheaper (omega arith)
         (branching_runs z depth condition (labelled Boolean Public) accepted otherwise
         (32 * block_work z.counts accepted) (32 * block_work z.counts otherwise)
@@ -65,7 +69,7 @@ module _ (z : Setting) where
 
     -- statements, one after the other
     pub block_runs : (depth : ℕ) (b : StraightBlock) → AreTyped z.code.profile z.declared z.controls b
-        → AllReadKept z.allocation b
+        → AllReadKept z.allocation.unread b
         → base_of z + 4 * slots_to z.allocation.count (height_in_all b) ≤ z.size → depth + depth_in_all b ≤ z.depths
         → length (block_code z.declared z.allocation z.controls z.depths depth b) < far
         → Runs z (32 * block_work z.counts b) (λ env. path_along env b)

@@ -17,8 +17,8 @@ use Rattle.rv_code.specs.declared.instructions.Instr.TheVariants as instr
 use Rattle.rv_machine.specs.Machine as machine
 use Rattle.std.proofs.lemmas.Bool.{true≢false}
 use Rattle.codegen.proofs.Slots.{Shown, read_runs, read_source, hidden_then, hidden_kept, IsSource, source_apart}
-use Rattle.codegen.proofs.Masks.{mask_apart, mask_register, mask_runs, mask_small, mask_some, home_apart, read_beside}
-use Rattle.codegen.proofs.Masks.{mask_put, ready_taken, mask_beside}
+use Rattle.codegen.proofs.Masks.{mask_apart, mask_register, mask_runs, mask_free, home_apart, read_beside, mask_put}
+use Rattle.codegen.proofs.Masks.{ready_taken, mask_beside}
 use Rattle.codegen.proofs.program_logic_lemmas.Computing.{computed_value, computes, written_register}
 use Rattle.codegen.proofs.expression_code_lemmas.WorkRegisters.{IsFree}
 use Rattle.codegen.proofs.expression_code_lemmas.Moves.{register-at, written}
@@ -103,10 +103,10 @@ module _ (z : Setting) where
     b = mask_register z (c + 1) 5
 
     a_free : IsFree a
-    a_free = free_from a (mask_some z c 7 (omega arith)) (mask_small z c 7 (omega arith))
+    a_free = mask_free z c 7 (omega arith) (omega arith)
 
     b_free : IsFree b
-    b_free = free_from b (mask_some z (c + 1) 5 (omega arith)) (mask_small z (c + 1) 5 (omega arith))
+    b_free = mask_free z (c + 1) 5 (omega arith) (omega arith)
 
     a_beside : a ≢ b
     a_beside = at_control z (c + 1) (λ l. a ≢ register_of l 5)
@@ -200,13 +200,13 @@ module _ (z : Setting) where
           (left 5 (λ e. mask_apart z c 7 5 (omega arith) (λ e. omega (arith, e)) (sym e)))
           (left k (λ e. eqb-false a k apart (sym e))))
 
-    masked_runs : (enclosing : Option ℕ) → IsAmong z.controls enclosing → IsKeptWithin z.allocation enclosing
+    masked_runs : (enclosing : Option ℕ) → IsAmong z.controls enclosing → IsKeptWithin z.allocation.unread enclosing
         → Runs z (16 * term_nodes condition + 7) (steps_of condition)
         (tested ++ taken_code z.declared z.allocation unread unread' a b r enclosing) (Ready z) (MasksIn a b enclosing)
     masked_runs None among read = cheaper (omega arith) (masks_in a b a_free b_free a_beside (read_beside z c has))
     masked_runs (Some d) among read =
         let k = mask_register z d 6 in
-        let k_some = mask_some z d 6 (omega arith) in
+        let k_free = mask_free z d 6 (omega arith) (omega arith) in
         let fetch = fetch_code (control_location z.declared z.allocation d) 6 in
         let is_source = source in
         as_code
@@ -219,7 +219,7 @@ module _ (z : Setting) where
         let one = done.first.first in
         let fetched = done.first.second in
         let two = done.second in
-        let mask = register-at m.regs k (λ e. omega (arith, k_some, e)) ∙ fetched.there in
+        let mask = register-at m.regs k k_free.nonzero ∙ fetched.there in
         record {
           held = two.held;
           kept = kept_then z (base_of z) s m0 t one.kept (kept_by z (base_of z) m0 t (two.same ∙ fetched.same));
@@ -240,7 +240,7 @@ module _ (z : Setting) where
         (mask_runs z d 6 among read (omega arith) (omega arith))
         (λ env s t ready done. ready_after z env s t ready done.held done.kept
         (λ q home. done.homes q home (home_apart z q 7 home (omega arith)) (home_apart z q 5 home (omega arith)))))
-        (joins k (free_from k k_some (mask_small z d 6 (omega arith))) (a == k) refl)
+        (joins k k_free (a == k) refl)
         (λ env s t ready done. done.second.held))))
 
     -- a register that is no home holds the mask of what has none
@@ -251,7 +251,7 @@ module _ (z : Setting) where
         ap (λ h. register_of (at_home h (InSlot (control_offset z.declared d))) spare) away in
         ap t.regs (sym same) ∙ is
 
-    pub take_runs : IsAmong z.controls within → IsKeptWithin z.allocation within
+    pub take_runs : IsAmong z.controls within → IsKeptWithin z.allocation.unread within
         → Runs z (32 * (1 + term_nodes condition)) (steps_of condition)
         (statement_code z.declared z.allocation z.controls z.depths depth (straight.take c within condition))
         (Ready z) (Shown z depth (λ env. after env (straight.take c within condition)))

@@ -20,7 +20,7 @@ use Rattle.codegen.proofs.Slots.{ready_valued, ready_with, word_before, hidden_t
 use Rattle.codegen.proofs.Slots.{hidden_wrote, cut_kind, ready_put, ready_alone, ready_chosen, wrote_as, Hidden}
 use Rattle.codegen.proofs.Slots.{cut_number, IsSource, offered_put}
 use Rattle.codegen.proofs.HomeWords.{ready_homed}
-use Rattle.codegen.proofs.Masks.{fetched_homes, home_apart, mask_apart, mask_register, mask_runs, mask_small, mask_some}
+use Rattle.codegen.proofs.Masks.{fetched_homes, home_apart, mask_apart, mask_register, mask_free, mask_runs}
 use Rattle.std.proofs.lemmas.Nat.{and_mask}
 use Rattle.std.specs.Int.Bits.{and_zero_r}
 use Rattle.codegen.specs.private.Erased.{erase_code, erase_under_code}
@@ -348,7 +348,7 @@ module _ (z : Setting) (depth : ℕ) (within : depth ≤ z.depths) (c : ℕ) (am
     k = mask_register z c 7
 
     k_free : IsFree k
-    k_free = free_from k (mask_some z c 7 (omega arith)) (mask_small z c 7 (omega arith))
+    k_free = mask_free z c 7 (omega arith) (omega arith)
 
     beside : k ≢ 5
     beside = mask_apart z c 7 5 (omega arith) (λ e. omega (arith, e))

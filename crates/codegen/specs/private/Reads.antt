@@ -1,30 +1,28 @@
 -- Which control values are read: code keeps no others.
-use Rattle.std.specs.Prelude.{◌≡◌, ℕ, ◌==◌, false, Bool, List, map, Option, None, Some}
+use Rattle.std.specs.Prelude.{◌≡◌, ℕ, ◌==◌, false, Bool, List, map, Option, None, Some, slice_get, unwrap_or}
 use Rattle.branch_removal.specs.Straight.{StraightTree, set, array, put, take, branch, repeats}
 use Rattle.branch_removal.specs.Straight.{StraightBlock, nothing, first, StraightProgram}
 use Rattle.codegen.specs.private.Uses.{control_weights_of}
-use Rattle.codegen.specs.expression_code.Allocation.{Allocation, is_unread}
 
 -- whether nothing reads each control value of a program, by its number: no place that reads it counts
 abbrev pub unread_of : StraightProgram → List Bool
 unread_of p = map (λ weight. weight == 0) (control_weights_of p)
 
--- an enclosing control value, where there is one, is kept
-abbrev pub IsKeptWithin : Allocation → Option ℕ → Type 0
-IsKeptWithin allocation None = Unit {0}
-IsKeptWithin allocation (Some control) = is_unread allocation control ≡ false
+-- an enclosing control value, where there is one, is not among those that nothing reads
+abbrev pub IsKeptWithin : List Bool → Option ℕ → Type 0
+IsKeptWithin unread None = Unit {0}
+IsKeptWithin unread (Some control) = unwrap_or (slice_get unread control) false ≡ false
 
 abbrev mutual
-  -- a statement reads none but those that are kept
-  pub ReadsKept : Allocation → StraightTree → Type 0
-  ReadsKept allocation (set within x value) = IsKeptWithin allocation within
-  ReadsKept allocation (array x size values) = Unit {0}
-  ReadsKept allocation (put within place x size index value) = IsKeptWithin allocation within
-  ReadsKept allocation (take control within condition) = IsKeptWithin allocation within
-  ReadsKept allocation (branch condition accepted otherwise) =
-      AllReadKept allocation accepted × AllReadKept allocation otherwise
-  ReadsKept allocation (repeats x low high body) = AllReadKept allocation body
+  -- nor is any that a statement reads
+  pub ReadsKept : List Bool → StraightTree → Type 0
+  ReadsKept unread (set within x value) = IsKeptWithin unread within
+  ReadsKept unread (array x size values) = Unit {0}
+  ReadsKept unread (put within place x size index value) = IsKeptWithin unread within
+  ReadsKept unread (take control within condition) = IsKeptWithin unread within
+  ReadsKept unread (branch condition accepted otherwise) = AllReadKept unread accepted × AllReadKept unread otherwise
+  ReadsKept unread (repeats x low high body) = AllReadKept unread body
 
-  pub AllReadKept : Allocation → StraightBlock → Type 0
-  AllReadKept allocation nothing = Unit {0}
-  AllReadKept allocation (first statement rest) = ReadsKept allocation statement × AllReadKept allocation rest
+  pub AllReadKept : List Bool → StraightBlock → Type 0
+  AllReadKept unread nothing = Unit {0}
+  AllReadKept unread (first statement rest) = ReadsKept unread statement × AllReadKept unread rest

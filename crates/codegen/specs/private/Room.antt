@@ -35,7 +35,7 @@ pub record IsFitting (p : StraightProgram) (a : Allocation) : Type 0 where
   pub allocated : IsAllocation p.declared a
   pub within : length a.homes ≤ length p.declared + p.controls
   pub few : home_count a.homes ≤ 20
-  pub read : AllReadKept a p.body
+  pub read : AllReadKept a.unread p.body
 
 -- how a program is laid out
 abbrev pub frame_of : Allocation → StraightProgram → Frame
