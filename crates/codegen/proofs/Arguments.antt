@@ -266,9 +266,8 @@ module _ (z : Setting) (ps : List Param) (args : List Arg)
         (z.frame + o)) from
         ∙ laid_there x d i is below (place_ends z x d i is below);
     controls_there = λ c below.
-        let room = z.room in
         zero_number s.bytes z.frame 4 (control_offset z.declared c)
-        (λ b from to. behind b (omega (arith, from)) (omega (arith, to, below, room)));
+        (λ b from to. behind b (omega (arith, from)) (omega (arith, to, below, z.room)));
   }
 
 -- In the end: the result, and the arrays that may be changed.
@@ -296,13 +295,9 @@ LiesAt bytes d at vs =
 
 -- one parameter's slot
 array_is : (frame : ℕ) (bytes : ByteMap) (kind : Kind) (label : Label) (n low : ℕ) (form : Form) (vs : List ℕ)
-    → ((size : ℕ) → (declaration_of (record { kind = kind; label = label; form = form; length = n })).elements
-    ≡ Some size → LiesAt bytes (declaration_of (record { kind = kind; label = label; form = form; length = n }))
-    (frame + low) vs)
-    → array_in frame bytes form (record {
-      param = record { kind = kind; label = label; form = form; length = n };
-      offset = low;
-    }) ≡ array_of form vs
+    → ((size : ℕ) → (declaration_of (made kind label n form)).elements ≡ Some size
+    → LiesAt bytes (declaration_of (made kind label n form)) (frame + low) vs)
+    → array_in frame bytes form (record { param = made kind label n form; offset = low }) ≡ array_of form vs
 array_is frame bytes kind label n low SingleWord vs lies = refl
 array_is frame bytes kind label n low FixedArray vs lies = refl
 array_is frame bytes kind label n low MutableArray vs lies =

@@ -35,12 +35,7 @@ module _ (declared : List FlatVariable) (allocation : Allocation) (free : ℕ) w
           ≤ 16 * term_nodes (binary place operator width left right)
       by_test None = read_length declared allocation free 5 0 (binary place operator width left right)
       by_test (Some c) =
-          omega (
-            arith,
-            length-append {A = Instr},
-            read_length declared allocation free 5 0 left,
-            right_length right,
-          )
+          omega (arith, length-append {A = Instr}, read_length declared allocation free 5 0 left, right_length right)
   condition_length e = read_length declared allocation free 5 0 e
 
   pub branching_spans : (condition : TermTree) (xs ys : List Instr)

@@ -101,11 +101,10 @@ module _ (z : Setting) (offset words : ℕ) (aligned : offset % 4 ≡ 0) (inside
       ≡ registers_after last_sum (with_register (registers_after first_sum (with_register regs 6 offset)) 7
       (4 * words))
   begin_after regs =
-      let ends = z.ends in
       let six = after_append (constant_code 6 offset) first_sum regs
       ∙ ap (registers_after first_sum)
-      (constant_after 6 offset (λ e. omega arith) (omega (arith, ends, inside)) regs) in
-      let seven = constant_after 7 (4 * words) (λ e. omega arith) (omega (arith, ends, inside))
+      (constant_after 6 offset (λ e. omega arith) (omega (arith, z.ends, inside)) regs) in
+      let seven = constant_after 7 (4 * words) (λ e. omega arith) (omega (arith, z.ends, inside))
       (registers_after (constant_code 6 offset ++ first_sum) regs) in
       after_append (constant_code 6 offset ++ first_sum ++ constant_code 7 (4 * words)) last_sum regs
       ∙ ap (registers_after last_sum)
@@ -115,7 +114,6 @@ module _ (z : Setting) (offset words : ℕ) (aligned : offset % 4 ≡ 0) (inside
   begin_runs : Runs z 6 none (begin_code) (Held z) (λ env s t. Bounded 0 env t × (t.bytes ≡ s.bytes)
       × HomesKept z s t)
   begin_runs =
-      let ends = z.ends in
       cheaper begin_length
       (gives
       (λ env s t fine held done.
@@ -123,9 +121,9 @@ module _ (z : Setting) (offset words : ℕ) (aligned : offset % 4 ≡ 0) (inside
       let to = λ (n : ℕ). ap (λ base. sum_of n base) held.base in (
         record {
           held = done.held;
-          six = ap (λ (regs : ℕ → ℕ). regs 6) all ∙ (to offset ∙ omega (arith, ends, inside));
+          six = ap (λ (regs : ℕ → ℕ). regs 6) all ∙ (to offset ∙ omega (arith, z.ends, inside));
           seven = ap (λ (regs : ℕ → ℕ). regs 7) all
-              ∙ (ap (λ a. sum_of (4 * words) a) (to offset) ∙ omega (arith, ends, inside));
+              ∙ (ap (λ a. sum_of (4 * words) a) (to offset) ∙ omega (arith, z.ends, inside));
         },
         done.same,
         homes_computed z begin_code s t begin_plain done.registers,
@@ -153,7 +151,6 @@ module _ (z : Setting) (offset words : ℕ) (aligned : offset % 4 ≡ 0) (inside
 
   test_runs : (left i : ℕ) → Runs z 1 none test (Turning left i) (Tested left i)
   test_runs left i =
-      let ends = z.ends in
       weaken {P' = Turning left i}
       (λ env s fine given. given.0.held)
       (λ env s t fine given done.
@@ -164,7 +161,7 @@ module _ (z : Setting) (offset words : ℕ) (aligned : offset % 4 ≡ 0) (inside
           seven = ap (λ (regs : ℕ → ℕ). regs 7) done.registers ∙ given.0.seven;
         },
         ap (λ (regs : ℕ → ℕ). regs 5) done.registers
-            ∙ (ap₂ difference_of given.0.seven given.0.six ∙ omega (arith, ends, inside, count)),
+            ∙ (ap₂ difference_of given.0.seven given.0.six ∙ omega (arith, z.ends, inside, count)),
         done.same,
         homes_computed z test s t refl done.registers,
       ))
@@ -172,13 +169,12 @@ module _ (z : Setting) (offset words : ℕ) (aligned : offset % 4 ≡ 0) (inside
 
   turn_below : (left i : ℕ) → i < words → Runs z 2 none turn (Turning (suc left) i) (Turned i)
   turn_below left i below =
-      let ends = z.ends in
       gives
       (λ env s t fine given done. (
         record {
           held = done.0;
           six = ap (λ (regs : ℕ → ℕ). regs 6) done.1.regs
-              ∙ (ap (λ a. sum_of a 4) given.0.six ∙ omega (arith, ends, inside, below));
+              ∙ (ap (λ a. sum_of a 4) given.0.six ∙ omega (arith, z.ends, inside, below));
           seven = ap (λ (regs : ℕ → ℕ). regs 7) done.1.regs ∙ given.0.seven;
         },
         done.1.bytes,
@@ -191,7 +187,7 @@ module _ (z : Setting) (offset words : ℕ) (aligned : offset % 4 ≡ 0) (inside
         given.0.held,
         (
           record {
-            address = ap (λ a. sum_of a 0) given.0.six ∙ omega (arith, ends, inside, below);
+            address = ap (λ a. sum_of a 0) given.0.six ∙ omega (arith, z.ends, inside, below);
             data_there = frame_there z s given.0.held 4 (offset + 4 * i) (omega (arith, inside, below));
           },
           tt,

@@ -112,12 +112,7 @@ set_length declared allocation free (Some c) l e =
     let control = control_location declared allocation c in
     one_of (gives_zero allocation e) _ _ _
     (omega (arith, erase_under_length l control))
-    (omega (
-      arith,
-      length-append {A = Instr},
-      read_length,
-      set_under_length (read_register allocation 5 e) l control,
-    ))
+    (omega (arith, length-append {A = Instr}, read_length, set_under_length (read_register allocation 5 e) l control))
 
 pub fill_length : (declared : List FlatVariable) (allocation : Allocation) (free : ℕ) (kind : Kind) (o : ℕ)
     (es : List TermTree) → length (fill_code declared allocation free kind o es) ≤ 32 * terms_nodes es

@@ -268,9 +268,8 @@ module _ (z : Setting) (depth x h : ℕ) (within : depth < z.depths)
         (certain_at b below few (b.1 - b.0) refl))))
         (λ env s t ready done.
         let kept = kept_less z (base_of z) (base_of z + 4 * (0 - z.allocation.count)) s t (omega arith) done.kept in
-        let small = is_short.small in
         ready_homed z x h (value_in env.variables low) counter_type false known at
-        (let l = less env.variables in omega (arith, l, small)) env s t ready done.held kept done.there
+        (let l = less env.variables in omega (arith, l, is_short.small)) env s t ready done.held kept done.there
         (λ r other apart. done.lower r (home_beside z.allocation.count 0 h r other.0 other.1 apart))))
 
     by_first : (b : Bool) → is_below bound low ≡ b
@@ -367,14 +366,13 @@ module _ (z : Setting) (depth x h : ℕ) (within : depth < z.depths)
         (λ env s t fine known tested.
         let at' = subst (λ (c : ℕ × ℕ). AtLoop z words (c.1 - c.0) c.0 env s) known.is known.given in
         let counts = at'.counts in
-        let left = counts.left_is in
         let small = counts.bound_small in (
           record {
             ready = ready_with z env s t at'.ready tested.held tested.same tested.homes;
             start = tested.six;
             any = tested.five;
             there = λ some.
-                let e : counts.bound ≡ limit = omega (arith, some, left) in (
+                let e : counts.bound ≡ limit = omega (arith, some, counts.left_is) in (
                   ap (λ (bytes : ByteMap). number_at bytes 4 (z.frame + (words + 4))) tested.same
                       ∙ (counts.bound_there ∙ ap Some e),
                   omega (arith, small, e),

@@ -59,17 +59,15 @@ module _ (z : Setting) (depth x h : ℕ) (known : slice_get z.declared x ≡ Som
   added : (field : ℕ) → field < 4096 → Runs z 1 none (add_code field) (λ env s. HeldAt z s)
       (Computed z (add_code field))
   added field small =
-      let low = home_low in
       let high = home_high in
       computing_within z is_free (add_code field)
-      (simp (lt-ltb 4 h (omega (arith, low)), lt-ltb h 32 (omega (arith, high)), lt-ltb field 4096 small)) none_low
+      (simp (lt-ltb 4 h (omega (arith, home_low)), lt-ltb h 32 (omega (arith, high)), lt-ltb field 4096 small)) none_low
 
   -- other homes stay
   added_others : (field : ℕ) (env : StraightState) (s t : machine.State) → Computed z (add_code field) env s t
       → (r : ℕ) → IsHome z.allocation.count r → r ≢ h → t.regs r ≡ s.regs r
   added_others field env s t done r home apart =
-      let some = z.allocated.some in
-      let r0 : (r == 0) ≡ false = ne_eqb r 0 (λ e. omega (arith, some, home.0, e)) in
+      let r0 : (r == 0) ≡ false = ne_eqb r 0 (λ e. omega (arith, z.allocated.some, home.0, e)) in
       let stays : registers_after (add_code field) s.regs r ≡ s.regs r = simp (r0, ne_eqb r h apart) in
       ap (λ (regs : ℕ → ℕ). regs r) done.registers ∙ stays
 
@@ -272,7 +270,6 @@ module _ (z : Setting) (depth x h : ℕ) (known : slice_get z.declared x ≡ Som
           λ o from to. refl,
         ))
     start_by r left i low few last false e =
-        let low' = home_low in
         let high = home_high in
         let r0 : (r == 0) ≡ false = ne_eqb r 0 (λ e. omega (arith, low, e)) in
         let move = instr.Immediate Addi h r 0 ∷ [] in
@@ -283,8 +280,7 @@ module _ (z : Setting) (depth x h : ℕ) (known : slice_get z.declared x ≡ Som
         let there : t.regs h ≡ i = ap (λ (regs : ℕ → ℕ). regs h) done.registers
         ∙ (made ∙ (ap (λ a. sum_of a 0) given.1 ∙ omega (arith, small, last))) in
         let others = λ (q : ℕ) (home : IsHome z.allocation.count q) (apart : q ≢ h).
-        let some = z.allocated.some in
-        let q0 : (q == 0) ≡ false = ne_eqb q 0 (λ e. omega (arith, some, home.0, e)) in
+        let q0 : (q == 0) ≡ false = ne_eqb q 0 (λ e. omega (arith, z.allocated.some, home.0, e)) in
         let stays : registers_after move s.regs q ≡ s.regs q = simp (q0, ne_eqb q h apart) in
         ap (λ (regs : ℕ → ℕ). regs q) done.registers ∙ stays in (
           record {
@@ -296,7 +292,7 @@ module _ (z : Setting) (depth x h : ℕ) (known : slice_get z.declared x ≡ Som
         ))
         (weaken {P' = Starting r i} (λ env s fine given. given.0.held) (λ env s t fine given done. done)
         (computing_within z is_free move
-        (simp (lt-ltb 4 h (omega (arith, low')), lt-ltb h 32 (omega (arith, high)), lt-ltb r 32 few)) none_low))
+        (simp (lt-ltb 4 h (omega (arith, home_low)), lt-ltb h 32 (omega (arith, high)), lt-ltb r 32 few)) none_low))
 
     arm_runs : (r left i : ℕ) → 4 < r → r < 32 → i + left + 1 ≡ limit
         → Runs z (1 + ((left + 1) * (n + (1 + c) + 1) + 1))

@@ -127,7 +127,6 @@ module _ (z : Setting) (depth : ℕ) (place : Place) (x size : ℕ) (index value
       let k = mask_register z c 7 in
       let five = free_from 5 (omega arith) (omega arith) in
       let six = free_from 6 (omega arith) (omega arith) in
-      let ends = z.ends in
       let h = place_ends z x array i typed.known below in
       cheaper (omega arith)
       (number_under z depth within c among read x i array typed.known (away z access) below new_value new_fits
@@ -140,7 +139,7 @@ module _ (z : Setting) (depth : ℕ) (place : Place) (x size : ℕ) (index value
       (λ env s fine given. (
         given.0,
         ap (λ b. sum_of b (sign_extended 12 o)) given.0.held.base
-            ∙ (near_address z.frame o near (omega (arith, h, ends, is)) ∙ ap (λ a. z.frame + a) (sym is)),
+            ∙ (near_address z.frame o near (omega (arith, h, z.ends, is)) ∙ ap (λ a. z.frame + a) (sym is)),
       ))
       (λ env s t fine given done. done)
       (old_runs i 2 o 6 below (omega arith) (omega (arith, near)) (omega arith) (omega arith)))

@@ -78,8 +78,7 @@ module _ (z : Setting) (within : length z.allocation.homes ≤ length z.declared
   control_word : (c : ℕ) → c < z.controls
       → HasWord (control_offset z.declared c) (λ env. mask_of (env.controls c))
   control_word c below =
-      let space = z.room in
-      (omega arith, omega (arith, below, space), λ env s laid. laid.controls_there c below)
+      (omega arith, omega (arith, below, z.room), λ env s laid. laid.controls_there c below)
 
   word_there : (x home : ℕ) → home_of homes x ≡ Some home
       → HasWord (word_offset z.declared x) (λ env. word_value env x)

@@ -158,14 +158,7 @@ module _ (a : Allocation) (p : StraightProgram) where
 image_allowed : (a : Allocation) (p : StraightProgram) (profile : Profile) → HasRoom p → IsFitting p a
     → length (program_code a p) ≤ most_words p.nodes
     → AllByRecursion (λ word. word < 2 ^ 32) (map word_of (program_code a p))
-    → IsImage (record {
-      profile = profile;
-      slots = slots_from 0 p.parameters;
-      returned = option_map (result_slot p.declared) p.returned;
-      frame_bytes = program_base p + 4 * program_slots a p;
-      max_steps = step_limit p.work;
-      words = map word_of (program_code a p);
-    })
+    → IsImage (record (image_of a p) { profile = profile })
 image_allowed a p profile room fitting short fit =
     let few = room.parameters in
     let d = room.declared in
@@ -182,12 +175,7 @@ image_allowed a p profile room fitting short fit =
       some_step = omega arith;
       steps = omega (arith, room.work);
       some_word = simp (length-map, length-append) (omega arith);
-      word_count = omega (
-        arith,
-        length-map {B = ℕ} (program_code a p) word_of,
-        short,
-        room.nodes,
-      );
+      word_count = omega (arith, length-map {B = ℕ} (program_code a p) word_of, short, room.nodes);
       words = fit;
     }
 
@@ -242,10 +230,7 @@ module _ (p : StraightProgram) (typed : IsTypedStraight p) (is : IsBounded p) wh
 pub result_among : (profile : Profile) (declared : List FlatVariable) (returned : Option WordType)
     (value : Option TermTree) → IsResult (types_of profile declared) returned value
     → (e : TermTree) → value ≡ Some e → IsAmong (length declared) e
-result_among profile declared None None typed e is = absurd (no_result is)
-  where
-    no_result : None ≡ Some e → ⊥
-    no_result h = cc
+result_among profile declared None None typed e is = absurd (none-some e is)
 result_among profile declared (Some word) (Some value) typed e is =
     subst (IsAmong (length declared)) (same_Some value e is) (typed_among profile declared typed.has_type)
 result_among profile declared returned value typed e is = absurd typed
@@ -255,10 +240,8 @@ pub body_placed : (a : Allocation) (p : StraightProgram) → HasRoom p
     → HavePlaces p.declared a p.controls (depth_in_all p.body) 0 p.body
 body_placed a p room =
     let d = room.declared in
-    let n = room.nodes in
-    let f = room.frame in
     blocks_placed p.profile p.declared a p.controls (depth_in_all p.body) d 0 p.body room.typed.body
-    (omega (arith, d, n, f)) (omega arith)
+    (omega (arith, d, room.nodes, room.frame)) (omega arith)
 
 -- plain code keeps every control value
 

@@ -84,7 +84,6 @@ module _ (z : Setting) (depth : ℕ) (within : depth < z.depths) where
 
   pub test_runs : (left i : ℕ) → Runs z 7 none (test_code next) (AtLoop z next left i) (TestedFor z left i)
   test_runs left i =
-      let inside = next_inside in
       weaken
       (λ env s fine at. at.ready.held)
       (λ env s t fine at moved. record {
@@ -100,7 +99,7 @@ module _ (z : Setting) (depth : ℕ) (within : depth < z.depths) where
             refl moved;
       })
       (moves_run z (take 6 next) (take 5 (next + 4) ∷ does (instr.Register Sltu 5 6 5 ∷ []) ∷ []) refl
-      ((omega arith, omega (arith, inside)), ((omega arith, omega (arith, inside)), (tt, tt))))
+      ((omega arith, omega (arith, next_inside)), ((omega arith, omega (arith, next_inside)), (tt, tt))))
 
   -- The counter.
 
@@ -119,12 +118,11 @@ module _ (z : Setting) (depth : ℕ) (within : depth < z.depths) where
     counts_more : Counted x left i env u v
     counts_more =
         let counts = given.0.counts in
-        let small = counts.bound_small in
         let more = counts.left_is in (
           record {
             ready = ready_behind z 4 next (i + 1) (omega arith) (counted x i env) m v ready1 wrote;
             counts = record {
-              next_there = wrote_there z next (i + 1) m v wrote (omega (arith, small, more));
+              next_there = wrote_there z next (i + 1) m v wrote (omega (arith, counts.bound_small, more));
               bound = counts.bound;
               left_is = omega (arith, more);
               bound_small = counts.bound_small;
@@ -146,7 +144,6 @@ module _ (z : Setting) (depth : ℕ) (within : depth < z.depths) where
   count_by x left i known None away =
       let o = variable_offset z.declared x in
       let before = word_before z x counter_type false known in
-      let room = z.room in
       gives
       (λ env u v fine given done.
       let m = done.middle in
@@ -166,7 +163,7 @@ module _ (z : Setting) (depth : ℕ) (within : depth < z.depths) where
       (weaken {P' = Turns left i}
       (λ env s fine given. given.0.ready.held)
       (λ env s t fine given moved. moved)
-      (moves_run z (put Sw 6 o) (does more_code ∷ []) refl ((omega arith, omega (arith, before, room)), (tt, tt))))
+      (moves_run z (put Sw 6 o) (does more_code ∷ []) refl ((omega arith, omega (arith, before, z.room)), (tt, tt))))
       (λ env s t given moved.
       let small = given.0.counts.bound_small in
       let more = given.0.counts.left_is in (
@@ -176,8 +173,7 @@ module _ (z : Setting) (depth : ℕ) (within : depth < z.depths) where
       )))
   count_by x left i known (Some home) at =
       let is = z.allocated.allowed x home at in
-      let some = z.allocated.some in
-      let low : 8 ≤ home = omega (arith, some, is.0) in
+      let low : 8 ≤ home = omega (arith, z.allocated.some, is.0) in
       let free : nat_lt 4 home ≡ true = lt-ltb 4 home (omega (arith, low)) in
       let few : nat_lt home 32 ≡ true = lt-ltb home 32 (omega (arith, is.1)) in
       let h0 : (home == 0) ≡ false = ne_eqb home 0 (λ e. omega (arith, low, e)) in
@@ -198,8 +194,8 @@ module _ (z : Setting) (depth : ℕ) (within : depth < z.depths) where
       let there : m.regs home ≡ i = ap (λ (regs : ℕ → ℕ). regs home) one.regs
       ∙ (counter ∙ (ap (λ a. sum_of a 0) given.1 ∙ omega (arith, small, more))) in
       let others = λ (r : ℕ) (other : IsHome z.allocation.count r) (apart : r ≢ home).
-      let r0 : (r == 0) ≡ false = ne_eqb r 0 (λ e. omega (arith, some, other.0, e)) in
-      let r6 : (r == 6) ≡ false = ne_eqb r 6 (λ e. omega (arith, some, other.0, e)) in
+      let r0 : (r == 0) ≡ false = ne_eqb r 0 (λ e. omega (arith, z.allocated.some, other.0, e)) in
+      let r6 : (r == 6) ≡ false = ne_eqb r 6 (λ e. omega (arith, z.allocated.some, other.0, e)) in
       let stays : registers_after more_code (registers_after move u.regs) r ≡ u.regs r =
       simp (r0, r6, ne_eqb r home apart) in
       ap (λ (regs : ℕ → ℕ). regs r) one.regs ∙ stays in

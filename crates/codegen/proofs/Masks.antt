@@ -58,12 +58,11 @@ module _ (z : Setting) where
       → Runs z 3 none (fetch_code (control_location z.declared z.allocation c) spare) (Ready z)
       (λ env s t. Fetched z (mask_register c spare) spare (mask_of (env.controls c)) s t)
   mask_runs c spare among read low high =
-      let space = z.room in
       weaken
       (λ env s fine ready. (ready.held, ready.controls_there c among read))
       (λ env s t fine ready done. done)
       (fetch_runs z spare low high (λ env. mask_of (env.controls c)) (control_location z.declared z.allocation c)
-      (at_control z c (HasRoom z) (λ home at. tt) (λ away. (omega arith, omega (arith, among, space)))))
+      (at_control z c (HasRoom z) (λ home at. tt) (λ away. (omega arith, omega (arith, among, z.room)))))
 
   -- none of the first three temporaries is a home
   pub home_apart : (q n : ℕ) → IsHome z.allocation.count q → n < 8 → q ≢ n
@@ -192,7 +191,6 @@ module _ (z : Setting) where
           idle (λ env s given. untouched env s given.0 (λ read away. absurd (true≢false (sym unread ∙ read))))
       by_test false read =
           let o = control_offset z.declared c in
-          let space = z.room in
           at_control z c (λ l. PutsMask c r v (kept_code l r))
           (λ home at.
           idle (λ env s given. untouched env s given.0 (λ is away. absurd (none-some home (sym away ∙ at)))))
@@ -212,7 +210,7 @@ module _ (z : Setting) where
             lower = wrote_kept z 4 o (v env) s t wrote;
             hidden = λ depth. hidden_wrote z depth 4 o (v env) s t (omega (arith, among)) wrote;
           })
-          (move_runs z (put Sw r o) (simp ok) (omega arith, omega (arith, among, space))))
+          (move_runs z (put Sw r o) (simp ok) (omega arith, omega (arith, among, z.room))))
 
 -- what is read is not in the register of a control value
 pub read_beside : (z : Setting) (c : ℕ) {e : TermTree} {word : WordType}

@@ -21,11 +21,7 @@ Weighs weights c = 0 < slice_index weights c
 
 used_weighs : (n x : ℕ) (weights : List ℕ) → 0 < n → x < length weights → Weighs (used n x weights) x
 used_weighs n x weights some below =
-    omega (
-      arith,
-      some,
-      get_or-set_same weights x (min (slice_index weights x + n) greatest_weight) 0 below,
-    )
+    omega (arith, some, get_or-set_same weights x (min (slice_index weights x + n) greatest_weight) 0 below)
 
 used_stays : (n x c : ℕ) (weights : List ℕ) → c < length weights → Weighs weights c → Weighs (used n x weights) c
 used_stays n x c weights below weighs = by_test (c == x) refl

@@ -114,11 +114,7 @@ module _ {statement : StraightStatement} {x : ℕ} {low high : Term} (body : Vec
         let spans = repeat_spans declared allocation (next_offset declared controls depth)
         (temporaries_offset declared controls depths) ys (variable_location declared allocation x) (term_tree low)
         (term_tree high) (any_sets x (straight_block inner)) in
-        omega (
-          arith,
-          spans.0,
-          ap (λ (l : List Instr). length l) (loop_is (any_sets x (straight_block inner)) refl),
-        )
+        omega (arith, spans.0, ap (λ (l : List Instr). length l) (loop_is (any_sets x (straight_block inner)) refl))
 
 -- code that is emitted into no code is that code
 pub emitted : {old code new : List Instr} → new ≡ old ++ code → old ≡ [] → new ≡ code
@@ -168,11 +164,7 @@ code_behind declared allocation controls depths depth [] zero = omega arith
 code_behind declared allocation controls depths depth [] (suc i) = omega arith
 code_behind declared allocation controls depths depth (s ∷ rest) zero = omega arith
 code_behind declared allocation controls depths depth (s ∷ rest) (suc i) =
-    omega (
-      arith,
-      length-append {A = Instr},
-      code_behind declared allocation controls depths depth rest i,
-    )
+    omega (arith, length-append {A = Instr}, code_behind declared allocation controls depths depth rest i)
 
 pub part_here : (declared : List FlatVariable) (allocation : Allocation) (controls depths depth : ℕ)
     (statements : List StraightStatement) (i : ℕ) (item : StraightStatement)

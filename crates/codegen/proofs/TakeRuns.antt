@@ -134,8 +134,7 @@ module _ (z : Setting) where
         → Runs z (16 * term_nodes condition + 2) (steps_of condition) (tested ++ masks_code unread unread' d e r)
         (Ready z) (MasksIn d e None)
     masks_in d e d_free e_free apart beside =
-        let high = source.high in
-        let few : nat_lt r 32 ≡ true = lt-ltb r 32 (omega (arith, high)) in
+        let few : nat_lt r 32 ≡ true = lt-ltb r 32 (omega (arith, source.high)) in
         gives
         (λ env s t fine ready done.
         let m = done.middle in

@@ -195,9 +195,8 @@ module _ (z : Setting) (depth : ℕ) (within : depth ≤ z.depths) (c : ℕ) (am
           let place = place_of z.declared x d i in
           let before = place_before z x d i known below in
           let held = one.0.fits x d known in
-          let count = held.count in
           let new_fits = fits env one.0.fits in
-          let old_fits = held.within i 0 (omega (arith, count, below)) in
+          let old_fits = held.within i 0 (omega (arith, held.count, below)) in
           let chosen = chosen_fits b v (old env) (2 ^ bits_of kind) new_fits old_fits in
           let result = if b then v else old env in
           let made : m4.regs w ≡ result =
@@ -300,7 +299,6 @@ module _ (z : Setting) (depth : ℕ) (within : depth ≤ z.depths) (c : ℕ) (am
       home_under home at chooses =
           let works = λ (q : ℕ). (q == home) || (q == 5) in
           let is = z.allocated.allowed x home at in
-          let some = z.allocated.some in
           as_code (sym (append_assoc front (fetch_code control 7) combine))
           (gives
           (λ env s t fine ready done.
@@ -338,7 +336,7 @@ module _ (z : Setting) (depth : ℕ) (within : depth ≤ z.depths) (c : ℕ) (am
           (quiet
           (quiet begins (mask_runs z c 7 among read (omega arith) (omega arith)) (λ env s t ready done. done.0))
           (computing_within z works combine chooses.plain
-          (λ r low. or_from (r == home) (r == 5) (ne_eqb r home (λ e. omega (arith, some, is.0, low, e)))
+          (λ r low. or_from (r == home) (r == 5) (ne_eqb r home (λ e. omega (arith, z.allocated.some, is.0, low, e)))
           (ne_eqb r 5 (λ e. omega (arith, low, e)))))
           (λ env s t ready done. done.second.held)))
 
