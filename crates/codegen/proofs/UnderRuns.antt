@@ -72,17 +72,8 @@ pub record Chooses (works : ℕ → Bool) (New : (ℕ → ℕ) → ℕ → Type 
 
 module _ (works : ℕ → Bool) (d t old k : ℕ) (wd : works d ≡ true) (wt : works t ≡ true) (d_free : IsFree d)
     (t_free : IsFree t) (old_free : IsFree old) (k_free : IsFree k) (apart : old ≢ t) (beside : k ≢ t) where
-  d0 : (d == 0) ≡ false
-  d0 = ne_eqb d 0 d_free.nonzero
-
-  t0 : (t == 0) ≡ false
-  t0 = ne_eqb t 0 t_free.nonzero
-
-  old0 : (old == 0) ≡ false
-  old0 = ne_eqb old 0 old_free.nonzero
-
-  k0 : (k == 0) ≡ false
-  k0 = ne_eqb k 0 k_free.nonzero
+  not_zero : {r : ℕ} → IsFree r → (r == 0) ≡ false
+  not_zero {r = r} free = ne_eqb r 0 free.nonzero
 
   old_t : (old == t) ≡ false
   old_t = ne_eqb old t apart
@@ -90,11 +81,8 @@ module _ (works : ℕ → Bool) (d t old k : ℕ) (wd : works d ≡ true) (wt : 
   k_t : (k == t) ≡ false
   k_t = ne_eqb k t beside
 
-  dd : (d == d) ≡ true
-  dd = eq-eqb d d refl
-
-  tt' : (t == t) ≡ true
-  tt' = eq-eqb t t refl
+  same : (r : ℕ) → (r == r) ≡ true
+  same r = eq-eqb r r refl
 
   few : (r : ℕ) → IsFree r → nat_lt r 32 ≡ true
   few r free = lt-ltb r 32 free.small
@@ -104,9 +92,8 @@ module _ (works : ℕ → Bool) (d t old k : ℕ) (wd : works d ≡ true) (wt : 
   merges r free = record {
     plain = simp (wd, wt, few d d_free, few t t_free, few old old_free, few k k_free, few r free);
     makes = λ b v w regs fits old_fits new there mask.
-        let r0 : (r == 0) ≡ false = ne_eqb r 0 free.nonzero in
         let mixed : registers_after (merge_code d t r old k) regs d ≡ merged (regs k) (regs old) (regs r) =
-        simp (d0, t0, old0, k0, r0, old_t, k_t, dd, tt') in
+        simp (not_zero d_free, not_zero t_free, not_zero old_free, not_zero k_free, not_zero free, old_t, k_t, same) in
         mixed ∙ (ap₂ (λ p q. merged p q (regs r)) mask there
         ∙ (ap (λ q. merged (mask_of b) w q) new ∙ merge b w v old_fits fits));
   }
@@ -121,7 +108,7 @@ module _ (works : ℕ → Bool) (d t old k : ℕ) (wd : works d ≡ true) (wt : 
     plain = simp (wd, wt, few d d_free, few t t_free, few old old_free, few k k_free);
     makes = λ b v w regs fits old_fits zero there mask.
         let mixed : registers_after (erase_code d t old k) regs d ≡ bit_and (regs old) (bit_xor (regs k) 4294967295) =
-        simp (d0, t0, old0, k0, old_t, dd, tt') in
+        simp (not_zero d_free, not_zero t_free, not_zero old_free, not_zero k_free, old_t, same) in
         mixed ∙ (ap₂ (λ p q. bit_and p (bit_xor q 4294967295)) there mask ∙ erased b w v zero old_fits);
   }
 
@@ -276,8 +263,9 @@ module _ (z : Setting) (depth : ℕ) (within : depth ≤ z.depths) (c : ℕ) (am
             hidden = done.hidden;
           })
           (number_under x 0 d typed.known away (omega arith) new fits {New = New} {Aims = λ regs. Unit {0}} 6 7 5
-          (omega arith) (omega arith) (free_from 7 (omega arith) (omega arith)) (free_from 5 (omega arith) (omega arith))
-          (λ e. omega (arith, e)) (inl (omega arith)) new_stays (λ regs after same aims. aims)
+          (omega arith) (omega arith) (free_from 7 (omega arith) (omega arith))
+          (free_from 5 (omega arith) (omega arith)) (λ e. omega (arith, e)) (inl (omega arith)) new_stays
+          (λ regs after same aims. aims)
           (weaken
           (λ env s fine given. given.0.held)
           (λ env s t fine given moved. took z 6 o (slice_index (env.variables x) 0) env s t (λ e. omega (arith, e))

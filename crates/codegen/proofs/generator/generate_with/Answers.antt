@@ -1,6 +1,6 @@
-use Rattle.std.proofs.Common.{◌≡◌, ℕ, ◌≤◌, List, Option, Some, IfSome, length, ap, ap₂, sym, subst, ◌∙◌, arith}
-use Rattle.codegen.proofs.Machine.{Allocation, image_of, IsFitting, depth_in_all, height_in_all, IsGenerated, frame_of, Frame}
-use Rattle.codegen.proofs.Machine.{temporaries_offset, Fields, Instr, most_words, program_code}
+use Rattle.std.proofs.Common.{rules, refl, ◌≡◌, ℕ, ◌≤◌, List, Option, Some, IfSome, length, ap, sym, subst, ◌∙◌, arith}
+use Rattle.codegen.proofs.Machine.{Allocation, image_of, IsFitting, depth_in_all, height_in_all, IsGenerated, frame_of}
+use Rattle.codegen.proofs.Machine.{Frame, Fields, Instr, most_words, program_code}
 use Rattle.codegen.proofs.BodyRuns.{is_generated}
 use Rattle.codegen.proofs.ImageLemmas.{room_frame, has_room, image_there}
 use Rattle.codegen.proofs.Language.{FlatVariable, StraightProgram, declared_words}
@@ -22,20 +22,9 @@ offsets-requires c =
 pub new-layout-requires-clause-room : goal.new-layout-requires-clause-room
 new-layout-requires-clause-room c =
     let p = c.args.straight.now in
-    let a = c.args.allocation in
-    let made : List FlatVariable → ℕ → ℕ → Frame =
-    λ declared controls depths. record {
-      declared = declared;
-      controls = controls;
-      depths = depths;
-      allocation = a;
-    } in
     let depths = c.extent_of_all-depths.ensures.depth ∙ ap depth_in_all c.body.ensures.body in
-    let laid : made c.declared-declared.result.now c.controls.result c.extent_of_all-depths.result.depth ≡ frame_of a p =
-    ap (λ declared. made declared c.controls.result c.extent_of_all-depths.result.depth) c.declared-declared.ensures
-    ∙ ap₂ (made p.declared) c.controls.ensures depths in
-    let same = ap (λ (f : Frame). temporaries_offset f.declared f.controls f.depths) laid in
-    omega (arith, same, room_frame a p (has_room p c.body.ensures.kept.typed c.body.ensures.kept.bounded))
+    let room = room_frame c.args.allocation p (has_room p c.body.ensures.kept.typed c.body.ensures.kept.bounded) in
+    omega (arith, ap declared_words c.declared-declared.ensures, c.controls.ensures, depths, room)
 
 -- the layout is the program's
 laid_out : (a : Allocation) (p : StraightProgram) (declared : List FlatVariable) (controls depths : ℕ) (layout : Frame)
@@ -43,15 +32,7 @@ laid_out : (a : Allocation) (p : StraightProgram) (declared : List FlatVariable)
     → declared ≡ p.declared → controls ≡ p.controls → depths ≡ depth_in_all p.body → IsFitting p a
     → IsFitting p layout.allocation × (layout ≡ frame_of layout.allocation p)
 laid_out a p declared controls depths layout is one two three fits =
-    let made : List FlatVariable → ℕ → ℕ → Frame =
-    λ declared controls depths. record {
-      declared = declared;
-      controls = controls;
-      depths = depths;
-      allocation = a;
-    } in
-    let laid : layout ≡ frame_of a p =
-    is ∙ (ap (λ declared. made declared controls depths) one ∙ ap₂ (made p.declared) two three) in
+    let laid : layout ≡ frame_of a p = is ∙ rw (one, two, three) refl in
     let given : layout.allocation ≡ a = ap (λ (f : Frame). f.allocation) laid in
     (subst (IsFitting p) (sym given) fits, laid ∙ ap (λ (b : Allocation). frame_of b p) (sym given))
 
@@ -67,21 +48,19 @@ code_within-requires c =
       frame = laid.1;
     }
 
-pub listed-requires-clause-room : goal.listed-requires-clause-room
-listed-requires-clause-room c =
-    has_room c.args.straight.now c.body.ensures.kept.typed c.body.ensures.kept.bounded
-
-pub listed-requires-clause-fitting : goal.listed-requires-clause-fitting
-listed-requires-clause-fitting c =
-    (laid_out c.args.allocation c.args.straight.now c.declared-declared.result.now c.controls.result
+pub listed-requires : goal.listed-requires
+listed-requires c =
+    let p = c.args.straight.now in
+    let laid = laid_out c.args.allocation p c.declared-declared.result.now c.controls.result
     c.extent_of_all-depths.result.depth c.new-layout.result c.new-layout.ensures c.declared-declared.ensures
-    c.controls.ensures (c.extent_of_all-depths.ensures.depth ∙ ap depth_in_all c.body.ensures.body) c.requires).0
-
-pub listed-requires-clause-frame : goal.listed-requires-clause-frame
-listed-requires-clause-frame c =
-    (laid_out c.args.allocation c.args.straight.now c.declared-declared.result.now c.controls.result
-    c.extent_of_all-depths.result.depth c.new-layout.result c.new-layout.ensures c.declared-declared.ensures
-    c.controls.ensures (c.extent_of_all-depths.ensures.depth ∙ ap depth_in_all c.body.ensures.body) c.requires).1
+    c.controls.ensures (c.extent_of_all-depths.ensures.depth ∙ ap depth_in_all c.body.ensures.body) c.requires in
+    record {
+      room = has_room p c.body.ensures.kept.typed c.body.ensures.kept.bounded;
+      fitting = laid.0;
+      frame = laid.1;
+      code = search rules;
+      within = search rules;
+    }
 
 of_some : {T : Type 0} (o : Option T) (x : T) (P : T → Type 0) → o ≡ Some x → IfSome o P → P x
 of_some o x P is both = subst (λ o. IfSome o P) is both
