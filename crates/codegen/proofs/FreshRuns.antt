@@ -54,11 +54,13 @@ without out x y = not (y == x) && out y
 
 -- Variables that are set first.
 
+both_true : (b c : Bool) → (not b && c) ≡ true → (b ≡ false) × (c ≡ true)
+both_true false true h = (refl, refl)
+both_true false false h = absurd (true≢false (sym h))
+both_true true c h = absurd (true≢false (sym h))
+
 two_ways : (a b c : Bool) → a ≡ false → (a || (not b && c)) ≡ true → (b ≡ false) × (c ≡ true)
-two_ways false false true off h = (refl, refl)
-two_ways false false false off h = absurd (true≢false (sym h))
-two_ways false true c off h = absurd (true≢false (sym h))
-two_ways true b c off h = absurd (true≢false off)
+two_ways a b c off h = both_true b c (sym (ap (λ x. x || (not b && c)) off) ∙ h)
 
 -- one that a statement sets so is not read there
 not_read : (x y : ℕ) (read fresh : Bool) → (x == y) ≡ true
@@ -66,11 +68,6 @@ not_read : (x y : ℕ) (read fresh : Bool) → (x == y) ≡ true
 not_read x y false fresh same h = refl
 not_read x y true fresh same h = absurd (true≢false (sym (subst
     (λ b. ((b && false) || (not (b || true) && fresh)) ≡ true) same h)))
-
-both_true : (b c : Bool) → (not b && c) ≡ true → (b ≡ false) × (c ≡ true)
-both_true false true h = (refl, refl)
-both_true false false h = absurd (true≢false (sym h))
-both_true true c h = absurd (true≢false (sym h))
 
 module _ (z : Setting) where
   abbrev a : Allocation

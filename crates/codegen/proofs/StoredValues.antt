@@ -1,5 +1,5 @@
 -- What is put into an element for an expression: it is read as that expression is, and its store makes the same of it.
-use Rattle.std.proofs.Common.{◌≡◌, ℕ, ◌+◌, ◌%◌, ◌^◌, ◌<◌, ◌≤◌, Bool, true, false, if◌then◌else◌, refl, sym, arith}
+use Rattle.std.proofs.Common.{◌∙◌, ◌≡◌, ℕ, ◌%◌, ◌^◌, ◌<◌, ◌≤◌, Bool, true, false, if◌then◌else◌, refl, sym, arith}
 use Rattle.std.proofs.lemmas.Bool.{false≢true}
 use Rattle.codegen.proofs.Language.{bits_of, element_bytes, HasType, Kind, labelled, path_in, term_nodes, TermTree}
 use Rattle.codegen.proofs.Language.{Types, value_in, Values, WordType}
@@ -12,24 +12,30 @@ use Rattle.language.specs.Operators.{width_of}
 use Rattle.language.specs.declared.signature.Kind.TheVariants.{Uint8, Uint16}
 use Rattle.word.specs.Operators.{converted}
 
--- What an expression has in common with its conversions.
+-- What holds of an expression where it holds of a conversion of it.
 
-uncut_alike : {A : Type 0} (f : TermTree → A) → ((kind : Kind) (e : TermTree) → f (convert kind e) ≡ f e)
-    → (element : Kind) (e : TermTree) → f (uncut element e) ≡ f e
-uncut_alike f same element (convert kind e) = by_test (cuts element kind)
+uncut_by : (P : TermTree → Type 0) → ((kind : Kind) (e : TermTree) → P (convert kind e) → P e) → (element : Kind)
+    (e : TermTree) → P e → P (uncut element e)
+uncut_by P of_operand element (convert kind e) holds = by_test (cuts element kind)
   where
-    by_test : (b : Bool) → f (if b then e else convert kind e) ≡ f (convert kind e)
-    by_test true = sym (same kind e)
-    by_test false = refl
-uncut_alike f same element e = refl
+    by_test : (b : Bool) → P (if b then e else convert kind e)
+    by_test true = of_operand kind e holds
+    by_test false = holds
+uncut_by P of_operand element e holds = holds
 
+stored_by : (P : TermTree → Type 0) → ((kind : Kind) (e : TermTree) → P (convert kind e) → P e) → (a : Allocation)
+    (element : Kind) (e : TermTree) → P e → P (stored_value a element e)
+stored_by P of_operand a element e holds = by_test a.immediates
+  where
+    by_test : (b : Bool) → P (if b then uncut element e else e)
+    by_test true = uncut_by P of_operand element e holds
+    by_test false = holds
+
+-- so what is the same of a conversion is the same
 pub stored_alike : {A : Type 0} (f : TermTree → A) → ((kind : Kind) (e : TermTree) → f (convert kind e) ≡ f e)
     → (a : Allocation) (element : Kind) (e : TermTree) → f (stored_value a element e) ≡ f e
-stored_alike f same a element e = by_test a.immediates
-  where
-    by_test : (b : Bool) → f (if b then uncut element e else e) ≡ f e
-    by_test true = uncut_alike f same element e
-    by_test false = refl
+stored_alike f same a element e =
+    stored_by (λ other. f other ≡ f e) (λ kind other is. sym (same kind other) ∙ is) a element e refl
 
 pub stored_height : (a : Allocation) (element : Kind) (e : TermTree) → height_of (stored_value a element e) ≡ height_of e
 stored_height a element e = stored_alike height_of (λ kind operand. refl) a element e
@@ -38,22 +44,10 @@ pub stored_path : (a : Allocation) (element : Kind) (e : TermTree) (m : Values)
     → path_in m (stored_value a element e) ≡ path_in m e
 stored_path a element e m = stored_alike (path_in m) (λ kind operand. refl) a element e
 
--- And it has no more nodes.
-
-uncut_nodes : (element : Kind) (e : TermTree) → term_nodes (uncut element e) ≤ term_nodes e
-uncut_nodes element (convert kind e) = by_test (cuts element kind)
-  where
-    by_test : (b : Bool) → term_nodes (if b then e else convert kind e) ≤ 1 + term_nodes e
-    by_test true = omega arith
-    by_test false = omega arith
-uncut_nodes element e = omega arith
-
+-- and there are no more nodes
 pub stored_nodes : (a : Allocation) (element : Kind) (e : TermTree) → term_nodes (stored_value a element e) ≤ term_nodes e
-stored_nodes a element e = by_test a.immediates
-  where
-    by_test : (b : Bool) → term_nodes (if b then uncut element e else e) ≤ term_nodes e
-    by_test true = uncut_nodes element e
-    by_test false = omega arith
+stored_nodes a element e =
+    stored_by (λ other. term_nodes other ≤ term_nodes e) (λ kind other few. omega (arith, few)) a element e (omega arith)
 
 -- an expression with a type, of whose value an element's store makes that of another
 pub record IsCutTo (types : Types) (element : Kind) (other e : TermTree) : Type 0 where
