@@ -9,16 +9,11 @@ use Rattle.codegen.proofs.Logic.{base_of, branching_at, by_mark, condition_kind,
 use Rattle.codegen.proofs.Logic.{Setting, setting, Still}
 use Rattle.codegen.proofs.Machine.{branch_code, branching_code, condition_code, height_of, Instr, read_code}
 use Rattle.codegen.proofs.Machine.{read_register, slots_to, test_of, unless_code}
-use Rattle.codegen.proofs.Slots.{hidden_by, hidden_kept, hidden_then, read_runs, read_source, ready_still, ready_valued}
-use Rattle.codegen.proofs.Slots.{Shown}
+use Rattle.codegen.proofs.PairRuns.{FirstRead, read_then}
+use Rattle.codegen.proofs.Slots.{hidden_by, hidden_kept, hidden_then, read_source, ready_still, Shown}
 use Rattle.codegen.specs.private.Compared.{is_short_arm}
 use Rattle.codegen.proofs.program_logic_lemmas.Tests.{unless_at}
 use Rattle.rv_machine.specs.Machine as machine
-
--- the condition is known
-record Tested (z : Setting) (condition : TermTree) (env : StraightState) (s : machine.State) : Type 0 where
-  ready : Ready z env s
-  there : s.regs (read_register z.allocation 5 condition) ≡ value_in env.variables condition
 
 -- the test says whether the condition holds
 record Decided (z : Setting) (condition : TermTree) (env : StraightState) (s : machine.State) : Type 0 where
@@ -66,18 +61,11 @@ module _ (z : Setting) (depth : ℕ) (condition : TermTree) (word : WordType) (a
       ++ branch_code (read_register z.allocation 5 condition) xs ys)
   branch_runs =
       let source = read_source z condition 5 (omega arith) (omega arith) in
-      gives
-      (λ env s t fine ready done. record {
-        ready = done.second.ready;
-        hidden = hidden_then z depth s done.middle t (hidden_kept z depth s done.middle within done.first.kept)
-            done.second.hidden;
-      })
-      (seq
-      (read_runs z has room)
-      (by_mark (condition_kind z) {P = Tested z condition} value
+      read_then z depth within has room
+      (by_mark (condition_kind z) {P = FirstRead z condition} value
       (λ v.
       branching_at {z = setting z} (read_register z.allocation 5 condition) (omega (arith, source.high))
-      (λ e. omega (arith, source.low, e)) {P = Known (setting z) ℕ (λ w. Unit {0}) (Tested z condition) value v}
+      (λ e. omega (arith, source.low, e)) {P = Known (setting z) ℕ (λ w. Unit {0}) (FirstRead z condition) value v}
       {S = Shown z depth (λ env. after env (branch condition accepted otherwise))} value near
       (λ env s known. known.given.there)
       (λ env s t some known still. ready_still z env s t known.given.ready still)
@@ -85,10 +73,6 @@ module _ (z : Setting) (depth : ℕ) (condition : TermTree) (word : WordType) (a
       (λ env s t none known still. ready_still z env s t known.given.ready still)
       (λ env s t u none known still done. second_arm env s t u none still done)
       one two v (λ env s known. known.is)))
-      (λ env s t ready valued. record {
-        ready = ready_valued z condition env s t ready valued;
-        there = valued.there;
-      }))
 
   -- what is tested, and then one of both arms
   unless_runs : length xs < 1000

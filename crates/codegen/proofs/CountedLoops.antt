@@ -16,8 +16,9 @@ use Rattle.codegen.proofs.Logic.{registers_after, is_free, none_low, computing_w
 use Rattle.codegen.proofs.Logic.{load_length}
 use Rattle.codegen.proofs.Machine.{bounds_code, test_code, home_of, height_of, read_code, read_register, Instr}
 use Rattle.codegen.proofs.Machine.{slots_to, ByteMap, number_at, into_code, Sltu}
-use Rattle.codegen.proofs.Slots.{Shown, Hidden, hidden_then, hidden_by, hidden_kept, hidden_number, ready_valued}
-use Rattle.codegen.proofs.Slots.{ready_with, read_runs, read_source, source_apart, homed_runs}
+use Rattle.codegen.proofs.PairRuns.{FirstRead, read_then}
+use Rattle.codegen.proofs.Slots.{Shown, Hidden, hidden_then, hidden_by, hidden_kept, hidden_number, ready_with}
+use Rattle.codegen.proofs.Slots.{read_source, source_apart, homed_runs}
 use Rattle.codegen.specs.private.Loops.{any_sets, below_number_code, below_word_code, guarded_code, is_below}
 use Rattle.codegen.specs.private.Loops.{short_number, to_number_code, turns_code}
 use Rattle.inline.specs.Flat.{number}
@@ -106,7 +107,7 @@ module _ (z : Setting) (depth x h : ℕ) (within : depth < z.depths)
   Done env s t = Ready z env t × Hidden z depth s t
 
   abbrev Looped : StraightState → machine.State → machine.State → Type 0
-  Looped env s t = Done (turns ((bounds env).1 - (bounds env).0) (bounds env).0 one_turn env) s t
+  Looped = Shown z depth (λ env. turns ((bounds env).1 - (bounds env).0) (bounds env).0 one_turn env)
 
   -- the bounds are these, with no more turns between them than are counted
   abbrev With : (StraightState → machine.State → Type 0) → ℕ × ℕ → StraightState → machine.State → Type 0
@@ -122,8 +123,10 @@ module _ (z : Setting) (depth x h : ℕ) (within : depth < z.depths)
   -- what is shown with bounds that are known beforehand is shown with those of the state
   looped_by : (b : ℕ × ℕ) (env : StraightState) (s t : machine.State) → bounds env ≡ b
       → Done (turns (b.1 - b.0) b.0 one_turn env) s t → Looped env s t
-  looped_by b env s t is done =
-      subst (λ (c : ℕ × ℕ). Done (turns (c.1 - c.0) c.0 one_turn env) s t) (sym is) done
+  looped_by b env s t is done = record {
+    ready = subst (λ (c : ℕ × ℕ). Ready z (turns (c.1 - c.0) c.0 one_turn env) t) (sym is) done.0;
+    hidden = done.1;
+  }
 
   -- Up to a number.
 
@@ -153,15 +156,12 @@ module _ (z : Setting) (depth x h : ℕ) (within : depth < z.depths)
     abbrev start : ℕ
     start = read_register z.allocation 5 low
 
-    abbrev Read : StraightState → machine.State → Type 0
-    Read env s = Ready z env s × (s.regs start ≡ value_in env.variables low)
-
     abbrev guard_code : List Instr
     guard_code = below_number_code 6 start bound ++ guarded_code 6 h start (below_number_code 5 h bound) ys
 
     guard_at : (b : ℕ × ℕ) → b.1 - b.0 ≤ slice_index z.counts x
         → Runs z (1 + (2 + (1 + (turns_cost 1 + 1)) + 0)) (λ env. path_by env (bounds env)) guard_code
-        (With Read b) Looped
+        (With (FirstRead z low) b) Looped
     guard_at b few =
         let source = read_source z low 5 (omega arith) (omega arith) in
         let apart = source_apart z source 6 (omega arith) (λ e. omega (arith, e)) in
@@ -173,16 +173,16 @@ module _ (z : Setting) (depth x h : ℕ) (within : depth < z.depths)
         looped_by b env s t known.is
         (done.second.0, hidden_then z depth s m t (hidden_by z depth s m done.first.1) done.second.1))
         (quietly
-        (weaken {P' = With Read b}
+        (weaken {P' = With (FirstRead z low) b}
         {R = λ env s t. Guarded z depth x h known at 1 n limit (AtBound limit) body
         (λ s t hidden is. is) (limited limit) (number_tests limit) unset inner (round_near _ (omega arith)) 6 start
         (b.1 - b.0) b.0 env t × (t.bytes ≡ s.bytes)}
-        (λ env s fine known. known.given.0.held)
+        (λ env s fine known. known.given.ready.held)
         (λ env s t fine known done.
-        let first = known.given.1 ∙ ap (λ (c : ℕ × ℕ). c.0) known.is in
+        let first = known.given.there ∙ ap (λ (c : ℕ × ℕ). c.0) known.is in
         let second = sym (is_short.value env.variables) ∙ ap (λ (c : ℕ × ℕ). c.1) known.is in (
           record {
-            ready = ready_with z env s t known.given.0 done.held done.same (homes_compared z (omega arith) done);
+            ready = ready_with z env s t known.given.ready done.held done.same (homes_compared z (omega arith) done);
             start = done.others start apart ∙ first;
             any = done.there ∙ (ap (λ v. word_of (nat_lt v bound)) first
                 ∙ (ap (λ v. word_of (nat_lt b.0 v)) second ∙ ap word_of (is_left b.1 b.0 (b.1 - b.0) refl)));
@@ -202,14 +202,7 @@ module _ (z : Setting) (depth x h : ℕ) (within : depth < z.depths)
         (λ env. path_in env.variables low ++ bounded x (bounds env).0 (bounds env).1 ∷ path_by env (bounds env))
         (read_code z.declared z.allocation (base_of z) 5 0 low ++ guard_code) (Ready z) Looped
     read_number_runs =
-        gives
-        (λ env s t fine ready done. (
-          done.second.0,
-          hidden_then z depth s done.middle t
-              (hidden_kept z depth s done.middle (omega (arith, within)) done.first.kept) done.second.1,
-        ))
-        (seq (read_runs z has_low room_low) (by_bounds z x bounds guard_at)
-        (λ env s t ready valued. (ready_valued z low env s t ready valued, valued.there)))
+        read_then z depth (omega (arith, within)) has_low room_low (by_bounds z x bounds guard_at)
 
     -- from a number below the bound on
 
@@ -255,13 +248,13 @@ module _ (z : Setting) (depth x h : ℕ) (within : depth < z.depths)
         let is = z.allocated.allowed x h at in
         let less = below_is low bound below in
         gives
-        (λ env s t fine ready done. (
-          done.second.0,
-          hidden_then z depth s done.middle t
+        (λ env s t fine ready done. record {
+          ready = done.second.ready;
+          hidden = hidden_then z depth s done.middle t
               (hidden_kept z depth s done.middle (omega (arith, within))
               (kept_less z (base_of z) (base_of z + 4 * (0 - z.allocation.count)) s done.middle (omega arith)
-              done.first.kept)) done.second.1,
-        ))
+              done.first.kept)) done.second.hidden;
+        })
         (seq (homed_runs z h is has_low room_low)
         (by_bounds z x bounds (λ b few. along_fit (λ env s known. ap (path_by env) known.is)
         (gives (λ env s t fine known done. looped_by b env s t known.is done)
@@ -286,14 +279,13 @@ module _ (z : Setting) (depth x h : ℕ) (within : depth < z.depths)
         (to_number_code z.declared z.allocation (base_of z) h low bound ys) (Ready z)
         (Shown z depth (λ env. after env (repeats x low high body)))
     to_number_runs =
-        gives {Q = Looped} (λ env s t fine ready done. record { ready = done.0; hidden = done.1 })
-        (along
+        along
         (λ env.
         let rest = bounded x (bounds env).0 (bounds env).1 ∷ path_by env (bounds env) in
         ap (λ (front : Path). front ++ rest)
         (ap (λ (p : Path). path_in env.variables low ++ p) (is_short.path env.variables)
         ∙ append-nil (path_in env.variables low)))
-        (by_first (is_below bound low) refl))
+        (by_first (is_below bound low) refl)
 
   -- Up to a bound in the frame.
 
@@ -393,8 +385,8 @@ module _ (z : Setting) (depth x h : ℕ) (within : depth < z.depths)
     to_word_runs =
         gives
         (λ env s t fine ready done. record {
-          ready = done.second.0;
-          hidden = hidden_then z depth s done.middle t done.first.1 done.second.1;
+          ready = done.second.ready;
+          hidden = hidden_then z depth s done.middle t done.first.1 done.second.hidden;
         })
         (seq (bounds_runs z depth within low high has_low has_high room_low room_high) (by_bounds z x bounds word_at)
         (λ env s t ready begun. begun.0))

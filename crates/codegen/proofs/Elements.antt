@@ -8,17 +8,16 @@ use Rattle.codegen.proofs.Language.{term_nodes, value_in, path_in, indexed, Word
 use Rattle.codegen.proofs.Language.{HasType, counter_type, holds, path_at, put, IsPut, types_of}
 use Rattle.codegen.proofs.Logic.{register-at, lower_fits, Addressed, address_runs, steps_of, kind_known, HomesKept}
 use Rattle.codegen.proofs.Logic.{homes_by, HeldAt, free_from, storing, place_of, place_even, place_before, place_ends}
-use Rattle.codegen.proofs.Logic.{Setting, setting, base_of, Known, by_index, none, Runs, seq, quiet, weaken, gives}
-use Rattle.codegen.proofs.Logic.{as_code, Ready, Wrote, ready_after, NearElement, near_known, known, never, along}
-use Rattle.codegen.proofs.Logic.{cheaper, eqb-true}
+use Rattle.codegen.proofs.Logic.{Setting, setting, base_of, Known, by_index, none, Runs, quiet, weaken, gives, as_code}
+use Rattle.codegen.proofs.Logic.{Ready, Wrote, NearElement, near_known, known, never, along, cheaper, eqb-true}
 use Rattle.codegen.proofs.Machine.{store_by, slots_to, kind_at, Instr, variable_offset, home_of, lower_part, store_size}
 use Rattle.codegen.proofs.Machine.{address_of, byte_count, index_code, read_code, read_register, height_of_put}
 use Rattle.codegen.proofs.Machine.{address_code, with_number, code_by, near_element}
 use Rattle.rv_code.specs.declared.instructions.Instr.TheVariants as instr
 use Rattle.rv_machine.specs.Machine as machine
-use Rattle.codegen.proofs.PairRuns.{FirstRead, second_runs}
-use Rattle.codegen.proofs.Slots.{Shown, ready_with, IsSource, read_runs, read_source, source_apart, Hidden, hidden_then}
-use Rattle.codegen.proofs.Slots.{hidden_by, hidden_kept, hidden_wrote, ready_put}
+use Rattle.codegen.proofs.PairRuns.{FirstRead, read_then, second_runs}
+use Rattle.codegen.proofs.Slots.{Shown, ready_with, IsSource, read_source, source_apart, Hidden, hidden_then, hidden_by}
+use Rattle.codegen.proofs.Slots.{hidden_kept, hidden_wrote, ready_put}
 
 pub store_bytes : (kind : Kind) → byte_count (store_size (store_by kind)) ≡ element_bytes kind
 store_bytes Boolean = refl
@@ -158,7 +157,8 @@ module _ (z : Setting) (access : ElementAccess z) where
   -- The index and the value.
 
   value_piece : (i : ℕ)
-      → Runs z (16 * term_nodes access.value) (steps_of access.value) (read_code z.declared z.allocation (base_of z) 6 1 access.value)
+      → Runs z (16 * term_nodes access.value) (steps_of access.value)
+      (read_code z.declared z.allocation (base_of z) 6 1 access.value)
       (Known (setting z) ℕ (λ j. j < access.size) (FirstRead z access.index) number_of i)
       (λ env s t. Aimed i env t × Hidden z access.depth s t)
   value_piece i =
@@ -176,19 +176,14 @@ module _ (z : Setting) (access : ElementAccess z) where
       → Runs z n none tail (Aimed i) (λ env s t. Hidden z access.depth s t
       × (number_of env ≡ i → Ready z (change env) t)))
       → Runs z (16 * term_nodes access.index + (16 * term_nodes access.value + n))
-      (λ env. path_in env.variables access.index ++ indexed access.place access.size (number_of env) ∷ path_in env.variables access.value)
-      (index_code z.declared z.allocation (base_of z) access.index access.value ++ tail) (Ready z) (Shown z access.depth change)
+      (λ env. path_in env.variables access.index ++ indexed access.place access.size (number_of env)
+      ∷ path_in env.variables access.value)
+      (index_code z.declared z.allocation (base_of z) access.index access.value ++ tail) (Ready z)
+      (Shown z access.depth change)
   at_element {tail = tail} change act =
       as_code (append_assoc (read_code z.declared z.allocation (base_of z) 5 0 access.index)
       (read_code z.declared z.allocation (base_of z) 6 1 access.value) tail)
-      (gives
-      (λ env s t fine ready done. record {
-        ready = done.second.ready;
-        hidden = hidden_then z access.depth s done.middle t (hidden_kept z access.depth s done.middle access.within done.first.kept)
-            done.second.hidden;
-      })
-      (seq
-      (read_runs z access.index_type (omega (arith, access.room)))
+      (read_then z access.depth access.within access.index_type (omega (arith, access.room))
       (by_index z {P = FirstRead z access.index} access.place access.size number_of
       (λ i below.
       gives {R = Shown z access.depth change}
@@ -196,11 +191,7 @@ module _ (z : Setting) (access : ElementAccess z) where
         ready = done.second.1 given.is;
         hidden = hidden_then z access.depth s done.middle t done.first.1 done.second.0;
       })
-      (quiet (value_piece i) (act i below) (λ env s t given done. done.0))))
-      (λ env s t ready done. record {
-        ready = ready_after z env s t ready done.held done.kept done.homes;
-        there = done.there;
-      })))
+      (quiet (value_piece i) (act i below) (λ env s t given done. done.0)))))
 
   pub kind_is : kind_at z.declared access.x ≡ kind
   kind_is = kind_known z.declared access.x array access.known

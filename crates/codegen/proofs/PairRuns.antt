@@ -1,10 +1,10 @@
 -- Two operands that are read one after the other: where the second comes into its register, the first stays in its own.
-use Rattle.std.proofs.Common.{◌≡◌, ℕ, ◌+◌, ◌*◌, ◌≤◌, false, ◌⊎◌, inl, inr, ap, ◌∙◌, arith}
-use Rattle.codegen.proofs.Language.{HasType, StraightState, TermTree, WordType, term_nodes, types_of, value_in}
-use Rattle.codegen.proofs.Logic.{base_of, home_beside, HomesKept, IsHome, Kept, nat_tests, place_target, Ready}
-use Rattle.codegen.proofs.Logic.{ready_after, Runs, Setting, steps_of, weaken, works_at}
-use Rattle.codegen.proofs.Machine.{height_of, read_code, read_register, slots_to}
-use Rattle.codegen.proofs.Slots.{IsSource, read_source, reads}
+use Rattle.std.proofs.Common.{◌≡◌, ℕ, ◌+◌, ◌*◌, ◌≤◌, false, List, ◌++◌, ◌⊎◌, inl, inr, ap, ◌∙◌, arith}
+use Rattle.codegen.proofs.Language.{HasType, StraightState, TermTree, WordType, path_in, term_nodes, types_of, value_in}
+use Rattle.codegen.proofs.Logic.{base_of, home_beside, HomesKept, IsHome, Kept, nat_tests, place_target, Ready, gives}
+use Rattle.codegen.proofs.Logic.{ready_after, Runs, seq, Setting, Steps, steps_of, weaken, works_at}
+use Rattle.codegen.proofs.Machine.{height_of, Instr, read_code, read_register, slots_to}
+use Rattle.codegen.proofs.Slots.{hidden_kept, hidden_then, IsSource, read_runs, read_source, reads, ready_valued, Shown}
 use Rattle.rv_machine.specs.Machine as machine
 
 -- the register of the first temporary stays where a value comes into that of the second
@@ -15,6 +15,24 @@ first_beside count = grind (arith, nat_tests)
 pub record FirstRead (z : Setting) (first : TermTree) (env : StraightState) (s : machine.State) : Type 0 where
   pub ready : Ready z env s
   pub there : s.regs (read_register z.allocation 5 first) ≡ value_in env.variables first
+
+-- an expression, read where it is, and then code that finds it there: both together show what that code shows
+pub read_then : (z : Setting) (depth : ℕ) → depth ≤ z.depths → {e : TermTree} {word : WordType} {n : ℕ} {steps : Steps}
+    {code : List Instr} {change : StraightState → StraightState}
+    → HasType (types_of z.code.profile z.declared) e word
+    → base_of z + 4 * slots_to z.allocation.count (height_of e) ≤ z.size
+    → Runs z n steps code (FirstRead z e) (Shown z depth change)
+    → Runs z (16 * term_nodes e + n) (λ env. path_in env.variables e ++ steps env)
+    (read_code z.declared z.allocation (base_of z) 5 0 e ++ code) (Ready z) (Shown z depth change)
+read_then z depth within {e = e} has room runs =
+    gives
+    (λ env s t fine ready done. record {
+      ready = done.second.ready;
+      hidden = hidden_then z depth s done.middle t (hidden_kept z depth s done.middle within done.first.kept)
+          done.second.hidden;
+    })
+    (seq (read_runs z has room) runs
+    (λ env s t ready done. record { ready = ready_valued z e env s t ready done; there = done.there }))
 
 -- both are in theirs
 pub record BothRead (z : Setting) (first second : TermTree) (env : StraightState) (s t : machine.State) : Type 0 where

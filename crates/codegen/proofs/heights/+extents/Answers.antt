@@ -1,4 +1,4 @@
-use Rattle.std.proofs.Common.{rules, max, refl, ap, arith}
+use Rattle.std.proofs.Common.{rules, refl, ap, arith}
 use Rattle.branch_removal.specs.Heights.{depth_in, depth_in_all, height_in, height_in_all}
 use Rattle.codegen.proofs.StatementCode.{tree_of_branch, tree_of_loop, accepted_smaller, otherwise_smaller}
 use Rattle.codegen.proofs.StatementCode.{body_smaller, item_here, smaller_here, greatest_here}
