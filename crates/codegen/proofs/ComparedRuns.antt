@@ -1,6 +1,7 @@
 -- The code of what a branch tests of a condition: the test says whether the condition holds.
 use Rattle.std.proofs.Common.{◌≡◌, ℕ, ◌+◌, ◌*◌, ◌<◌, ◌≤◌, ◌==◌, Bool, true, false, not, cond, if◌then◌else◌, nat_lt}
 use Rattle.std.proofs.Common.{nat_le, [], ◌++◌, Option, None, Some, refl, sym, ap, ap₂, ◌∙◌, subst, arith, append-nil}
+use Rattle.codegen.proofs.Choices.{choice_of, of_choice}
 use Rattle.codegen.proofs.Language.{HasType, Path, Place, StraightState, TermTree, WordType, path_in, term_nodes}
 use Rattle.codegen.proofs.Language.{types_of, value_in, word_of}
 use Rattle.codegen.proofs.Logic.{along, base_of, cheaper, gives, idle, Kept, kept_then, known, nat_tests, none-some}
@@ -73,14 +74,7 @@ passes test regs = holds test.test (register regs test.left) (register regs test
 
 between_passes : (c : Comparison) (l r : ℕ) (regs : ℕ → ℕ)
     → passes (between c l r) regs ≡ are_passing c (register regs l) (register regs r)
-between_passes c l r regs = by_turn c.is_turned
-  where
-    by_turn : (b : Bool)
-        → passes (cond b (record { test = c.test; left = r; right = l })
-        (record { test = c.test; left = l; right = r })) regs
-        ≡ cond b (holds c.test (register regs r) (register regs l)) (holds c.test (register regs l) (register regs r))
-    by_turn true = refl
-    by_turn false = refl
+between_passes c l r regs = choice_of (λ test. passes test regs) c.is_turned _ _
 
 -- a test of registers that there are
 pub record IsTest (test : Test) : Type 0 where
@@ -88,24 +82,16 @@ pub record IsTest (test : Test) : Type 0 where
   pub right : test.right < 32
 
 between_is : (c : Comparison) (l r : ℕ) → l < 32 → r < 32 → IsTest (between c l r)
-between_is c l r low low' = by_turn c.is_turned
-  where
-    by_turn : (b : Bool)
-        → IsTest (cond b (record { test = c.test; left = r; right = l })
-        (record { test = c.test; left = l; right = r }))
-    by_turn true = record { left = low'; right = low }
-    by_turn false = record { left = low; right = low' }
+between_is c l r low low' =
+    of_choice IsTest c.is_turned (record { left = low'; right = low }) (record { left = low; right = low' })
 
 module _ (z : Setting) where
   read_small : (e : TermTree) (asked : ℕ) → 4 < asked → asked < 28 → read_register z.allocation asked e < 32
   read_small e asked low high = let source = read_source z e asked low high in omega (arith, source.high)
 
   right_small : (e : TermTree) → right_register z.allocation e < 32
-  right_small e = by_zero (gives_zero z.allocation e)
-    where
-      by_zero : (b : Bool) → cond b 0 (read_register z.allocation 6 e) < 32
-      by_zero true = omega arith
-      by_zero false = read_small e 6 (omega arith) (omega arith)
+  right_small e =
+      of_choice (λ r. r < 32) (gives_zero z.allocation e) (omega arith) (read_small e 6 (omega arith) (omega arith))
 
   pub test_is : (e : TermTree) → IsTest (test_of z.allocation e)
   test_is (binary place operator width left right) = by_comparison (failing operator)

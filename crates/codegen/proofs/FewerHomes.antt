@@ -3,6 +3,7 @@ use Rattle.std.proofs.Common.{◌≡◌, ℕ, zero, suc, ◌+◌, ◌<◌, ◌�
 use Rattle.std.proofs.Common.{length, Option, None, Some, refl, sym, ap, ap₂, ◌∙◌, arith, eq-eqb, if◌then◌else◌}
 use Rattle.std.proofs.Common.{is_some}
 use Rattle.std.proofs.lemmas.Bool.{or_parts, true≢false}
+use Rattle.codegen.proofs.Choices.{of_choice}
 use Rattle.codegen.proofs.Language.{array, branch, first, FlatVariable, nothing, put, repeats, set, element_bytes}
 use Rattle.codegen.proofs.Language.{StraightBlock, StraightTree, take, TermTree}
 use Rattle.codegen.proofs.Logic.{none-some}
@@ -93,12 +94,11 @@ homes_fewer out k (None ∷ homes) =
     (rest.0, ap suc rest.1)
 homes_fewer out k (Some home ∷ homes) =
     let rest = homes_fewer out (k + 1) homes in
-    (by_test (out k) rest.0, ap suc rest.1)
-  where
-    by_test : (b : Bool) → home_count (homes_but out (k + 1) homes) ≤ home_count homes
-        → home_count ((if b then None else Some home) ∷ homes_but out (k + 1) homes) ≤ 1 + home_count homes
-    by_test true fewer = omega (arith, fewer)
-    by_test false fewer = omega (arith, fewer)
+    let fewer = rest.0 in (
+      of_choice (λ first. home_count (first ∷ homes_but out (k + 1) homes) ≤ 1 + home_count homes) (out k)
+          (omega (arith, fewer)) (omega (arith, fewer)),
+      ap suc rest.1,
+    )
 
 module _ (declared : List FlatVariable) (a : Allocation) (left_out : ℕ → Bool)
     (variables : (y : ℕ) → left_out y ≡ true → y < length declared) where

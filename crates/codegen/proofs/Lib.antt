@@ -17,6 +17,7 @@ pub mod Elements
 pub mod ElementRuns
 pub mod ElementUnderRuns
 pub mod Arguments
+pub mod Choices
 pub mod ClearRuns
 pub mod WordLengths
 pub mod LoopLengths

@@ -1,6 +1,7 @@
 -- What is put into an element for an expression: it is read as that expression is, and its store makes the same of it.
 use Rattle.std.proofs.Common.{◌∙◌, ◌≡◌, ℕ, ◌%◌, ◌^◌, ◌<◌, ◌≤◌, Bool, true, false, if◌then◌else◌, refl, sym, arith}
 use Rattle.std.proofs.lemmas.Bool.{false≢true}
+use Rattle.codegen.proofs.Choices.{of_choice}
 use Rattle.codegen.proofs.Language.{bits_of, element_bytes, HasType, Kind, labelled, path_in, term_nodes, TermTree}
 use Rattle.codegen.proofs.Language.{Types, value_in, Values, WordType}
 use Rattle.codegen.proofs.Machine.{Allocation, height_of}
@@ -16,20 +17,14 @@ use Rattle.word.specs.Operators.{converted}
 
 uncut_by : (P : TermTree → Type 0) → ((kind : Kind) (e : TermTree) → P (convert kind e) → P e) → (element : Kind)
     (e : TermTree) → P e → P (uncut element e)
-uncut_by P of_operand element (convert kind e) holds = by_test (cuts element kind)
-  where
-    by_test : (b : Bool) → P (if b then e else convert kind e)
-    by_test true = of_operand kind e holds
-    by_test false = holds
+uncut_by P of_operand element (convert kind e) holds =
+    of_choice P (cuts element kind) (of_operand kind e holds) holds
 uncut_by P of_operand element e holds = holds
 
 stored_by : (P : TermTree → Type 0) → ((kind : Kind) (e : TermTree) → P (convert kind e) → P e) → (a : Allocation)
     (element : Kind) (e : TermTree) → P e → P (stored_value a element e)
-stored_by P of_operand a element e holds = by_test a.immediates
-  where
-    by_test : (b : Bool) → P (if b then uncut element e else e)
-    by_test true = uncut_by P of_operand element e holds
-    by_test false = holds
+stored_by P of_operand a element e holds =
+    of_choice P a.immediates (uncut_by P of_operand element e holds) holds
 
 -- so what is the same of a conversion is the same
 pub stored_alike : {A : Type 0} (f : TermTree → A) → ((kind : Kind) (e : TermTree) → f (convert kind e) ≡ f e)
@@ -85,8 +80,5 @@ uncut_cut element has = itself element has
 
 pub stored_cut : {types : Types} {e : TermTree} {word : WordType} (a : Allocation) (element : Kind)
     → HasType types e word → IsCutTo types element e (stored_value a element e)
-stored_cut {types = types} {e = e} a element has = by_test a.immediates
-  where
-    by_test : (b : Bool) → IsCutTo types element e (if b then uncut element e else e)
-    by_test true = uncut_cut element has
-    by_test false = itself element has
+stored_cut {types = types} {e = e} a element has =
+    of_choice (IsCutTo types element e) a.immediates (uncut_cut element has) (itself element has)

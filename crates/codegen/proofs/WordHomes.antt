@@ -1,6 +1,7 @@
 -- The homes of optimised code fit its program, whichever words are chosen.
 use Rattle.std.proofs.Common.{◌≡◌, ℕ, zero, suc, ◌+◌, ◌<◌, ◌≤◌, ◌&&◌, Bool, true, false, cond, nat_lt, List, ◌∷◌}
 use Rattle.std.proofs.Common.{length, Option, None, Some, slice_get, refl, ap, ◌∙◌, arith}
+use Rattle.codegen.proofs.Choices.{of_choice}
 use Rattle.codegen.proofs.Language.{FlatVariable, StraightProgram}
 use Rattle.codegen.proofs.Logic.{nat_tests, none-some, same_Some}
 use Rattle.codegen.proofs.Machine.{home_count, home_of, IsFitting}
@@ -25,11 +26,7 @@ some_at wanted n home is = by_test (gets_home wanted n) refl is
     by_test false e same = absurd (none-some home same)
 
 after_least : (wanted : Bool) (n : ℕ) → n ≤ home_after wanted n
-after_least wanted n = by_test (gets_home wanted n)
-  where
-    by_test : (b : Bool) → n ≤ cond b (n + 1) n
-    by_test true = omega arith
-    by_test false = omega arith
+after_least wanted n = of_choice (λ m. n ≤ m) (gets_home wanted n) (omega arith) (omega arith)
 
 -- of the word i and those behind it, so many, the first of them the register n
 module _ (wanted : ℕ → Bool) where
