@@ -64,7 +64,8 @@ module _ (frame : ℕ) where
       let at : frame + (low + bytes_of d * i) ≡ frame + low + bytes_of d * i = omega arith in
       ap₂ (λ (b : ByteMap) a. number_at b (bytes_of d) a) (h.1 bytes low) at
       ∙ numbers_there bytes (bytes_of d) (frame + low) (words_of arg) i
-      (λ j less. cut_number p.kind d.elements _ (greatest p.kind (slice_index (words_of arg) j) (within.values j 0 less)))
+      (λ j less. cut_number p.kind d.elements _
+      (greatest p.kind (slice_index (words_of arg) j) (within.values j 0 less)))
       (omega (arith, below, long))
 
   -- and end with its words

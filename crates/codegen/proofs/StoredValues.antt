@@ -42,7 +42,8 @@ stored_path a element e m = stored_alike (path_in m) (λ kind operand. refl) a e
 -- and there are no more nodes
 pub stored_nodes : (a : Allocation) (element : Kind) (e : TermTree) → term_nodes (stored_value a element e) ≤ term_nodes e
 stored_nodes a element e =
-    stored_by (λ other. term_nodes other ≤ term_nodes e) (λ kind other few. omega (arith, few)) a element e (omega arith)
+    stored_by (λ other. term_nodes other ≤ term_nodes e) (λ kind other few. omega (arith, few)) a element e
+    (omega arith)
 
 -- an expression with a type, of whose value an element's store makes that of another
 pub record IsCutTo (types : Types) (element : Kind) (other e : TermTree) : Type 0 where

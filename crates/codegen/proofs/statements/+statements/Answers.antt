@@ -53,8 +53,8 @@ statement-returns-in_ok-statements-in-Repeat t c =
     c.any_sets.result
     (c.any_sets.ensures ∙ ap (λ body. any_sets c.in-Repeat.counter (straight_block body)) same) in
     record {
-      code = subst (λ (l : List Instr). OnOk c.repeat.result (c.repeat.new.code.items ≡ c.args.code.now.items ++ l)) code
-          c.repeat.ensures.code;
+      code = subst (λ (l : List Instr). OnOk c.repeat.result (c.repeat.new.code.items ≡ c.args.code.now.items ++ l))
+          code c.repeat.ensures.code;
       far = subst (λ (l : List Instr). IfErr c.repeat.result (IsFar (length l))) code c.repeat.ensures.far;
     }
 
