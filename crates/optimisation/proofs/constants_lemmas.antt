@@ -5,13 +5,14 @@ pub mod OneOperand
 pub mod Opposites
 pub mod TurnedRound
 pub mod TwoShifts
-pub mod PowerSteps
+pub mod Powers
 pub mod Suiting
+pub mod TermRules
 pub mod TermTypes
 pub mod TermSizes
 pub mod TermLemmas
+pub mod StatementRules
 pub mod Unset
-pub mod Turns
 pub mod Decisions
 pub mod Held
 pub mod Typed

@@ -1,6 +1,7 @@
 -- Choosing: counts, and how many turns are allowed.
-use Rattle.std.proofs.Common.{◌≡◌, ℕ, zero, suc, ◌+◌, ◌-◌, ◌*◌, ◌∙◌, Bool, true, false, List, [], ◌∷◌, nat_le, ap}
+use Rattle.std.proofs.Common.{◌≡◌, ℕ, zero, suc, ◌+◌, ◌-◌, ◌*◌, ◌∙◌, List, [], ◌∷◌, nat_le, ap}
 use Rattle.std.proofs.Common.{◌&&◌, if◌then◌else◌, slice_index, slice_set, arith}
+use Rattle.std.proofs.lemmas.Bool.{cond_both}
 use Rattle.branch_removal.specs.Straight.{StraightTree, set, array, put, take, branch, repeats}
 use Rattle.branch_removal.specs.Straight.{StraightBlock, nothing, first, StraightProgram}
 use Rattle.optimisation.specs.constants.private.Choice.{AreAllowed, Chosen, begun, chosen, chosen_all, copies_of}
@@ -49,16 +50,10 @@ module _ (turns : List ℕ) where
   settled_allowed : (before room x own : ℕ) (inner : Chosen) → AreAllowed inner.copies turns
       → AreAllowed (settled before room x own inner).copies turns
   settled_allowed before room x own inner allowed =
-      by_room (nat_le 1 (slice_index inner.copies x)
+      cond_both (nat_le 1 (slice_index inner.copies x)
       && nat_le inner.nodes (most_nodes_of (slice_index inner.copies x))
       && nat_le (counted (counted (inner.nodes + 2) * slice_index inner.copies x)) room) _ _
-      allowed
-      (refused inner.copies turns x allowed)
-    where
-      by_room : (b : Bool) (one other : Chosen) → AreAllowed one.copies turns → AreAllowed other.copies turns
-          → AreAllowed (if b then one else other).copies turns
-      by_room true one other a c = a
-      by_room false one other a c = c
+      (λ (next : Chosen). AreAllowed next.copies turns) (λ is. allowed) (λ is. refused inner.copies turns x allowed)
 
   mutual
     chosen_allowed : (so_far : Chosen) (statement : StraightTree) → AreAllowed so_far.copies turns

@@ -1,11 +1,10 @@
 -- Variables that may be read as others: they are words of one type.
-use Rattle.std.proofs.Common.{◌≡◌, ℕ, ◌==◌, ◌&&◌, Bool, true, not, List, Option, None, Some, slice_get}
-use Rattle.std.proofs.Common.{slice_index, refl, sym, ap, ◌∙◌}
+use Rattle.std.proofs.Common.{◌≡◌, ℕ, ◌==◌, ◌&&◌, Bool, true, false, not, List, Option, None, Some, slice_get}
+use Rattle.std.proofs.Common.{slice_index, ⊎_elim, refl, sym, ap, ◌∙◌, subst}
 use Rattle.std.proofs.lemmas.Bool.{and_parts, eq-eqb, false≢true}
 use Rattle.std.proofs.lemmas.Option.{none-some, same_Some}
 use Rattle.inline.specs.declared.flat.FlatVariable.{FlatVariable}
-use Rattle.inline.specs.Flat.{TermTree, number, truth, variable, prefix, binary, rotate, convert, select, element}
-use Rattle.inline.specs.Flat.{word_as}
+use Rattle.inline.specs.Flat.{TermTree, variable, word_as}
 use Rattle.inline.specs.FlatMeaning.{Values, value_in}
 use Rattle.language.specs.declared.signature.Kind.{Kind}
 use Rattle.language.specs.declared.signature.Kind.TheVariants.{Boolean, Uint8, Uint16, Uint32}
@@ -13,19 +12,18 @@ use Rattle.language.specs.declared.signature.Label.{Label}
 use Rattle.language.specs.declared.signature.Label.TheVariants.{Public, Secret}
 use Rattle.language.specs.declared.typing.WordType.{WordType}
 use Rattle.language.specs.Types.{same_kind, same_label}
-use Rattle.optimisation.specs.constants.private.Simplification.{are_alike, is_word, may_be_read_as, variable_of}
+use Rattle.optimisation.specs.declared.constants.known.Constant.{Constant}
+use Rattle.optimisation.specs.declared.constants.known.WordCopy.{WordCopy}
+use Rattle.optimisation.specs.constants.private.Folding.{constant_of}
+use Rattle.optimisation.specs.constants.private.Known.{Words, with_word}
+use Rattle.optimisation.specs.constants.private.Simplification.{are_alike, copied, copied_where, is_word, may_be_read_as}
+use Rattle.optimisation.specs.constants.private.Simplification.{set_to, variable_of}
+use Rattle.optimisation.proofs.constants_lemmas.KnownLemmas.{Fact, valued, copy, IsFree, Knows, in_more, word_by}
 
 -- the value of what is a variable
 pub read_value : (m : Values) (e : TermTree) (y : ℕ) → variable_of e ≡ Some y → value_in m e ≡ slice_index (m y) 0
 read_value m (variable x) y is = ap (λ z. slice_index (m z) 0) (same_Some x y is)
-read_value m (number value kind) y is = absurd (none-some y is)
-read_value m (truth value) y is = absurd (none-some y is)
-read_value m (prefix operator width operand) y is = absurd (none-some y is)
-read_value m (binary place operator width left right) y is = absurd (none-some y is)
-read_value m (rotate width operand amount) y is = absurd (none-some y is)
-read_value m (convert kind operand) y is = absurd (none-some y is)
-read_value m (select condition accepted otherwise) y is = absurd (none-some y is)
-read_value m (element place x size index) y is = absurd (none-some y is)
+read_value m e y is = absurd (none-some y is)
 
 -- these are two variables
 pub two_variables : (declared : List FlatVariable) (x y : ℕ) → may_be_read_as declared x y ≡ true → x ≡ y → ⊥
@@ -39,24 +37,12 @@ one_kind Boolean Boolean h = refl
 one_kind Uint8 Uint8 h = refl
 one_kind Uint16 Uint16 h = refl
 one_kind Uint32 Uint32 h = refl
-one_kind Uint8 Uint16 h = absurd (false≢true h)
-one_kind Uint8 Uint32 h = absurd (false≢true h)
-one_kind Uint16 Uint8 h = absurd (false≢true h)
-one_kind Uint16 Uint32 h = absurd (false≢true h)
-one_kind Uint32 Uint8 h = absurd (false≢true h)
-one_kind Uint32 Uint16 h = absurd (false≢true h)
-one_kind Boolean Uint8 h = absurd (false≢true h)
-one_kind Boolean Uint16 h = absurd (false≢true h)
-one_kind Boolean Uint32 h = absurd (false≢true h)
-one_kind Uint8 Boolean h = absurd (false≢true h)
-one_kind Uint16 Boolean h = absurd (false≢true h)
-one_kind Uint32 Boolean h = absurd (false≢true h)
+one_kind k l h = absurd (false≢true h)
 
 one_label : (k l : Label) → same_label k l ≡ true → l ≡ k
 one_label Public Public h = refl
 one_label Secret Secret h = refl
-one_label Public Secret h = absurd (false≢true h)
-one_label Secret Public h = absurd (false≢true h)
+one_label k l h = absurd (false≢true h)
 
 no_elements : (o : Option ℕ) → is_word o ≡ true → o ≡ None
 no_elements None h = refl
@@ -89,3 +75,30 @@ source_alike declared x y word mutable is there =
     let parts = and_parts (not (x == y)) (are_alike (slice_get declared x) (slice_get declared y)) is in
     alike (word_as word mutable) (slice_get declared y)
     (sym (ap (λ (o : Option FlatVariable). are_alike o (slice_get declared y)) there) ∙ parts.1)
+
+-- what is known where a variable has been set to the value of an expression: its number, or that it is a copy, and what
+-- was known of others
+module _ (declared : List FlatVariable) (words : Words) (x : ℕ) (e : TermTree) (P : Fact → Type 0)
+    (numbered : (c : Constant) → constant_of e ≡ Some c → P (valued x c))
+    (is_copy : (y : ℕ) → variable_of e ≡ Some y → may_be_read_as declared x y ≡ true
+    → P (copy (record { variable = x; source = y })))
+    (known_before : (f : Fact) → IsFree x f → Knows words f → P f) where
+  with_number : (f : Fact) → Knows (with_word words x (constant_of e)) f → P f
+  with_number = word_by words x (constant_of e) P numbered known_before
+
+  copied_by : (y : ℕ) → variable_of e ≡ Some y → (b : Bool) → may_be_read_as declared x y ≡ b → (f : Fact)
+      → Knows (copied_where b x y (with_word words x (constant_of e))) f → P f
+  copied_by y same false may f is = with_number f is
+  copied_by y same true may (valued z c) is = with_number (valued z c) is
+  copied_by y same true may (copy c) is =
+      ⊎_elim (λ there. with_number (copy c) there)
+      (λ here. subst (λ (d : WordCopy). P (copy d)) here (is_copy y same may))
+      (in_more (with_word words x (constant_of e)) c (record { variable = x; source = y }) is)
+
+  pub set_by : (f : Fact) → Knows (set_to declared words None x e) f → P f
+  set_by f is = by_variable (variable_of e) refl is
+    where
+      by_variable : (o : Option ℕ) → variable_of e ≡ o
+          → Knows (copied declared x o (with_word words x (constant_of e))) f → P f
+      by_variable None same h = with_number f h
+      by_variable (Some y) same h = copied_by y same (may_be_read_as declared x y) refl f h

@@ -1,4 +1,4 @@
--- What a condition or bounds that are numbers decide.
+-- Bounds of a loop that are numbers.
 use Rattle.std.proofs.Common.{◌≡◌, ℕ, ◌-◌, ◌≤◌, Bool, true, false, if◌then◌else◌, nat_le, Option, None, Some, refl, ap}
 use Rattle.std.proofs.Common.{arith}
 use Rattle.std.proofs.lemmas.Bool.{leb-true}
@@ -6,19 +6,6 @@ use Rattle.std.proofs.lemmas.Option.{none-some, same_Some}
 use Rattle.optimisation.specs.declared.constants.known.Constant.{Constant}
 use Rattle.optimisation.specs.declared.constants.terms.Numbers.{Numbers}
 use Rattle.optimisation.specs.constants.private.Folding.{numbers_of}
-use Rattle.optimisation.specs.constants.private.Simplification.{decided, unrolled}
-
--- one of three, by a decision that is known
-pub decided_by : {A : Type 0} (P : A → Type 0) (d : Option Bool) (one other both : A) → (d ≡ Some true → P one)
-    → (d ≡ Some false → P other) → P both → P (decided d one other both)
-decided_by P (Some true) one other both a b c = a refl
-decided_by P (Some false) one other both a b c = b refl
-decided_by P None one other both a b c = c
-
-pub unrolled_by : {A : Type 0} (P : A → Type 0) (o : Option Numbers) (copied : Numbers → A) (loop : A)
-    → ((each : Numbers) → o ≡ Some each → P (copied each)) → P loop → P (unrolled o copied loop)
-unrolled_by P (Some each) copied loop a b = a each refl
-unrolled_by P None copied loop a b = b
 
 -- two bounds that are numbers
 pub record AreNumbers (most : ℕ) (one other : Option Constant) (each : Numbers) : Type 0 where

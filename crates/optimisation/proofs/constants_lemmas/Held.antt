@@ -1,7 +1,8 @@
 -- Well-typed straight code keeps in each variable what it is declared as.
-use Rattle.std.proofs.Common.{◌≡◌, ℕ, zero, suc, ◌-◌, ◌^◌, ◌<◌, ◌≤◌, ◌==◌, Bool, true, false, cond, List, []}
+use Rattle.std.proofs.Common.{◌≡◌, ℕ, zero, suc, ◌+◌, ◌-◌, ◌^◌, ◌<◌, ◌≤◌, ◌==◌, Bool, true, false, cond, List, []}
 use Rattle.std.proofs.Common.{◌∷◌, ◌++◌, length, map, take as first_of, drop, replicate, All, slice_get, slice_set}
 use Rattle.std.proofs.Common.{None, Some, sym, ap, ◌∙◌, subst, arith}
+use Rattle.std.proofs.lemmas.Bool.{cond_both}
 use Rattle.std.proofs.lemmas.List.{length-set, length-replicate, length-map, take-append-drop}
 use Rattle.std.proofs.lemmas.List.Elements.{All-nil, All-cons, All-set, All-replicate}
 use Rattle.std.proofs.lemmas.Option.{none-some, same_Some}
@@ -9,7 +10,7 @@ use Rattle.language.specs.arguments.Within.{AreWithin, IsWithin, greatest_of, wo
 use Rattle.inline.specs.declared.flat.FlatVariable.{FlatVariable}
 use Rattle.inline.specs.Fitting.{IsWithinKind, IsHeld, Fits}
 use Rattle.inline.specs.Flat.{TermTree, counter_type, word_as, array_as, declaration_of, numbers_in}
-use Rattle.inline.specs.FlatMeaning.{Values, value_in, given}
+use Rattle.inline.specs.FlatMeaning.{Values, value_in, given, turns}
 use Rattle.inline.specs.FlatTyping.{Types, types_of, AllSuit}
 use Rattle.inline.proofs.Fitting.{value_fits, suited_fits, some_bit}
 use Rattle.inline.proofs.FittingBodies.{fits_assigned, one_held}
@@ -26,8 +27,6 @@ use Rattle.language.specs.declared.typing.WordType.{WordType}
 use Rattle.language.specs.declared.values.Arg.{Arg}
 use Rattle.language.specs.Types.{bits_of}
 use Rattle.word.specs.declared.profile.Profile.{Profile}
-use Rattle.optimisation.proofs.constants_lemmas.Turns.{kept_below}
-use Rattle.optimisation.proofs.constants_lemmas.Unset.{either_any}
 
 -- first values of an array
 all_held : (types : Types) (m : Values) → Fits types m → (word : WordType) (es : List TermTree)
@@ -35,6 +34,14 @@ all_held : (types : Types) (m : Values) → Fits types m → (word : WordType) (
 all_held types m fits word [] suit = All-nil (IsWithinKind word.kind)
 all_held types m fits word (e ∷ es) suit = All-cons (IsWithinKind word.kind) (value_in m e) (map (value_in m) es)
     (suited_fits types m fits word e suit.0) (all_held types m fits word es suit.1)
+
+-- what each turn keeps, of numbers below a limit, all keep
+kept_below : {S : Type 0} (Q : S → Type 0) (f : ℕ → S → S) (limit : ℕ)
+    → ((i : ℕ) (s : S) → i < limit → Q s → Q (f i s))
+    → (n i : ℕ) (s : S) → i + n ≤ limit → Q s → Q (turns n i f s)
+kept_below Q f limit keep zero i s below q = q
+kept_below Q f limit keep (suc n) i s below q =
+    kept_below Q f limit keep n (i + 1) (f i s) (omega (arith, below)) (keep i s (omega (arith, below)) q)
 
 -- all numbers of a loop are below this
 abbrev pub counter_limit : ℕ
@@ -64,10 +71,10 @@ module _ (profile : Profile) (declared : List FlatVariable) where
           → (s : StraightState) → Fits types s.variables → Fits types (after s statement).variables
       fits_after (set within x value) is s fits =
           let v = value_at s value in
-          either_any (λ (t : StraightState). Fits types t.variables) (holds s within) (with_variable s x (v ∷ [])) s
-          (fits_assigned types s.variables x (v ∷ []) (word_as is.1.word is.1.mutable) is.1.known
+          cond_both (holds s within) (with_variable s x (v ∷ [])) s (λ (t : StraightState). Fits types t.variables)
+          (λ sets. fits_assigned types s.variables x (v ∷ []) (word_as is.1.word is.1.mutable) is.1.known
           (one_held is.1.word is.1.mutable v (suited_fits types s.variables fits is.1.word value is.1.suits)) fits)
-          fits
+          (λ keeps. fits)
       fits_after (array x size []) is s fits =
           fits_assigned types s.variables x (replicate size 0) (array_as is.word is.mutable size) is.known
           (record {
@@ -85,20 +92,20 @@ module _ (profile : Profile) (declared : List FlatVariable) where
           let v = value_at s value in
           let own = array_as is.1.word is.1.mutable size in
           let old = fits x own is.1.known in
-          either_any (λ (t : StraightState). Fits types t.variables) (holds s within)
-          (with_element s x (value_at s index) v) s
-          (fits_assigned types s.variables x (slice_set (s.variables x) (value_at s index) v) own is.1.known
+          cond_both (holds s within) (with_element s x (value_at s index) v) s
+          (λ (t : StraightState). Fits types t.variables)
+          (λ sets. fits_assigned types s.variables x (slice_set (s.variables x) (value_at s index) v) own is.1.known
           (record {
             count = length-set (s.variables x) (value_at s index) v ∙ old.count;
             within = All-set (IsWithinKind is.1.word.kind) (s.variables x) (value_at s index) v
                 (suited_fits types s.variables fits is.1.word value is.1.suits) old.within;
           }) fits)
-          fits
+          (λ keeps. fits)
       fits_after (take control within condition) is s fits = fits
       fits_after (branch condition accepted otherwise) is s fits =
-          either_any (λ (t : StraightState). Fits types t.variables) (value_at s condition == 0)
-          (after_all s otherwise) (after_all s accepted)
-          (fits_after_all otherwise is.2 s fits) (fits_after_all accepted is.1 s fits)
+          cond_both (value_at s condition == 0) (after_all s otherwise) (after_all s accepted)
+          (λ (t : StraightState). Fits types t.variables) (λ none. fits_after_all otherwise is.2 s fits)
+          (λ some. fits_after_all accepted is.1 s fits)
       fits_after (repeats x low high body) is s fits =
           kept_below (λ (t : StraightState). Fits types t.variables) (λ i t. after_all (counted x i t) body)
           counter_limit

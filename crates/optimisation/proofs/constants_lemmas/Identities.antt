@@ -1,6 +1,6 @@
 -- What an operator makes of an operand and an identity: it leaves the operand as it is, where that is within its kind.
 use Rattle.std.proofs.Common.{◌≡◌, ℕ, ◌+◌, ◌*◌, ◌/◌, ◌%◌, ◌^◌, ◌==◌, ◌<◌, ◌&&◌, ◌||◌, Bool, true, false, not}
-use Rattle.std.proofs.Common.{bit_and, if◌then◌else◌, refl, sym, ap, ◌∙◌, subst, arith}
+use Rattle.std.proofs.Common.{bit_and, refl, sym, ap, ◌∙◌, subst, arith}
 use Rattle.std.proofs.Math.Nat.{mod-eq_of_lt}
 use Rattle.std.proofs.lemmas.Bool.{eqb-true, eqb-false, false≢true}
 use Rattle.std.proofs.lemmas.Nat.{and_comm, and_mask}
@@ -8,11 +8,8 @@ use Rattle.std.specs.Int.Bits.{or_zero_l, or_zero_r, xor_zero_l, xor_zero_r}
 use Rattle.inline.proofs.Fitting.{fits_number}
 use Rattle.inline.specs.Fitting.{IsWithinKind}
 use Rattle.language.specs.declared.operators.BinaryOperator.{BinaryOperator}
-use Rattle.language.specs.declared.operators.BinaryOperator.TheVariants.{Either, Both, Equal, Unequal, Less}
-use Rattle.language.specs.declared.operators.BinaryOperator.TheVariants.{LessOrEqual}
-use Rattle.language.specs.declared.operators.BinaryOperator.TheVariants.{Greater, GreaterOrEqual, BitOr, BitXor, BitAnd}
-use Rattle.language.specs.declared.operators.BinaryOperator.TheVariants.{ShiftLeft, ShiftRight, Add, Subtract, Multiply}
-use Rattle.language.specs.declared.operators.BinaryOperator.TheVariants.{Divide, Remainder}
+use Rattle.language.specs.declared.operators.BinaryOperator.TheVariants.{Either, Both, BitOr, BitXor, BitAnd, ShiftLeft}
+use Rattle.language.specs.declared.operators.BinaryOperator.TheVariants.{ShiftRight, Add, Subtract, Multiply, Divide}
 use Rattle.language.specs.declared.typing.WordType.{WordType}
 use Rattle.language.specs.Operators.{operation_of}
 use Rattle.language.specs.Operators.{operated, truth_of, width_of}
@@ -23,13 +20,6 @@ use Rattle.word.specs.declared.width.Width.TheVariants.{W8, W16, W32}
 use Rattle.word.specs.Operators.{complemented, difference, word_of}
 use Rattle.word.specs.Widths.{IsWord, bits}
 use Rattle.optimisation.specs.constants.private.Folding.{is_left_identity, is_right_identity}
-
--- one of three, whichever it is: an operand alone, or both
-pub reduced_by : {A : Type 0} (P : A → Type 0) (a b : Bool) (one other both : A) → (a ≡ true → P one)
-    → (b ≡ true → P other) → P both → P (if a then one else (if b then other else both))
-reduced_by P true b one other both f g h = f refl
-reduced_by P false true one other both f g h = g refl
-reduced_by P false false one other both f g h = h
 
 -- Words.
 
@@ -76,12 +66,6 @@ right_identity Either a b logic fits is =
     ∙ ap word_of (either_nothing (truth_of a)) ∙ truth_again a fits
 right_identity Both a b logic fits is =
     ap (λ c. word_of (truth_of a && c)) is ∙ ap word_of (both_true (truth_of a)) ∙ truth_again a fits
-right_identity Equal a b makes fits is = absurd (false≢true is)
-right_identity Unequal a b makes fits is = absurd (false≢true is)
-right_identity Less a b makes fits is = absurd (false≢true is)
-right_identity LessOrEqual a b makes fits is = absurd (false≢true is)
-right_identity Greater a b makes fits is = absurd (false≢true is)
-right_identity GreaterOrEqual a b makes fits is = absurd (false≢true is)
 right_identity BitOr a b makes fits is = ap (λ c. operated BitOr W32 a c) (eqb-true b 0 is) ∙ or_zero_r a
 right_identity BitXor a b makes fits is = ap (λ c. operated BitXor W32 a c) (eqb-true b 0 is) ∙ xor_zero_r a
 right_identity BitAnd a b (arithmetic {kind = k} numeric) fits is =
@@ -103,7 +87,7 @@ right_identity Multiply a b (multiplication {kind = k} numeric may) fits is =
 right_identity Divide a b makes fits is =
     let one : a / 1 ≡ a = omega arith in
     ap (λ c. a / c) (eqb-true b 1 is) ∙ one
-right_identity Remainder a b makes fits is = absurd (false≢true is)
+right_identity operator a b makes fits is = absurd (false≢true is)
 
 -- An operator on a left identity and an operand.
 pub left_identity : {profile : Profile} (operator : BinaryOperator) {one other whole : WordType} (a b : ℕ)
@@ -113,27 +97,17 @@ pub left_identity : {profile : Profile} (operator : BinaryOperator) {one other w
 left_identity Either a b logic fits is =
     ap (λ c. word_of (truth_of c || truth_of b)) (eqb-true a 0 is) ∙ truth_again b fits
 left_identity Both a b logic fits is = ap (λ c. word_of (c && truth_of b)) is ∙ truth_again b fits
-left_identity Equal a b makes fits is = absurd (false≢true is)
-left_identity Unequal a b makes fits is = absurd (false≢true is)
-left_identity Less a b makes fits is = absurd (false≢true is)
-left_identity LessOrEqual a b makes fits is = absurd (false≢true is)
-left_identity Greater a b makes fits is = absurd (false≢true is)
-left_identity GreaterOrEqual a b makes fits is = absurd (false≢true is)
 left_identity BitOr a b makes fits is = ap (λ c. operated BitOr W32 c b) (eqb-true a 0 is) ∙ or_zero_l b
 left_identity BitXor a b makes fits is = ap (λ c. operated BitXor W32 c b) (eqb-true a 0 is) ∙ xor_zero_l b
 left_identity BitAnd a b (arithmetic {kind = k} numeric) fits is =
     ap (λ c. bit_and c b) (eqb-true a (complemented (width_of k) 0) is)
     ∙ ones_also (width_of k) b (fits_number k b numeric fits)
-left_identity ShiftLeft a b makes fits is = absurd (false≢true is)
-left_identity ShiftRight a b makes fits is = absurd (false≢true is)
 left_identity Add a b (arithmetic {kind = k} numeric) fits is =
     wrap_leaves (width_of k) b (a + b) (fits_number k b numeric fits) (omega (arith, eqb-true a 0 is))
-left_identity Subtract a b makes fits is = absurd (false≢true is)
 left_identity Multiply a b (multiplication {kind = k} numeric may) fits is =
     ap (λ c. (c * b) % 2 ^ bits (width_of k)) (eqb-true a 1 is)
     ∙ wrap_leaves (width_of k) b (1 * b) (fits_number k b numeric fits) (omega arith)
-left_identity Divide a b makes fits is = absurd (false≢true is)
-left_identity Remainder a b makes fits is = absurd (false≢true is)
+left_identity operator a b makes fits is = absurd (false≢true is)
 
 -- So at the width of the left operand's kind.
 pub right_leaves : {profile : Profile} (operator : BinaryOperator) {one other whole : WordType} (w : Width) (a b : ℕ)
@@ -156,12 +130,6 @@ pub right_identity_kind : {profile : Profile} (operator : BinaryOperator) {one o
     → one.kind ≡ whole.kind
 right_identity_kind Either w b logic is = refl
 right_identity_kind Both w b logic is = refl
-right_identity_kind Equal w b makes is = absurd (false≢true is)
-right_identity_kind Unequal w b makes is = absurd (false≢true is)
-right_identity_kind Less w b makes is = absurd (false≢true is)
-right_identity_kind LessOrEqual w b makes is = absurd (false≢true is)
-right_identity_kind Greater w b makes is = absurd (false≢true is)
-right_identity_kind GreaterOrEqual w b makes is = absurd (false≢true is)
 right_identity_kind BitOr w b (arithmetic numeric) is = refl
 right_identity_kind BitXor w b (arithmetic numeric) is = refl
 right_identity_kind BitAnd w b (arithmetic numeric) is = refl
@@ -171,26 +139,16 @@ right_identity_kind Add w b (arithmetic numeric) is = refl
 right_identity_kind Subtract w b (arithmetic numeric) is = refl
 right_identity_kind Multiply w b (multiplication numeric may) is = refl
 right_identity_kind Divide w b (division numeric) is = refl
-right_identity_kind Remainder w b makes is = absurd (false≢true is)
+right_identity_kind operator w b makes is = absurd (false≢true is)
 
 pub left_identity_kind : {profile : Profile} (operator : BinaryOperator) {one other whole : WordType} (w : Width)
     (a : ℕ) → Makes profile (operation_of operator) one other whole → is_left_identity operator w a ≡ true
     → other.kind ≡ whole.kind
 left_identity_kind Either w a logic is = refl
 left_identity_kind Both w a logic is = refl
-left_identity_kind Equal w a makes is = absurd (false≢true is)
-left_identity_kind Unequal w a makes is = absurd (false≢true is)
-left_identity_kind Less w a makes is = absurd (false≢true is)
-left_identity_kind LessOrEqual w a makes is = absurd (false≢true is)
-left_identity_kind Greater w a makes is = absurd (false≢true is)
-left_identity_kind GreaterOrEqual w a makes is = absurd (false≢true is)
 left_identity_kind BitOr w a (arithmetic numeric) is = refl
 left_identity_kind BitXor w a (arithmetic numeric) is = refl
 left_identity_kind BitAnd w a (arithmetic numeric) is = refl
-left_identity_kind ShiftLeft w a makes is = absurd (false≢true is)
-left_identity_kind ShiftRight w a makes is = absurd (false≢true is)
 left_identity_kind Add w a (arithmetic numeric) is = refl
-left_identity_kind Subtract w a makes is = absurd (false≢true is)
 left_identity_kind Multiply w a (multiplication numeric may) is = refl
-left_identity_kind Divide w a makes is = absurd (false≢true is)
-left_identity_kind Remainder w a makes is = absurd (false≢true is)
+left_identity_kind operator w a makes is = absurd (false≢true is)

@@ -3,8 +3,9 @@ use Rattle.std.proofs.Common.{◌≡◌, ◌≤◌, ◌==◌, ◌||◌, ℕ, zer
 use Rattle.std.proofs.Common.{if◌then◌else◌, nat_lt, List, [], ◌∷◌, ◌++◌, filter, map, Option, None}
 use Rattle.std.proofs.Common.{◌⊎◌, inl, inr, Some, replicate, slice_set, slice_index}
 use Rattle.std.specs.List.{remove}
-use Rattle.std.proofs.Common.{refl, ap, sym, ◌∙◌, arith}
-use Rattle.std.proofs.lemmas.Bool.{eqb-true, eqb-false, false≢true}
+use Rattle.std.proofs.Common.{refl, ap, sym, ◌∙◌, subst, arith}
+use Rattle.std.proofs.Math.Logic.{⊎_map}
+use Rattle.std.proofs.lemmas.Bool.{cond_both, eqb-true, eqb-false, false≢true}
 use Rattle.std.proofs.lemmas.Option.{none-some}
 use Rattle.language.specs.declared.typing.WordType.{WordType}
 use Rattle.inline.specs.Fitting.{Fits, IsWithinKind}
@@ -74,53 +75,28 @@ in_appended : (c d : WordCopy) (copies : List WordCopy) → IsIn c (copies ++ d 
 in_appended c d [] (inl same) = inr same
 in_appended c d [] (inr none) = absurd none
 in_appended c d (e ∷ copies) (inl same) = inl (inl same)
-in_appended c d (e ∷ copies) (inr there) = in_either (in_appended c d copies there)
-  where
-    in_either : IsIn c copies ⊎ (d ≡ c) → IsIn c (e ∷ copies) ⊎ (d ≡ c)
-    in_either (inl there) = inl (inr there)
-    in_either (inr same) = inr same
+in_appended c d (e ∷ copies) (inr there) = ⊎_map (λ h. inr h) (λ h. h) (in_appended c d copies there)
 
 -- a copy that is known once one more is noted
 pub in_more : (words : Words) (c d : WordCopy) → IsIn c (with_copy words d).copies
     → IsIn c words.copies ⊎ (d ≡ c)
-in_more words c d is = in_either (in_appended c d (latest words.copies) is)
-  where
-    in_either : IsIn c (latest words.copies) ⊎ (d ≡ c) → IsIn c words.copies ⊎ (d ≡ c)
-    in_either (inl there) = inl (in_rest c words.copies there)
-    in_either (inr same) = inr same
+in_more words c d is = ⊎_map (in_rest c words.copies) (λ h. h) (in_appended c d (latest words.copies) is)
 
--- where a variable is read as another one, it is a copy of that
-pub record IsSource (copies : List WordCopy) (x : ℕ) (c : WordCopy) : Type 0 where
-  pub there : IsIn c copies
-  pub variable : c.variable ≡ x
-  pub source : c.source ≡ source_in copies x
+-- a variable is read as itself, or as the source of a copy
+pub data IsReadAs (copies : List WordCopy) (x : ℕ) : ℕ → Type 0 where
+  as_itself : IsReadAs copies x x
+  as_source : (c : WordCopy) → IsIn c copies → c.variable ≡ x → IsReadAs copies x c.source
 
-pub read_as : (copies : List WordCopy) (x : ℕ) → (source_in copies x ≡ x) ⊎ ((c : WordCopy) × IsSource copies x c)
-read_as [] x = inl refl
-read_as (d ∷ copies) x = by_number (d.variable == x) refl (read_as copies x)
-  where
-    by_number : (b : Bool) → (d.variable == x) ≡ b
-        → (source_in copies x ≡ x) ⊎ ((c : WordCopy) × IsSource copies x c)
-        → (source_in (d ∷ copies) x ≡ x) ⊎ ((c : WordCopy) × IsSource (d ∷ copies) x c)
-    by_number true is rest =
-        inr (
-          d,
-          record {
-            there = inl refl;
-            variable = eqb-true d.variable x is;
-            source = sym (ap (λ (b : Bool). if b then d.source else source_in copies x) is);
-          },
-        )
-    by_number false is (inl same) = inl (ap (λ (b : Bool). if b then d.source else source_in copies x) is ∙ same)
-    by_number false is (inr found) =
-        inr (
-          found.0,
-          record {
-            there = inr found.1.there;
-            variable = found.1.variable;
-            source = found.1.source ∙ sym (ap (λ (b : Bool). if b then d.source else source_in copies x) is);
-          },
-        )
+one_copy_more : (d : WordCopy) (copies : List WordCopy) (x y : ℕ) → IsReadAs copies x y → IsReadAs (d ∷ copies) x y
+one_copy_more d copies x y as_itself = as_itself
+one_copy_more d copies x y (as_source c there is) = as_source c (inr there) is
+
+pub read_as : (copies : List WordCopy) (x : ℕ) → IsReadAs copies x (source_in copies x)
+read_as [] x = as_itself
+read_as (d ∷ copies) x =
+    cond_both (d.variable == x) d.source (source_in copies x) (IsReadAs (d ∷ copies) x)
+    (λ is. as_source d (inl refl) (eqb-true d.variable x is))
+    (λ is. one_copy_more d copies x (source_in copies x) (read_as copies x))
 
 -- Numbers.
 
@@ -137,22 +113,6 @@ word_here : (numbers : List (Option Constant)) (x : ℕ) (word : Option Constant
 word_here [] x word c is = absurd (none-some c is)
 word_here (w ∷ numbers) zero word c is = is
 word_here (w ∷ numbers) (suc x) word c is = word_here numbers x word c is
-
-none_apart : (numbers : List (Option Constant)) (x y : ℕ) (c : Constant)
-    → word_at (slice_set numbers x None) y ≡ Some c → y ≡ x → ⊥
-none_apart [] x y c is same = none-some c is
-none_apart (w ∷ numbers) zero zero c is same = none-some c is
-none_apart (w ∷ numbers) zero (suc y) c is same = omega (arith, same)
-none_apart (w ∷ numbers) (suc x) zero c is same = omega (arith, same)
-none_apart (w ∷ numbers) (suc x) (suc y) c is same = none_apart numbers x y c is (omega (arith, same))
-
-none_same : (numbers : List (Option Constant)) (x y : ℕ) (c : Constant)
-    → word_at (slice_set numbers x None) y ≡ Some c → word_at numbers y ≡ Some c
-none_same [] x y c is = is
-none_same (w ∷ numbers) zero zero c is = absurd (none-some c is)
-none_same (w ∷ numbers) zero (suc y) c is = is
-none_same (w ∷ numbers) (suc x) zero c is = is
-none_same (w ∷ numbers) (suc x) (suc y) c is = none_same numbers x y c is
 
 short_here : (b : Bool) (d c : Constant) → (if b then Some d else None) ≡ Some c → Some d ≡ Some c
 short_here true d c is = is
@@ -173,24 +133,33 @@ pub known_beside : (words : Words) (x : ℕ) (word : Option Constant) (f : Fact)
 known_beside words x word (valued y c) free is = sym (word_beside words.numbers x y word (free y refl)) ∙ is
 known_beside words x word (copy c) free is = (in_filtered (is_apart x) c words.copies is).0
 
-pub known_here : (words : Words) (x : ℕ) (word : Option Constant) (c : Constant)
-    → known (with_word words x word) x ≡ Some c → word ≡ Some c
-known_here words x word c is = word_here words.numbers x word c is
-
 -- a copy that is still known has nothing to do with the variable
-pub still_copy : (words : Words) (x : ℕ) (word : Option Constant) (c : WordCopy)
+still_copy : (words : Words) (x : ℕ) (word : Option Constant) (c : WordCopy)
     → Knows (with_word words x word) (copy c) → Knows words (copy c) × IsFree x (copy c)
 still_copy words x word c is =
     let found = in_filtered (is_apart x) c words.copies is in (found.0, apart_free x c found.1)
 
--- of a variable without a word nothing is known
-pub without_apart : (words : Words) (x : ℕ) (f : Fact) → Knows (without words x) f → IsFree x f
-without_apart words x (valued y c) is z about same = none_apart words.numbers x y c is (sym about ∙ same)
-without_apart words x (copy c) is z about same = (still_copy words x None c is).1 z about same
+-- what is known of the variable is what is noted of it, and all else was known before
+pub word_by : (words : Words) (x : ℕ) (word : Option Constant) (P : Fact → Type 0)
+    → ((c : Constant) → word ≡ Some c → P (valued x c)) → ((f : Fact) → IsFree x f → Knows words f → P f)
+    → (f : Fact) → Knows (with_word words x word) f → P f
+word_by words x word P noted known_before (copy c) is =
+    let found = still_copy words x word c is in known_before (copy c) found.1 found.0
+word_by words x word P noted known_before (valued y c) is = by_number (y == x) refl
+  where
+    by_number : (b : Bool) → (y == x) ≡ b → P (valued y c)
+    by_number true same =
+        let here = eqb-true y x same in
+        subst (λ z. P (valued z c)) (sym here) (noted c (word_here words.numbers x word c
+        (subst (λ z. word_at (slice_set words.numbers x word) z ≡ Some c) here is)))
+    by_number false apart =
+        let free : IsFree x (valued y c) = λ z about same. eqb-false y x apart (sym about ∙ same) in
+        known_before (valued y c) free (known_beside words x word (valued y c) free is)
 
-pub without_same : (words : Words) (x : ℕ) (f : Fact) → Knows (without words x) f → Knows words f
-without_same words x (valued y c) is = none_same words.numbers x y c is
-without_same words x (copy c) is = (still_copy words x None c is).0
+-- of a variable without a word nothing is known
+pub without_known : (words : Words) (x : ℕ) (f : Fact) → Knows (without words x) f → Knows words f × IsFree x f
+without_known words x =
+    word_by words x None (λ f. Knows words f × IsFree x f) (λ c is. absurd (none-some c is)) (λ f free is. (is, free))
 
 -- of short words no more is known
 pub short_same : (words : Words) (f : Fact) → Knows (all_short words) f → Knows words f

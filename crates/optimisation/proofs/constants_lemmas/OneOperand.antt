@@ -6,7 +6,6 @@ use Rattle.std.proofs.lemmas.Bool.{eqb-true, le-ltb}
 use Rattle.std.proofs.lemmas.Option.{none-some, same_Some}
 use Rattle.std.specs.Bool.{then_some}
 use Rattle.std.specs.Option.{option_and_then, option_or}
-use Rattle.inline.specs.Flat.{TermTree, truth}
 use Rattle.language.specs.declared.signature.Kind.{Kind}
 use Rattle.language.specs.declared.signature.Kind.TheVariants.{Boolean}
 use Rattle.language.specs.declared.operators.BinaryOperator.{BinaryOperator}
@@ -19,13 +18,7 @@ use Rattle.word.specs.declared.width.Width.{Width}
 use Rattle.word.specs.declared.width.Width.TheVariants.{W8}
 use Rattle.word.specs.Operators.{word_of}
 use Rattle.optimisation.specs.declared.constants.known.Constant.{Constant}
-use Rattle.optimisation.specs.constants.private.Folding.{decided, decided_by_left, decided_by_right, truth_or}
-
--- of a bool and an expression the one that there is
-pub truth_by : (P : TermTree → Type 0) (o : Option Bool) (e : TermTree) → ((t : Bool) → o ≡ Some t → P (truth t)) → P e
-    → P (truth_or o e)
-truth_by P None e found stays = stays
-truth_by P (Some t) e found stays = found t refl
+use Rattle.optimisation.specs.constants.private.Folding.{decided, decided_by_left, decided_by_right}
 
 -- an operator comes to this bool between two numbers, and to a bool whatever its operands are
 pub record IsDecided (operator : BinaryOperator) (w : Width) (a b : ℕ) (t : Bool) : Type 0 where

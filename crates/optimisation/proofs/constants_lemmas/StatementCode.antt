@@ -1,23 +1,20 @@
 -- What becomes of a statement, and of those behind it, as the code makes it step by step.
-use Rattle.std.proofs.Common.{◌≡◌, ℕ, suc, ◌+◌, ◌≤◌, ◌<◌, ◌-◌, List, ◌∷◌, drop, slice_index, Option, None, Some}
+use Rattle.std.proofs.Common.{◌≡◌, ℕ, suc, ◌+◌, ◌≤◌, ◌<◌, ◌-◌, List, ◌∷◌, drop, None}
 use Rattle.std.proofs.Common.{Vec, Global, sym, ap, ap₂, ◌∙◌, arith}
 use Rattle.inline.specs.declared.flat.FlatVariable.{FlatVariable}
 use Rattle.inline.specs.declared.flat.Term.{Term}
-use Rattle.inline.specs.Flat.{TermTree, term_tree, number, counter_type}
+use Rattle.inline.specs.Flat.{term_tree, number, counter_type}
 use Rattle.inline.specs.FlatMeaning.{turns}
 use Rattle.branch_removal.specs.declared.straight.StraightStatement.{StraightStatement}
 use Rattle.branch_removal.specs.declared.straight.StraightStatement as code
-use Rattle.branch_removal.specs.Straight.{StraightBlock, nothing, first, chain, set, repeats}
+use Rattle.branch_removal.specs.Straight.{StraightBlock, nothing, first, chain, set}
 use Rattle.branch_removal.specs.Straight.{straight_tree, straight_block}
 use Rattle.branch_removal.proofs.StatementTrees.{tree_of_branch, tree_of_loop, chain-assoc, chain-nothing}
-use Rattle.optimisation.specs.constants.private.Folding.{simple, constant_of, numbers_of}
-use Rattle.optimisation.specs.constants.private.Known.{Words, in_loop, forgotten_all}
-use Rattle.optimisation.specs.constants.private.Simplification.{single, knowing, simplified, simplified_all}
-use Rattle.optimisation.specs.constants.private.Simplification.{branch_code}
-use Rattle.optimisation.specs.constants.private.Simplification.{branch_known, loop_code, loop_known, turns_code}
-use Rattle.optimisation.specs.constants.private.Simplification.{turns_known}
-use Rattle.optimisation.specs.constants.private.Simplification.{unrolled, knowing_all, code_of_turns, at_turn}
-use Rattle.optimisation.specs.declared.constants.terms.Numbers.{Numbers}
+use Rattle.optimisation.specs.constants.private.Folding.{simple}
+use Rattle.optimisation.specs.constants.private.Known.{Words}
+use Rattle.optimisation.specs.constants.private.Simplification.{at_turn, branch_code, branch_known, code_of_turns}
+use Rattle.optimisation.specs.constants.private.Simplification.{knowing, knowing_all, loop_code, loop_known, simplified}
+use Rattle.optimisation.specs.constants.private.Simplification.{simplified_all}
 
 -- Branches.
 
@@ -58,34 +55,6 @@ module _ {statement : StraightStatement} {x : ℕ} {low high : Term} (body : Vec
   known_of_loop =
       ap (knowing copies declared words) (tree_of_loop body is items)
       ∙ ap₂ (λ e f. loop_known copies declared words x e f (straight_block inner)) (sym at_low) (sym at_high)
-
--- a loop that becomes its turns, or stays
-module _ (copies : List ℕ) (declared : List FlatVariable) (words : Words) (x : ℕ) (l h : TermTree)
-    (body : StraightBlock) (o : Option Numbers)
-    (says : o ≡ numbers_of (slice_index copies x) (constant_of l) (constant_of h)) where
-  pub copied_code : (each : Numbers) → o ≡ Some each
-      → loop_code copies declared words x l h body ≡ turns_code copies declared words x each body
-  copied_code each is =
-      ap (λ (p : Option Numbers). unrolled p (λ each. turns_code copies declared words x each body)
-      (single (repeats x l h (simplified_all copies declared (in_loop words x body) body)))) (sym says ∙ is)
-
-  pub copied_known : (each : Numbers) → o ≡ Some each
-      → loop_known copies declared words x l h body ≡ turns_known copies declared words x each body
-  copied_known each is =
-      ap (λ (p : Option Numbers). unrolled p (λ each. turns_known copies declared words x each body)
-      (forgotten_all (knowing_all copies declared (in_loop words x body) body) body)) (sym says ∙ is)
-
-  pub looped_code : o ≡ None → loop_code copies declared words x l h body
-      ≡ single (repeats x l h (simplified_all copies declared (in_loop words x body) body))
-  looped_code is =
-      ap (λ (p : Option Numbers). unrolled p (λ each. turns_code copies declared words x each body)
-      (single (repeats x l h (simplified_all copies declared (in_loop words x body) body)))) (sym says ∙ is)
-
-  pub looped_known : o ≡ None → loop_known copies declared words x l h body
-      ≡ forgotten_all (knowing_all copies declared (in_loop words x body) body) body
-  looped_known is =
-      ap (λ (p : Option Numbers). unrolled p (λ each. turns_known copies declared words x each body)
-      (forgotten_all (knowing_all copies declared (in_loop words x body) body) body)) (sym says ∙ is)
 
 -- of some statements one more
 pub passed : (copies : List ℕ) (declared : List FlatVariable) (words between : Words) (body : List StraightStatement)

@@ -1,13 +1,12 @@
 -- Labels of what operators make, and expressions that suit a type: numbers, and those of the wanted kind.
-use Rattle.std.proofs.Common.{◌≡◌, true, false, []}
-use Rattle.std.proofs.Common.{None, Some, refl, sym, ap, ◌∙◌, subst}
+use Rattle.std.proofs.Common.{◌≡◌, ℕ, [], None, Some, refl, sym, ap, ◌∙◌, subst}
+use Rattle.std.proofs.lemmas.Bool.{false≢true}
 use Rattle.std.proofs.lemmas.Option.{none-some, same_Some}
-use Rattle.inline.proofs.Fitting.{value_fits}
+use Rattle.inline.proofs.Fitting.{bit_fits, value_fits}
 use Rattle.inline.specs.Fitting.{IsWithinKind}
-use Rattle.inline.specs.Flat.{TermTree, truth}
-use Rattle.inline.specs.FlatMeaning.{Values, value_in}
-use Rattle.inline.specs.FlatTyping.{Types, HasType, of_number, of_truth, of_variable, of_prefix, of_binary}
-use Rattle.inline.specs.FlatTyping.{of_rotation, of_conversion, of_selection, of_element, Suits}
+use Rattle.inline.specs.Flat.{TermTree, number}
+use Rattle.inline.specs.FlatMeaning.{value_in}
+use Rattle.inline.specs.FlatTyping.{Types, HasType, of_number, of_truth, Suits}
 use Rattle.language.specs.declared.signature.Kind.{Kind}
 use Rattle.language.specs.declared.signature.Kind.TheVariants.{Boolean}
 use Rattle.language.specs.declared.signature.Label.{Label}
@@ -23,17 +22,13 @@ use Rattle.word.specs.Operators.{word_of}
 use Rattle.word.specs.declared.profile.Profile.{Profile}
 use Rattle.word.specs.declared.profile.Profile.TheVariants.{P2}
 use Rattle.optimisation.specs.declared.constants.known.Constant.{Constant}
-use Rattle.optimisation.specs.constants.private.Known.{known}
 use Rattle.optimisation.specs.constants.private.Folding.{constant, constant_of, number_of}
 
 -- Labels.
 
 pub joined_public : (l m : Label) → joined l m ≡ Public → (l ≡ Public) × (m ≡ Public)
 joined_public Public m h = (refl, h)
-joined_public Secret m h = absurd (secret_public (ap is_secret h))
-  where
-    secret_public : true ≡ false → ⊥
-    secret_public e = cc
+joined_public Secret m h = absurd (false≢true (sym (ap is_secret h)))
 
 pub both_joined : (l m : Label) → l ≡ Public → m ≡ Public → joined l m ≡ Public
 both_joined l m one other = ap (λ k. joined k m) one ∙ other
@@ -44,7 +39,7 @@ pub record IsLower (profile : Profile) (operation : Operation) (one other whole 
   pub makes : Makes profile operation (labelled one.kind l) (labelled other.kind m) (labelled whole.kind label)
   pub lower : whole.label ≡ Public → label ≡ Public
 
-joined_lower : (a b l m : Label) → (a ≡ Public → l ≡ Public) → (b ≡ Public → m ≡ Public) → joined a b ≡ Public
+pub joined_lower : (a b l m : Label) → (a ≡ Public → l ≡ Public) → (b ≡ Public → m ≡ Public) → joined a b ≡ Public
     → joined l m ≡ Public
 joined_lower a b l m f g h = let parts = joined_public a b h in both_joined l m (f parts.0) (g parts.1)
 
@@ -54,6 +49,11 @@ may_still l m f g unseen = unseen
 may_still l m f g both_public =
     subst (λ k. MayBeMultiplied P2 k m) (sym (f refl))
     (subst (λ k. MayBeMultiplied P2 Public k) (sym (g refl)) both_public)
+
+-- operands turned round
+pub turned_may : {profile : Profile} {l m : Label} → MayBeMultiplied profile l m → MayBeMultiplied profile m l
+turned_may unseen = unseen
+turned_may both_public = both_public
 
 pub lowered : {profile : Profile} {operation : Operation} {one other whole : WordType}
     → Makes profile operation one other whole
@@ -106,20 +106,24 @@ made_kind equality = refl
 made_kind (order numeric) = refl
 made_kind logic = refl
 
--- Expressions without variables.
-
-abbrev pub without_variables : Profile → Types
-without_variables profile = record { profile = profile; at = λ x. None }
-
-abbrev nothing_held : Values
-nothing_held x = []
-
-pub closed_fits : (profile : Profile) (e : TermTree) (word : WordType) → HasType (without_variables profile) e word
-    → IsWithinKind word.kind (value_in nothing_held e)
-closed_fits profile e word has =
-    value_fits (without_variables profile) nothing_held (λ x d there. absurd (none-some d there)) has
+-- Expressions.
 
 module _ (types : Types) where
+  pub typed_suits : {e : TermTree} {word : WordType} → HasType types e word → Suits types word e
+  typed_suits {word = word} has = record { word = word; has_type = has; kind = refl; label = λ public. public }
+
+  -- so another type that is no lower
+  pub suits_as : {e : TermTree} {word wanted : WordType} → Suits types word e → word.kind ≡ wanted.kind
+      → (wanted.label ≡ Public → word.label ≡ Public) → Suits types wanted e
+  suits_as suits kind label = record {
+    word = suits.word;
+    has_type = suits.has_type;
+    kind = suits.kind ∙ kind;
+    label = λ public. suits.label (label public);
+  }
+
+  -- Numbers.
+
   abbrev pub IsOfKind : Constant → WordType → Type 0
   IsOfKind c word = (c.kind ≡ word.kind) × IsWithinKind c.kind c.value
 
@@ -138,15 +142,30 @@ module _ (types : Types) where
       subst (λ (d : Constant). IsOfKind d (labelled kind Public)) (same_Some (constant value kind) c is) (refl, below)
   number_kind (of_truth {value = value}) c is =
       subst (λ (d : Constant). IsOfKind d (labelled Boolean Public))
-      (same_Some (constant (word_of value) Boolean) c is)
-      (refl, closed_fits types.profile (truth value) (labelled Boolean Public) of_truth)
-  number_kind (of_variable known) c is = absurd (none-some c is)
-  number_kind (of_prefix has takes width) c is = absurd (none-some c is)
-  number_kind (of_binary has more makes width) c is = absurd (none-some c is)
-  number_kind (of_rotation has numeric low high width) c is = absurd (none-some c is)
-  number_kind (of_conversion has numeric) c is = absurd (none-some c is)
-  number_kind (of_selection chooser has more) c is = absurd (none-some c is)
-  number_kind (of_element known has) c is = absurd (none-some c is)
+      (same_Some (constant (word_of value) Boolean) c is) (refl, bit_fits value)
+  number_kind has c is = absurd (none-some c is)
+
+  pub number_below : {e : TermTree} {word : WordType} → HasType types e word → (c : Constant)
+      → constant_of e ≡ Some c → IsWithinKind word.kind c.value
+  number_below has c is = let found = number_kind has c is in subst (λ k. IsWithinKind k c.value) found.0 found.1
+
+  pub number_type : (v : ℕ) {k kind : Kind} → k ≡ kind → IsWithinKind kind v
+      → HasType types (number v k) (labelled kind Public)
+  number_type v {kind = kind} is below = subst (λ j. HasType types (number v j) (labelled kind Public)) (sym is)
+      (of_number below)
+
+  -- what is made of numbers alone is a number of its kind
+  pub made_suits : (e : TermTree) {word wanted : WordType} {k : Kind}
+      → HasType (record { profile = types.profile; at = λ x. None }) e word → k ≡ word.kind
+      → word.kind ≡ wanted.kind → Suits types wanted (number (value_in (λ x. []) e) k)
+  made_suits e {k = k} has is kind = record {
+    word = labelled k Public;
+    has_type = of_number (subst (λ j. IsWithinKind j (value_in (λ x. []) e)) (sym is)
+        (value_fits (record { profile = types.profile; at = λ x. None }) (λ x. [])
+        (λ x d there. absurd (none-some d there)) has));
+    kind = is ∙ kind;
+    label = λ public. refl;
+  }
 
   pub suited_number : {e : TermTree} {word : WordType} → Suits types word e → (c : Constant) → constant_of e ≡ Some c
       → IsOfKind c word

@@ -1,8 +1,7 @@
 -- A comparison with a number on its left, and what it is with its operands turned round.
-use Rattle.std.proofs.Common.{◌≡◌, ℕ, ◌==◌, Bool, true, false, not, Option, None, Some, refl, ap, subst, arith, []}
+use Rattle.std.proofs.Common.{◌≡◌, ℕ, ◌==◌, Bool, true, false, not, [], IfSome, refl, ap, arith}
 use Rattle.std.proofs.lemmas.Bool.Decides.{nat_tests}
 use Rattle.std.specs.Option.{option_and}
-use Rattle.std.proofs.lemmas.Option.{none-some, same_Some}
 use Rattle.inline.specs.FlatMeaning.{marks_of}
 use Rattle.language.specs.declared.operation.Operation.{Operation}
 use Rattle.language.specs.declared.operation.Operation.TheVariants.{Equality, Order}
@@ -11,16 +10,13 @@ use Rattle.language.specs.declared.operators.BinaryOperator.{BinaryOperator}
 use Rattle.language.specs.declared.operators.BinaryOperator.TheVariants.{Equal, Unequal, Less, LessOrEqual, Greater}
 use Rattle.language.specs.declared.operators.BinaryOperator.TheVariants.{GreaterOrEqual}
 use Rattle.language.specs.declared.typing.WordType.{WordType}
-use Rattle.language.specs.Operators.{operation_of}
-use Rattle.language.specs.Operators.{operated, opposite_of, turned_of}
+use Rattle.language.specs.Operators.{operated, operation_of, opposite_of, turned_of}
 use Rattle.language.specs.Types.{joined}
 use Rattle.language.specs.WellTyped.{labelled, Makes, equality, order}
 use Rattle.word.specs.declared.place.Place.{Place}
 use Rattle.word.specs.declared.profile.Profile.{Profile}
 use Rattle.word.specs.declared.width.Width.{Width}
 use Rattle.word.specs.Operators.{word_of}
-use Rattle.optimisation.specs.declared.constants.known.Constant.{Constant}
-use Rattle.optimisation.specs.constants.private.Folding.{turned_by}
 
 equal_turned : (a b : ℕ) → (b == a) ≡ (a == b)
 equal_turned a b = by_tests (b == a) (a == b) refl refl
@@ -52,52 +48,37 @@ pub record IsTurnedRound (operator next : BinaryOperator) : Type 0 where
       → TakesEither profile (operation_of next) one other whole
   pub unmarked : (place : Place) (a b : ℕ) → marks_of place next a b ≡ []
 
-comparison : (operator next : BinaryOperator) → option_and (opposite_of operator) (turned_of operator) ≡ Some next
-    → IsTurnedRound operator next
-comparison Equal next is =
-    subst (IsTurnedRound Equal) (same_Some Equal next is) (record {
-      value = λ w a b. ap word_of (equal_turned a b);
-      takes = λ profile one other whole makes. equality_either makes;
-      unmarked = λ place a b. refl;
-    })
-comparison Unequal next is =
-    subst (IsTurnedRound Unequal) (same_Some Unequal next is) (record {
-      value = λ w a b. ap (λ c. word_of (not c)) (equal_turned a b);
-      takes = λ profile one other whole makes. equality_either makes;
-      unmarked = λ place a b. refl;
-    })
-comparison Less next is =
-    subst (IsTurnedRound Less) (same_Some Greater next is) (record {
-      value = λ w a b. refl;
-      takes = λ profile one other whole makes. order_either makes;
-      unmarked = λ place a b. refl;
-    })
-comparison LessOrEqual next is =
-    subst (IsTurnedRound LessOrEqual) (same_Some GreaterOrEqual next is) (record {
-      value = λ w a b. refl;
-      takes = λ profile one other whole makes. order_either makes;
-      unmarked = λ place a b. refl;
-    })
-comparison Greater next is =
-    subst (IsTurnedRound Greater) (same_Some Less next is) (record {
-      value = λ w a b. refl;
-      takes = λ profile one other whole makes. order_either makes;
-      unmarked = λ place a b. refl;
-    })
-comparison GreaterOrEqual next is =
-    subst (IsTurnedRound GreaterOrEqual) (same_Some LessOrEqual next is) (record {
-      value = λ w a b. refl;
-      takes = λ profile one other whole makes. order_either makes;
-      unmarked = λ place a b. refl;
-    })
-comparison operator next is = absurd (none-some next is)
-
-pub turned_round : (operator next : BinaryOperator) (left : Option Constant) → turned_by operator left ≡ Some next
-    → IsTurnedRound operator next
-turned_round operator next None is = absurd (none-some next is)
-turned_round operator next (Some c) is = comparison operator next is
-
-pub on_left : (operator next : BinaryOperator) (left : Option Constant) → turned_by operator left ≡ Some next
-    → (c : Constant) × (left ≡ Some c)
-on_left operator next None is = absurd (none-some next is)
-on_left operator next (Some c) is = (c, refl)
+-- a comparison turned round, which has an opposite one
+pub turned_round : (operator : BinaryOperator)
+    → IfSome (option_and (opposite_of operator) (turned_of operator)) (IsTurnedRound operator)
+turned_round Equal = record {
+  value = λ w a b. ap word_of (equal_turned a b);
+  takes = λ profile one other whole makes. equality_either makes;
+  unmarked = λ place a b. refl;
+}
+turned_round Unequal = record {
+  value = λ w a b. ap (λ c. word_of (not c)) (equal_turned a b);
+  takes = λ profile one other whole makes. equality_either makes;
+  unmarked = λ place a b. refl;
+}
+turned_round Less = record {
+  value = λ w a b. refl;
+  takes = λ profile one other whole makes. order_either makes;
+  unmarked = λ place a b. refl;
+}
+turned_round LessOrEqual = record {
+  value = λ w a b. refl;
+  takes = λ profile one other whole makes. order_either makes;
+  unmarked = λ place a b. refl;
+}
+turned_round Greater = record {
+  value = λ w a b. refl;
+  takes = λ profile one other whole makes. order_either makes;
+  unmarked = λ place a b. refl;
+}
+turned_round GreaterOrEqual = record {
+  value = λ w a b. refl;
+  takes = λ profile one other whole makes. order_either makes;
+  unmarked = λ place a b. refl;
+}
+turned_round operator = tt

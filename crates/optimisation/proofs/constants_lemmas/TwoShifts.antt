@@ -1,46 +1,31 @@
 -- Two shifts, one up and one down, leave the bits that a shift and a mask leave.
 use Rattle.std.proofs.Common.{◌≡◌, ℕ, ◌+◌, ◌-◌, ◌*◌, ◌/◌, ◌%◌, ◌^◌, ◌==◌, ◌<◌, ◌≤◌, ◌&&◌, ◌||◌, Bool, true, false}
-use Rattle.std.proofs.Common.{nat_le, nat_lt, bit_and, if◌then◌else◌, Option, None, Some, refl, sym, ap, ap₂, ◌∙◌}
-use Rattle.std.proofs.Common.{subst, arith}
+use Rattle.std.proofs.Common.{nat_le, nat_lt, bit_and, Option, None, Some, IfSome, refl, sym, ap, ap₂, ◌∙◌, arith}
 use Rattle.std.proofs.Math.Nat.{div-le_self, mod-eq_of_lt, mod-le, mul-div-mul_right}
-use Rattle.std.proofs.lemmas.Bool.{and_parts, eqb-true, ltb-true}
+use Rattle.std.proofs.lemmas.Bool.{and_parts, cond_both, eqb-true, ltb-true}
 use Rattle.std.proofs.lemmas.Nat.{and_mask, div-mul-add, mod-pow-add, mod_below, pow-add, pow_pos}
-use Rattle.std.proofs.lemmas.Option.{cond_some, none-some}
 use Rattle.std.specs.Int.Count.{count_leading_zeros}
 use Rattle.inline.specs.Fitting.{IsWithinKind}
 use Rattle.inline.specs.Flat.{TermTree, number, binary}
 use Rattle.inline.specs.FlatMeaning.{Values, value_in}
 use Rattle.language.specs.declared.signature.Kind.{Kind}
 use Rattle.language.specs.declared.signature.Kind.TheVariants.{Boolean, Uint8, Uint16, Uint32}
-use Rattle.language.specs.declared.operators.BinaryOperator.{BinaryOperator}
-use Rattle.language.specs.declared.operators.BinaryOperator.TheVariants.{BitAnd, ShiftLeft, ShiftRight}
-use Rattle.language.specs.Operators.{operated}
+use Rattle.language.specs.declared.operators.BinaryOperator.TheVariants.{ShiftLeft}
 use Rattle.word.specs.declared.place.Place.{Place}
 use Rattle.word.specs.declared.width.Width.{Width}
 use Rattle.word.specs.declared.width.Width.TheVariants.{W32}
 use Rattle.word.specs.Operators.{shifted_left, shifted_right}
 use Rattle.optimisation.specs.declared.constants.known.Constant.{Constant}
 use Rattle.optimisation.specs.declared.constants.fields.Field.{Field}
-use Rattle.optimisation.specs.constants.private.Fields.{amount_of, cleared_by, field_of, field_within, lifted, mask_of}
-use Rattle.optimisation.specs.constants.private.Fields.{moved}
-use Rattle.optimisation.specs.constants.private.Fields.{moved_or}
-
--- of two shifts and an expression what there is
-pub moved_by : (P : TermTree → Type 0) (o : Option Field) (place : Place) (w : Width) (word e : TermTree)
-    → ((field : Field) → o ≡ Some field → P (moved place w word field)) → P e → P (moved_or o place w word e)
-moved_by P None place w word e found stays = stays
-moved_by P (Some field) place w word e found stays = found field refl
+use Rattle.optimisation.specs.constants.private.Fields.{cleared_by, field_within, lifted, moved}
 
 -- a word that goes up, or stays
 pub lifted_by : (P : TermTree → Type 0) (place : Place) (w : Width) (word : TermTree) (field : Field)
     → (field.up ≡ 0 → P word) → P (binary place ShiftLeft w word (number field.up field.kind))
     → P (lifted place w word field)
-lifted_by P place w word field stays goes = by_zero (field.up == 0) refl
-  where
-    by_zero : (z : Bool) → (field.up == 0) ≡ z
-        → P (if z then word else binary place ShiftLeft w word (number field.up field.kind))
-    by_zero true is = stays (eqb-true field.up 0 is)
-    by_zero false is = goes
+lifted_by P place w word field stays goes =
+    cond_both (field.up == 0) word (binary place ShiftLeft w word (number field.up field.kind)) P
+    (λ is. stays (eqb-true field.up 0 is)) (λ is. goes)
 
 -- Masks.
 
@@ -56,13 +41,15 @@ record IsMask (n others : ℕ) : Type 0 where
   ones : n + 1 ≡ 2 ^ (32 - others)
   few : others < 32
 
-is_mask : (n others : ℕ) → cleared_by n ≡ Some others → IsMask n others
-is_mask n others is =
-    let all = count_leading_zeros 32 n in
-    let found = cond_some (nat_lt all 32 && (n + 1 == 2 ^ (32 - all))) all others is in
-    let parts = and_parts (nat_lt all 32) (n + 1 == 2 ^ (32 - all)) found.0 in
-    subst (IsMask n) found.1
-    (record { ones = eqb-true (n + 1) (2 ^ (32 - all)) parts.1; few = ltb-true all 32 parts.0 })
+is_mask : (n : ℕ) → IfSome (cleared_by n) (IsMask n)
+is_mask n =
+    let others = count_leading_zeros 32 n in
+    let test = nat_lt others 32 && (n + 1 == 2 ^ (32 - others)) in
+    cond_both test (Some others) None (λ o. IfSome o (IsMask n))
+    (λ is.
+    let parts = and_parts (nat_lt others 32) (n + 1 == 2 ^ (32 - others)) is in
+    record { ones = eqb-true (n + 1) (2 ^ (32 - others)) parts.1; few = ltb-true others 32 parts.0 })
+    (λ is. tt)
 
 at_most : (b others : ℕ) (long : Bool) → (b == others || (nat_lt b others && long)) ≡ true → b ≤ others
 at_most b others long is = by_test (b == others) refl is
@@ -71,46 +58,22 @@ at_most b others long is = by_test (b == others) refl is
     by_test true same h = omega (arith, eqb-true b others same)
     by_test false same h = omega (arith, ltb-true b others (and_parts (nat_lt b others) long h).0)
 
-is_field : (amount : Constant) (n : ℕ) (field : Field) → field_within amount n (cleared_by n) ≡ Some field
-    → IsField amount n field
-is_field amount n field is = by_mask (cleared_by n) refl is
+pub is_field : (amount : Constant) (n : ℕ) → IfSome (field_within amount n (cleared_by n)) (IsField amount n)
+is_field amount n = by_mask (cleared_by n) (is_mask n)
   where
-    by_mask : (o : Option ℕ) → cleared_by n ≡ o → field_within amount n o ≡ Some field → IsField amount n field
-    by_mask None same h = absurd (none-some field h)
-    by_mask (Some others) same h =
-        let mask = is_mask n others same in
+    by_mask : (o : Option ℕ) → IfSome o (IsMask n) → IfSome (field_within amount n o) (IsField amount n)
+    by_mask None mask = tt
+    by_mask (Some others) mask =
         let b = amount.value in
-        let found = cond_some (b == others || (nat_lt b others && nat_le 2048 n)) _ field h in
-        let less = at_most b others (nat_le 2048 n) found.0 in
-        subst (IsField amount n) found.1
-        (record { ones = mask.ones; few = mask.few; reach = omega (arith, less); kind = refl })
-
--- what there is where bits are left by a mask and an amount: both operators, and both numbers
-pub record IsNarrowed (operator down : BinaryOperator) (w : Width) (right by : Option Constant) (field : Field)
-    : Type 0 where
-  pub masks : operator ≡ BitAnd
-  pub shifts : down ≡ ShiftRight
-  pub full : w ≡ W32
-  pub mask : Constant
-  pub is_mask : right ≡ Some mask
-  pub amount : Constant
-  pub is_amount : by ≡ Some amount
-  pub is : IsField amount mask.value field
-
-pub is_narrowed : (operator : BinaryOperator) (right : Option Constant) (down : BinaryOperator) (w : Width)
-    (by : Option Constant) (field : Field) → field_of (mask_of operator right) (amount_of down w by) ≡ Some field
-    → IsNarrowed operator down w right by field
-is_narrowed BitAnd (Some n) ShiftRight W32 (Some amount) field is = record {
-  masks = refl;
-  shifts = refl;
-  full = refl;
-  mask = n;
-  is_mask = refl;
-  amount = amount;
-  is_amount = refl;
-  is = is_field amount n.value field is;
-}
-is_narrowed operator right down w by field is = absurd (none-some field is)
+        cond_both (b == others || (nat_lt b others && nat_le 2048 n))
+        (Some (record { up = others - b; down = others; kind = amount.kind })) None (λ o. IfSome o (IsField amount n))
+        (λ is. record {
+          ones = mask.ones;
+          few = mask.few;
+          reach = omega (arith, at_most b others (nat_le 2048 n) is);
+          kind = refl;
+        })
+        (λ is. tt)
 
 -- Words.
 
@@ -162,20 +125,14 @@ module _ (m : Values) where
       (λ zero. sym (ap (shifted_left W32 (value_in m word)) zero ∙ unmoved (value_in m word) fits)) refl
 
   -- two shifts have the value that the operators have
-  pub moved_value : (operator down : BinaryOperator) (w width : Width) (right by : Option Constant) (field : Field)
-      → IsNarrowed operator down w right by field → (place : Place) (word : TermTree) (kind : Kind)
-      → IsWithinKind kind (value_in m word) → (a n : ℕ) → ((c : Constant) → by ≡ Some c → a ≡ c.value)
-      → ((c : Constant) → right ≡ Some c → n ≡ c.value)
-      → value_in m (moved place w word field) ≡ operated operator width (operated down w (value_in m word) a) n
-  moved_value operator down w width right by field found place word kind fits a n same also =
+  pub moved_value : (place : Place) (word amount right : TermTree) (kind : Kind) (by : Constant) (n : ℕ) (field : Field)
+      → IsWithinKind kind (value_in m word) → value_in m amount ≡ by.value → value_in m right ≡ n
+      → IsField by n field
+      → value_in m (moved place W32 word field)
+      ≡ bit_and (shifted_right W32 (value_in m word) (value_in m amount)) (value_in m right)
+  moved_value place word amount right kind by n field fits is also found =
       let v = value_in m word in
       let below = within_32 kind v fits in
-      let shifts : value_in m (moved place W32 word field) ≡ bit_and (shifted_right W32 v a) n =
       ap (λ x. shifted_right W32 x field.down) (lifted_value place word field below)
-      ∙ (two_shifts v found.mask.value found.amount.value field.up field.down below found.is.ones found.is.few
-      found.is.reach
-      ∙ ap₂ (λ x y. bit_and (shifted_right W32 v x) y) (sym (same found.amount found.is_amount))
-      (sym (also found.mask found.is_mask))) in
-      subst (λ o. value_in m (moved place w word field) ≡ operated o width (operated down w v a) n) (sym found.masks)
-      (subst (λ d. value_in m (moved place w word field) ≡ bit_and (operated d w v a) n) (sym found.shifts)
-      (subst (λ u. value_in m (moved place u word field) ≡ bit_and (shifted_right u v a) n) (sym found.full) shifts))
+      ∙ (two_shifts v n by.value field.up field.down below found.ones found.few found.reach
+      ∙ ap₂ (λ x y. bit_and (shifted_right W32 v x) y) (sym is) (sym also))

@@ -1,7 +1,7 @@
 -- Variables that statements leave alone: they hold what they held, and what is still known of them was known before.
-use Rattle.std.proofs.Common.{◌≡◌, ℕ, zero, suc, ◌+◌, ◌-◌, ◌==◌, Bool, true, false, if◌then◌else◌, List, []}
-use Rattle.std.proofs.Common.{◌∷◌, ◌⊎◌, inl, inr, Option, None, Some, slice_index, refl, ap, ◌∙◌}
-use Rattle.std.proofs.lemmas.Bool.{cond-false, cond-true, eq-eqb, ne_eqb}
+use Rattle.std.proofs.Common.{◌≡◌, ℕ, zero, suc, ◌+◌, ◌-◌, ◌==◌, Bool, true, false, if◌then◌else◌, List, [], ◌∷◌}
+use Rattle.std.proofs.Common.{inl, Option, None, Some, refl, ◌∙◌}
+use Rattle.std.proofs.lemmas.Bool.{cond-false, cond-true, cond_both, eq-eqb, ne_eqb}
 use Rattle.inline.specs.declared.flat.FlatVariable.{FlatVariable}
 use Rattle.inline.specs.Flat.{TermTree}
 use Rattle.inline.specs.FlatMeaning.{Values, with_value, turns}
@@ -9,18 +9,17 @@ use Rattle.branch_removal.specs.Straight.{StraightTree, set, array, put, take, b
 use Rattle.branch_removal.specs.Straight.{StraightBlock, nothing, first}
 use Rattle.branch_removal.specs.StraightMeaning.{StraightState, holds, with_variable, value_at, counted}
 use Rattle.branch_removal.specs.StraightMeaning.{after, after_all}
-use Rattle.optimisation.specs.declared.constants.known.WordCopy.{WordCopy}
-use Rattle.optimisation.specs.constants.private.Folding.{simple, constant_of, decision, numbers_of}
-use Rattle.optimisation.specs.constants.private.Known.{Words, with_word, without, all_short, forgotten, forgotten_all}
+use Rattle.optimisation.specs.constants.private.Folding.{simple}
+use Rattle.optimisation.specs.constants.private.Known.{Words, without, all_short, behind, forgotten, forgotten_all}
 use Rattle.optimisation.specs.constants.private.Known.{in_loop}
-use Rattle.optimisation.specs.declared.constants.terms.Numbers.{Numbers}
-use Rattle.optimisation.specs.constants.private.Simplification.{decided, unrolled, at_turn, copied, copied_where}
-use Rattle.optimisation.specs.constants.private.Simplification.{may_be_read_as}
-use Rattle.optimisation.specs.constants.private.Simplification.{set_to, variable_of, knowing, knowing_all}
-use Rattle.optimisation.proofs.constants_lemmas.KnownLemmas.{Fact, valued, copy, IsIn, Knows, IsAbout, IsFree, in_more}
-use Rattle.optimisation.proofs.constants_lemmas.KnownLemmas.{known_beside}
-use Rattle.optimisation.proofs.constants_lemmas.KnownLemmas.{without_apart, without_same, short_same, same_truth}
+use Rattle.optimisation.specs.constants.private.Simplification.{set_to}
+use Rattle.optimisation.proofs.constants_lemmas.CopyLemmas.{set_by}
+use Rattle.optimisation.proofs.constants_lemmas.KnownLemmas.{Fact, Knows, IsAbout, IsFree, known_beside}
+use Rattle.optimisation.proofs.constants_lemmas.KnownLemmas.{without_known, short_same, same_truth}
 use Rattle.optimisation.proofs.constants_lemmas.KnownLemmas.{Agrees}
+use Rattle.optimisation.proofs.constants_lemmas.StatementRules.{Simplifies, sets, fills, puts, takes, accepts, declines}
+use Rattle.optimisation.proofs.constants_lemmas.StatementRules.{chooses, unrolls, loops, TurnsSimplify, no_turn, a_turn}
+use Rattle.optimisation.proofs.constants_lemmas.StatementRules.{AllSimplify, ends, goes_on}
 
 abbrev mutual
   -- a statement does not set what a fact is about
@@ -40,10 +39,9 @@ mutual
   -- what is not forgotten was known, and is about nothing that is set
   pub remembered : (words : Words) (statement : StraightTree) (f : Fact) → Knows (forgotten words statement) f
       → Knows words f × IsUnset f statement
-  remembered words (set within x value) f is = (without_same words x f is, without_apart words x f is)
-  remembered words (array x size values) f is = (without_same words x f is, without_apart words x f is)
-  remembered words (put within place x size index value) f is =
-      (without_same words x f is, without_apart words x f is)
+  remembered words (set within x value) f is = without_known words x f is
+  remembered words (array x size values) f is = without_known words x f is
+  remembered words (put within place x size index value) f is = without_known words x f is
   remembered words (take control within condition) f is = (is, tt)
   remembered words (branch condition accepted otherwise) f is =
       let behind = remembered_all (forgotten_all words accepted) otherwise f is in
@@ -51,7 +49,8 @@ mutual
       (front.0, (front.1, behind.1))
   remembered words (repeats x low high body) f is =
       let inner = remembered_all (without words x) body f is in
-      (without_same words x f inner.0, (without_apart words x f inner.0, inner.1))
+      let here = without_known words x f inner.0 in
+      (here.0, (here.1, inner.1))
 
   pub remembered_all : (words : Words) (body : StraightBlock) (f : Fact) → Knows (forgotten_all words body) f
       → Knows words f × AreUnset f body
@@ -61,113 +60,70 @@ mutual
       let here = remembered words statement f behind.0 in
       (here.0, (here.1, behind.1))
 
--- one of three, whichever it is
-pub decided_any : {A : Type 0} (P : A → Type 0) (d : Option Bool) (one other both : A) → P one → P other → P both
-    → P (decided d one other both)
-decided_any P (Some true) one other both a b c = a
-decided_any P (Some false) one other both a b c = b
-decided_any P None one other both a b c = c
-
-pub either_any : {A : Type 0} (P : A → Type 0) (b : Bool) (one other : A) → P one → P other
-    → P (if b then one else other)
-either_any P true one other a b = a
-either_any P false one other a b = b
-
-pub unrolled_any : {A : Type 0} (P : A → Type 0) (o : Option Numbers) (copied : Numbers → A) (loop : A)
-    → ((each : Numbers) → P (copied each)) → P loop → P (unrolled o copied loop)
-unrolled_any P (Some each) copied loop a b = a each
-unrolled_any P None copied loop a b = b
-
--- what each turn keeps, all turns keep
-pub turns_keep : {S : Type 0} (P : S → Type 0) (turn : ℕ → S → S) → ((i : ℕ) (s : S) → P s → P (turn i s))
-    → (n i : ℕ) (s : S) → P s → P (turns n i turn s)
-turns_keep P turn keep zero i s p = p
-turns_keep P turn keep (suc n) i s p = turns_keep P turn keep n (i + 1) (turn i s) (keep i s p)
-
 -- what is known where a variable has been set, and is not about it, was known before
 known_before : (declared : List FlatVariable) (words : Words) (within : Option ℕ) (x : ℕ) (e : TermTree) (f : Fact)
     → IsFree x f → Knows (set_to declared words within x e) f → Knows words f
-known_before declared words (Some control) x e f free is = without_same words x f is
-known_before declared words None x e f free is = by_variable (variable_of e) is
-  where
-    by_choice : (b : Bool) (y : ℕ) (g : Fact) → IsFree x g
-        → Knows (copied_where b x y (with_word words x (constant_of e))) g → Knows words g
-    by_choice false y g apart h = known_beside words x (constant_of e) g apart h
-    by_choice true y (valued z c) apart h = known_beside words x (constant_of e) (valued z c) apart h
-    by_choice true y (copy c) apart h =
-        in_either (in_more (with_word words x (constant_of e)) c (record { variable = x; source = y }) h)
-      where
-        in_either : IsIn c (with_word words x (constant_of e)).copies ⊎ (record { variable = x; source = y } ≡ c)
-            → IsIn c words.copies
-        in_either (inl there) = known_beside words x (constant_of e) (copy c) apart there
-        in_either (inr here) = absurd (apart x (inl (ap (λ (d : WordCopy). d.variable) here)) refl)
-
-    by_variable : (o : Option ℕ) → Knows (copied declared x o (with_word words x (constant_of e))) f → Knows words f
-    by_variable None h = known_beside words x (constant_of e) f free h
-    by_variable (Some y) h = by_choice (may_be_read_as declared x y) y f free h
-
-module _ (copies : List ℕ) (declared : List FlatVariable) where
-  mutual
-    -- nothing is learned of what is not set
-    pub unlearned : (words : Words) (statement : StraightTree) (f : Fact) → IsUnset f statement
-        → Knows (knowing copies declared words statement) f → Knows words f
-    unlearned words (set within x value) f unset is =
-        known_before declared words within x (simple words value) f unset is
-    unlearned words (array x size values) f unset is = without_same words x f is
-    unlearned words (put within place x size index value) f unset is = without_same words x f is
-    unlearned words (take control within condition) f unset is = is
-    unlearned words (branch condition accepted otherwise) f unset is =
-        let arm = forgotten_all (knowing_all copies declared words accepted) accepted in
-        decided_any (λ (w : Words). Knows w f → Knows words f) (decision (simple words condition))
-        (knowing_all copies declared words accepted) (knowing_all copies declared words otherwise)
-        (forgotten_all (knowing_all copies declared arm otherwise) otherwise)
-        (λ h. unlearned_all words accepted f unset.0 h)
-        (λ h. unlearned_all words otherwise f unset.1 h)
-        (λ h. unlearned_all words accepted f unset.0
-        (remembered_all (knowing_all copies declared words accepted) accepted f
-        (unlearned_all arm otherwise f unset.1
-        (remembered_all (knowing_all copies declared arm otherwise) otherwise f h).0)).0)
-        is
-    unlearned words (repeats x low high body) f unset is =
-        let inside = in_loop words x body in
-        unrolled_any (λ (w : Words). Knows w f → Knows words f)
-        (numbers_of (slice_index copies x) (constant_of (simple words low)) (constant_of (simple words high)))
-        (λ each. turns (each.high - each.low) each.low (λ i w. knowing_all copies declared (at_turn x i w) body) words)
-        (forgotten_all (knowing_all copies declared inside body) body)
-        (λ each. turns_keep (λ (w : Words). Knows w f → Knows words f)
-        (λ i w. knowing_all copies declared (at_turn x i w) body)
-        (λ i w before h. before (known_beside w x _ f unset.0 (unlearned_all (at_turn x i w) body f unset.1 h)))
-        (each.high - each.low) each.low words (λ h. h))
-        (λ h. short_same words f (without_same (all_short words) x f
-        (remembered_all (without (all_short words) x) body f
-        (unlearned_all inside body f unset.1
-        (remembered_all (knowing_all copies declared inside body) body f h).0)).0))
-        is
-
-    pub unlearned_all : (words : Words) (body : StraightBlock) (f : Fact) → AreUnset f body
-        → Knows (knowing_all copies declared words body) f → Knows words f
-    unlearned_all words nothing f unset is = is
-    unlearned_all words (first statement rest) f unset is =
-        unlearned words statement f unset.0
-        (unlearned_all (knowing copies declared words statement) rest f unset.1 is)
-
-  -- What is known behind an arm or a turn, and within a loop.
-
-  pub behind_part : (words : Words) (body : StraightBlock) (f : Fact)
-      → Knows (forgotten_all (knowing_all copies declared words body) body) f → Knows words f × AreUnset f body
-  behind_part words body f is =
-      let found = remembered_all (knowing_all copies declared words body) body f is in
-      (unlearned_all words body f found.1 found.0, found.1)
+known_before declared words (Some control) x e f free is = (without_known words x f is).0
+known_before declared words None x e f free is =
+    set_by declared words x e (λ g. IsFree x g → Knows words g) (λ c same apart. absurd (apart x refl refl))
+    (λ y same may apart. absurd (apart x (inl refl) refl)) (λ g apart known also. known) f is free
 
 pub within_loop : (words : Words) (x : ℕ) (body : StraightBlock) (f : Fact) → Knows (in_loop words x body) f
     → Knows words f × (IsFree x f × AreUnset f body)
 within_loop words x body f is =
-    let found = remembered_all (without (all_short words) x) body f is in (
-      short_same words f (without_same (all_short words) x f found.0),
-      (without_apart (all_short words) x f found.0, found.1),
-    )
+    let found = remembered_all (without (all_short words) x) body f is in
+    let here = without_known (all_short words) x f found.0 in
+    (short_same words f here.0, (here.1, found.1))
+
+module _ {copies : List ℕ} {declared : List FlatVariable} where
+  mutual
+    -- nothing is learned of what is not set
+    unlearned : {words after : Words} {statement : StraightTree} {code : StraightBlock}
+        → Simplifies copies declared words statement code after → (f : Fact) → IsUnset f statement → Knows after f
+        → Knows words f
+    unlearned (sets {words = words} {within = within} {x = x} {value = value}) f unset is =
+        known_before declared words within x (simple words value) f unset is
+    unlearned (fills {words = words} {x = x}) f unset is = (without_known words x f is).0
+    unlearned (puts {words = words} {x = x}) f unset is = (without_known words x f is).0
+    unlearned takes f unset is = is
+    unlearned (accepts decides one) f unset is = unlearned_all one f unset.0 is
+    unlearned (declines decides other) f unset is = unlearned_all other f unset.1 is
+    unlearned (chooses {after = after} {next = next} {accepted = accepted} {otherwise = otherwise} one other) f unset
+        is =
+        unlearned_all one f unset.0 (remembered_all after accepted f (unlearned_all other f unset.1
+        (remembered_all next otherwise f is).0)).0
+    unlearned (unrolls numbers all) f unset is = unlearned_turns all f unset is
+    unlearned (loops {words = words} {after = after} {x = x} {body = body} inner) f unset is =
+        (within_loop words x body f (unlearned_all inner f unset.1 (remembered_all after body f is).0)).0
+
+    unlearned_turns : {x n i : ℕ} {body code : StraightBlock} {words after : Words}
+        → TurnsSimplify copies declared x body n i words code after → (f : Fact) → IsFree x f × AreUnset f body
+        → Knows after f → Knows words f
+    unlearned_turns no_turn f unset is = is
+    unlearned_turns (a_turn {x = x} {i = i} {words = words} one others) f unset is =
+        known_beside words x _ f unset.0 (unlearned_all one f unset.1 (unlearned_turns others f unset is))
+
+    unlearned_all : {words after : Words} {body code : StraightBlock}
+        → AllSimplify copies declared words body code after → (f : Fact) → AreUnset f body → Knows after f
+        → Knows words f
+    unlearned_all ends f unset is = is
+    unlearned_all (goes_on one others) f unset is =
+        unlearned one f unset.0 (unlearned_all others f unset.1 is)
+
+  -- what is known behind an arm or a turn
+  pub behind_part : {words after : Words} {body code : StraightBlock}
+      → AllSimplify copies declared words body code after → (f : Fact) → Knows (behind after body) f
+      → Knows words f × AreUnset f body
+  behind_part {after = after} {body = body} all f is =
+      let found = remembered_all after body f is in (unlearned_all all f found.1 found.0, found.1)
 
 -- Runs.
+
+-- what each turn keeps, all turns keep
+turns_keep : {S : Type 0} (P : S → Type 0) (turn : ℕ → S → S) → ((i : ℕ) (s : S) → P s → P (turn i s))
+    → (n i : ℕ) (s : S) → P s → P (turns n i turn s)
+turns_keep P turn keep zero i s p = p
+turns_keep P turn keep (suc n) i s p = turns_keep P turn keep n (i + 1) (turn i s) (keep i s p)
 
 pub at_itself : (m : Values) (x : ℕ) (v : List ℕ) → with_value m x v x ≡ v
 at_itself m x v = cond-true (x == x) v (m x) (eq-eqb x x refl)
@@ -190,9 +146,9 @@ mutual
       beside_under s (holds s within) x y _ (unset y about)
   left_alone (take control within condition) f unset y about s = refl
   left_alone (branch condition accepted otherwise) f unset y about s =
-      either_any (λ (t : StraightState). t.variables y ≡ s.variables y) (value_at s condition == 0)
-      (after_all s otherwise) (after_all s accepted)
-      (left_alone_all otherwise f unset.1 y about s) (left_alone_all accepted f unset.0 y about s)
+      cond_both (value_at s condition == 0) (after_all s otherwise) (after_all s accepted)
+      (λ (t : StraightState). t.variables y ≡ s.variables y) (λ is. left_alone_all otherwise f unset.1 y about s)
+      (λ is. left_alone_all accepted f unset.0 y about s)
   left_alone (repeats x low high body) f unset y about s =
       turns_keep (λ (t : StraightState). t.variables y ≡ s.variables y) (λ i t. after_all (counted x i t) body)
       (λ i t so_far. left_alone_all body f unset.1 y about (counted x i t)

@@ -14,21 +14,22 @@ use Rattle.branch_removal.specs.Replaced.{IsReplaced}
 use Rattle.branch_removal.specs.StraightTyping.{IsTypedStraight}
 use Rattle.branch_removal.specs.declared.straight.StraightStatement.{StraightStatement}
 use Rattle.branch_removal.specs.Straight.{StraightBlock, StraightProgram, chain, straight_block, with_body}
-use Rattle.branch_removal.specs.StraightMeaning.{StraightState, start, end_of, outcome_of, path_of, path_along}
+use Rattle.branch_removal.specs.StraightMeaning.{StraightState, after_all, start, end_of, outcome_of, path_of}
+use Rattle.branch_removal.specs.StraightMeaning.{path_along}
 use Rattle.optimisation.specs.constants.private.Folding.{simple}
 use Rattle.optimisation.specs.constants.private.Choice.{AreAllowed}
 use Rattle.optimisation.specs.constants.private.Known.{Words}
 use Rattle.optimisation.specs.constants.private.Simplification.{knowing_all, simplified_all, nothing_known}
 use Rattle.optimisation.specs.constants.private.Simplification.{simplified_program}
 use Rattle.optimisation.proofs.constants_lemmas.KnownLemmas.{nothing_first, Holds}
-use Rattle.optimisation.proofs.constants_lemmas.Held.{start_fits}
+use Rattle.optimisation.proofs.constants_lemmas.Held.{fits_after_all, start_fits}
 use Rattle.branch_removal.proofs.Sequences.{fine_both, fine_front, fine_back}
 use Rattle.optimisation.proofs.constants_lemmas.TermLemmas.{same_suited, fine_suited}
 use Rattle.optimisation.proofs.constants_lemmas.TermTypes.{still_result}
-use Rattle.optimisation.proofs.constants_lemmas.Learned.{hold_after_all}
-use Rattle.optimisation.proofs.constants_lemmas.Same.{same_after_all, still_fine_all}
-use Rattle.optimisation.proofs.constants_lemmas.Typed.{AreKinds, kinds_after_all, still_all_typed, still_hidden_all}
-use Rattle.optimisation.proofs.constants_lemmas.Bounds.{stays_low_all, less_all, lower_result, fewer_in_value}
+use Rattle.optimisation.proofs.constants_lemmas.Same.{LeadsTo, all_lead}
+use Rattle.optimisation.proofs.constants_lemmas.StatementRules.{AllSimplify, all_simplify}
+use Rattle.optimisation.proofs.constants_lemmas.Typed.{AreKinds, IsStillTyped, still_hidden_all, typed_after_all}
+use Rattle.optimisation.proofs.constants_lemmas.Bounds.{less_all, lower_result, fewer_in_value}
 
 -- the result
 same_result : (types : Types) (words : Words) (m : Values) → Holds types words m → (returned : Option WordType)
@@ -49,86 +50,93 @@ fine_result most types words m holds (Some word) (Some value) is fine =
     fine_suited most types words m holds is fine
 
 module _ (copies : List ℕ) (p : StraightProgram) where
-  first_kinds : AreKinds copies p.profile p.declared p.controls (nothing_known p)
+  abbrev last_words : Words
+  last_words = knowing_all copies p.declared (nothing_known p) p.body
+
+  body_simplifies : AllSimplify copies p.declared (nothing_known p) p.body
+      (simplified_all copies p.declared (nothing_known p) p.body) last_words
+  body_simplifies = all_simplify copies p.declared (nothing_known p) p.body
+
+  first_kinds : AreKinds p.profile p.declared (nothing_known p)
   first_kinds f is = absurd (nothing_first (length p.declared) f is)
 
-  module _ (typed : IsTypedStraight p) (args : List Arg) (within : AreWithin p.parameters args) where
-    abbrev types : Types
-    types = types_of p.profile p.declared
+  module _ (typed : IsTypedStraight p) where
+    still : IsStillTyped p.profile p.declared p.controls (simplified_all copies p.declared (nothing_known p) p.body)
+        last_words
+    still = typed_after_all p.profile p.declared p.controls body_simplifies first_kinds typed.body
 
-    first_holds : Holds types (nothing_known p) (start p args).variables
-    first_holds = record {
-      agrees = λ f is. absurd (nothing_first (length p.declared) f is);
-      kinds = first_kinds;
-      fits = start_fits p.profile p.parameters p.declared args typed.parameters within;
-    }
+    module _ (args : List Arg) (within : AreWithin p.parameters args) where
+      abbrev types : Types
+      types = types_of p.profile p.declared
 
-    same_end : end_of (simplified_program copies p) args ≡ end_of p args
-    same_end = ap (λ (s : StraightState). s.variables)
-        (same_after_all copies p.profile p.declared p.controls (nothing_known p) p.body typed.body (start p args)
-        first_holds)
+      first_holds : Holds types (nothing_known p) (start p args).variables
+      first_holds = record {
+        agrees = λ f is. absurd (nothing_first (length p.declared) f is);
+        kinds = first_kinds;
+        fits = start_fits p.profile p.parameters p.declared args typed.parameters within;
+      }
 
-    last_holds : Holds types (knowing_all copies p.declared (nothing_known p) p.body) (end_of p args)
-    last_holds =
-        hold_after_all copies p.profile p.declared p.controls (nothing_known p) p.body typed.body (start p args)
-        first_holds
+      leads : LeadsTo p.turns (start p args) (simplified_all copies p.declared (nothing_known p) p.body) last_words
+          (after_all (start p args) p.body) (path_along (start p args) p.body)
+      leads = all_lead p.turns p.profile p.declared p.controls body_simplifies typed.body (start p args) first_holds
 
-    same_outcome : outcome_of (simplified_program copies p) args ≡ outcome_of p args
-    same_outcome =
-        ap (results_of p.parameters (simplified_program copies p).value) same_end
-        ∙ ap (λ (v : Option ℕ). record { returned = v; arrays = (outcome_of p args).arrays })
-        (same_result types (knowing_all copies p.declared (nothing_known p) p.body) (end_of p args) last_holds
-        p.returned p.value
-        typed.result)
+      last_holds : Holds types last_words (end_of p args)
+      last_holds = record {
+        agrees = leads.agrees;
+        kinds = still.kinds;
+        fits = fits_after_all p.profile p.declared p.controls p.body typed.body (start p args) first_holds.fits;
+      }
 
-    still_fine_path : AreFine p.turns (path_of p args) → AreFine p.turns (path_of (simplified_program copies p) args)
-    still_fine_path fine =
-        let s = start p args in
-        let front = path_along s p.body in
-        let back = path_of_result (end_of p args) p.value in
-        fine_both p.turns (path_along s (simplified_program copies p).body)
-        (path_of_result (end_of (simplified_program copies p) args) (simplified_program copies p).value)
-        (still_fine_all p.turns copies p.profile p.declared p.controls (nothing_known p) p.body typed.body s
-        first_holds (fine_front p.turns front back fine))
-        (subst (λ (m : Values). AreFine p.turns (path_of_result m (simplified_program copies p).value)) (sym same_end)
-        (fine_result p.turns types (knowing_all copies p.declared (nothing_known p) p.body) (end_of p args) last_holds
-        p.returned
-        p.value typed.result (fine_back p.turns front back fine)))
+      same_end : end_of (simplified_program copies p) args ≡ end_of p args
+      same_end = ap (λ (s : StraightState). s.variables) leads.same
+
+      same_outcome : outcome_of (simplified_program copies p) args ≡ outcome_of p args
+      same_outcome =
+          ap (results_of p.parameters (simplified_program copies p).value) same_end
+          ∙ ap (λ (v : Option ℕ). record { returned = v; arrays = (outcome_of p args).arrays })
+          (same_result types last_words (end_of p args) last_holds p.returned p.value typed.result)
+
+      still_fine_path : AreFine p.turns (path_of p args)
+          → AreFine p.turns (path_of (simplified_program copies p) args)
+      still_fine_path fine =
+          let front = path_along (start p args) p.body in
+          let back = path_of_result (end_of p args) p.value in
+          fine_both p.turns (path_along (start p args) (simplified_program copies p).body)
+          (path_of_result (end_of (simplified_program copies p) args) (simplified_program copies p).value)
+          (leads.fine (fine_front p.turns front back fine))
+          (subst (λ (m : Values). AreFine p.turns (path_of_result m (simplified_program copies p).value))
+          (sym same_end)
+          (fine_result p.turns types last_words (end_of p args) last_holds p.returned p.value typed.result
+          (fine_back p.turns front back fine)))
 
   module _ (kept : IsStraight p) (allowed : AreAllowed copies p.turns) where
     pub still_straight : IsStraight (simplified_program copies p)
-    still_straight = record {
-      typed = record {
-        parameters = kept.typed.parameters;
-        body = still_all_typed copies p.profile p.declared p.controls (nothing_known p) p.body first_kinds
-            kept.typed.body;
-        hidden = still_hidden_all copies p.declared (nothing_known p) p.body kept.typed.hidden;
-        result = still_result (types_of p.profile p.declared) (knowing_all copies p.declared (nothing_known p) p.body)
-            (kinds_after_all copies p.profile p.declared p.controls (nothing_known p) p.body first_kinds
-            kept.typed.body)
-            p.returned p.value kept.typed.result;
-      };
-      bounded = record {
-        lengths = kept.bounded.lengths;
-        parameters = kept.bounded.parameters;
-        declared = kept.bounded.declared;
-        nodes = kept.bounded.nodes;
-        worked = omega (
-          arith,
-          less_all copies p.declared p.turns allowed (nothing_known p) p.body,
-          fewer_in_value (knowing_all copies p.declared (nothing_known p) p.body) p.value,
-          kept.bounded.worked,
-        );
-        work_fits = kept.bounded.work_fits;
-        framed = omega (
-          arith,
-          (stays_low_all copies p.declared (nothing_known p) p.body).height,
-          (stays_low_all copies p.declared (nothing_known p) p.body).depth,
-          lower_result (knowing_all copies p.declared (nothing_known p) p.body) p.value,
-          kept.bounded.framed,
-        );
-      };
-    }
+    still_straight =
+        let size = less_all p.turns copies p.declared allowed body_simplifies in
+        record {
+          typed = record {
+            parameters = kept.typed.parameters;
+            body = (still kept.typed).typed;
+            hidden = still_hidden_all body_simplifies kept.typed.hidden;
+            result = still_result (types_of p.profile p.declared) last_words (still kept.typed).kinds p.returned p.value
+                kept.typed.result;
+          };
+          bounded = record {
+            lengths = kept.bounded.lengths;
+            parameters = kept.bounded.parameters;
+            declared = kept.bounded.declared;
+            nodes = kept.bounded.nodes;
+            worked = omega (arith, size.worked, fewer_in_value last_words p.value, kept.bounded.worked);
+            work_fits = kept.bounded.work_fits;
+            framed = omega (
+              arith,
+              size.low,
+              size.shallow,
+              lower_result last_words p.value,
+              kept.bounded.framed,
+            );
+          };
+        }
 
     pub replaced : IsReplaced p (simplified_program copies p)
     replaced = record {

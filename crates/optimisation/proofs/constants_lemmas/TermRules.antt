@@ -1,0 +1,329 @@
+-- The rules by which an expression is made simpler, and that a node with simple operands becomes what stands in its
+-- place by them: what each rule keeps, that keeps.
+use Rattle.std.proofs.Common.{◌≡◌, ℕ, ◌-◌, ◌==◌, ◌&&◌, Bool, true, false, if◌then◌else◌, Option, None, Some, IfSome}
+use Rattle.std.proofs.Common.{option_map, refl}
+use Rattle.std.proofs.lemmas.Bool.{cond_both, false≢true}
+use Rattle.std.specs.Option.{option_and, option_and_then}
+use Rattle.inline.specs.Flat.{TermTree, number, truth, variable, prefix, binary, rotate, convert, select, element}
+use Rattle.language.specs.declared.operators.BinaryOperator.{BinaryOperator}
+use Rattle.language.specs.declared.operators.BinaryOperator.TheVariants.{BitAnd, ShiftLeft, ShiftRight, Multiply, Divide}
+use Rattle.language.specs.declared.operators.BinaryOperator.TheVariants.{Remainder}
+use Rattle.language.specs.declared.operators.PrefixOperator.{PrefixOperator}
+use Rattle.language.specs.declared.operators.PrefixOperator.TheVariants.{Not}
+use Rattle.language.specs.declared.signature.Kind.{Kind}
+use Rattle.language.specs.declared.signature.Kind.TheVariants.{Uint32}
+use Rattle.language.specs.ExprTyping.{operation_kind}
+use Rattle.language.specs.Operators.{divides, operated, operation_of, opposite_of, prefix_value, turned_of, width_of}
+use Rattle.word.specs.Operators.{rotated_left, converted}
+use Rattle.word.specs.declared.place.Place.{Place}
+use Rattle.word.specs.declared.width.Width.{Width}
+use Rattle.word.specs.declared.width.Width.TheVariants.{W32}
+use Rattle.optimisation.specs.declared.constants.fields.Field.{Field}
+use Rattle.optimisation.specs.declared.constants.known.Constant.{Constant}
+use Rattle.optimisation.specs.constants.private.Fields.{amount_of, cleared_by, field_of, field_within, mask_of, moved}
+use Rattle.optimisation.specs.constants.private.Fields.{moved_or}
+use Rattle.optimisation.specs.constants.private.Folding.{applied, between, binary_or, chosen, constant, constant_of}
+use Rattle.optimisation.specs.constants.private.Folding.{converted_to, decided, decision, is_among, is_left_identity}
+use Rattle.optimisation.specs.constants.private.Folding.{is_right_identity, known_or, negation_of, number_of, operated_on}
+use Rattle.optimisation.specs.constants.private.Folding.{operation, prefixed, reduced, rotated, simple, stepped}
+use Rattle.optimisation.specs.constants.private.Folding.{stepped_or, truth_or, turned, turned_by}
+use Rattle.optimisation.specs.constants.private.Known.{Words, known, source_in}
+use Rattle.optimisation.specs.constants.private.Powers.{exponent_of, step_by, step_of, turned_step}
+use Rattle.optimisation.proofs.constants_lemmas.Opposites.{IsOpposite, opposite}
+use Rattle.optimisation.proofs.constants_lemmas.Powers.{IsPower, is_power}
+use Rattle.optimisation.proofs.constants_lemmas.TurnedRound.{IsTurnedRound, turned_round}
+use Rattle.optimisation.proofs.constants_lemmas.TwoShifts.{IsField, is_field}
+
+pub data Becomes : TermTree → TermTree → Type 0 where
+  stays : {e : TermTree} → Becomes e e
+  and_then : {e f g : TermTree} → Becomes e f → Becomes f g → Becomes e g
+  -- what is made of numbers is a number
+  number_prefixed : {operator : PrefixOperator} {width : Width} {operand : TermTree} {c : Constant}
+      → constant_of operand ≡ Some c
+      → Becomes (prefix operator width operand) (number (prefix_value operator width c.value) c.kind)
+  number_rotated : {width : Width} {operand : TermTree} {amount : ℕ} {c : Constant}
+      → constant_of operand ≡ Some c
+      → Becomes (rotate width operand amount) (number (rotated_left width c.value amount) c.kind)
+  number_converted : {kind : Kind} {operand : TermTree} {c : Constant}
+      → constant_of operand ≡ Some c
+      → Becomes (convert kind operand) (number (converted (width_of kind) c.value) kind)
+  numbers_operated : {place : Place} {operator : BinaryOperator} {width : Width} {left right : TermTree}
+      {a b : Constant}
+      → constant_of left ≡ Some a
+      → constant_of right ≡ Some b
+      → Becomes (binary place operator width left right)
+      (number (operated operator width a.value b.value) (operation_kind (operation_of operator) a.kind))
+  -- `!` of `!`, and of a comparison
+  twice_negated : {width w : Width} {operand : TermTree} → Becomes (prefix Not width (prefix Not w operand)) operand
+  comparison_negated : {width w : Width} {place : Place} {operator other : BinaryOperator} {left right : TermTree}
+      → IsOpposite operator other
+      → Becomes (prefix Not width (binary place operator w left right)) (binary place other w left right)
+  -- an operand that decides alone, or leaves the other one as it is
+  operation_decided : {place : Place} {operator : BinaryOperator} {width : Width} {left right : TermTree} {t : Bool}
+      → decided operator (constant_of left) (constant_of right) ≡ Some t
+      → Becomes (binary place operator width left right) (truth t)
+  left_alone : {place : Place} {operator : BinaryOperator} {width : Width} {left right : TermTree} {c : Constant}
+      → constant_of right ≡ Some c
+      → is_right_identity operator width c.value ≡ true
+      → Becomes (binary place operator width left right) left
+  right_alone : {place : Place} {operator : BinaryOperator} {width : Width} {left right : TermTree} {c : Constant}
+      → constant_of left ≡ Some c
+      → is_left_identity operator width c.value ≡ true
+      → Becomes (binary place operator width left right) right
+  -- operands turned round, where a number is on the left
+  comparison_turned : {place : Place} {operator next : BinaryOperator} {width : Width} {left right : TermTree}
+      {c : Constant}
+      → constant_of left ≡ Some c
+      → IsTurnedRound operator next
+      → Becomes (binary place operator width left right) (binary place next width right left)
+  product_turned : {place : Place} {width : Width} {left right : TermTree} {c : Constant}
+      → constant_of left ≡ Some c
+      → Becomes (binary place Multiply width left right) (binary place Multiply width right left)
+  -- an operator by a power of two
+  shifted_up : {place : Place} {width : Width} {left right : TermTree} {power : Constant} {k : ℕ}
+      → constant_of right ≡ Some power
+      → IsPower power.value k
+      → Becomes (binary place Multiply width left right) (binary place ShiftLeft width left (number k Uint32))
+  shifted_down : {place : Place} {width : Width} {left right : TermTree} {power : Constant} {k : ℕ}
+      → constant_of right ≡ Some power
+      → IsPower power.value k
+      → Becomes (binary place Divide width left right) (binary place ShiftRight width left (number k Uint32))
+  masked : {place : Place} {width : Width} {left right : TermTree} {power : Constant} {k : ℕ}
+      → constant_of right ≡ Some power
+      → IsPower power.value k
+      → Becomes (binary place Remainder width left right)
+      (binary place BitAnd width left (number (power.value - 1) power.kind))
+  -- bits of a word, by two shifts
+  bits_moved : {place inner : Place} {width : Width} {word amount right : TermTree} {by mask : Constant} {field : Field}
+      → constant_of amount ≡ Some by
+      → constant_of right ≡ Some mask
+      → IsField by mask.value field
+      → Becomes (binary place BitAnd width (binary inner ShiftRight W32 word amount) right) (moved place W32 word field)
+  -- a condition that is a number
+  accepted_chosen : {condition accepted otherwise : TermTree}
+      → decision condition ≡ Some true
+      → Becomes (select condition accepted otherwise) accepted
+  otherwise_chosen : {condition accepted otherwise : TermTree}
+      → decision condition ≡ Some false
+      → Becomes (select condition accepted otherwise) otherwise
+
+-- One operand.
+
+one_operand : (operand : TermTree) (f : Constant → Constant) (e whole : TermTree)
+    → ((c : Constant) → constant_of operand ≡ Some c → Becomes e (number_of (f c))) → Becomes e whole
+    → Becomes e (known_or (option_map f (constant_of operand)) whole)
+one_operand operand f e whole folds rest = by_constant (constant_of operand) refl
+  where
+    by_constant : (o : Option Constant) → constant_of operand ≡ o → Becomes e (known_or (option_map f o) whole)
+    by_constant None is = rest
+    by_constant (Some c) is = folds c is
+
+opposite_becomes : (width : Width) (place : Place) (operator : BinaryOperator) (w : Width) (left right : TermTree)
+    (o : Option BinaryOperator) → IfSome o (IsOpposite operator)
+    → Becomes (prefix Not width (binary place operator w left right))
+    (binary_or o place w left right (prefix Not width (binary place operator w left right)))
+opposite_becomes width place operator w left right None found = stays
+opposite_becomes width place operator w left right (Some other) found = comparison_negated found
+
+negation_becomes : (width : Width) (e : TermTree) → Becomes (prefix Not width e) (negation_of width e)
+negation_becomes width (prefix Not w operand) = twice_negated
+negation_becomes width (binary place operator w left right) =
+    opposite_becomes width place operator w left right (opposite_of operator) (opposite operator)
+negation_becomes width e = stays
+
+applied_becomes : (operator : PrefixOperator) (width : Width) (e : TermTree)
+    → Becomes (prefix operator width e) (applied operator width e)
+applied_becomes Not width e = negation_becomes width e
+applied_becomes operator width e = stays
+
+prefixed_becomes : (operator : PrefixOperator) (width : Width) (e : TermTree)
+    → Becomes (prefix operator width e) (prefixed operator width e)
+prefixed_becomes operator width e =
+    one_operand e (λ c. constant (prefix_value operator width c.value) c.kind) (prefix operator width e)
+    (applied operator width e) (λ c is. number_prefixed is) (applied_becomes operator width e)
+
+rotated_becomes : (width : Width) (e : TermTree) (amount : ℕ)
+    → Becomes (rotate width e amount) (rotated width e amount)
+rotated_becomes width e amount =
+    one_operand e (λ c. constant (rotated_left width c.value amount) c.kind) (rotate width e amount)
+    (rotate width e amount) (λ c is. number_rotated is) stays
+
+converted_becomes : (kind : Kind) (e : TermTree) → Becomes (convert kind e) (converted_to kind e)
+converted_becomes kind e =
+    one_operand e (λ c. constant (converted (width_of kind) c.value) kind) (convert kind e) (convert kind e)
+    (λ c is. number_converted is) stays
+
+-- Two operands.
+
+-- where a word is moved down and then masked
+field_becomes : (place inner : Place) (width : Width) (word amount right : TermTree) (by mask : Constant)
+    → constant_of amount ≡ Some by → constant_of right ≡ Some mask → (o : Option Field) → IfSome o (IsField by mask.value)
+    → Becomes (binary place BitAnd width (binary inner ShiftRight W32 word amount) right)
+    (moved_or o place W32 word (binary place BitAnd width (binary inner ShiftRight W32 word amount) right))
+field_becomes place inner width word amount right by mask is also None found = stays
+field_becomes place inner width word amount right by mask is also (Some field) found = bits_moved is also found
+
+bits_become : (place inner : Place) (width : Width) (word amount right : TermTree) (operator : BinaryOperator)
+    (mask : Option Constant) (down : BinaryOperator) (w : Width) (by : Option Constant) → constant_of right ≡ mask
+    → constant_of amount ≡ by
+    → Becomes (binary place operator width (binary inner down w word amount) right)
+    (moved_or (field_of (mask_of operator mask) (amount_of down w by)) place w word
+    (binary place operator width (binary inner down w word amount) right))
+bits_become place inner width word amount right BitAnd (Some mask) ShiftRight W32 (Some by) is also =
+    field_becomes place inner width word amount right by mask also is
+    (field_within by mask.value (cleared_by mask.value)) (is_field by mask.value)
+bits_become place inner width word amount right operator mask down w by is also = stays
+
+operation_becomes : (place : Place) (operator : BinaryOperator) (width : Width) (left right : TermTree)
+    → Becomes (binary place operator width left right) (operation place operator width left right)
+operation_becomes place operator width (binary inner down w word amount) right =
+    bits_become place inner width word amount right operator (constant_of right) down w (constant_of amount) refl refl
+operation_becomes place operator width left right = stays
+
+module _ (place : Place) (width : Width) (whole word side rest : TermTree) (side_rest : Becomes whole rest) where
+  power_becomes : (operator : BinaryOperator) → Becomes whole (binary place operator width word side)
+      → (power : Constant) → constant_of side ≡ Some power → (k : ℕ) → IsPower power.value k
+      → Becomes whole (stepped_or (step_by operator power k) place width word rest)
+  power_becomes Multiply here power is k found =
+      and_then here (and_then (shifted_up is found) (operation_becomes place ShiftLeft width word (number k Uint32)))
+  power_becomes Divide here power is k found =
+      and_then here (and_then (shifted_down is found) (operation_becomes place ShiftRight width word (number k Uint32)))
+  power_becomes Remainder here power is k found =
+      and_then here (and_then (masked is found)
+      (operation_becomes place BitAnd width word (number (power.value - 1) power.kind)))
+  power_becomes operator here power is k found = side_rest
+
+  -- an operator by what may be a power of two, or else what it is without
+  step_becomes : (operator : BinaryOperator)
+      → ((c : Constant) → constant_of side ≡ Some c → Becomes whole (binary place operator width word side))
+      → Becomes whole (stepped_or (step_of operator (constant_of side)) place width word rest)
+  step_becomes operator here = by_constant (constant_of side) refl
+    where
+      by_exponent : (power : Constant) → constant_of side ≡ Some power → (o : Option ℕ)
+          → IfSome o (IsPower power.value)
+          → Becomes whole (stepped_or (option_and_then (step_by operator power) o) place width word rest)
+      by_exponent power is None found = side_rest
+      by_exponent power is (Some k) found = power_becomes operator (here power is) power is k found
+
+      by_constant : (o : Option Constant) → constant_of side ≡ o
+          → Becomes whole (stepped_or (step_of operator o) place width word rest)
+      by_constant None is = side_rest
+      by_constant (Some power) is = by_exponent power is (exponent_of power.value) (is_power power.value)
+
+module _ (place : Place) (width : Width) (left right : TermTree) where
+  turned_becomes : (operator : BinaryOperator)
+      → Becomes (binary place operator width left right) (turned place operator width left right)
+  turned_becomes operator = by_constant (constant_of left) refl
+    where
+      by_next : (c : Constant) → constant_of left ≡ Some c → (o : Option BinaryOperator)
+          → IfSome o (IsTurnedRound operator)
+          → Becomes (binary place operator width left right)
+          (binary_or o place width right left (operation place operator width left right))
+      by_next c is None found = operation_becomes place operator width left right
+      by_next c is (Some next) found = comparison_turned is found
+
+      by_constant : (o : Option Constant) → constant_of left ≡ o
+          → Becomes (binary place operator width left right)
+          (binary_or (turned_by operator o) place width right left (operation place operator width left right))
+      by_constant None is = operation_becomes place operator width left right
+      by_constant (Some c) is =
+          by_next c is (option_and (opposite_of operator) (turned_of operator)) (turned_round operator)
+
+  -- by a power of two on the left
+  left_becomes : (operator : BinaryOperator)
+      → Becomes (binary place operator width left right)
+      (stepped_or (turned_step operator (constant_of left)) place width right
+      (turned place operator width left right))
+  left_becomes Multiply =
+      step_becomes place width (binary place Multiply width left right) right left
+      (turned place Multiply width left right) (turned_becomes Multiply) Multiply (λ c is. product_turned is)
+  left_becomes operator = turned_becomes operator
+
+  stepped_becomes : (operator : BinaryOperator)
+      → Becomes (binary place operator width left right) (stepped place operator width left right)
+  stepped_becomes operator =
+      step_becomes place width (binary place operator width left right) left right
+      (stepped_or (turned_step operator (constant_of left)) place width right
+      (turned place operator width left right)) (left_becomes operator) operator (λ c is. stays)
+
+  among : (numbers : ℕ → Bool) (o : Option Constant) → is_among numbers o ≡ true
+      → (c : Constant) × (o ≡ Some c) × (numbers c.value ≡ true)
+  among numbers None is = absurd (false≢true is)
+  among numbers (Some c) is = (c, refl, is)
+
+  reduced_becomes : (operator : BinaryOperator)
+      → Becomes (binary place operator width left right) (reduced place operator width left right)
+  reduced_becomes operator =
+      let right_number = is_right_identity operator width in
+      let left_number = is_left_identity operator width in
+      let rest = stepped place operator width left right in
+      cond_both (is_among right_number (constant_of right)) left
+      (if is_among left_number (constant_of left) then right else rest)
+      (Becomes (binary place operator width left right))
+      (λ is. let found = among right_number (constant_of right) is in left_alone found.1 found.2)
+      (λ none. cond_both (is_among left_number (constant_of left)) right rest
+      (Becomes (binary place operator width left right))
+      (λ is. let found = among left_number (constant_of left) is in right_alone found.1 found.2)
+      (λ none. stepped_becomes operator))
+
+  operated_becomes : (operator : BinaryOperator)
+      → Becomes (binary place operator width left right) (operated_on place operator width left right)
+  operated_becomes operator =
+      by_numbers (constant_of left) (constant_of right) refl refl
+      (by_truth (decided operator (constant_of left) (constant_of right)) refl)
+    where
+      by_truth : (o : Option Bool) → decided operator (constant_of left) (constant_of right) ≡ o
+          → Becomes (binary place operator width left right) (truth_or o (reduced place operator width left right))
+      by_truth None is = reduced_becomes operator
+      by_truth (Some t) is = operation_decided is
+
+      by_zero : {a b : Constant} (z : Bool) → constant_of left ≡ Some a → constant_of right ≡ Some b
+          → (told : TermTree) → Becomes (binary place operator width left right) told
+          → Becomes (binary place operator width left right)
+          (known_or (option_map (λ v. constant v (operation_kind (operation_of operator) a.kind)) (if z then None
+          else Some (operated operator width a.value b.value))) told)
+      by_zero true is also told rest = rest
+      by_zero false is also told rest = numbers_operated is also
+
+      by_numbers : (a b : Option Constant) → constant_of left ≡ a → constant_of right ≡ b → {told : TermTree}
+          → Becomes (binary place operator width left right) told
+          → Becomes (binary place operator width left right) (known_or (between operator width a b) told)
+      by_numbers (Some a) (Some b) is also {told = told} rest =
+          by_zero (divides operator && (b.value == 0)) is also told rest
+      by_numbers a b is also rest = rest
+
+-- A choice.
+chosen_becomes : (condition accepted otherwise : TermTree)
+    → Becomes (select condition accepted otherwise) (chosen (decision condition) condition accepted otherwise)
+chosen_becomes condition accepted otherwise = by_decision (decision condition) refl
+  where
+    by_decision : (d : Option Bool) → decision condition ≡ d
+        → Becomes (select condition accepted otherwise) (chosen d condition accepted otherwise)
+    by_decision None is = stays
+    by_decision (Some true) is = accepted_chosen is
+    by_decision (Some false) is = otherwise_chosen is
+
+-- Nodes.
+
+-- an expression with simple operands; a variable is what is known of it
+abbrev pub around : Words → TermTree → TermTree
+around words (variable x) = known_or (known words x) (variable (source_in words.copies x))
+around words (prefix operator width operand) = prefix operator width (simple words operand)
+around words (binary place operator width left right) =
+    binary place operator width (simple words left) (simple words right)
+around words (rotate width operand amount) = rotate width (simple words operand) amount
+around words (convert kind operand) = convert kind (simple words operand)
+around words (select condition accepted otherwise) =
+    select (simple words condition) (simple words accepted) (simple words otherwise)
+around words (element place x size index) = element place x size (simple words index)
+around words e = e
+
+pub simpler : (words : Words) (e : TermTree) → Becomes (around words e) (simple words e)
+simpler words (prefix operator width operand) = prefixed_becomes operator width (simple words operand)
+simpler words (binary place operator width left right) =
+    operated_becomes place width (simple words left) (simple words right) operator
+simpler words (rotate width operand amount) = rotated_becomes width (simple words operand) amount
+simpler words (convert kind operand) = converted_becomes kind (simple words operand)
+simpler words (select condition accepted otherwise) =
+    chosen_becomes (simple words condition) (simple words accepted) (simple words otherwise)
+simpler words e = stays
