@@ -13,7 +13,6 @@ pub mod TermSizes
 pub mod TermLemmas
 pub mod StatementRules
 pub mod Unset
-pub mod Decisions
 pub mod Held
 pub mod Typed
 pub mod Learned

@@ -10,7 +10,6 @@ use Rattle.branch_removal.specs.Straight.{StraightTree, set, StraightBlock, noth
 use Rattle.optimisation.specs.constants.private.Choice.{AreAllowed}
 use Rattle.optimisation.specs.constants.private.Folding.{simple}
 use Rattle.optimisation.specs.constants.private.Known.{Words}
-use Rattle.optimisation.proofs.constants_lemmas.Decisions.{bounds_of}
 use Rattle.optimisation.proofs.constants_lemmas.StatementRules.{Simplifies, sets, fills, puts, takes, accepts, declines}
 use Rattle.optimisation.proofs.constants_lemmas.StatementRules.{chooses, unrolls, loops, TurnsSimplify, no_turn, a_turn}
 use Rattle.optimisation.proofs.constants_lemmas.StatementRules.{AllSimplify, ends, goes_on}
@@ -71,12 +70,11 @@ module _ (counts : List ℕ) where
           let a = less_all one in
           let b = less_all other in
           record { worked = omega arith; low = omega arith; shallow = omega arith }
-      less (unrolls {x = x} {body = body} {each = each} is all) =
+      less (unrolls {x = x} {body = body} {a = low} {b = high} low_is high_is few all) =
           let a = less_turns all in
-          let few : each.high - each.low ≤ slice_index counts x + 1 =
-          omega (arith, (bounds_of (slice_index copies x) _ _ each is).few, allowed x) in
+          let counted : high.value - low.value ≤ slice_index counts x + 1 = omega (arith, few, allowed x) in
           record {
-            worked = omega (arith, mul-le-mul_right (1 + block_work counts body) few);
+            worked = omega (arith, mul-le-mul_right (1 + block_work counts body) counted);
             low = omega arith;
             shallow = omega arith;
           }

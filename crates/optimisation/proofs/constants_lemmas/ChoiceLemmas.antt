@@ -1,6 +1,6 @@
 -- Choosing: counts, and how many turns are allowed.
-use Rattle.std.proofs.Common.{◌≡◌, ℕ, zero, suc, ◌+◌, ◌-◌, ◌*◌, ◌∙◌, List, [], ◌∷◌, nat_le, ap}
-use Rattle.std.proofs.Common.{◌&&◌, if◌then◌else◌, slice_index, slice_set, arith}
+use Rattle.std.proofs.Common.{◌≡◌, ℕ, zero, suc, ◌+◌, ◌*◌, List, [], ◌∷◌, nat_le}
+use Rattle.std.proofs.Common.{◌&&◌, slice_index, slice_set, arith}
 use Rattle.std.proofs.lemmas.Bool.{cond_both}
 use Rattle.branch_removal.specs.Straight.{StraightTree, set, array, put, take, branch, repeats}
 use Rattle.branch_removal.specs.Straight.{StraightBlock, nothing, first, StraightProgram}
@@ -11,31 +11,13 @@ use Rattle.optimisation.specs.constants.private.Choice.{most_nodes_of, settled, 
 -- a count of nodes serves as they do
 pub grown_by : (so_far : Chosen) (count n : ℕ) → count ≡ counted n → grown so_far count ≡ grown so_far n
 grown_by so_far count n is =
-    ap (λ (m : ℕ). record { copies = so_far.copies; room = so_far.room; nodes = m })
-    (the_same so_far.nodes count n is)
-  where
-    the_same : (m count n : ℕ) → count ≡ counted n → counted (m + count) ≡ counted (m + n)
-    the_same m count n is = omega (arith, is)
+    let same : counted (so_far.nodes + count) ≡ counted (so_far.nodes + n) = omega (arith, is) in cc
 
 -- so does the count of what a loop has beside its body
 pub settled_by : (before room x count own : ℕ) (inner same : Chosen) → count ≡ counted own → inner ≡ same
     → settled before room x count inner ≡ settled before room x own same
 settled_by before room x count own inner same is alike =
-    ap (λ (n : ℕ). if nat_le 1 (slice_index inner.copies x)
-    && nat_le inner.nodes (most_nodes_of (slice_index inner.copies x))
-    && nat_le (counted (counted (inner.nodes + 2) * slice_index inner.copies x)) room
-    then record {
-      copies = inner.copies;
-      room = room - counted (counted (inner.nodes + 2) * slice_index inner.copies x);
-      nodes = counted (before + counted (counted (inner.nodes + 2) * slice_index inner.copies x));
-    }
-    else record { copies = slice_set inner.copies x 0; room = inner.room; nodes = n })
-    (the_same before count own inner.nodes is)
-    ∙ ap (settled before room x own) alike
-  where
-    the_same : (before count own n : ℕ) → count ≡ counted own
-        → counted (before + count + n) ≡ counted (before + own + n)
-    the_same before count own n is = omega (arith, is)
+    let nodes : counted (before + count + inner.nodes) ≡ counted (before + own + inner.nodes) = omega (arith, is) in cc
 
 -- where a loop is refused, no more turns are allowed
 refused : (copies turns : List ℕ) (x : ℕ) → AreAllowed copies turns → AreAllowed (slice_set copies x 0) turns

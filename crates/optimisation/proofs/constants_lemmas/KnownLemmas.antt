@@ -1,11 +1,13 @@
 -- What is known of variables once something is noted or forgotten.
-use Rattle.std.proofs.Common.{◌≡◌, ◌≤◌, ◌==◌, ◌||◌, ℕ, zero, suc, length, Bool, true, false, cond, not}
-use Rattle.std.proofs.Common.{if◌then◌else◌, nat_lt, List, [], ◌∷◌, ◌++◌, filter, map, Option, None}
+use Rattle.std.proofs.Common.{◌≡◌, ◌≤◌, ◌==◌, ◌||◌, ℕ, zero, suc, length, Bool, true, false}
+use Rattle.std.proofs.Common.{if◌then◌else◌, nat_lt, List, [], ◌∷◌, filter, map, Option, None}
 use Rattle.std.proofs.Common.{◌⊎◌, inl, inr, Some, replicate, slice_set, slice_index}
 use Rattle.std.specs.List.{remove}
-use Rattle.std.proofs.Common.{refl, ap, sym, ◌∙◌, subst, arith}
+use Rattle.std.proofs.Common.{Contains, ⊎_elim, refl, ap, sym, ◌∙◌, subst, arith}
 use Rattle.std.proofs.Math.Logic.{⊎_map}
-use Rattle.std.proofs.lemmas.Bool.{cond_both, eqb-true, eqb-false, false≢true}
+use Rattle.std.proofs.lemmas.Bool.{cond_both, eqb-true, eqb-false, not-true, or_parts}
+use Rattle.std.proofs.lemmas.List.Elements.{All-contains, All-contains_itself, All-filter, Contains-push_cases}
+use Rattle.std.proofs.lemmas.List.Elements.{filter_passes}
 use Rattle.std.proofs.lemmas.Option.{none-some}
 use Rattle.language.specs.declared.typing.WordType.{WordType}
 use Rattle.inline.specs.Fitting.{Fits, IsWithinKind}
@@ -24,13 +26,9 @@ pub data Fact : Type 0 where
   valued : (x : ℕ) (c : Constant) → Fact
   copy : (c : WordCopy) → Fact
 
-abbrev pub IsIn : WordCopy → List WordCopy → Type 0
-IsIn c [] = ⊥
-IsIn c (d ∷ copies) = (d ≡ c) ⊎ IsIn c copies
-
 abbrev pub Knows : Words → Fact → Type 0
 Knows words (valued x c) = known words x ≡ Some c
-Knows words (copy c) = IsIn c words.copies
+Knows words (copy c) = Contains words.copies c
 
 -- a fact is about this variable
 abbrev pub IsAbout : ℕ → Fact → Type 0
@@ -42,60 +40,48 @@ IsFree x f = (y : ℕ) → IsAbout y f → y ≡ x → ⊥
 
 -- Lists of copies.
 
-in_filtered : (p : WordCopy → Bool) (c : WordCopy) (copies : List WordCopy) → IsIn c (filter p copies)
-    → IsIn c copies × (p c ≡ true)
-in_filtered p c [] is = absurd is
-in_filtered p c (d ∷ copies) is = by_test (λ there. in_filtered p c copies there) (p d) refl is
-  where
-    by_test : (IsIn c (filter p copies) → IsIn c copies × (p c ≡ true)) → (b : Bool) → p d ≡ b
-        → IsIn c (cond b (d ∷ filter p copies) (filter p copies)) → IsIn c (d ∷ copies) × (p c ≡ true)
-    by_test further true passes (inl same) = (inl same, ap p (sym same) ∙ passes)
-    by_test further true passes (inr there) = let rest = further there in (inr rest.0, rest.1)
-    by_test further false fails there = let rest = further there in (inr rest.0, rest.1)
+in_filtered : (p : WordCopy → Bool) (c : WordCopy) (copies : List WordCopy) → Contains (filter p copies) c
+    → Contains copies c × (p c ≡ true)
+in_filtered p c copies is = (
+  All-contains (Contains copies) (filter p copies) c
+      (All-filter p (Contains copies) copies (All-contains_itself copies)) is,
+  All-contains (λ d. p d ≡ true) (filter p copies) c (filter_passes p copies) is,
+)
 
 apart_free : (x : ℕ) (c : WordCopy) → is_apart x c ≡ true → IsFree x (copy c)
-apart_free x c is y about same = by_tests (c.variable == x) (c.source == x) refl refl is about
-  where
-    by_tests : (a b : Bool) → (c.variable == x) ≡ a → (c.source == x) ≡ b → not (a || b) ≡ true
-        → (y ≡ c.variable) ⊎ (y ≡ c.source) → ⊥
-    by_tests true b one other h there = absurd (false≢true h)
-    by_tests false true one other h there = absurd (false≢true h)
-    by_tests false false one other h (inl here) = eqb-false c.variable x one (sym here ∙ same)
-    by_tests false false one other h (inr here) = eqb-false c.source x other (sym here ∙ same)
+apart_free x c is y about same =
+    let parts = or_parts (c.variable == x) (c.source == x) (not-true (c.variable == x || c.source == x) is) in
+    ⊎_elim (λ here. eqb-false c.variable x parts.0 (sym here ∙ same))
+    (λ here. eqb-false c.source x parts.1 (sym here ∙ same)) about
 
-in_rest : (c : WordCopy) (copies : List WordCopy) → IsIn c (latest copies) → IsIn c copies
-in_rest c copies is = by_room (nat_lt (length copies) 16) copies is
+in_latest : (c : WordCopy) (copies : List WordCopy) → Contains (latest copies) c → Contains copies c
+in_latest c copies is =
+    cond_both (nat_lt (length copies) 16) copies (remove copies 0)
+    (λ (cs : List WordCopy). Contains cs c → Contains copies c) (λ room. λ there. there) (λ full. in_rest copies) is
   where
-    by_room : (b : Bool) (cs : List WordCopy) → IsIn c (if b then cs else remove cs 0) → IsIn c cs
-    by_room true cs h = h
-    by_room false [] h = h
-    by_room false (d ∷ cs) h = inr h
-
-in_appended : (c d : WordCopy) (copies : List WordCopy) → IsIn c (copies ++ d ∷ []) → IsIn c copies ⊎ (d ≡ c)
-in_appended c d [] (inl same) = inr same
-in_appended c d [] (inr none) = absurd none
-in_appended c d (e ∷ copies) (inl same) = inl (inl same)
-in_appended c d (e ∷ copies) (inr there) = ⊎_map (λ h. inr h) (λ h. h) (in_appended c d copies there)
+    in_rest : (cs : List WordCopy) → Contains (remove cs 0) c → Contains cs c
+    in_rest [] there = there
+    in_rest (d ∷ cs) there = (suc there.0, omega (arith, there.1), there.2)
 
 -- a copy that is known once one more is noted
-pub in_more : (words : Words) (c d : WordCopy) → IsIn c (with_copy words d).copies
-    → IsIn c words.copies ⊎ (d ≡ c)
-in_more words c d is = ⊎_map (in_rest c words.copies) (λ h. h) (in_appended c d (latest words.copies) is)
+pub in_more : (words : Words) (c d : WordCopy) → Contains (with_copy words d).copies c
+    → Contains words.copies c ⊎ (d ≡ c)
+in_more words c d is = ⊎_map (in_latest c words.copies) (λ h. h) (Contains-push_cases (latest words.copies) d c is)
 
 -- a variable is read as itself, or as the source of a copy
 pub data IsReadAs (copies : List WordCopy) (x : ℕ) : ℕ → Type 0 where
   as_itself : IsReadAs copies x x
-  as_source : (c : WordCopy) → IsIn c copies → c.variable ≡ x → IsReadAs copies x c.source
+  as_source : (c : WordCopy) → Contains copies c → c.variable ≡ x → IsReadAs copies x c.source
 
 one_copy_more : (d : WordCopy) (copies : List WordCopy) (x y : ℕ) → IsReadAs copies x y → IsReadAs (d ∷ copies) x y
 one_copy_more d copies x y as_itself = as_itself
-one_copy_more d copies x y (as_source c there is) = as_source c (inr there) is
+one_copy_more d copies x y (as_source c there is) = as_source c (suc there.0, omega (arith, there.1), there.2) is
 
 pub read_as : (copies : List WordCopy) (x : ℕ) → IsReadAs copies x (source_in copies x)
 read_as [] x = as_itself
 read_as (d ∷ copies) x =
     cond_both (d.variable == x) d.source (source_in copies x) (IsReadAs (d ∷ copies) x)
-    (λ is. as_source d (inl refl) (eqb-true d.variable x is))
+    (λ is. as_source d (0, omega arith, refl) (eqb-true d.variable x is))
     (λ is. one_copy_more d copies x (source_in copies x) (read_as copies x))
 
 -- Numbers.
@@ -193,7 +179,7 @@ no_word (suc n) (suc x) c is = no_word n x c is
 -- where a program begins nothing is known
 pub nothing_first : (n : ℕ) (f : Fact) → Knows (record { numbers = replicate n None; copies = [] }) f → ⊥
 nothing_first n (valued x c) is = no_word n x c is
-nothing_first n (copy c) is = is
+nothing_first n (copy c) is = absurd (omega (arith, is.1))
 
 -- Facts of what variables hold.
 

@@ -14,12 +14,10 @@ use Rattle.branch_removal.specs.Straight.{StraightTree, StraightBlock}
 use Rattle.branch_removal.specs.StraightMeaning.{StraightState, value_at, counted, after, after_all}
 use Rattle.branch_removal.specs.StraightTyping.{AreTyped}
 use Rattle.optimisation.specs.declared.constants.known.Constant.{Constant}
-use Rattle.optimisation.specs.declared.constants.terms.Numbers.{Numbers}
-use Rattle.optimisation.specs.constants.private.Folding.{simple, constant, constant_of, decision, numbers_of}
+use Rattle.optimisation.specs.constants.private.Folding.{simple, constant, constant_of, decision}
 use Rattle.optimisation.specs.constants.private.Known.{Words, behind, in_loop, with_word}
 use Rattle.optimisation.specs.constants.private.Simplification.{at_turn, set_to}
 use Rattle.optimisation.proofs.constants_lemmas.CopyLemmas.{read_value, set_by, two_variables}
-use Rattle.optimisation.proofs.constants_lemmas.Decisions.{bounds_of}
 use Rattle.optimisation.proofs.constants_lemmas.Held.{counter_limit, counted_fits, fits_after_all}
 use Rattle.optimisation.proofs.constants_lemmas.KnownLemmas.{Fact, Knows, IsFree, IsTrue, word_by, same_truth, Agrees}
 use Rattle.optimisation.proofs.constants_lemmas.KnownLemmas.{Holds}
@@ -38,17 +36,10 @@ module _ (types : Types) (words : Words) (s : StraightState) (holds : Holds type
       ap (λ v. v == 0) (sym (same_value types words s.variables holds has))
       ∙ decided_value s.variables (simple words condition) b is
 
-  pub first_and_end : {low high : TermTree} → HasType types low counter_type → HasType types high counter_type
-      → (most : ℕ) (each : Numbers)
-      → numbers_of most (constant_of (simple words low)) (constant_of (simple words high)) ≡ Some each
-      → (each.low ≡ value_at s low) × (each.high ≡ value_at s high)
-  first_and_end {low = low} {high = high} has_low has_high most each is =
-      let both = bounds_of most _ _ each is in (
-        sym both.at_low ∙ (sym (constant_value s.variables (simple words low) both.a both.is_low)
-            ∙ same_value types words s.variables holds has_low),
-        sym both.at_high ∙ (sym (constant_value s.variables (simple words high) both.b both.is_high)
-            ∙ same_value types words s.variables holds has_high),
-      )
+  pub number_here : {e : TermTree} {word : WordType} → HasType types e word → (c : Constant)
+      → constant_of (simple words e) ≡ Some c → c.value ≡ value_at s e
+  number_here {e = e} has c is =
+      sym (constant_value s.variables (simple words e) c is) ∙ same_value types words s.variables holds has
 
 -- the numbers of a loop that stays
 pub counts_below : (types : Types) (m : Values) → Fits types m → {low high : TermTree}

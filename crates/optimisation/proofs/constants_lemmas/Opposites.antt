@@ -27,22 +27,11 @@ denied_denial false = refl
 pub denied_twice : (v : ℕ) → v < 2 → denied (denied v) ≡ v
 denied_twice v fits = denied_denial (truth_of v) ∙ truth_again v fits
 
--- one test holds where another one does not
-exactly_one : (c d : Bool) → (c ≡ true → d ≡ true → ⊥) → (c ≡ false → d ≡ false → ⊥) → not c ≡ d
-exactly_one true true both neither = absurd (both refl refl)
-exactly_one true false both neither = refl
-exactly_one false true both neither = refl
-exactly_one false false both neither = absurd (neither refl refl)
-
 not_less : (a b : ℕ) → not (nat_lt a b) ≡ nat_le b a
-not_less a b =
-    exactly_one (nat_lt a b) (nat_le b a) (λ is also. grind (arith, nat_tests, is, also))
-    (λ is also. grind (arith, nat_tests, is, also))
+not_less a b = grind (arith, nat_tests)
 
 not_at_most : (a b : ℕ) → not (nat_le a b) ≡ nat_lt b a
-not_at_most a b =
-    exactly_one (nat_le a b) (nat_lt b a) (λ is also. grind (arith, nat_tests, is, also))
-    (λ is also. grind (arith, nat_tests, is, also))
+not_at_most a b = grind (arith, nat_tests)
 
 -- an operator holds exactly where another does not, takes and gives the same types, and has nothing on the path
 pub record IsOpposite (operator other : BinaryOperator) : Type 0 where

@@ -2,7 +2,7 @@
 -- is.
 use Rattle.std.proofs.Common.{◌≡◌, ℕ, zero, suc, ◌+◌, ◌-◌, ◌<◌, ◌≤◌, ◌==◌, ◌&&◌, not, Bool, true, false}
 use Rattle.std.proofs.Common.{if◌then◌else◌, List, [], ◌∷◌, ◌++◌, map, Option, None, Some, refl, sym, ap, ap₂, ◌∙◌, subst}
-use Rattle.std.proofs.Common.{slice_index, arith}
+use Rattle.std.proofs.Common.{arith}
 use Rattle.word.specs.declared.profile.Profile.{Profile}
 use Rattle.inline.specs.declared.flat.FlatVariable.{FlatVariable}
 use Rattle.inline.specs.Flat.{TermTree, number, counter_type}
@@ -23,7 +23,7 @@ use Rattle.optimisation.specs.constants.private.Simplification.{set_to}
 use Rattle.optimisation.proofs.constants_lemmas.Held.{counter_limit, fewer_fit, fits_after, fits_after_all}
 use Rattle.optimisation.proofs.constants_lemmas.KnownLemmas.{Agrees, Holds, without_known}
 use Rattle.optimisation.proofs.constants_lemmas.Learned.{AllHolds, arm_begins, counts_below, decided_here}
-use Rattle.optimisation.proofs.constants_lemmas.Learned.{first_and_end, kept, loop_begins, noted_copy, turn_end}
+use Rattle.optimisation.proofs.constants_lemmas.Learned.{kept, loop_begins, noted_copy, number_here, turn_end}
 use Rattle.optimisation.proofs.constants_lemmas.Learned.{turn_known, turn_start}
 use Rattle.optimisation.proofs.constants_lemmas.StatementRules.{Simplifies, sets, fills, puts, takes, accepts, declines}
 use Rattle.optimisation.proofs.constants_lemmas.StatementRules.{chooses, unrolls, loops, TurnsSimplify, no_turn, a_turn}
@@ -241,13 +241,12 @@ module _ (most : List ℕ) where
                         (fine_back most (path_in s.variables condition) run fine).1),
                   ));
             }
-        leads (unrolls {words = words} {x = x} {low = low} {high = high} {body = body} {each = each} numbers all) is s
-            holds =
-            let both = first_and_end types words s holds is.0 is.1 (slice_index copies x) each numbers in
-            turns_lead s x low high body each.low each.high both.0 both.1
+        leads (unrolls {words = words} {x = x} {low = low} {high = high} {body = body} {a = a} {b =
+            b} low_is high_is few all) is s holds =
+            turns_lead s x low high body a.value b.value (number_here types words s holds is.0 a low_is)
+            (number_here types words s holds is.1 b high_is)
             (all_turns_lead all
-            (within_limit profile declared words (slice_index copies x) each holds.kinds is.0 is.1 numbers) is.2 is.3 s
-            holds)
+            (within_limit profile declared words a b holds.kinds is.0 is.1 low_is high_is) is.2 is.3 s holds)
         leads (loops {words = words} {after = next} {x = x} {low = low} {high = high} {body = body} {code =
             code} inner) is s holds =
             let l = simple words low in

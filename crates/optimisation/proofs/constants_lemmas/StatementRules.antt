@@ -1,13 +1,15 @@
 -- What becomes of statements, and what is known after them, by rules of inference. Each statement becomes what the pass
 -- makes of it by them: what each rule keeps, the pass keeps.
-use Rattle.std.proofs.Common.{◌≡◌, ℕ, zero, suc, ◌+◌, ◌-◌, Bool, true, false, List, map, Option, None, Some, slice_index}
-use Rattle.std.proofs.Common.{refl}
+use Rattle.std.proofs.Common.{◌≡◌, ℕ, zero, suc, ◌+◌, ◌-◌, ◌≤◌, Bool, true, false, List, map, Option, None, Some, slice_index}
+use Rattle.std.proofs.Common.{nat_le, refl}
+use Rattle.std.proofs.lemmas.Bool.{cond_both, leb-true}
 use Rattle.inline.specs.declared.flat.FlatVariable.{FlatVariable}
 use Rattle.inline.specs.Flat.{TermTree, number, counter_type}
 use Rattle.inline.specs.FlatMeaning.{turns}
 use Rattle.branch_removal.specs.Straight.{StraightTree, set, array, put, take, branch, repeats}
 use Rattle.branch_removal.specs.Straight.{StraightBlock, nothing, first, chain}
 use Rattle.word.specs.declared.place.Place.{Place}
+use Rattle.optimisation.specs.declared.constants.known.Constant.{Constant}
 use Rattle.optimisation.specs.declared.constants.terms.Numbers.{Numbers}
 use Rattle.optimisation.specs.constants.private.Folding.{simple, constant_of, decision, numbers_of}
 use Rattle.optimisation.specs.constants.private.Known.{Words, behind, in_loop, without}
@@ -46,10 +48,11 @@ mutual
         → Simplifies copies declared words (branch condition accepted otherwise)
         (single (branch (simple words condition) one other)) (behind next otherwise)
     -- a loop between numbers may become its turns
-    unrolls : {words after : Words} {x : ℕ} {low high : TermTree} {body code : StraightBlock} {each : Numbers}
-        → numbers_of (slice_index copies x) (constant_of (simple words low)) (constant_of (simple words high))
-        ≡ Some each
-        → TurnsSimplify copies declared x body (each.high - each.low) each.low words code after
+    unrolls : {words after : Words} {x : ℕ} {low high : TermTree} {body code : StraightBlock} {a b : Constant}
+        → constant_of (simple words low) ≡ Some a
+        → constant_of (simple words high) ≡ Some b
+        → b.value - a.value ≤ slice_index copies x
+        → TurnsSimplify copies declared x body (b.value - a.value) a.value words code after
         → Simplifies copies declared words (repeats x low high body) code after
     loops : {words after : Words} {x : ℕ} {low high : TermTree} {body code : StraightBlock}
         → AllSimplify copies declared (in_loop words x body) body code after
@@ -105,17 +108,24 @@ module _ (copies : List ℕ) (declared : List FlatVariable) where
         a_turn (inside (at_turn x i words))
         (turns_simplify n (i + 1) (knowing_all copies declared (at_turn x i words) body))
 
-    loop_simplifies : (words : Words) (low high : TermTree) (o : Option Numbers)
-        → numbers_of (slice_index copies x) (constant_of (simple words low)) (constant_of (simple words high)) ≡ o
-        → Simplifies copies declared words (repeats x low high body)
+    abbrev LoopSimplifies : Words → TermTree → TermTree → Option Numbers → Type 0
+    LoopSimplifies words low high o = Simplifies copies declared words (repeats x low high body)
         (unrolled o (λ each. turns_code copies declared words x each body)
         (single (repeats x (simple words low) (simple words high)
         (simplified_all copies declared (in_loop words x body) body))))
         (unrolled o (λ each. turns_known copies declared words x each body)
         (behind (knowing_all copies declared (in_loop words x body) body) body))
-    loop_simplifies words low high (Some each) is =
-        unrolls is (turns_simplify (each.high - each.low) each.low words)
-    loop_simplifies words low high None is = loops (inside (in_loop words x body))
+
+    loop_simplifies : (words : Words) (low high : TermTree) (a b : Option Constant)
+        → constant_of (simple words low) ≡ a → constant_of (simple words high) ≡ b
+        → LoopSimplifies words low high (numbers_of (slice_index copies x) a b)
+    loop_simplifies words low high (Some a) (Some b) is also =
+        cond_both (nat_le (b.value - a.value) (slice_index copies x))
+        (Some (record { low = a.value; high = b.value })) None (LoopSimplifies words low high)
+        (λ few. unrolls is also (leb-true (b.value - a.value) (slice_index copies x) few)
+        (turns_simplify (b.value - a.value) a.value words))
+        (λ many. loops (inside (in_loop words x body)))
+    loop_simplifies words low high a b is also = loops (inside (in_loop words x body))
 
   mutual
     simplifies : (words : Words) (statement : StraightTree)
@@ -129,7 +139,7 @@ module _ (copies : List ℕ) (declared : List FlatVariable) where
         arms_simplify words condition accepted otherwise (decision (simple words condition)) refl
         (all_simplify words accepted) (all_simplify words otherwise)
         (all_simplify (behind (knowing_all copies declared words accepted) accepted) otherwise)
-    simplifies words (repeats x low high body) = loop_simplifies x body (λ w. all_simplify w body) words low high _ refl
+    simplifies words (repeats x low high body) = loop_simplifies x body (λ w. all_simplify w body) words low high _ _ refl refl
 
     pub all_simplify : (words : Words) (body : StraightBlock)
         → AllSimplify copies declared words body (simplified_all copies declared words body)

@@ -1,10 +1,10 @@
 -- Labels of what operators make, and expressions that suit a type: numbers, and those of the wanted kind.
-use Rattle.std.proofs.Common.{◌≡◌, ℕ, [], None, Some, refl, sym, ap, ◌∙◌, subst}
+use Rattle.std.proofs.Common.{◌≡◌, ℕ, Bool, [], None, Some, refl, sym, ap, ◌∙◌, subst}
 use Rattle.std.proofs.lemmas.Bool.{false≢true}
 use Rattle.std.proofs.lemmas.Option.{none-some, same_Some}
 use Rattle.inline.proofs.Fitting.{bit_fits, value_fits}
 use Rattle.inline.specs.Fitting.{IsWithinKind}
-use Rattle.inline.specs.Flat.{TermTree, number}
+use Rattle.inline.specs.Flat.{TermTree, number, truth}
 use Rattle.inline.specs.FlatMeaning.{value_in}
 use Rattle.inline.specs.FlatTyping.{Types, HasType, of_number, of_truth, Suits}
 use Rattle.language.specs.declared.signature.Kind.{Kind}
@@ -121,6 +121,9 @@ module _ (types : Types) where
     kind = suits.kind ∙ kind;
     label = λ public. suits.label (label public);
   }
+
+  pub truth_suits : (t : Bool) {wanted : WordType} → Boolean ≡ wanted.kind → Suits types wanted (truth t)
+  truth_suits t is = record { word = labelled Boolean Public; has_type = of_truth; kind = is; label = λ public. refl }
 
   -- Numbers.
 

@@ -28,18 +28,20 @@ use Rattle.word.specs.declared.width.Width.TheVariants.{W32}
 use Rattle.optimisation.specs.declared.constants.fields.Field.{Field}
 use Rattle.optimisation.specs.declared.constants.known.Constant.{Constant}
 use Rattle.optimisation.specs.constants.private.Fields.{lifted, moved}
-use Rattle.optimisation.specs.constants.private.Folding.{constant, constant_of, decision, is_left_identity}
+use Rattle.optimisation.specs.constants.private.Folding.{constant, constant_of, decided_by_left, decided_by_right}
+use Rattle.optimisation.specs.constants.private.Folding.{decision, is_left_identity}
 use Rattle.optimisation.specs.constants.private.Folding.{is_right_identity, known_or, simple}
 use Rattle.optimisation.specs.constants.private.Known.{Words, known, source_in}
 use Rattle.optimisation.proofs.constants_lemmas.Identities.{left_leaves, right_leaves}
 use Rattle.optimisation.proofs.constants_lemmas.KnownLemmas.{Holds, IsReadAs, as_itself, as_source, copy}
 use Rattle.optimisation.proofs.constants_lemmas.KnownLemmas.{read_as, valued}
-use Rattle.optimisation.proofs.constants_lemmas.OneOperand.{is_decided}
+use Rattle.optimisation.proofs.constants_lemmas.OneOperand.{left_value, right_value}
 use Rattle.optimisation.proofs.constants_lemmas.Opposites.{denied_twice}
 use Rattle.optimisation.proofs.constants_lemmas.Powers.{IsPower, quotient_below}
 use Rattle.optimisation.proofs.constants_lemmas.TermRules.{Becomes, stays, and_then, number_prefixed, number_rotated}
 use Rattle.optimisation.proofs.constants_lemmas.TermRules.{number_converted, numbers_operated, twice_negated}
-use Rattle.optimisation.proofs.constants_lemmas.TermRules.{comparison_negated, operation_decided, left_alone, right_alone}
+use Rattle.optimisation.proofs.constants_lemmas.TermRules.{comparison_negated, left_decides, right_decides, left_alone}
+use Rattle.optimisation.proofs.constants_lemmas.TermRules.{right_alone}
 use Rattle.optimisation.proofs.constants_lemmas.TermRules.{comparison_turned, product_turned, shifted_up, shifted_down}
 use Rattle.optimisation.proofs.constants_lemmas.TermRules.{masked, bits_moved, accepted_chosen, otherwise_chosen}
 use Rattle.optimisation.proofs.constants_lemmas.TermRules.{around, simpler}
@@ -92,10 +94,14 @@ module _ (types : Types) (m : Values) (fits : Fits types m) where
       (subst (λ k. IsWithinKind k (value_in m operand)) takes (value_fits types m fits has)))
   becomes_value (comparison_negated {w = w} {left = left} {right = right} found) has =
       found.value w (value_in m left) (value_in m right)
-  becomes_value (operation_decided {operator = operator} {width = width} {left = left} {right = right} {t =
-      t} is) has =
-      (is_decided operator width (constant_of left) (constant_of right) (value_in m left) (value_in m right) t
-      (constant_value m left) (constant_value m right) is).value
+  becomes_value (left_decides {operator = operator} {width = width} {left = left} {right = right} {c = c} {t =
+      t} is decides) has =
+      left_value operator width (value_in m left) (value_in m right) t
+      (ap (decided_by_left operator) (constant_value m left c is) ∙ decides)
+  becomes_value (right_decides {operator = operator} {width = width} {left = left} {right = right} {c = c} {t =
+      t} is decides) has =
+      right_value operator width (value_in m left) (value_in m right) t
+      (ap (decided_by_right operator) (constant_value m right c is) ∙ decides)
   becomes_value (left_alone {operator = operator} {width = width} {left = left} {right = right} {c =
       c} is leaves) (of_binary has more makes even) =
       sym (right_leaves operator width (value_in m left) (value_in m right) makes even (value_fits types m fits has)
@@ -218,7 +224,8 @@ module _ (most : List ℕ) (m : Values) where
   becomes_fine (comparison_negated {place = place} {left = left} {right = right} found) fine =
       subst (λ (marks : Path). AreFine most ((path_in m left ++ path_in m right) ++ marks))
       (sym (found.unmarked place (value_in m left) (value_in m right))) fine
-  becomes_fine (operation_decided is) fine = tt
+  becomes_fine (left_decides is decides) fine = tt
+  becomes_fine (right_decides is decides) fine = tt
   becomes_fine (left_alone {place = place} {operator = operator} {width = width} {left = left} {right =
       right} is leaves) fine =
       (operands_fine place operator width left right fine).0

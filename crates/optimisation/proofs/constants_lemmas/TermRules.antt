@@ -1,9 +1,10 @@
 -- The rules by which an expression is made simpler, and that a node with simple operands becomes what stands in its
 -- place by them: what each rule keeps, that keeps.
 use Rattle.std.proofs.Common.{◌≡◌, ℕ, ◌-◌, ◌==◌, ◌&&◌, Bool, true, false, if◌then◌else◌, Option, None, Some, IfSome}
-use Rattle.std.proofs.Common.{option_map, refl}
+use Rattle.std.proofs.Common.{option_map, refl, ◌∙◌}
 use Rattle.std.proofs.lemmas.Bool.{cond_both, false≢true}
-use Rattle.std.specs.Option.{option_and, option_and_then}
+use Rattle.std.proofs.lemmas.Option.{option_and_then_some}
+use Rattle.std.specs.Option.{option_and, option_and_then, option_or}
 use Rattle.inline.specs.Flat.{TermTree, number, truth, variable, prefix, binary, rotate, convert, select, element}
 use Rattle.language.specs.declared.operators.BinaryOperator.{BinaryOperator}
 use Rattle.language.specs.declared.operators.BinaryOperator.TheVariants.{BitAnd, ShiftLeft, ShiftRight, Multiply, Divide}
@@ -23,7 +24,8 @@ use Rattle.optimisation.specs.declared.constants.known.Constant.{Constant}
 use Rattle.optimisation.specs.constants.private.Fields.{amount_of, cleared_by, field_of, field_within, mask_of, moved}
 use Rattle.optimisation.specs.constants.private.Fields.{moved_or}
 use Rattle.optimisation.specs.constants.private.Folding.{applied, between, binary_or, chosen, constant, constant_of}
-use Rattle.optimisation.specs.constants.private.Folding.{converted_to, decided, decision, is_among, is_left_identity}
+use Rattle.optimisation.specs.constants.private.Folding.{converted_to, decided, decided_by_left, decided_by_right, decision}
+use Rattle.optimisation.specs.constants.private.Folding.{is_among, is_left_identity}
 use Rattle.optimisation.specs.constants.private.Folding.{is_right_identity, known_or, negation_of, number_of, operated_on}
 use Rattle.optimisation.specs.constants.private.Folding.{operation, prefixed, reduced, rotated, simple, stepped}
 use Rattle.optimisation.specs.constants.private.Folding.{stepped_or, truth_or, turned, turned_by}
@@ -59,8 +61,15 @@ pub data Becomes : TermTree → TermTree → Type 0 where
       → IsOpposite operator other
       → Becomes (prefix Not width (binary place operator w left right)) (binary place other w left right)
   -- an operand that decides alone, or leaves the other one as it is
-  operation_decided : {place : Place} {operator : BinaryOperator} {width : Width} {left right : TermTree} {t : Bool}
-      → decided operator (constant_of left) (constant_of right) ≡ Some t
+  left_decides : {place : Place} {operator : BinaryOperator} {width : Width} {left right : TermTree} {c : Constant}
+      {t : Bool}
+      → constant_of left ≡ Some c
+      → decided_by_left operator c.value ≡ Some t
+      → Becomes (binary place operator width left right) (truth t)
+  right_decides : {place : Place} {operator : BinaryOperator} {width : Width} {left right : TermTree} {c : Constant}
+      {t : Bool}
+      → constant_of right ≡ Some c
+      → decided_by_right operator c.value ≡ Some t
       → Becomes (binary place operator width left right) (truth t)
   left_alone : {place : Place} {operator : BinaryOperator} {width : Width} {left right : TermTree} {c : Constant}
       → constant_of right ≡ Some c
@@ -270,12 +279,26 @@ module _ (place : Place) (width : Width) (left right : TermTree) where
       → Becomes (binary place operator width left right) (operated_on place operator width left right)
   operated_becomes operator =
       by_numbers (constant_of left) (constant_of right) refl refl
-      (by_truth (decided operator (constant_of left) (constant_of right)) refl)
+      (by_truth (decided operator (constant_of left) (constant_of right)) (λ t is.
+      by_left t (option_and_then (λ (c : Constant). decided_by_left operator c.value) (constant_of left)) refl is))
     where
-      by_truth : (o : Option Bool) → decided operator (constant_of left) (constant_of right) ≡ o
+      by_left : (t : Bool) (o : Option Bool)
+          → option_and_then (λ (c : Constant). decided_by_left operator c.value) (constant_of left) ≡ o
+          → option_or o (option_and_then (λ (c : Constant). decided_by_right operator c.value) (constant_of right))
+          ≡ Some t
+          → Becomes (binary place operator width left right) (truth t)
+      by_left t None same is =
+          option_and_then_some (λ (c : Constant). decided_by_right operator c.value) (constant_of right) t is
+          (λ c there decides. right_decides there decides)
+      by_left t (Some said) same is =
+          option_and_then_some (λ (c : Constant). decided_by_left operator c.value) (constant_of left) t (same ∙ is)
+          (λ c there decides. left_decides there decides)
+
+      by_truth : (o : Option Bool)
+          → ((t : Bool) → o ≡ Some t → Becomes (binary place operator width left right) (truth t))
           → Becomes (binary place operator width left right) (truth_or o (reduced place operator width left right))
-      by_truth None is = reduced_becomes operator
-      by_truth (Some t) is = operation_decided is
+      by_truth None decides = reduced_becomes operator
+      by_truth (Some t) decides = decides t refl
 
       by_zero : {a b : Constant} (z : Bool) → constant_of left ≡ Some a → constant_of right ≡ Some b
           → (told : TermTree) → Becomes (binary place operator width left right) told

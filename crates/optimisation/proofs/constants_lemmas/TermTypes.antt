@@ -1,11 +1,11 @@
 -- A simpler expression suits where the expression suits: it is of the same kind, and public where that one is.
-use Rattle.std.proofs.Common.{◌≡◌, ℕ, ◌-◌, ◌<◌, ◌^◌, Bool, List, [], ◌∷◌, map, Option, None, Some, option_map}
+use Rattle.std.proofs.Common.{◌≡◌, ℕ, ◌-◌, ◌<◌, ◌^◌, Bool, List, [], ◌∷◌, map, inl, inr, Option, None, Some, option_map}
 use Rattle.std.proofs.Common.{refl, sym, ap, ◌∙◌, subst, arith}
 use Rattle.inline.specs.Flat.{TermTree, number, variable, prefix, binary, rotate, convert, word_as}
 use Rattle.inline.specs.FlatTyping.{Types, HasType, of_number, of_truth, of_variable, of_prefix, of_binary}
 use Rattle.inline.specs.FlatTyping.{of_rotation, of_conversion, of_selection, of_element, Suits, AllSuit, IsResult}
 use Rattle.language.specs.declared.signature.Kind.{Kind}
-use Rattle.language.specs.declared.signature.Kind.TheVariants.{Boolean, Uint32}
+use Rattle.language.specs.declared.signature.Kind.TheVariants.{Uint32}
 use Rattle.language.specs.declared.signature.Label.{Label}
 use Rattle.language.specs.declared.signature.Label.TheVariants.{Public}
 use Rattle.language.specs.declared.operation.Operation.{Operation}
@@ -20,15 +20,16 @@ use Rattle.word.specs.declared.width.Width.TheVariants.{W32}
 use Rattle.optimisation.specs.declared.constants.fields.Field.{Field}
 use Rattle.optimisation.specs.declared.constants.known.Constant.{Constant}
 use Rattle.optimisation.specs.constants.private.Fields.{moved}
-use Rattle.optimisation.specs.constants.private.Folding.{constant_of, known_or, simple}
+use Rattle.optimisation.specs.constants.private.Folding.{known_or, simple}
 use Rattle.optimisation.specs.constants.private.Known.{Words, known, source_in}
 use Rattle.optimisation.proofs.constants_lemmas.Identities.{left_identity_kind, right_identity_kind}
 use Rattle.optimisation.proofs.constants_lemmas.KnownLemmas.{AreOfKind, IsReadAs, as_itself, as_source, copy}
 use Rattle.optimisation.proofs.constants_lemmas.KnownLemmas.{read_as, valued}
-use Rattle.optimisation.proofs.constants_lemmas.OneOperand.{decided_kind}
+use Rattle.optimisation.proofs.constants_lemmas.OneOperand.{truth_kind}
 use Rattle.optimisation.proofs.constants_lemmas.TermRules.{Becomes, stays, and_then, number_prefixed, number_rotated}
 use Rattle.optimisation.proofs.constants_lemmas.TermRules.{number_converted, numbers_operated, twice_negated}
-use Rattle.optimisation.proofs.constants_lemmas.TermRules.{comparison_negated, operation_decided, left_alone, right_alone}
+use Rattle.optimisation.proofs.constants_lemmas.TermRules.{comparison_negated, left_decides, right_decides, left_alone}
+use Rattle.optimisation.proofs.constants_lemmas.TermRules.{right_alone}
 use Rattle.optimisation.proofs.constants_lemmas.TermRules.{comparison_turned, product_turned, shifted_up, shifted_down}
 use Rattle.optimisation.proofs.constants_lemmas.TermRules.{masked, bits_moved, accepted_chosen, otherwise_chosen}
 use Rattle.optimisation.proofs.constants_lemmas.TermRules.{around, simpler}
@@ -36,7 +37,7 @@ use Rattle.optimisation.proofs.constants_lemmas.Suiting.{both_joined, joined_low
 use Rattle.optimisation.proofs.constants_lemmas.Suiting.{made_suits}
 use Rattle.optimisation.proofs.constants_lemmas.Suiting.{number_below, number_kind, number_suits, number_type}
 use Rattle.optimisation.proofs.constants_lemmas.Suiting.{public_parts, public_typed, retyped, suits_as, turned_may}
-use Rattle.optimisation.proofs.constants_lemmas.Suiting.{typed_suits}
+use Rattle.optimisation.proofs.constants_lemmas.Suiting.{truth_suits, typed_suits}
 use Rattle.optimisation.proofs.constants_lemmas.TwoShifts.{lifted_by}
 
 module _ (types : Types) where
@@ -88,14 +89,12 @@ module _ (types : Types) where
       typed_suits types
       (of_binary has more
       (subst (λ (o : Operation). Makes types.profile o one other whole) (sym found.operation) makes) inner)
-  becomes_suits (operation_decided {operator = operator} {left = left} {right = right} {t = t} is) (of_binary {one =
+  becomes_suits (left_decides {operator = operator} {c = c} {t = t} is decides) (of_binary {one =
       one} has more makes even) =
-      record {
-        word = labelled Boolean Public;
-        has_type = of_truth;
-        kind = decided_kind operator (constant_of left) (constant_of right) t one.kind is ∙ made_kind makes;
-        label = λ public. refl;
-      }
+      truth_suits types t (truth_kind operator c.value t one.kind (inl decides) ∙ made_kind makes)
+  becomes_suits (right_decides {operator = operator} {c = c} {t = t} is decides) (of_binary {one =
+      one} has more makes even) =
+      truth_suits types t (truth_kind operator c.value t one.kind (inr decides) ∙ made_kind makes)
   becomes_suits (left_alone {operator = operator} {width = width} {c = c} is leaves) (of_binary has more makes even) =
       suits_as types (typed_suits types has) (right_identity_kind operator width c.value makes leaves)
       (λ public. (public_parts makes public).0)

@@ -1,5 +1,5 @@
 -- A comparison with a number on its left, and what it is with its operands turned round.
-use Rattle.std.proofs.Common.{◌≡◌, ℕ, ◌==◌, Bool, true, false, not, [], IfSome, refl, ap, arith}
+use Rattle.std.proofs.Common.{◌≡◌, ℕ, ◌==◌, not, [], IfSome, refl, ap, arith}
 use Rattle.std.proofs.lemmas.Bool.Decides.{nat_tests}
 use Rattle.std.specs.Option.{option_and}
 use Rattle.inline.specs.FlatMeaning.{marks_of}
@@ -19,13 +19,7 @@ use Rattle.word.specs.declared.width.Width.{Width}
 use Rattle.word.specs.Operators.{word_of}
 
 equal_turned : (a b : ℕ) → (b == a) ≡ (a == b)
-equal_turned a b = by_tests (b == a) (a == b) refl refl
-  where
-    by_tests : (c d : Bool) → (b == a) ≡ c → (a == b) ≡ d → c ≡ d
-    by_tests true true is also = refl
-    by_tests true false is also = absurd (grind (arith, nat_tests, is, also))
-    by_tests false true is also = absurd (grind (arith, nat_tests, is, also))
-    by_tests false false is also = refl
+equal_turned a b = grind (arith, nat_tests)
 
 -- operands of one kind, which an operation takes in either order
 pub record TakesEither (profile : Profile) (operation : Operation) (one other whole : WordType) : Type 0 where

@@ -1,8 +1,8 @@
 -- Two shifts, one up and one down, leave the bits that a shift and a mask leave.
-use Rattle.std.proofs.Common.{◌≡◌, ℕ, ◌+◌, ◌-◌, ◌*◌, ◌/◌, ◌%◌, ◌^◌, ◌==◌, ◌<◌, ◌≤◌, ◌&&◌, ◌||◌, Bool, true, false}
-use Rattle.std.proofs.Common.{nat_le, nat_lt, bit_and, Option, None, Some, IfSome, refl, sym, ap, ap₂, ◌∙◌, arith}
+use Rattle.std.proofs.Common.{◌≡◌, ℕ, ◌+◌, ◌-◌, ◌*◌, ◌/◌, ◌%◌, ◌^◌, ◌==◌, ◌<◌, ◌≤◌, ◌&&◌, ◌||◌, Bool, true}
+use Rattle.std.proofs.Common.{nat_le, nat_lt, bit_and, Option, None, Some, IfSome, ⊎_elim, refl, sym, ap, ap₂, ◌∙◌, arith}
 use Rattle.std.proofs.Math.Nat.{div-le_self, mod-eq_of_lt, mod-le, mul-div-mul_right}
-use Rattle.std.proofs.lemmas.Bool.{and_parts, cond_both, eqb-true, ltb-true}
+use Rattle.std.proofs.lemmas.Bool.{and_parts, cond_both, eqb-true, ltb-true, or_cases}
 use Rattle.std.proofs.lemmas.Nat.{and_mask, div-mul-add, mod-pow-add, mod_below, pow-add, pow_pos}
 use Rattle.std.specs.Int.Count.{count_leading_zeros}
 use Rattle.inline.specs.Fitting.{IsWithinKind}
@@ -52,11 +52,10 @@ is_mask n =
     (λ is. tt)
 
 at_most : (b others : ℕ) (long : Bool) → (b == others || (nat_lt b others && long)) ≡ true → b ≤ others
-at_most b others long is = by_test (b == others) refl is
-  where
-    by_test : (t : Bool) → (b == others) ≡ t → (t || (nat_lt b others && long)) ≡ true → b ≤ others
-    by_test true same h = omega (arith, eqb-true b others same)
-    by_test false same h = omega (arith, ltb-true b others (and_parts (nat_lt b others) long h).0)
+at_most b others long is =
+    ⊎_elim (λ same. omega (arith, eqb-true b others same))
+    (λ less. omega (arith, ltb-true b others (and_parts (nat_lt b others) long less).0))
+    (or_cases (b == others) (nat_lt b others && long) is)
 
 pub is_field : (amount : Constant) (n : ℕ) → IfSome (field_within amount n (cleared_by n)) (IsField amount n)
 is_field amount n = by_mask (cleared_by n) (is_mask n)

@@ -1,6 +1,6 @@
 -- Simpler statements are well typed where the statements are, and set under a control value what those set.
 use Rattle.std.proofs.Common.{◌≡◌, ℕ, ◌==◌, Bool, true, false, cond, List, [], ◌∷◌, map, Option, None, Some, slice_get}
-use Rattle.std.proofs.Common.{slice_index, ◌+◌, ◌-◌, ◌≤◌, ◌<◌, refl, sym, ap, ◌∙◌, arith}
+use Rattle.std.proofs.Common.{◌+◌, ◌-◌, ◌≤◌, ◌<◌, refl, sym, ap, ◌∙◌, arith}
 use Rattle.std.proofs.lemmas.Bool.{cond-false, ne_eqb}
 use Rattle.std.proofs.lemmas.List.{length-map}
 use Rattle.std.proofs.lemmas.Option.{none-some, same_Some}
@@ -13,12 +13,10 @@ use Rattle.branch_removal.specs.Straight.{StraightTree, set, StraightBlock, noth
 use Rattle.branch_removal.specs.StraightTyping.{IsSet, IsFilled, IsPut, types_but, IsTyped, AreTyped, IsHidden}
 use Rattle.branch_removal.specs.StraightTyping.{AreHidden}
 use Rattle.optimisation.specs.declared.constants.known.Constant.{Constant}
-use Rattle.optimisation.specs.declared.constants.terms.Numbers.{Numbers}
-use Rattle.optimisation.specs.constants.private.Folding.{simple, constant_of, numbers_of}
+use Rattle.optimisation.specs.constants.private.Folding.{simple, constant_of}
 use Rattle.optimisation.specs.constants.private.Known.{Words, behind, in_loop}
 use Rattle.optimisation.specs.constants.private.Simplification.{at_turn, set_to}
 use Rattle.optimisation.proofs.constants_lemmas.CopyLemmas.{set_by, source_alike}
-use Rattle.optimisation.proofs.constants_lemmas.Decisions.{bounds_of}
 use Rattle.optimisation.proofs.constants_lemmas.Held.{counter_limit}
 use Rattle.optimisation.proofs.constants_lemmas.KnownLemmas.{Fact, valued, copy, word_by}
 use Rattle.optimisation.proofs.constants_lemmas.KnownLemmas.{without_known, IsSuited, AreOfKind}
@@ -47,7 +45,7 @@ module _ {copies : List ℕ} {declared : List FlatVariable} where
     still_hidden (accepts decides one) hidden = still_hidden_all one hidden.0
     still_hidden (declines decides other) hidden = still_hidden_all other hidden.1
     still_hidden (chooses one other) hidden = ((still_hidden_all one hidden.0, still_hidden_all other hidden.1), tt)
-    still_hidden (unrolls numbers all) hidden = still_hidden_turns all hidden
+    still_hidden (unrolls low_is high_is few all) hidden = still_hidden_turns all hidden
     still_hidden (loops inner) hidden = (still_hidden_all inner hidden, tt)
 
     still_hidden_turns : {x n i : ℕ} {body code : StraightBlock} {words after : Words}
@@ -153,18 +151,14 @@ module _ (profile : Profile) (declared : List FlatVariable) where
       (number_kind x (number i counter_type.kind) (counter_set x i there below)) (λ g free known. kinds g known)
 
   -- all numbers of a loop are of their kind
-  pub within_limit : (words : Words) {low high : TermTree} (most : ℕ) (each : Numbers) → AreKinds words
-      → HasType types low counter_type → HasType types high counter_type
-      → numbers_of most (constant_of (simple words low)) (constant_of (simple words high)) ≡ Some each
-      → each.low + (each.high - each.low) ≤ counter_limit
-  within_limit words most each kinds has_low has_high numbers =
-      let both = bounds_of most _ _ each numbers in
+  pub within_limit : (words : Words) {low high : TermTree} (a b : Constant) → AreKinds words
+      → HasType types low counter_type → HasType types high counter_type → constant_of (simple words low) ≡ Some a
+      → constant_of (simple words high) ≡ Some b → a.value + (b.value - a.value) ≤ counter_limit
+  within_limit words a b kinds has_low has_high is also =
       omega (
         arith,
-        both.at_low,
-        both.at_high,
-        number_below types (still_public types words kinds has_low) both.a both.is_low,
-        number_below types (still_public types words kinds has_high) both.b both.is_high,
+        number_below types (still_public types words kinds has_low) a is,
+        number_below types (still_public types words kinds has_high) b also,
       )
 
   -- Statements.
@@ -239,9 +233,8 @@ module _ (profile : Profile) (declared : List FlatVariable) where
               typed = ((still_public types words kinds is.0, a.typed, b.typed), tt);
               kinds = part_kinds other between;
             }
-        typed_after (unrolls {words = words} {x = x} {each = each} numbers all) kinds is =
-            typed_after_turns all (within_limit words (slice_index copies x) each kinds is.0 is.1 numbers) is.2 is.3
-            kinds
+        typed_after (unrolls {words = words} {a = a} {b = b} low_is high_is few all) kinds is =
+            typed_after_turns all (within_limit words a b kinds is.0 is.1 low_is high_is) is.2 is.3 kinds
         typed_after (loops {words = words} {x = x} {body = body} inner) kinds is =
             let inside = inside_kinds words x body kinds in
             let a = typed_after_all inner inside is.3 in

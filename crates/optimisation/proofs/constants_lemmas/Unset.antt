@@ -92,7 +92,7 @@ module _ {copies : List ℕ} {declared : List FlatVariable} where
         is =
         unlearned_all one f unset.0 (remembered_all after accepted f (unlearned_all other f unset.1
         (remembered_all next otherwise f is).0)).0
-    unlearned (unrolls numbers all) f unset is = unlearned_turns all f unset is
+    unlearned (unrolls low_is high_is few all) f unset is = unlearned_turns all f unset is
     unlearned (loops {words = words} {after = after} {x = x} {body = body} inner) f unset is =
         (within_loop words x body f (unlearned_all inner f unset.1 (remembered_all after body f is).0)).0
 

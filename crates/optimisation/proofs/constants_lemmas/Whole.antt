@@ -1,5 +1,5 @@
 -- The simpler program may stand in the place of the program.
-use Rattle.std.proofs.Common.{◌≡◌, ℕ, List, [], length, replicate, Option, None, Some, option_map, refl, sym, ap, ap₂}
+use Rattle.std.proofs.Common.{◌≡◌, ℕ, List, [], length, replicate, Option, None, Some, option_map, refl, sym, ap}
 use Rattle.std.proofs.Common.{◌∙◌, subst, arith}
 use Rattle.inline.specs.declared.flat.FlatVariable.{FlatVariable}
 use Rattle.inline.specs.Flat.{TermTree}
@@ -160,13 +160,4 @@ pub as_simplified : (copies : List ℕ) (p : StraightProgram) (declared : List F
     → last ≡ knowing_all copies declared words body
     → given ≡ p.value → value ≡ option_map (simple last) given → with_body p code value ≡ simplified_program copies p
 as_simplified copies p declared words last body code front given value same nothing whole none made known result
-    simpler =
-    let at_first : words ≡ nothing_known p = nothing
-    ∙ ap (λ (ds : List FlatVariable). record { numbers = replicate (length ds) None; copies = [] }) same in
-    ap₂ (with_body p) (made ∙ ap (λ (xs : List StraightStatement). chain (straight_block xs)
-    (simplified_all copies declared words body)) none
-    ∙ (ap (λ (ds : List FlatVariable). simplified_all copies ds words body) same
-    ∙ ap₂ (simplified_all copies p.declared) at_first whole))
-    (simpler ∙ ap₂ (λ (w : Words) (v : Option TermTree). option_map (simple w) v) (known
-    ∙ (ap (λ (ds : List FlatVariable). knowing_all copies ds words body) same
-    ∙ ap₂ (knowing_all copies p.declared) at_first whole)) result)
+    simpler = cc

@@ -1,12 +1,11 @@
-use Rattle.std.proofs.Common.{◌≡◌, ◌+◌, ◌*◌, ◌<◌, None, drop, rules, refl, ap, sym, subst, ◌∙◌, arith, OnOk}
+use Rattle.std.proofs.Common.{◌+◌, ◌*◌, ◌<◌, None, rules, refl, ap, sym, ◌∙◌, arith}
 use Rattle.std.proofs.lemmas.List.{at_drop_all}
 use Rattle.branch_removal.specs.Bounds.{block_nodes, statement_nodes}
 use Rattle.branch_removal.specs.Straight.{chain, set, straight_block, straight_tree}
 use Rattle.optimisation.specs.constants.private.Known.{words_of}
-use Rattle.optimisation.specs.constants.private.Simplification.{knowing_all, simplified_all, single}
+use Rattle.optimisation.specs.constants.private.Simplification.{simplified_all, single}
 use Rattle.branch_removal.proofs.StatementTrees.{arms_smaller, body_smaller, chain-nothing, item_here, smaller_here}
-use Rattle.optimisation.proofs.constants_lemmas.StatementCode.{code_of_branch, known_of_branch, code_of_loop}
-use Rattle.optimisation.proofs.constants_lemmas.StatementCode.{known_of_loop}
+use Rattle.branch_removal.proofs.StatementTrees.{tree_of_branch, tree_of_loop}
 use Rattle.optimisation.proofs.constants_lemmas.StatementCode.{passed, turn_passed, turn_learnt, no_turns_left}
 use Rattle.optimisation.proofs.constants_lemmas.StatementCode.{none_left_known}
 use Rattle.optimisation.proofs.constants.statements.+simplification.Goals as goal
@@ -30,41 +29,37 @@ statement-repeat-requires t c =
 pub statement-returns-in_ok-condition-in-Branch-clause-code :
     goal.statement-returns-in_ok-condition-in-Branch-clause-code
 statement-returns-in_ok-condition-in-Branch-clause-code t c =
-    subst (λ b. OnOk c.branch-pass.result (straight_block c.branch-pass.new.code.items
-    ≡ chain (straight_block c.args.code.now.items) b))
-    (sym (code_of_branch c.in-Branch.accepted c.in-Branch.otherwise c.in-Branch.is c.deref-in-Branch.ensures.value
-    c.deref-in-Branch-2.ensures.value c.args.pass.now.copies.now c.args.pass.now.declared.now
-    (words_of c.args.known.now) c.in_ok-condition-in-Branch.condition c.in_ok-condition-in-Branch.ensures))
-    c.branch-pass.ensures.code
+    rw (
+      tree_of_branch c.in-Branch.accepted c.in-Branch.otherwise c.in-Branch.is c.deref-in-Branch.ensures.value
+          c.deref-in-Branch-2.ensures.value,
+      ← c.in_ok-condition-in-Branch.ensures,
+    ) c.branch-pass.ensures.code
 
 pub statement-returns-in_ok-condition-in-Branch-clause-known :
     goal.statement-returns-in_ok-condition-in-Branch-clause-known
 statement-returns-in_ok-condition-in-Branch-clause-known t c =
-    subst (λ w. OnOk c.branch-pass.result (words_of c.branch-pass.new.known ≡ w))
-    (sym (known_of_branch c.in-Branch.accepted c.in-Branch.otherwise c.in-Branch.is c.deref-in-Branch.ensures.value
-    c.deref-in-Branch-2.ensures.value c.args.pass.now.copies.now c.args.pass.now.declared.now
-    (words_of c.args.known.now) c.in_ok-condition-in-Branch.condition c.in_ok-condition-in-Branch.ensures))
-    c.branch-pass.ensures.known
+    rw (
+      tree_of_branch c.in-Branch.accepted c.in-Branch.otherwise c.in-Branch.is c.deref-in-Branch.ensures.value
+          c.deref-in-Branch-2.ensures.value,
+      ← c.in_ok-condition-in-Branch.ensures,
+    ) c.branch-pass.ensures.known
 
 pub statement-returns-in_ok-bounds-in-Repeat-clause-code : goal.statement-returns-in_ok-bounds-in-Repeat-clause-code
 statement-returns-in_ok-bounds-in-Repeat-clause-code t c =
-    subst (λ b. OnOk c.repeat.result (straight_block c.repeat.new.code.items
-    ≡ chain (straight_block c.args.code.now.items) b))
-    (sym (code_of_loop c.in-Repeat.body c.in-Repeat.is c.deref-in-Repeat.ensures.value c.args.pass.now.copies.now
-    c.args.pass.now.declared.now (words_of c.args.known.now) c.in_ok-bounds-in-Repeat.bounds.low
-    c.in_ok-bounds-in-Repeat.bounds.high c.in_ok-bounds-in-Repeat.ensures.low
-    c.in_ok-bounds-in-Repeat.ensures.high))
-    c.repeat.ensures.code
+    rw (
+      tree_of_loop c.in-Repeat.body c.in-Repeat.is c.deref-in-Repeat.ensures.value,
+      ← c.in_ok-bounds-in-Repeat.ensures.low,
+      ← c.in_ok-bounds-in-Repeat.ensures.high,
+    ) c.repeat.ensures.code
 
 pub statement-returns-in_ok-bounds-in-Repeat-clause-known :
     goal.statement-returns-in_ok-bounds-in-Repeat-clause-known
 statement-returns-in_ok-bounds-in-Repeat-clause-known t c =
-    subst (λ w. OnOk c.repeat.result (words_of c.repeat.new.known ≡ w))
-    (sym (known_of_loop c.in-Repeat.body c.in-Repeat.is c.deref-in-Repeat.ensures.value c.args.pass.now.copies.now
-    c.args.pass.now.declared.now (words_of c.args.known.now) c.in_ok-bounds-in-Repeat.bounds.low
-    c.in_ok-bounds-in-Repeat.bounds.high c.in_ok-bounds-in-Repeat.ensures.low
-    c.in_ok-bounds-in-Repeat.ensures.high))
-    c.repeat.ensures.known
+    rw (
+      tree_of_loop c.in-Repeat.body c.in-Repeat.is c.deref-in-Repeat.ensures.value,
+      ← c.in_ok-bounds-in-Repeat.ensures.low,
+      ← c.in_ok-bounds-in-Repeat.ensures.high,
+    ) c.repeat.ensures.known
 
 pub statements-statement-requires : goal.statements-statement-requires
 statements-statement-requires t c =
@@ -86,12 +81,7 @@ statements-loop-each-preserved t c =
           (words_of c.statement.new.known) c.args.body.now
           l.each-index s here _ _ _
           l.invariant.code c.in_ok-statement.ensures.code c.in_ok-statement.ensures.known;
-      known = ap (λ w. knowing_all c.args.pass.now.copies.now c.args.pass.now.declared.now w
-          (straight_block (drop (l.each-index + 1) c.args.body.now)))
-          c.in_ok-statement.ensures.known
-          ∙ (ap (λ xs. knowing_all c.args.pass.now.copies.now c.args.pass.now.declared.now (words_of l.known)
-          (straight_block xs)) (sym here)
-          ∙ l.invariant.known);
+      known = rw (c.in_ok-statement.ensures.known, ← l.invariant.known, here) refl;
     }
 
 pub statements-returns-clause-code : goal.statements-returns-clause-code
