@@ -19,5 +19,4 @@ pub mod Learned
 pub mod Same
 pub mod Bounds
 pub mod Whole
-pub mod StatementCode
 pub mod ChoiceLemmas

@@ -149,12 +149,11 @@ given_fits : (profile : Profile) (ps : List Param) (args : List Arg) (more : Lis
     → Fits (types_of profile (map declaration_of ps ++ more)) (given (map declaration_of ps ++ more) args)
 given_fits profile [] [] more within x d is =
     subst (λ (l : List ℕ). IsHeld d l) (sym (given_none more x d is)) (held_zeros d)
-given_fits profile [] (arg ∷ args) more within x d is = absurd within
-given_fits profile (p ∷ ps) [] more within x d is = absurd within
 given_fits profile (p ∷ ps) (arg ∷ args) more within zero d is =
     subst (λ (f : FlatVariable). IsHeld f (words_of arg)) (same_Some (declaration_of p) d is)
     (held_argument p arg within.0)
 given_fits profile (p ∷ ps) (arg ∷ args) more within (suc x) d is = given_fits profile ps args more within.1 x d is
+given_fits profile ps args more within x d is = absurd within
 
 pub start_fits : (profile : Profile) (ps : List Param) (declared : List FlatVariable) (args : List Arg)
     → first_of (length ps) declared ≡ map declaration_of ps → AreWithin ps args

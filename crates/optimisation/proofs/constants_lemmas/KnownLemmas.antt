@@ -213,7 +213,3 @@ pub record Holds (types : Types) (words : Words) (m : Values) : Type 0 where
   pub agrees : Agrees words m
   pub kinds : AreOfKind types words
   pub fits : Fits types m
-
--- no more is known
-abbrev pub IsBelow : Words → Words → Type 0
-IsBelow less more = (f : Fact) → Knows less f → Knows more f

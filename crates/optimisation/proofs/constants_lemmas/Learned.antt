@@ -1,12 +1,10 @@
 -- What is known after a statement is what the variables then hold.
-use Rattle.std.proofs.Common.{◌≡◌, ℕ, ◌+◌, ◌-◌, ◌≤◌, ◌<◌, ◌==◌, Bool, not, List, [], ◌∷◌, Option, None, Some}
-use Rattle.std.proofs.Common.{slice_index, sym, ap, ◌∙◌, arith}
+use Rattle.std.proofs.Common.{◌≡◌, ℕ, ◌<◌, ◌==◌, Bool, not, List, [], ◌∷◌, Option, None, Some}
+use Rattle.std.proofs.Common.{slice_index, sym, ap, ◌∙◌}
 use Rattle.std.proofs.lemmas.Option.{same_Some}
 use Rattle.word.specs.declared.profile.Profile.{Profile}
 use Rattle.language.specs.declared.typing.WordType.{WordType}
-use Rattle.inline.proofs.Fitting.{value_fits}
 use Rattle.inline.specs.declared.flat.FlatVariable.{FlatVariable}
-use Rattle.inline.specs.Fitting.{Fits}
 use Rattle.inline.specs.Flat.{TermTree, counter_type}
 use Rattle.inline.specs.FlatMeaning.{Values, with_value, value_in}
 use Rattle.inline.specs.FlatTyping.{Types, types_of, HasType}
@@ -25,7 +23,7 @@ use Rattle.optimisation.proofs.constants_lemmas.StatementRules.{AllSimplify}
 use Rattle.optimisation.proofs.constants_lemmas.TermLemmas.{constant_value, decided_value, same_value}
 use Rattle.optimisation.proofs.constants_lemmas.Typed.{IsCounter, inside_kinds, part_kinds, turn_kinds}
 use Rattle.optimisation.proofs.constants_lemmas.Unset.{IsUnset, at_itself, behind_part, beside, left_alone}
-use Rattle.optimisation.proofs.constants_lemmas.Unset.{turn_begins, turn_ends, within_loop}
+use Rattle.optimisation.proofs.constants_lemmas.Unset.{left_alone_all, within_loop}
 
 -- Conditions and bounds that are numbers.
 
@@ -40,13 +38,6 @@ module _ (types : Types) (words : Words) (s : StraightState) (holds : Holds type
       → constant_of (simple words e) ≡ Some c → c.value ≡ value_at s e
   number_here {e = e} has c is =
       sym (constant_value s.variables (simple words e) c is) ∙ same_value types words s.variables holds has
-
--- the numbers of a loop that stays
-pub counts_below : (types : Types) (m : Values) → Fits types m → {low high : TermTree}
-    → HasType types low counter_type → HasType types high counter_type
-    → value_in m low + (value_in m high - value_in m low) ≤ counter_limit
-counts_below types m fits has_low has_high =
-    omega (arith, value_fits types m fits has_low, value_fits types m fits has_high)
 
 -- What is noted.
 
@@ -122,7 +113,8 @@ module _ (profile : Profile) (declared : List FlatVariable) where
       (t : StraightState) (below : i < counter_limit) (holds : AllHolds (in_loop words x body) t) where
     pub turn_start : AllHolds (in_loop words x body) (counted x i t)
     turn_start = record {
-      agrees = turn_begins words x body i t holds.agrees;
+      agrees = λ f is. same_truth f t.variables (counted x i t).variables
+          (λ y about. beside t.variables x y (i ∷ []) ((within_loop words x body f is).1.0 y about)) (holds.agrees f is);
       kinds = holds.kinds;
       fits = counted_fits profile declared x i there below t holds.fits;
     }
@@ -130,7 +122,9 @@ module _ (profile : Profile) (declared : List FlatVariable) where
     pub turn_end : (controls : ℕ) → AreTyped profile declared controls body
         → AllHolds (in_loop words x body) (after_all (counted x i t) body)
     turn_end controls is = record {
-      agrees = turn_ends words x body i t holds.agrees;
+      agrees = λ f known. same_truth f (counted x i t).variables (after_all (counted x i t) body).variables
+          (λ y about. left_alone_all body f (within_loop words x body f known).1.1 y about (counted x i t))
+          (turn_start.agrees f known);
       kinds = holds.kinds;
       fits = fits_after_all profile declared controls body is (counted x i t) turn_start.fits;
     }

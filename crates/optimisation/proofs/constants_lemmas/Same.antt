@@ -4,6 +4,7 @@ use Rattle.std.proofs.Common.{◌≡◌, ℕ, zero, suc, ◌+◌, ◌-◌, ◌<�
 use Rattle.std.proofs.Common.{if◌then◌else◌, List, [], ◌∷◌, ◌++◌, map, Option, None, Some, refl, sym, ap, ap₂, ◌∙◌, subst}
 use Rattle.std.proofs.Common.{arith}
 use Rattle.word.specs.declared.profile.Profile.{Profile}
+use Rattle.inline.proofs.Fitting.{value_fits}
 use Rattle.inline.specs.declared.flat.FlatVariable.{FlatVariable}
 use Rattle.inline.specs.Flat.{TermTree, number, counter_type}
 use Rattle.inline.specs.FlatMeaning.{elements, path_in, path_in_all, turns, path_of_turns}
@@ -22,7 +23,7 @@ use Rattle.optimisation.specs.constants.private.Known.{Words, behind, in_loop, w
 use Rattle.optimisation.specs.constants.private.Simplification.{set_to}
 use Rattle.optimisation.proofs.constants_lemmas.Held.{counter_limit, fewer_fit, fits_after, fits_after_all}
 use Rattle.optimisation.proofs.constants_lemmas.KnownLemmas.{Agrees, Holds, without_known}
-use Rattle.optimisation.proofs.constants_lemmas.Learned.{AllHolds, arm_begins, counts_below, decided_here}
+use Rattle.optimisation.proofs.constants_lemmas.Learned.{AllHolds, arm_begins, decided_here}
 use Rattle.optimisation.proofs.constants_lemmas.Learned.{kept, loop_begins, noted_copy, number_here, turn_end}
 use Rattle.optimisation.proofs.constants_lemmas.Learned.{turn_known, turn_start}
 use Rattle.optimisation.proofs.constants_lemmas.StatementRules.{Simplifies, sets, fills, puts, takes, accepts, declines}
@@ -265,7 +266,11 @@ module _ (most : List ℕ) where
             (turn_start profile declared words x body is.2 i t below known) in
             (one.same, one.fine, turn_end profile declared words x body is.2 i t below known controls is.3))
             (value_at s high - value_at s low) (value_at s low) s
-            (counts_below types s.variables holds.fits is.0 is.1)
+            (omega (
+              arith,
+              value_fits types s.variables holds.fits is.0,
+              value_fits types s.variables holds.fits is.1,
+            ))
             (loop_begins profile declared words x body s holds) in
             record {
               same = ap₂ (λ a b. turns (b - a) a simpler s) (same_value types words s.variables holds is.0)

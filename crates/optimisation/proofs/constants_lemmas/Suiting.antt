@@ -33,12 +33,7 @@ joined_public Secret m h = absurd (false≢true (sym (ap is_secret h)))
 pub both_joined : (l m : Label) → l ≡ Public → m ≡ Public → joined l m ≡ Public
 both_joined l m one other = ap (λ k. joined k m) one ∙ other
 
--- what is made of lower operands is lower
-pub record IsLower (profile : Profile) (operation : Operation) (one other whole : WordType) (l m : Label) : Type 0 where
-  pub label : Label
-  pub makes : Makes profile operation (labelled one.kind l) (labelled other.kind m) (labelled whole.kind label)
-  pub lower : whole.label ≡ Public → label ≡ Public
-
+-- so of lower labels
 pub joined_lower : (a b l m : Label) → (a ≡ Public → l ≡ Public) → (b ≡ Public → m ≡ Public) → joined a b ≡ Public
     → joined l m ≡ Public
 joined_lower a b l m f g h = let parts = joined_public a b h in both_joined l m (f parts.0) (g parts.1)
@@ -55,56 +50,43 @@ pub turned_may : {profile : Profile} {l m : Label} → MayBeMultiplied profile l
 turned_may unseen = unseen
 turned_may both_public = both_public
 
-pub lowered : {profile : Profile} {operation : Operation} {one other whole : WordType}
+-- of operands that are no higher the same is made
+pub remade : {profile : Profile} {operation : Operation} {one other whole : WordType}
     → Makes profile operation one other whole
     → (l m : Label) → (one.label ≡ Public → l ≡ Public) → (other.label ≡ Public → m ≡ Public)
-    → IsLower profile operation one other whole l m
-lowered (arithmetic {l = a} {m = b} numeric) l m f g =
-    record { label = joined l m; makes = arithmetic numeric; lower = joined_lower a b l m f g }
-lowered (multiplication {l = a} {m = b} numeric may) l m f g =
-    record {
-      label = joined l m;
-      makes = multiplication numeric (may_still l m f g may);
-      lower = joined_lower a b l m f g;
-    }
-lowered {profile = profile} (division {kind = kind} numeric) l m f g = record {
-  label = Public;
-  makes = subst (λ k. Makes profile Division (labelled kind k) (labelled kind m) (labelled kind Public))
-      (sym (f refl))
-      (subst (λ k. Makes profile Division (labelled kind Public) (labelled kind k) (labelled kind Public))
-      (sym (g refl)) (division numeric));
-  lower = λ h. refl;
-}
-lowered (shift {l = a} {m = b} numeric) l m f g =
-    record { label = joined l m; makes = shift numeric; lower = joined_lower a b l m f g }
-lowered (equality {l = a} {m = b}) l m f g =
-    record { label = joined l m; makes = equality; lower = joined_lower a b l m f g }
-lowered (order {l = a} {m = b} numeric) l m f g =
-    record { label = joined l m; makes = order numeric; lower = joined_lower a b l m f g }
-lowered (logic {l = a} {m = b}) l m f g =
-    record { label = joined l m; makes = logic; lower = joined_lower a b l m f g }
+    → Makes profile operation (labelled one.kind l) (labelled other.kind m) (labelled whole.kind (joined l m))
+remade (arithmetic numeric) l m f g = arithmetic numeric
+remade (multiplication numeric may) l m f g = multiplication numeric (may_still l m f g may)
+remade {profile = profile} (division {kind = kind} numeric) l m f g =
+    subst (λ k. Makes profile Division (labelled kind k) (labelled kind m) (labelled kind (joined k m))) (sym (f refl))
+    (subst (λ k. Makes profile Division (labelled kind Public) (labelled kind k) (labelled kind k)) (sym (g refl))
+    (division numeric))
+remade (shift numeric) l m f g = shift numeric
+remade equality l m f g = equality
+remade (order numeric) l m f g = order numeric
+remade logic l m f g = logic
+
+-- the kind and the label of what is made
+pub record IsMade (operation : Operation) (one other whole : WordType) : Type 0 where
+  pub kind : operation_kind operation one.kind ≡ whole.kind
+  pub label : joined one.label other.label ≡ whole.label
+
+pub made : {profile : Profile} {operation : Operation} {one other whole : WordType}
+    → Makes profile operation one other whole → IsMade operation one other whole
+made (arithmetic numeric) = record { kind = refl; label = refl }
+made (multiplication numeric may) = record { kind = refl; label = refl }
+made (division numeric) = record { kind = refl; label = refl }
+made (shift numeric) = record { kind = refl; label = refl }
+made equality = record { kind = refl; label = refl }
+made (order numeric) = record { kind = refl; label = refl }
+made logic = record { kind = refl; label = refl }
 
 -- operands of what is public
 pub public_parts : {profile : Profile} {operation : Operation} {one other whole : WordType}
     → Makes profile operation one other whole
     → whole.label ≡ Public → (one.label ≡ Public) × (other.label ≡ Public)
-public_parts (arithmetic {l = a} {m = b} numeric) public = joined_public a b public
-public_parts (multiplication {l = a} {m = b} numeric may) public = joined_public a b public
-public_parts (division numeric) public = (refl, refl)
-public_parts (shift {l = a} {m = b} numeric) public = joined_public a b public
-public_parts (equality {l = a} {m = b}) public = joined_public a b public
-public_parts (order {l = a} {m = b} numeric) public = joined_public a b public
-public_parts (logic {l = a} {m = b}) public = joined_public a b public
-
-pub made_kind : {profile : Profile} {operation : Operation} {one other whole : WordType}
-    → Makes profile operation one other whole → operation_kind operation one.kind ≡ whole.kind
-made_kind (arithmetic numeric) = refl
-made_kind (multiplication numeric may) = refl
-made_kind (division numeric) = refl
-made_kind (shift numeric) = refl
-made_kind equality = refl
-made_kind (order numeric) = refl
-made_kind logic = refl
+public_parts {one = one} {other = other} makes public =
+    joined_public one.label other.label ((made makes).label ∙ public)
 
 -- Expressions.
 

@@ -33,8 +33,8 @@ use Rattle.optimisation.proofs.constants_lemmas.TermRules.{right_alone}
 use Rattle.optimisation.proofs.constants_lemmas.TermRules.{comparison_turned, product_turned, shifted_up, shifted_down}
 use Rattle.optimisation.proofs.constants_lemmas.TermRules.{masked, bits_moved, accepted_chosen, otherwise_chosen}
 use Rattle.optimisation.proofs.constants_lemmas.TermRules.{around, simpler}
-use Rattle.optimisation.proofs.constants_lemmas.Suiting.{both_joined, joined_lower, joined_public, lowered, made_kind}
-use Rattle.optimisation.proofs.constants_lemmas.Suiting.{made_suits}
+use Rattle.optimisation.proofs.constants_lemmas.Suiting.{both_joined, joined_lower, joined_public, made, made_suits}
+use Rattle.optimisation.proofs.constants_lemmas.Suiting.{remade}
 use Rattle.optimisation.proofs.constants_lemmas.Suiting.{number_below, number_kind, number_suits, number_type}
 use Rattle.optimisation.proofs.constants_lemmas.Suiting.{public_parts, public_typed, retyped, suits_as, turned_may}
 use Rattle.optimisation.proofs.constants_lemmas.Suiting.{truth_suits, typed_suits}
@@ -81,8 +81,8 @@ module _ (types : Types) where
       b} is also) (of_binary {one = one} {other = other} has more makes even) =
       made_suits types (binary place operator width (number a.value one.kind) (number b.value other.kind))
       (of_binary (of_number (number_below types has a is)) (of_number (number_below types more b also))
-      (lowered makes Public Public (λ h. refl) (λ h. refl)).makes even)
-      (ap (operation_kind (operation_of operator)) (number_kind types has a is).0 ∙ made_kind makes) refl
+      (remade makes Public Public (λ h. refl) (λ h. refl)) even)
+      (ap (operation_kind (operation_of operator)) (number_kind types has a is).0 ∙ (made makes).kind) refl
   becomes_suits twice_negated (of_prefix (of_prefix has takes inner) also even) = typed_suits types has
   becomes_suits (comparison_negated found) (of_prefix (of_binary {one = one} {other = other} {whole =
       whole} has more makes inner) takes even) =
@@ -91,10 +91,10 @@ module _ (types : Types) where
       (subst (λ (o : Operation). Makes types.profile o one other whole) (sym found.operation) makes) inner)
   becomes_suits (left_decides {operator = operator} {c = c} {t = t} is decides) (of_binary {one =
       one} has more makes even) =
-      truth_suits types t (truth_kind operator c.value t one.kind (inl decides) ∙ made_kind makes)
+      truth_suits types t (truth_kind operator c.value t one.kind (inl decides) ∙ (made makes).kind)
   becomes_suits (right_decides {operator = operator} {c = c} {t = t} is decides) (of_binary {one =
       one} has more makes even) =
-      truth_suits types t (truth_kind operator c.value t one.kind (inr decides) ∙ made_kind makes)
+      truth_suits types t (truth_kind operator c.value t one.kind (inr decides) ∙ (made makes).kind)
   becomes_suits (left_alone {operator = operator} {width = width} {c = c} is leaves) (of_binary has more makes even) =
       suits_as types (typed_suits types has) (right_identity_kind operator width c.value makes leaves)
       (λ public. (public_parts makes public).0)
@@ -136,7 +136,7 @@ module _ (types : Types) where
       (shift {l = l} {m = m} numeric) inner) more makes even) =
       suits_as types
       (moved_suits place field has numeric inner (found.kind ∙ (number_kind types amount by is).0)
-      (omega (arith, found.few, found.reach)) (omega (arith, found.few))) (made_kind makes)
+      (omega (arith, found.few, found.reach)) (omega (arith, found.few))) (made makes).kind
       (λ public. (joined_public l m (public_parts makes public).0).0)
   becomes_suits (accepted_chosen is) (of_selection {l = l} {m = m} {n = n} chooser has more) =
       suits_as types (typed_suits types has) refl
@@ -180,15 +180,17 @@ module _ (types : Types) where
           kind = refl;
           label = inner.label;
         }
-    around_suits (of_binary {left = left} {right = right} {whole = whole} has more makes even) =
-        let one = becomes_still (simpler words left) (around_suits has) in
-        let other = becomes_still (simpler words right) (around_suits more) in
-        let lower = lowered makes one.word.label other.word.label one.label other.label in
+    around_suits (of_binary {left = left} {right = right} {one = one} {other = other} {whole =
+        whole} has more makes even) =
+        let a = becomes_still (simpler words left) (around_suits has) in
+        let b = becomes_still (simpler words right) (around_suits more) in
+        let l = a.word.label in
+        let m = b.word.label in
         record {
-          word = labelled whole.kind lower.label;
-          has_type = of_binary (retyped types one) (retyped types other) lower.makes even;
+          word = labelled whole.kind (joined l m);
+          has_type = of_binary (retyped types a) (retyped types b) (remade makes l m a.label b.label) even;
           kind = refl;
-          label = lower.lower;
+          label = λ public. joined_lower one.label other.label l m a.label b.label ((made makes).label ∙ public);
         }
     around_suits (of_rotation {operand = operand} {kind = kind} has numeric low high even) =
         let inner = becomes_still (simpler words operand) (around_suits has) in
@@ -247,6 +249,5 @@ module _ (types : Types) where
     pub still_result : (returned : Option WordType) (value : Option TermTree) → IsResult types returned value
         → IsResult types returned (option_map (simple words) value)
     still_result None None result = result
-    still_result None (Some value) result = result
-    still_result (Some word) None result = result
     still_result (Some word) (Some value) result = still_suits result
+    still_result returned value result = absurd result

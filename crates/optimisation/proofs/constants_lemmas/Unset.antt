@@ -15,8 +15,7 @@ use Rattle.optimisation.specs.constants.private.Known.{in_loop}
 use Rattle.optimisation.specs.constants.private.Simplification.{set_to}
 use Rattle.optimisation.proofs.constants_lemmas.CopyLemmas.{set_by}
 use Rattle.optimisation.proofs.constants_lemmas.KnownLemmas.{Fact, Knows, IsAbout, IsFree, known_beside}
-use Rattle.optimisation.proofs.constants_lemmas.KnownLemmas.{without_known, short_same, same_truth}
-use Rattle.optimisation.proofs.constants_lemmas.KnownLemmas.{Agrees}
+use Rattle.optimisation.proofs.constants_lemmas.KnownLemmas.{without_known, short_same}
 use Rattle.optimisation.proofs.constants_lemmas.StatementRules.{Simplifies, sets, fills, puts, takes, accepts, declines}
 use Rattle.optimisation.proofs.constants_lemmas.StatementRules.{chooses, unrolls, loops, TurnsSimplify, no_turn, a_turn}
 use Rattle.optimisation.proofs.constants_lemmas.StatementRules.{AllSimplify, ends, goes_on}
@@ -160,20 +159,3 @@ mutual
   left_alone_all nothing f unset y about s = refl
   left_alone_all (first statement rest) f unset y about s =
       left_alone_all rest f unset.1 y about (after s statement) ∙ left_alone statement f unset.0 y about s
-
--- So within a loop what is known agrees in each turn.
-
-pub turn_begins : (words : Words) (x : ℕ) (body : StraightBlock) (i : ℕ) (t : StraightState)
-    → Agrees (in_loop words x body) t.variables
-    → Agrees (in_loop words x body) (counted x i t).variables
-turn_begins words x body i t agrees f is =
-    same_truth f t.variables (counted x i t).variables
-    (λ y about. beside t.variables x y (i ∷ []) ((within_loop words x body f is).1.0 y about)) (agrees f is)
-
-pub turn_ends : (words : Words) (x : ℕ) (body : StraightBlock) (i : ℕ) (t : StraightState)
-    → Agrees (in_loop words x body) t.variables
-    → Agrees (in_loop words x body) (after_all (counted x i t) body).variables
-turn_ends words x body i t agrees f is =
-    same_truth f (counted x i t).variables (after_all (counted x i t) body).variables
-    (λ y about. left_alone_all body f (within_loop words x body f is).1.1 y about (counted x i t))
-    (turn_begins words x body i t agrees f is)

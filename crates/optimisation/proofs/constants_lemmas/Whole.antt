@@ -1,7 +1,6 @@
 -- The simpler program may stand in the place of the program.
-use Rattle.std.proofs.Common.{◌≡◌, ℕ, List, [], length, replicate, Option, None, Some, option_map, refl, sym, ap}
+use Rattle.std.proofs.Common.{◌≡◌, ℕ, List, length, Option, None, Some, option_map, refl, sym, ap}
 use Rattle.std.proofs.Common.{◌∙◌, subst, arith}
-use Rattle.inline.specs.declared.flat.FlatVariable.{FlatVariable}
 use Rattle.inline.specs.Flat.{TermTree}
 use Rattle.inline.specs.FlatMeaning.{Values, value_in, results_of, path_of_result}
 use Rattle.inline.specs.FlatTyping.{Types, types_of, IsResult}
@@ -12,8 +11,7 @@ use Rattle.language.specs.declared.values.Arg.{Arg}
 use Rattle.branch_removal.specs.Kept.{IsStraight}
 use Rattle.branch_removal.specs.Replaced.{IsReplaced}
 use Rattle.branch_removal.specs.StraightTyping.{IsTypedStraight}
-use Rattle.branch_removal.specs.declared.straight.StraightStatement.{StraightStatement}
-use Rattle.branch_removal.specs.Straight.{StraightBlock, StraightProgram, chain, straight_block, with_body}
+use Rattle.branch_removal.specs.Straight.{StraightProgram}
 use Rattle.branch_removal.specs.StraightMeaning.{StraightState, after_all, start, end_of, outcome_of, path_of}
 use Rattle.branch_removal.specs.StraightMeaning.{path_along}
 use Rattle.optimisation.specs.constants.private.Folding.{simple}
@@ -36,18 +34,15 @@ same_result : (types : Types) (words : Words) (m : Values) → Holds types words
     (value : Option TermTree) → IsResult types returned value
     → option_map (value_in m) (option_map (simple words) value) ≡ option_map (value_in m) value
 same_result types words m holds None None is = refl
-same_result types words m holds None (Some value) is = absurd is
-same_result types words m holds (Some word) None is = absurd is
 same_result types words m holds (Some word) (Some value) is = ap Some (same_suited types words m holds is)
+same_result types words m holds returned value is = absurd is
 
 fine_result : (most : List ℕ) (types : Types) (words : Words) (m : Values) → Holds types words m
     → (returned : Option WordType) (value : Option TermTree) → IsResult types returned value
     → AreFine most (path_of_result m value) → AreFine most (path_of_result m (option_map (simple words) value))
 fine_result most types words m holds None None is fine = fine
-fine_result most types words m holds None (Some value) is fine = absurd is
-fine_result most types words m holds (Some word) None is fine = absurd is
-fine_result most types words m holds (Some word) (Some value) is fine =
-    fine_suited most types words m holds is fine
+fine_result most types words m holds (Some word) (Some value) is fine = fine_suited most types words m holds is fine
+fine_result most types words m holds returned value is fine = absurd is
 
 module _ (copies : List ℕ) (p : StraightProgram) where
   abbrev last_words : Words
@@ -150,14 +145,3 @@ module _ (copies : List ℕ) (p : StraightProgram) where
       outcome = λ args within. same_outcome kept.typed args within;
       fine = λ args within fine. still_fine_path kept.typed args within fine;
     }
-
--- a program of these parts is the simpler one
-pub as_simplified : (copies : List ℕ) (p : StraightProgram) (declared : List FlatVariable) (words last : Words)
-    (body code : StraightBlock) (front : List StraightStatement) (given value : Option TermTree)
-    → declared ≡ p.declared → words ≡ record { numbers = replicate (length declared) None; copies = [] }
-    → body ≡ p.body → front ≡ []
-    → code ≡ chain (straight_block front) (simplified_all copies declared words body)
-    → last ≡ knowing_all copies declared words body
-    → given ≡ p.value → value ≡ option_map (simple last) given → with_body p code value ≡ simplified_program copies p
-as_simplified copies p declared words last body code front given value same nothing whole none made known result
-    simpler = cc

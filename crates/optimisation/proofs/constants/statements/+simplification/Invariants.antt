@@ -3,7 +3,7 @@ use Rattle.branch_removal.specs.Bounds.{block_nodes, statement_nodes}
 use Rattle.branch_removal.specs.Straight.{chain, straight_block, straight_tree}
 use Rattle.optimisation.specs.constants.private.Known.{words_of}
 use Rattle.optimisation.specs.constants.private.Simplification.{knowing_all, simplified_all, turns_code, turns_known}
-use Rattle.optimisation.proofs.constants_lemmas.StatementCode.{turns_left, known_left}
+use Rattle.optimisation.specs.declared.constants.terms.Numbers.{Numbers}
 use Rattle.optimisation.proofs.constants.statements.+simplification.Given as goal
 
 -- the code so far and that of what is left are the code of all statements, and what is known in the end is what is
@@ -24,15 +24,16 @@ invariant-statements-loop-each l =
 -- the code so far and that of the turns that are left are the code of all turns
 abbrev pub invariant-turns-loop-value : goal.invariant-turns-loop-value
 invariant-turns-loop-value l =
+    let copies = l.pass.copies.now in
+    let declared = l.pass.declared.now in
     let body = straight_block l.fn.body in
+    let left : Numbers = record { low = l.value; high = l.value-end } in
     record {
-      code : turns_left l.pass.copies.now l.pass.declared.now l.counter body l.value-end l.value
-          (straight_block l.code.items)
-          (words_of l.known)
+      code : chain (straight_block l.code.items) (turns_code copies declared (words_of l.known) l.counter left body)
           ≡ chain (straight_block l.fn.code.items)
-          (turns_code l.pass.copies.now l.pass.declared.now (words_of l.fn.known) l.counter l.fn.numbers body);
-      known : known_left l.pass.copies.now l.pass.declared.now l.counter body l.value-end l.value (words_of l.known)
-          ≡ turns_known l.pass.copies.now l.pass.declared.now (words_of l.fn.known) l.counter l.fn.numbers body;
+          (turns_code copies declared (words_of l.fn.known) l.counter l.fn.numbers body);
+      known : turns_known copies declared (words_of l.known) l.counter left body
+          ≡ turns_known copies declared (words_of l.fn.known) l.counter l.fn.numbers body;
     }
 
 -- Each call is for a part of what it is called in.
