@@ -2,8 +2,7 @@ pub mod KnownLemmas
 pub mod CopyLemmas
 pub mod Identities
 pub mod OneOperand
-pub mod Opposites
-pub mod TurnedRound
+pub mod Comparisons
 pub mod TwoShifts
 pub mod Powers
 pub mod Suiting

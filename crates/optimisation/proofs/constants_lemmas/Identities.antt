@@ -1,6 +1,6 @@
 -- What an operator makes of an operand and an identity: it leaves the operand as it is, where that is within its kind.
 use Rattle.std.proofs.Common.{◌≡◌, ℕ, ◌+◌, ◌*◌, ◌/◌, ◌%◌, ◌^◌, ◌==◌, ◌<◌, ◌&&◌, ◌||◌, Bool, true, false, not}
-use Rattle.std.proofs.Common.{bit_and, refl, sym, ap, ◌∙◌, subst, arith}
+use Rattle.std.proofs.Common.{bit_and, refl, sym, ◌∙◌, subst, arith}
 use Rattle.std.proofs.Math.Nat.{mod-eq_of_lt}
 use Rattle.std.proofs.lemmas.Bool.{eqb-true, eqb-false, false≢true}
 use Rattle.std.proofs.lemmas.Nat.{and_comm, and_mask}
@@ -62,31 +62,24 @@ pub right_identity : {profile : Profile} (operator : BinaryOperator) {one other 
     → is_right_identity operator (width_of one.kind) b ≡ true
     → operated operator (width_of one.kind) a b ≡ a
 right_identity Either a b logic fits is =
-    ap (λ c. word_of (truth_of a || truth_of c)) (eqb-true b 0 is)
-    ∙ ap word_of (either_nothing (truth_of a)) ∙ truth_again a fits
+    rw (eqb-true b 0 is, either_nothing) (truth_again a fits)
 right_identity Both a b logic fits is =
-    ap (λ c. word_of (truth_of a && c)) is ∙ ap word_of (both_true (truth_of a)) ∙ truth_again a fits
-right_identity BitOr a b makes fits is = ap (λ c. operated BitOr W32 a c) (eqb-true b 0 is) ∙ or_zero_r a
-right_identity BitXor a b makes fits is = ap (λ c. operated BitXor W32 a c) (eqb-true b 0 is) ∙ xor_zero_r a
+    rw (is, both_true) (truth_again a fits)
+right_identity BitOr a b makes fits is = rw (eqb-true b 0 is) (or_zero_r a)
+right_identity BitXor a b makes fits is = rw (eqb-true b 0 is) (xor_zero_r a)
 right_identity BitAnd a b (arithmetic {kind = k} numeric) fits is =
-    ap (bit_and a) (eqb-true b (complemented (width_of k) 0) is)
-    ∙ ones_leave (width_of k) a (fits_number k a numeric fits)
+    rw (eqb-true b (complemented (width_of k) 0) is) (ones_leave (width_of k) a (fits_number k a numeric fits))
 right_identity ShiftLeft a b (shift {kind = k} numeric) fits is =
-    ap (λ c. (a * 2 ^ (c % 32)) % 2 ^ bits (width_of k)) (eqb-true b 0 is)
-    ∙ wrap_leaves (width_of k) a (a * 1) (fits_number k a numeric fits) (omega arith)
+    rw (eqb-true b 0 is) (wrap_leaves (width_of k) a (a * 1) (fits_number k a numeric fits) (omega arith))
 right_identity ShiftRight a b (shift {kind = k} numeric) fits is =
-    ap (λ c. (a / 2 ^ (c % 32)) % 2 ^ bits (width_of k)) (eqb-true b 0 is)
-    ∙ wrap_leaves (width_of k) a (a / 1) (fits_number k a numeric fits) (omega arith)
+    rw (eqb-true b 0 is) (wrap_leaves (width_of k) a (a / 1) (fits_number k a numeric fits) (omega arith))
 right_identity Add a b (arithmetic {kind = k} numeric) fits is =
     wrap_leaves (width_of k) a (a + b) (fits_number k a numeric fits) (omega (arith, eqb-true b 0 is))
 right_identity Subtract a b (arithmetic {kind = k} numeric) fits is =
-    ap (difference (width_of k) a) (eqb-true b 0 is) ∙ nothing_less (width_of k) a (fits_number k a numeric fits)
+    rw (eqb-true b 0 is) (nothing_less (width_of k) a (fits_number k a numeric fits))
 right_identity Multiply a b (multiplication {kind = k} numeric may) fits is =
-    ap (λ c. (a * c) % 2 ^ bits (width_of k)) (eqb-true b 1 is)
-    ∙ wrap_leaves (width_of k) a (a * 1) (fits_number k a numeric fits) (omega arith)
-right_identity Divide a b makes fits is =
-    let one : a / 1 ≡ a = omega arith in
-    ap (λ c. a / c) (eqb-true b 1 is) ∙ one
+    rw (eqb-true b 1 is) (wrap_leaves (width_of k) a (a * 1) (fits_number k a numeric fits) (omega arith))
+right_identity Divide a b makes fits is = rw (eqb-true b 1 is) (omega arith)
 right_identity operator a b makes fits is = absurd (false≢true is)
 
 -- An operator on a left identity and an operand.
@@ -95,18 +88,16 @@ pub left_identity : {profile : Profile} (operator : BinaryOperator) {one other w
     → is_left_identity operator (width_of one.kind) a ≡ true
     → operated operator (width_of one.kind) a b ≡ b
 left_identity Either a b logic fits is =
-    ap (λ c. word_of (truth_of c || truth_of b)) (eqb-true a 0 is) ∙ truth_again b fits
-left_identity Both a b logic fits is = ap (λ c. word_of (c && truth_of b)) is ∙ truth_again b fits
-left_identity BitOr a b makes fits is = ap (λ c. operated BitOr W32 c b) (eqb-true a 0 is) ∙ or_zero_l b
-left_identity BitXor a b makes fits is = ap (λ c. operated BitXor W32 c b) (eqb-true a 0 is) ∙ xor_zero_l b
+    rw (eqb-true a 0 is) (truth_again b fits)
+left_identity Both a b logic fits is = rw is (truth_again b fits)
+left_identity BitOr a b makes fits is = rw (eqb-true a 0 is) (or_zero_l b)
+left_identity BitXor a b makes fits is = rw (eqb-true a 0 is) (xor_zero_l b)
 left_identity BitAnd a b (arithmetic {kind = k} numeric) fits is =
-    ap (λ c. bit_and c b) (eqb-true a (complemented (width_of k) 0) is)
-    ∙ ones_also (width_of k) b (fits_number k b numeric fits)
+    rw (eqb-true a (complemented (width_of k) 0) is) (ones_also (width_of k) b (fits_number k b numeric fits))
 left_identity Add a b (arithmetic {kind = k} numeric) fits is =
     wrap_leaves (width_of k) b (a + b) (fits_number k b numeric fits) (omega (arith, eqb-true a 0 is))
 left_identity Multiply a b (multiplication {kind = k} numeric may) fits is =
-    ap (λ c. (c * b) % 2 ^ bits (width_of k)) (eqb-true a 1 is)
-    ∙ wrap_leaves (width_of k) b (1 * b) (fits_number k b numeric fits) (omega arith)
+    rw (eqb-true a 1 is) (wrap_leaves (width_of k) b (1 * b) (fits_number k b numeric fits) (omega arith))
 left_identity operator a b makes fits is = absurd (false≢true is)
 
 -- So at the width of the left operand's kind.

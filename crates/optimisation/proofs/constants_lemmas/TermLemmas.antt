@@ -36,7 +36,7 @@ use Rattle.optimisation.proofs.constants_lemmas.Identities.{left_leaves, right_l
 use Rattle.optimisation.proofs.constants_lemmas.KnownLemmas.{Holds, IsReadAs, as_itself, as_source, copy}
 use Rattle.optimisation.proofs.constants_lemmas.KnownLemmas.{read_as, valued}
 use Rattle.optimisation.proofs.constants_lemmas.OneOperand.{left_value, right_value}
-use Rattle.optimisation.proofs.constants_lemmas.Opposites.{denied_twice}
+use Rattle.optimisation.proofs.constants_lemmas.Comparisons.{denied_twice}
 use Rattle.optimisation.proofs.constants_lemmas.Powers.{IsPower, quotient_below}
 use Rattle.optimisation.proofs.constants_lemmas.TermRules.{Becomes, stays, and_then, number_prefixed, number_rotated}
 use Rattle.optimisation.proofs.constants_lemmas.TermRules.{number_converted, numbers_operated, twice_negated}

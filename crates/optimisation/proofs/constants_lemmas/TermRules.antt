@@ -31,9 +31,8 @@ use Rattle.optimisation.specs.constants.private.Folding.{operation, prefixed, re
 use Rattle.optimisation.specs.constants.private.Folding.{stepped_or, truth_or, turned, turned_by}
 use Rattle.optimisation.specs.constants.private.Known.{Words, known, source_in}
 use Rattle.optimisation.specs.constants.private.Powers.{exponent_of, step_by, step_of, turned_step}
-use Rattle.optimisation.proofs.constants_lemmas.Opposites.{IsOpposite, opposite}
+use Rattle.optimisation.proofs.constants_lemmas.Comparisons.{IsOpposite, IsTurnedRound, opposite, turned_round}
 use Rattle.optimisation.proofs.constants_lemmas.Powers.{IsPower, is_power}
-use Rattle.optimisation.proofs.constants_lemmas.TurnedRound.{IsTurnedRound, turned_round}
 use Rattle.optimisation.proofs.constants_lemmas.TwoShifts.{IsField, is_field}
 
 pub data Becomes : TermTree → TermTree → Type 0 where
@@ -116,28 +115,31 @@ pub data Becomes : TermTree → TermTree → Type 0 where
       → decision condition ≡ Some false
       → Becomes (select condition accepted otherwise) otherwise
 
+-- What there may be.
+
+-- what holds of each that there may be, and where there is none
+some_by : {A : Type 0} (Q : A → Type 0) (P : Option A → Type 0) (o : Option A) → IfSome o Q
+    → ((x : A) → Q x → P (Some x)) → P None → P o
+some_by Q P None found each none = none
+some_by Q P (Some x) found each none = each x found
+
+option_by : {A : Type 0} (P : Option A → Type 0) (o : Option A) → ((x : A) → o ≡ Some x → P (Some x)) → P None → P o
+option_by P None each none = none
+option_by P (Some x) each none = each x refl
+
 -- One operand.
 
 one_operand : (operand : TermTree) (f : Constant → Constant) (e whole : TermTree)
     → ((c : Constant) → constant_of operand ≡ Some c → Becomes e (number_of (f c))) → Becomes e whole
     → Becomes e (known_or (option_map f (constant_of operand)) whole)
-one_operand operand f e whole folds rest = by_constant (constant_of operand) refl
-  where
-    by_constant : (o : Option Constant) → constant_of operand ≡ o → Becomes e (known_or (option_map f o) whole)
-    by_constant None is = rest
-    by_constant (Some c) is = folds c is
-
-opposite_becomes : (width : Width) (place : Place) (operator : BinaryOperator) (w : Width) (left right : TermTree)
-    (o : Option BinaryOperator) → IfSome o (IsOpposite operator)
-    → Becomes (prefix Not width (binary place operator w left right))
-    (binary_or o place w left right (prefix Not width (binary place operator w left right)))
-opposite_becomes width place operator w left right None found = stays
-opposite_becomes width place operator w left right (Some other) found = comparison_negated found
+one_operand operand f e whole = option_by (λ o. Becomes e (known_or (option_map f o) whole)) (constant_of operand)
 
 negation_becomes : (width : Width) (e : TermTree) → Becomes (prefix Not width e) (negation_of width e)
 negation_becomes width (prefix Not w operand) = twice_negated
 negation_becomes width (binary place operator w left right) =
-    opposite_becomes width place operator w left right (opposite_of operator) (opposite operator)
+    let whole = prefix Not width (binary place operator w left right) in
+    some_by (IsOpposite operator) (λ o. Becomes whole (binary_or o place w left right whole)) (opposite_of operator)
+    (opposite operator) (λ other found. comparison_negated found) stays
 negation_becomes width e = stays
 
 applied_becomes : (operator : PrefixOperator) (width : Width) (e : TermTree)
@@ -165,13 +167,6 @@ converted_becomes kind e =
 -- Two operands.
 
 -- where a word is moved down and then masked
-field_becomes : (place inner : Place) (width : Width) (word amount right : TermTree) (by mask : Constant)
-    → constant_of amount ≡ Some by → constant_of right ≡ Some mask → (o : Option Field) → IfSome o (IsField by mask.value)
-    → Becomes (binary place BitAnd width (binary inner ShiftRight W32 word amount) right)
-    (moved_or o place W32 word (binary place BitAnd width (binary inner ShiftRight W32 word amount) right))
-field_becomes place inner width word amount right by mask is also None found = stays
-field_becomes place inner width word amount right by mask is also (Some field) found = bits_moved is also found
-
 bits_become : (place inner : Place) (width : Width) (word amount right : TermTree) (operator : BinaryOperator)
     (mask : Option Constant) (down : BinaryOperator) (w : Width) (by : Option Constant) → constant_of right ≡ mask
     → constant_of amount ≡ by
@@ -179,8 +174,10 @@ bits_become : (place inner : Place) (width : Width) (word amount right : TermTre
     (moved_or (field_of (mask_of operator mask) (amount_of down w by)) place w word
     (binary place operator width (binary inner down w word amount) right))
 bits_become place inner width word amount right BitAnd (Some mask) ShiftRight W32 (Some by) is also =
-    field_becomes place inner width word amount right by mask also is
+    let whole = binary place BitAnd width (binary inner ShiftRight W32 word amount) right in
+    some_by (IsField by mask.value) (λ o. Becomes whole (moved_or o place W32 word whole))
     (field_within by mask.value (cleared_by mask.value)) (is_field by mask.value)
+    (λ field found. bits_moved also is found) stays
 bits_become place inner width word amount right operator mask down w by is also = stays
 
 operation_becomes : (place : Place) (operator : BinaryOperator) (width : Width) (left right : TermTree)
@@ -206,37 +203,25 @@ module _ (place : Place) (width : Width) (whole word side rest : TermTree) (side
   step_becomes : (operator : BinaryOperator)
       → ((c : Constant) → constant_of side ≡ Some c → Becomes whole (binary place operator width word side))
       → Becomes whole (stepped_or (step_of operator (constant_of side)) place width word rest)
-  step_becomes operator here = by_constant (constant_of side) refl
-    where
-      by_exponent : (power : Constant) → constant_of side ≡ Some power → (o : Option ℕ)
-          → IfSome o (IsPower power.value)
-          → Becomes whole (stepped_or (option_and_then (step_by operator power) o) place width word rest)
-      by_exponent power is None found = side_rest
-      by_exponent power is (Some k) found = power_becomes operator (here power is) power is k found
-
-      by_constant : (o : Option Constant) → constant_of side ≡ o
-          → Becomes whole (stepped_or (step_of operator o) place width word rest)
-      by_constant None is = side_rest
-      by_constant (Some power) is = by_exponent power is (exponent_of power.value) (is_power power.value)
+  step_becomes operator here =
+      option_by (λ o. Becomes whole (stepped_or (step_of operator o) place width word rest)) (constant_of side)
+      (λ power is. some_by (IsPower power.value)
+      (λ k. Becomes whole (stepped_or (option_and_then (step_by operator power) k) place width word rest))
+      (exponent_of power.value) (is_power power.value)
+      (λ k found. power_becomes operator (here power is) power is k found) side_rest)
+      side_rest
 
 module _ (place : Place) (width : Width) (left right : TermTree) where
   turned_becomes : (operator : BinaryOperator)
       → Becomes (binary place operator width left right) (turned place operator width left right)
-  turned_becomes operator = by_constant (constant_of left) refl
-    where
-      by_next : (c : Constant) → constant_of left ≡ Some c → (o : Option BinaryOperator)
-          → IfSome o (IsTurnedRound operator)
-          → Becomes (binary place operator width left right)
-          (binary_or o place width right left (operation place operator width left right))
-      by_next c is None found = operation_becomes place operator width left right
-      by_next c is (Some next) found = comparison_turned is found
-
-      by_constant : (o : Option Constant) → constant_of left ≡ o
-          → Becomes (binary place operator width left right)
-          (binary_or (turned_by operator o) place width right left (operation place operator width left right))
-      by_constant None is = operation_becomes place operator width left right
-      by_constant (Some c) is =
-          by_next c is (option_and (opposite_of operator) (turned_of operator)) (turned_round operator)
+  turned_becomes operator =
+      let whole = binary place operator width left right in
+      let plain = operation place operator width left right in
+      option_by (λ o. Becomes whole (binary_or (turned_by operator o) place width right left plain)) (constant_of left)
+      (λ c is. some_by (IsTurnedRound operator) (λ o. Becomes whole (binary_or o place width right left plain))
+      (option_and (opposite_of operator) (turned_of operator)) (turned_round operator)
+      (λ next found. comparison_turned is found) (operation_becomes place operator width left right))
+      (operation_becomes place operator width left right)
 
   -- by a power of two on the left
   left_becomes : (operator : BinaryOperator)
@@ -279,8 +264,10 @@ module _ (place : Place) (width : Width) (left right : TermTree) where
       → Becomes (binary place operator width left right) (operated_on place operator width left right)
   operated_becomes operator =
       by_numbers (constant_of left) (constant_of right) refl refl
-      (by_truth (decided operator (constant_of left) (constant_of right)) (λ t is.
-      by_left t (option_and_then (λ (c : Constant). decided_by_left operator c.value) (constant_of left)) refl is))
+      (option_by (λ o. Becomes (binary place operator width left right)
+      (truth_or o (reduced place operator width left right)))
+      (decided operator (constant_of left) (constant_of right)) (λ t is. by_left t _ refl is)
+      (reduced_becomes operator))
     where
       by_left : (t : Bool) (o : Option Bool)
           → option_and_then (λ (c : Constant). decided_by_left operator c.value) (constant_of left) ≡ o
@@ -294,25 +281,14 @@ module _ (place : Place) (width : Width) (left right : TermTree) where
           option_and_then_some (λ (c : Constant). decided_by_left operator c.value) (constant_of left) t (same ∙ is)
           (λ c there decides. left_decides there decides)
 
-      by_truth : (o : Option Bool)
-          → ((t : Bool) → o ≡ Some t → Becomes (binary place operator width left right) (truth t))
-          → Becomes (binary place operator width left right) (truth_or o (reduced place operator width left right))
-      by_truth None decides = reduced_becomes operator
-      by_truth (Some t) decides = decides t refl
-
-      by_zero : {a b : Constant} (z : Bool) → constant_of left ≡ Some a → constant_of right ≡ Some b
-          → (told : TermTree) → Becomes (binary place operator width left right) told
-          → Becomes (binary place operator width left right)
-          (known_or (option_map (λ v. constant v (operation_kind (operation_of operator) a.kind)) (if z then None
-          else Some (operated operator width a.value b.value))) told)
-      by_zero true is also told rest = rest
-      by_zero false is also told rest = numbers_operated is also
-
       by_numbers : (a b : Option Constant) → constant_of left ≡ a → constant_of right ≡ b → {told : TermTree}
           → Becomes (binary place operator width left right) told
           → Becomes (binary place operator width left right) (known_or (between operator width a b) told)
       by_numbers (Some a) (Some b) is also {told = told} rest =
-          by_zero (divides operator && (b.value == 0)) is also told rest
+          cond_both (divides operator && (b.value == 0)) None (Some (operated operator width a.value b.value))
+          (λ v. Becomes (binary place operator width left right)
+          (known_or (option_map (λ n. constant n (operation_kind (operation_of operator) a.kind)) v) told))
+          (λ zero. rest) (λ some. numbers_operated is also)
       by_numbers a b is also rest = rest
 
 -- A choice.

@@ -103,10 +103,10 @@ module _ (types : Types) where
       (λ public. (public_parts makes public).1)
   becomes_suits (comparison_turned is found) (of_binary {one = one} {other = other} {whole =
       whole} has more makes even) =
-      let turned = found.takes types.profile one other whole makes in
+      let turned = found.takes makes in
       record {
         word = labelled whole.kind (joined other.label one.label);
-        has_type = of_binary more has (turned.makes other.label one.label) (even ∙ ap width_of (sym turned.kinds));
+        has_type = of_binary more has turned.1 (even ∙ ap width_of (sym turned.0));
         kind = refl;
         label = λ public.
             let parts = public_parts makes public in both_joined other.label one.label parts.1 parts.0;
