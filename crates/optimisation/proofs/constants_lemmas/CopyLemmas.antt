@@ -1,7 +1,7 @@
 -- Variables that may be read as others: they are words of one type.
 use Rattle.std.proofs.Common.{◌≡◌, ℕ, ◌==◌, ◌&&◌, Bool, true, false, not, List, Option, None, Some, slice_get}
 use Rattle.std.proofs.Common.{slice_index, ⊎_elim, refl, sym, ap, ◌∙◌, subst}
-use Rattle.std.proofs.lemmas.Bool.{and_parts, eq-eqb, false≢true}
+use Rattle.std.proofs.lemmas.Bool.{and_parts, eqb-false, false≢true, not-true}
 use Rattle.std.proofs.lemmas.Option.{none-some, same_Some}
 use Rattle.inline.specs.declared.flat.FlatVariable.{FlatVariable}
 use Rattle.inline.specs.Flat.{TermTree, variable, word_as}
@@ -27,10 +27,9 @@ read_value m e y is = absurd (none-some y is)
 
 -- these are two variables
 pub two_variables : (declared : List FlatVariable) (x y : ℕ) → may_be_read_as declared x y ≡ true → x ≡ y → ⊥
-two_variables declared x y is same =
-    let parts = and_parts (not (x == y)) (are_alike (slice_get declared x) (slice_get declared y)) is in
-    let here : (x == y) ≡ true = ap (λ z. x == z) (sym same) ∙ eq-eqb x x refl in
-    false≢true (sym (ap not here) ∙ parts.0)
+two_variables declared x y is =
+    eqb-false x y (not-true (x == y)
+    (and_parts (not (x == y)) (are_alike (slice_get declared x) (slice_get declared y)) is).0)
 
 one_kind : (k l : Kind) → same_kind k l ≡ true → l ≡ k
 one_kind Boolean Boolean h = refl

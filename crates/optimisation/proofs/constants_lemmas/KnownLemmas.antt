@@ -1,6 +1,6 @@
 -- What is known of variables once something is noted or forgotten.
 use Rattle.std.proofs.Common.{◌≡◌, ◌≤◌, ◌==◌, ◌||◌, ℕ, zero, suc, length, Bool, true, false}
-use Rattle.std.proofs.Common.{if◌then◌else◌, nat_lt, List, [], ◌∷◌, filter, map, Option, None}
+use Rattle.std.proofs.Common.{nat_lt, List, [], ◌∷◌, filter, map, Option, None}
 use Rattle.std.proofs.Common.{◌⊎◌, inl, inr, Some, replicate, slice_set, slice_index}
 use Rattle.std.specs.List.{remove}
 use Rattle.std.proofs.Common.{Contains, ⊎_elim, refl, ap, sym, ◌∙◌, subst, arith}
@@ -8,7 +8,7 @@ use Rattle.std.proofs.Math.Logic.{⊎_map}
 use Rattle.std.proofs.lemmas.Bool.{cond_both, eqb-true, eqb-false, not-true, or_parts}
 use Rattle.std.proofs.lemmas.List.Elements.{All-contains, All-contains_itself, All-filter, Contains-push_cases}
 use Rattle.std.proofs.lemmas.List.Elements.{filter_passes}
-use Rattle.std.proofs.lemmas.Option.{none-some}
+use Rattle.std.proofs.lemmas.Option.{cond_some, none-some}
 use Rattle.language.specs.declared.typing.WordType.{WordType}
 use Rattle.inline.specs.Fitting.{Fits, IsWithinKind}
 use Rattle.inline.specs.Flat.{word_as}
@@ -100,15 +100,11 @@ word_here [] x word c is = absurd (none-some c is)
 word_here (w ∷ numbers) zero word c is = is
 word_here (w ∷ numbers) (suc x) word c is = word_here numbers x word c is
 
-short_here : (b : Bool) (d c : Constant) → (if b then Some d else None) ≡ Some c → Some d ≡ Some c
-short_here true d c is = is
-short_here false d c is = absurd (none-some c is)
-
 short_word : (numbers : List (Option Constant)) (y : ℕ) (c : Constant) → word_at (map short numbers) y ≡ Some c
     → word_at numbers y ≡ Some c
 short_word [] y c is = is
 short_word (None ∷ numbers) zero c is = is
-short_word (Some d ∷ numbers) zero c is = short_here (nat_lt d.value 2048) d c is
+short_word (Some d ∷ numbers) zero c is = ap (λ w. Some w) (cond_some (nat_lt d.value 2048) d c is).1
 short_word (w ∷ numbers) (suc y) c is = short_word numbers y c is
 
 -- Facts once something is noted or forgotten.

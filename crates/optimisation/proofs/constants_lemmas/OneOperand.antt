@@ -1,8 +1,8 @@
 -- What an operator comes to by one operand alone, whatever the other is: a bool.
-use Rattle.std.proofs.Common.{◌≡◌, ℕ, ◌==◌, ◌&&◌, ◌||◌, Bool, true, false, not, nat_le, nat_lt, ◌⊎◌, inl, inr, Some, refl}
-use Rattle.std.proofs.Common.{sym, ap, ◌∙◌, arith}
+use Rattle.std.proofs.Common.{◌≡◌, ℕ, ◌==◌, Bool, true, false, not, ◌⊎◌, inl, inr, Some, refl}
+use Rattle.std.proofs.Common.{sym, ap, arith}
 use Rattle.std.proofs.Math.Dec.{leb-zero}
-use Rattle.std.proofs.lemmas.Bool.{eqb-true, le-ltb}
+use Rattle.std.proofs.lemmas.Bool.{and_right, eqb-true, le-ltb, or_right}
 use Rattle.std.proofs.lemmas.Option.{none-some, same_Some}
 use Rattle.std.specs.Bool.{then_some}
 use Rattle.language.specs.declared.signature.Kind.{Kind}
@@ -25,30 +25,17 @@ under : (holds said t : Bool) → then_some holds said ≡ Some t → IsUnder ho
 under true said t is = record { test = refl; is = same_Some t said (sym is) }
 under false said t is = absurd (none-some t is)
 
-also_true : (x y : Bool) → y ≡ true → true ≡ (x || y)
-also_true true y is = refl
-also_true false y is = sym is
-
-also_false : (x y : Bool) → y ≡ false → false ≡ (x && y)
-also_false true y is = sym is
-also_false false y is = refl
-
 -- the left operand is this number
 pub left_value : (operator : BinaryOperator) (w : Width) (a b : ℕ) (t : Bool) → decided_by_left operator a ≡ Some t
     → word_of t ≡ operated operator w a b
 left_value Either w a b t is =
-    let found = under (truth_of a) true t is in
-    ap word_of found.is ∙ ap (λ x. word_of (x || truth_of b)) (sym found.test)
+    let found = under (truth_of a) true t is in rw (found.is, found.test) refl
 left_value Both w a b t is =
-    let found = under (a == 0) false t is in
-    ap word_of found.is ∙ ap (λ x. word_of (not x && truth_of b)) (sym found.test)
+    let found = under (a == 0) false t is in rw (found.is, found.test) refl
 left_value LessOrEqual w a b t is =
-    let found = under (a == 0) true t is in
-    ap word_of (found.is ∙ sym (leb-zero b)) ∙ ap (λ c. word_of (nat_le c b)) (sym (eqb-true a 0 found.test))
+    let found = under (a == 0) true t is in rw (found.is, eqb-true a 0 found.test, leb-zero b) refl
 left_value Greater w a b t is =
-    let found = under (a == 0) false t is in
-    ap word_of (found.is ∙ sym (le-ltb b 0 (omega arith)))
-    ∙ ap (λ c. word_of (nat_lt b c)) (sym (eqb-true a 0 found.test))
+    let found = under (a == 0) false t is in rw (found.is, eqb-true a 0 found.test, le-ltb b 0 (omega arith)) refl
 left_value operator w a b t is = absurd (none-some t is)
 
 -- and the right one
@@ -56,17 +43,14 @@ pub right_value : (operator : BinaryOperator) (w : Width) (a b : ℕ) (t : Bool)
     → word_of t ≡ operated operator w a b
 right_value Either w a b t is =
     let found = under (truth_of b) true t is in
-    ap word_of (found.is ∙ also_true (truth_of a) (truth_of b) found.test)
+    rw (found.is, or_right (truth_of a) (truth_of b) found.test) refl
 right_value Both w a b t is =
     let found = under (b == 0) false t is in
-    ap word_of (found.is ∙ also_false (truth_of a) (truth_of b) (ap not found.test))
+    rw (found.is, and_right (truth_of a) (truth_of b) (ap not found.test)) refl
 right_value Less w a b t is =
-    let found = under (b == 0) false t is in
-    ap word_of (found.is ∙ sym (le-ltb a 0 (omega arith)))
-    ∙ ap (λ c. word_of (nat_lt a c)) (sym (eqb-true b 0 found.test))
+    let found = under (b == 0) false t is in rw (found.is, eqb-true b 0 found.test, le-ltb a 0 (omega arith)) refl
 right_value GreaterOrEqual w a b t is =
-    let found = under (b == 0) true t is in
-    ap word_of (found.is ∙ sym (leb-zero a)) ∙ ap (λ c. word_of (nat_le c a)) (sym (eqb-true b 0 found.test))
+    let found = under (b == 0) true t is in rw (found.is, eqb-true b 0 found.test, leb-zero a) refl
 right_value operator w a b t is = absurd (none-some t is)
 
 -- whatever the other operand is

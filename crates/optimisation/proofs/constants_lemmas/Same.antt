@@ -1,6 +1,6 @@
 -- Simpler statements leave the state that the statements leave, and their path is fine where that of the statements
 -- is.
-use Rattle.std.proofs.Common.{◌≡◌, ℕ, zero, suc, ◌+◌, ◌-◌, ◌<◌, ◌≤◌, ◌==◌, ◌&&◌, not, Bool, true, false}
+use Rattle.std.proofs.Common.{◌≡◌, ℕ, zero, suc, ◌+◌, ◌-◌, ◌<◌, ◌≤◌, ◌==◌, Bool, true, false}
 use Rattle.std.proofs.Common.{if◌then◌else◌, List, [], ◌∷◌, ◌++◌, map, Option, None, Some, refl, sym, ap, ap₂, ◌∙◌, subst}
 use Rattle.std.proofs.Common.{arith}
 use Rattle.word.specs.declared.profile.Profile.{Profile}
@@ -14,10 +14,9 @@ use Rattle.word.specs.declared.place.Place.{Place}
 use Rattle.branch_removal.specs.Straight.{StraightTree, set, array, put, branch, repeats}
 use Rattle.branch_removal.specs.Straight.{StraightBlock, first, chain}
 use Rattle.branch_removal.specs.StraightMeaning.{StraightState, holds as holds_under, with_variable, with_element}
-use Rattle.branch_removal.specs.StraightMeaning.{with_controls}
 use Rattle.branch_removal.specs.StraightMeaning.{value_at, counted, after, after_all, path_at, path_along}
 use Rattle.branch_removal.specs.StraightTyping.{types_but, IsFilled, IsPut, IsSet, IsTyped, AreTyped}
-use Rattle.branch_removal.proofs.Sequences.{after-chain, path-chain, fine_both, fine_front, fine_back, fine_alone}
+use Rattle.branch_removal.proofs.Sequences.{after-chain, path-chain, fine_back, fine_alone}
 use Rattle.optimisation.specs.constants.private.Folding.{simple}
 use Rattle.optimisation.specs.constants.private.Known.{Words, behind, in_loop, without}
 use Rattle.optimisation.specs.constants.private.Simplification.{set_to}
@@ -29,7 +28,7 @@ use Rattle.optimisation.proofs.constants_lemmas.Learned.{turn_known, turn_start}
 use Rattle.optimisation.proofs.constants_lemmas.StatementRules.{Simplifies, sets, fills, puts, takes, accepts, declines}
 use Rattle.optimisation.proofs.constants_lemmas.StatementRules.{chooses, unrolls, loops, TurnsSimplify, no_turn, a_turn}
 use Rattle.optimisation.proofs.constants_lemmas.StatementRules.{AllSimplify, ends, goes_on}
-use Rattle.optimisation.proofs.constants_lemmas.TermLemmas.{same_value, same_suited, same_values, fine_path}
+use Rattle.optimisation.proofs.constants_lemmas.TermLemmas.{same_value, same_suited, same_values, fine_parts, fine_path}
 use Rattle.optimisation.proofs.constants_lemmas.TermLemmas.{fine_suited, fine_path_all}
 use Rattle.optimisation.proofs.constants_lemmas.Typed.{IsCounter, but_kinds, typed_after, typed_after_all, within_limit}
 use Rattle.optimisation.proofs.constants_lemmas.Unset.{behind_part, within_loop}
@@ -54,10 +53,8 @@ module _ (most : List ℕ) where
       let one = each i s (omega (arith, below)) holds in
       let rest = turns_alike P f g p q limit each n (i + 1) (g i s) (omega (arith, below)) one.2 in (
         ap (turns n (i + 1) f) one.0 ∙ rest.0,
-        λ fine. fine_both most (p i s) (path_of_turns n (i + 1) f p (f i s))
-            (one.1 (fine_front most (q i s) (path_of_turns n (i + 1) g q (g i s)) fine))
-            (subst (λ t. AreFine most (path_of_turns n (i + 1) f p t)) (sym one.0)
-            (rest.1 (fine_back most (q i s) (path_of_turns n (i + 1) g q (g i s)) fine))),
+        fine_parts most (q i s) (path_of_turns n (i + 1) g q (g i s)) (p i s) (path_of_turns n (i + 1) f p (f i s)) one.1
+            (λ fine. subst (λ t. AreFine most (path_of_turns n (i + 1) f p t)) (sym one.0) (rest.1 fine)),
       )
 
   -- from a state code leads to that one, where these words are known, and its path is fine where this one is
@@ -73,9 +70,9 @@ module _ (most : List ℕ) where
     same = after-chain s code more ∙ (ap (λ (r : StraightState). after_all r more) one.same ∙ other.same);
     agrees = other.agrees;
     fine = λ fine. subst (AreFine most) (sym (path-chain s code more))
-        (fine_both most (path_along s code) (path_along (after_all s code) more) (one.fine (fine_front most p q fine))
-        (subst (λ (r : StraightState). AreFine most (path_along r more)) (sym one.same)
-        (other.fine (fine_back most p q fine))));
+        (fine_parts most p q (path_along s code) (path_along (after_all s code) more) one.fine
+        (λ rest. subst (λ (r : StraightState). AreFine most (path_along r more)) (sym one.same) (other.fine rest))
+        fine);
   }
 
   -- so where a turn begins
@@ -124,16 +121,16 @@ module _ (most : List ℕ) where
           ∷ path_in s.variables value)
           → AreFine most (path_in s.variables (simple words index)
           ++ indexed place size (value_at s (simple words index)) ∷ path_in s.variables (simple words value))
-      put_fine place x size index value is fine =
-          let run : Path = indexed place size (value_at s index) ∷ path_in s.variables value in
-          let rest = fine_back most (path_in s.variables index) run fine in
-          fine_both most (path_in s.variables (simple words index))
+      put_fine place x size index value is =
+          fine_parts most (path_in s.variables index)
+          (indexed place size (value_at s index) ∷ path_in s.variables value)
+          (path_in s.variables (simple words index))
           (indexed place size (value_at s (simple words index)) ∷ path_in s.variables (simple words value))
-          (fine_path most types words s.variables holds is.index_type
-          (fine_front most (path_in s.variables index) run fine)) (
+          (fine_path most types words s.variables holds is.index_type)
+          (λ rest. (
             subst (λ n. n < size) (sym (same_value types words s.variables holds is.index_type)) rest.0,
             fine_suited most types words s.variables holds is.suits rest.1,
-          )
+          ))
 
     -- a branch that is decided leads where its arm does
     arm_leads : (s : StraightState) (condition : TermTree) (accepted otherwise : StraightBlock)
@@ -171,8 +168,7 @@ module _ (most : List ℕ) where
             → (s : StraightState) → AllHolds profile declared words s
             → LeadsTo s code next (after s statement) (path_at s statement)
         leads (sets {words = words} {within = within} {x = x} {value = value}) is s holds = record {
-          same = ap (λ v. if holds_under s within then with_variable s x (v ∷ []) else s)
-              (same_suited types words s.variables holds is.1.suits);
+          same = rw (same_suited types words s.variables holds is.1.suits) refl;
           agrees = set_agrees words s holds within x value is.1;
           fine = λ fine. fine_alone most (path_in s.variables (simple words value))
               (fine_suited most types words s.variables holds is.1.suits fine);
@@ -198,9 +194,7 @@ module _ (most : List ℕ) where
             }
         leads (takes {words = words} {control = control} {within = within} {condition = condition}) is s holds =
             record {
-              same = ap (λ v. with_controls s control (holds_under s within && not (v == 0))
-                  (holds_under s within && (v == 0)))
-                  (same_value types words s.variables holds is.2.1);
+              same = rw (same_value types words s.variables holds is.2.1) refl;
               agrees = holds.agrees;
               fine = λ fine. fine_alone most (path_in s.variables (simple words condition))
                   (fine_path most types words s.variables holds is.2.1 fine);
@@ -218,29 +212,26 @@ module _ (most : List ℕ) where
             let c = simple words condition in
             let a = all_lead first_arm is.1 s holds in
             let b = all_lead second_arm is.2 s (arm_begins profile declared first_arm s holds) in
-            let run : Path = decided_mark (value_at s condition)
-            ∷ (if value_at s condition == 0 then path_along s otherwise else path_along s accepted) in
             record {
-              same = ap (λ v. if v == 0 then after_all s other else after_all s one)
-                  (same_value types words s.variables holds is.0)
-                  ∙ ap₂ (λ (t u : StraightState). if value_at s condition == 0 then t else u) b.same a.same;
+              same = rw (same_value types words s.variables holds is.0, b.same, a.same) refl;
               agrees = kept words (behind next otherwise) (branch condition accepted otherwise) s holds.agrees
                   (λ f is.
                   let second = behind_part second_arm f is in
                   let front = behind_part first_arm f second.0 in
                   (front.0, (front.1, second.1)));
               fine = λ fine. fine_alone most (path_at s (branch c one other))
-                  (fine_both most (path_in s.variables c) (decided_mark (value_at s c)
+                  (fine_parts most (path_in s.variables condition) (decided_mark (value_at s condition)
+                  ∷ (if value_at s condition == 0 then path_along s otherwise else path_along s accepted))
+                  (path_in s.variables c) (decided_mark (value_at s c)
                   ∷ (if value_at s c == 0 then path_along s other else path_along s one))
-                  (fine_path most types words s.variables holds is.0
-                  (fine_front most (path_in s.variables condition) run fine)) (
+                  (fine_path most types words s.variables holds is.0)
+                  (λ arms. (
                     tt,
                     subst (λ v. AreFine most (if v == 0 then path_along s other else path_along s one))
                         (sym (same_value types words s.variables holds is.0))
                         (either_fine (value_at s condition == 0) (path_along s otherwise) (path_along s accepted)
-                        (path_along s other) (path_along s one) b.fine a.fine
-                        (fine_back most (path_in s.variables condition) run fine).1),
-                  ));
+                        (path_along s other) (path_along s one) b.fine a.fine arms.1),
+                  )) fine);
             }
         leads (unrolls {words = words} {x = x} {low = low} {high = high} {body = body} {a = a} {b =
             b} low_is high_is few all) is s holds =
@@ -256,9 +247,6 @@ module _ (most : List ℕ) where
             let simpler : ℕ → StraightState → StraightState = λ i t. after_all (counted x i t) code in
             let path : ℕ → StraightState → Path = λ i t. path_along (counted x i t) body in
             let shorter : ℕ → StraightState → Path = λ i t. path_along (counted x i t) code in
-            let bounds = path_in s.variables low ++ path_in s.variables high in
-            let run : Path = bounded x (value_at s low) (value_at s high)
-            ∷ path_of_turns (value_at s high - value_at s low) (value_at s low) turn path s in
             let alike = turns_alike (AllHolds profile declared (in_loop words x body)) simpler turn shorter path
             counter_limit
             (λ i t below known.
@@ -273,25 +261,23 @@ module _ (most : List ℕ) where
             ))
             (loop_begins profile declared words x body s holds) in
             record {
-              same = ap₂ (λ a b. turns (b - a) a simpler s) (same_value types words s.variables holds is.0)
-                  (same_value types words s.variables holds is.1) ∙ alike.0;
+              same = rw (same_value types words s.variables holds is.0, same_value types words s.variables holds is.1)
+                  alike.0;
               agrees = kept words (behind next body) (repeats x low high body) s holds.agrees
                   (λ f is. within_loop words x body f (behind_part inner f is).0);
               fine = λ fine. fine_alone most (path_at s (repeats x l h code))
-                  (fine_both most (path_in s.variables l ++ path_in s.variables h)
-                  (bounded x (value_at s l) (value_at s h)
+                  (fine_parts most (path_in s.variables low ++ path_in s.variables high)
+                  (bounded x (value_at s low) (value_at s high)
+                  ∷ path_of_turns (value_at s high - value_at s low) (value_at s low) turn path s)
+                  (path_in s.variables l ++ path_in s.variables h) (bounded x (value_at s l) (value_at s h)
                   ∷ path_of_turns (value_at s h - value_at s l) (value_at s l) simpler shorter s)
-                  (fine_both most (path_in s.variables l) (path_in s.variables h)
-                  (fine_path most types words s.variables holds is.0
-                  (fine_front most (path_in s.variables low) (path_in s.variables high)
-                  (fine_front most bounds run fine)))
-                  (fine_path most types words s.variables holds is.1
-                  (fine_back most (path_in s.variables low) (path_in s.variables high)
-                  (fine_front most bounds run fine))))
-                  (subst (AreFine most)
-                  (sym (ap₂ (λ (a b : ℕ). bounded x a b ∷ path_of_turns (b - a) a simpler shorter s)
-                  (same_value types words s.variables holds is.0) (same_value types words s.variables holds is.1)))
-                  ((fine_back most bounds run fine).0, alike.1 (fine_back most bounds run fine).1)));
+                  (fine_parts most (path_in s.variables low) (path_in s.variables high) (path_in s.variables l)
+                  (path_in s.variables h) (fine_path most types words s.variables holds is.0)
+                  (fine_path most types words s.variables holds is.1))
+                  (λ rest. rw (
+                    same_value types words s.variables holds is.0,
+                    same_value types words s.variables holds is.1,
+                  ) (rest.0, alike.1 rest.1)) fine);
             }
 
         all_turns_lead : {x n i : ℕ} {body code : StraightBlock} {words next : Words}

@@ -193,6 +193,12 @@ module _ (types : Types) (words : Words) (m : Values) (holds : Holds types words
 
 -- Paths: what is a number meets nothing.
 
+-- where the parts of a path are fine if those of another one are
+pub fine_parts : (most : List ℕ) (p q r t : Path) → (AreFine most p → AreFine most r)
+    → (AreFine most q → AreFine most t) → AreFine most (p ++ q) → AreFine most (r ++ t)
+fine_parts most p q r t front back fine =
+    fine_both most r t (front (fine_front most p q fine)) (back (fine_back most p q fine))
+
 module _ (most : List ℕ) (m : Values) where
   operands_fine : (place : Place) (operator : BinaryOperator) (w : Width) (left right : TermTree)
       → AreFine most (path_in m (binary place operator w left right))
@@ -271,42 +277,34 @@ module _ (most : List ℕ) (types : Types) (words : Words) (m : Values) (holds :
 
   around_fine : {e : TermTree} {word : WordType} → HasType types e word → AreFine most (path_in m e)
       → AreFine most (path_in m (around words e))
-  around_fine (of_number below) fine = tt
-  around_fine of_truth fine = tt
-  around_fine (of_variable {x = x} there) fine = variable_fine (known words x) (source_in words.copies x)
-  around_fine (of_prefix has takes even) fine = simple_fine has (around_fine has fine)
-  around_fine (of_binary {place = place} {operator = operator} {width = width} {left = left} {right =
-      right} has more makes even) fine =
+  around_fine (of_number below) = λ fine. tt
+  around_fine of_truth = λ fine. tt
+  around_fine (of_variable {x = x} there) = λ fine. variable_fine (known words x) (source_in words.copies x)
+  around_fine (of_prefix has takes even) = λ fine. simple_fine has (around_fine has fine)
+  around_fine (of_binary {place = place} {operator = operator} {left = left} {right = right} has more makes even) =
       let a = simple words left in
       let b = simple words right in
-      let both = operands_fine most m place operator width left right fine in
-      fine_both most (path_in m a ++ path_in m b) (marks_of place operator (value_in m a) (value_in m b))
-      (fine_both most (path_in m a) (path_in m b) (simple_fine has (around_fine has both.0))
-      (simple_fine more (around_fine more both.1)))
-      (subst (AreFine most)
-      (sym (ap₂ (marks_of place operator) (same_value types words m holds has) (same_value types words m holds more)))
-      (fine_back most (path_in m left ++ path_in m right)
-      (marks_of place operator (value_in m left) (value_in m right)) fine))
-  around_fine (of_rotation has numeric low high even) fine = simple_fine has (around_fine has fine)
-  around_fine (of_conversion has numeric) fine = simple_fine has (around_fine has fine)
-  around_fine (of_selection {condition = condition} {accepted = accepted} {otherwise = otherwise} chooser has more)
-      fine =
+      fine_parts most (path_in m left ++ path_in m right) (marks_of place operator (value_in m left) (value_in m right))
+      (path_in m a ++ path_in m b) (marks_of place operator (value_in m a) (value_in m b))
+      (fine_parts most (path_in m left) (path_in m right) (path_in m a) (path_in m b)
+      (λ fine. simple_fine has (around_fine has fine)) (λ fine. simple_fine more (around_fine more fine)))
+      (subst (AreFine most) (sym (ap₂ (marks_of place operator) (same_value types words m holds has)
+      (same_value types words m holds more))))
+  around_fine (of_rotation has numeric low high even) = λ fine. simple_fine has (around_fine has fine)
+  around_fine (of_conversion has numeric) = λ fine. simple_fine has (around_fine has fine)
+  around_fine (of_selection {condition = condition} {accepted = accepted} {otherwise = otherwise} chooser has more) =
       let c = simple words condition in
       let a = simple words accepted in
-      let before = fine_front most (path_in m condition ++ path_in m accepted) (path_in m otherwise) fine in
-      fine_both most (path_in m c ++ path_in m a) (path_in m (simple words otherwise))
-      (fine_both most (path_in m c) (path_in m a)
-      (simple_fine chooser (around_fine chooser (fine_front most (path_in m condition) (path_in m accepted) before)))
-      (simple_fine has (around_fine has (fine_back most (path_in m condition) (path_in m accepted) before))))
-      (simple_fine more
-      (around_fine more (fine_back most (path_in m condition ++ path_in m accepted) (path_in m otherwise) fine)))
-  around_fine (of_element {place = place} {size = size} {index = index} there has) fine =
+      fine_parts most (path_in m condition ++ path_in m accepted) (path_in m otherwise) (path_in m c ++ path_in m a)
+      (path_in m (simple words otherwise))
+      (fine_parts most (path_in m condition) (path_in m accepted) (path_in m c) (path_in m a)
+      (λ fine. simple_fine chooser (around_fine chooser fine)) (λ fine. simple_fine has (around_fine has fine)))
+      (λ fine. simple_fine more (around_fine more fine))
+  around_fine (of_element {place = place} {size = size} {index = index} there has) =
       let i = simple words index in
-      fine_both most (path_in m i) (indexed place size (value_in m i) ∷ [])
-      (simple_fine has
-      (around_fine has (fine_front most (path_in m index) (indexed place size (value_in m index) ∷ []) fine)))
-      (subst (λ v. AreFine most (indexed place size v ∷ [])) (sym (same_value types words m holds has))
-      (fine_back most (path_in m index) (indexed place size (value_in m index) ∷ []) fine))
+      fine_parts most (path_in m index) (indexed place size (value_in m index) ∷ []) (path_in m i)
+      (indexed place size (value_in m i) ∷ []) (λ fine. simple_fine has (around_fine has fine))
+      (subst (λ v. AreFine most (indexed place size v ∷ [])) (sym (same_value types words m holds has)))
 
   pub fine_path : {e : TermTree} {word : WordType} → HasType types e word → AreFine most (path_in m e)
       → AreFine most (path_in m (simple words e))
@@ -318,8 +316,7 @@ module _ (most : List ℕ) (types : Types) (words : Words) (m : Values) (holds :
 
   pub fine_path_all : (word : WordType) (es : List TermTree) → AllSuit types word es
       → AreFine most (path_in_all m es) → AreFine most (path_in_all m (map (simple words) es))
-  fine_path_all word [] suit fine = tt
-  fine_path_all word (e ∷ es) suit fine =
-      fine_both most (path_in m (simple words e)) (path_in_all m (map (simple words) es))
-      (fine_suited suit.0 (fine_front most (path_in m e) (path_in_all m es) fine))
-      (fine_path_all word es suit.1 (fine_back most (path_in m e) (path_in_all m es) fine))
+  fine_path_all word [] suit = λ fine. tt
+  fine_path_all word (e ∷ es) suit =
+      fine_parts most (path_in m e) (path_in_all m es) (path_in m (simple words e)) (path_in_all m (map (simple words) es))
+      (fine_suited suit.0) (fine_path_all word es suit.1)

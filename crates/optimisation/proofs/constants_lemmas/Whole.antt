@@ -21,8 +21,7 @@ use Rattle.optimisation.specs.constants.private.Simplification.{knowing_all, sim
 use Rattle.optimisation.specs.constants.private.Simplification.{simplified_program}
 use Rattle.optimisation.proofs.constants_lemmas.KnownLemmas.{nothing_first, Holds}
 use Rattle.optimisation.proofs.constants_lemmas.Held.{fits_after_all, start_fits}
-use Rattle.branch_removal.proofs.Sequences.{fine_both, fine_front, fine_back}
-use Rattle.optimisation.proofs.constants_lemmas.TermLemmas.{same_suited, fine_suited}
+use Rattle.optimisation.proofs.constants_lemmas.TermLemmas.{same_suited, fine_parts, fine_suited}
 use Rattle.optimisation.proofs.constants_lemmas.TermTypes.{still_result}
 use Rattle.optimisation.proofs.constants_lemmas.Same.{LeadsTo, all_lead}
 use Rattle.optimisation.proofs.constants_lemmas.StatementRules.{AllSimplify, all_simplify}
@@ -93,16 +92,13 @@ module _ (copies : List ℕ) (p : StraightProgram) where
 
       still_fine_path : AreFine p.turns (path_of p args)
           → AreFine p.turns (path_of (simplified_program copies p) args)
-      still_fine_path fine =
-          let front = path_along (start p args) p.body in
-          let back = path_of_result (end_of p args) p.value in
-          fine_both p.turns (path_along (start p args) (simplified_program copies p).body)
-          (path_of_result (end_of (simplified_program copies p) args) (simplified_program copies p).value)
-          (leads.fine (fine_front p.turns front back fine))
-          (subst (λ (m : Values). AreFine p.turns (path_of_result m (simplified_program copies p).value))
+      still_fine_path =
+          fine_parts p.turns (path_along (start p args) p.body) (path_of_result (end_of p args) p.value)
+          (path_along (start p args) (simplified_program copies p).body)
+          (path_of_result (end_of (simplified_program copies p) args) (simplified_program copies p).value) leads.fine
+          (λ fine. subst (λ (m : Values). AreFine p.turns (path_of_result m (simplified_program copies p).value))
           (sym same_end)
-          (fine_result p.turns types last_words (end_of p args) last_holds p.returned p.value typed.result
-          (fine_back p.turns front back fine)))
+          (fine_result p.turns types last_words (end_of p args) last_holds p.returned p.value typed.result fine))
 
   module _ (kept : IsStraight p) (allowed : AreAllowed copies p.turns) where
     pub still_straight : IsStraight (simplified_program copies p)
