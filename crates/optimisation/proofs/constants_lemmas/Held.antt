@@ -1,7 +1,7 @@
 -- Well-typed straight code keeps in each variable what it is declared as.
 use Rattle.std.proofs.Common.{◌≡◌, ℕ, zero, suc, ◌+◌, ◌-◌, ◌^◌, ◌<◌, ◌≤◌, ◌==◌, Bool, true, false, cond, List, []}
 use Rattle.std.proofs.Common.{◌∷◌, ◌++◌, length, map, take as first_of, drop, replicate, All, slice_get, slice_set}
-use Rattle.std.proofs.Common.{None, Some, sym, ap, ◌∙◌, subst, arith}
+use Rattle.std.proofs.Common.{Option, None, Some, sym, ap, ◌∙◌, subst, arith}
 use Rattle.std.proofs.lemmas.Bool.{cond_both}
 use Rattle.std.proofs.lemmas.List.{length-set, length-replicate, length-map, take-append-drop}
 use Rattle.std.proofs.lemmas.List.Elements.{All-nil, All-cons, All-set, All-replicate}
@@ -43,6 +43,11 @@ kept_below Q f limit keep zero i s below q = q
 kept_below Q f limit keep (suc n) i s below q =
     kept_below Q f limit keep n (i + 1) (f i s) (omega (arith, below)) (keep i s (omega (arith, below)) q)
 
+-- what is declared though one variable is left out
+pub declared_but : (b : Bool) (o : Option FlatVariable) (d : FlatVariable) → cond b None o ≡ Some d → o ≡ Some d
+declared_but true o d is = absurd (none-some d is)
+declared_but false o d is = is
+
 -- all numbers of a loop are below this
 abbrev pub counter_limit : ℕ
 counter_limit = 2 ^ bits_of counter_type.kind
@@ -52,11 +57,7 @@ module _ (profile : Profile) (declared : List FlatVariable) where
   types = types_of profile declared
 
   pub fewer_fit : (x : ℕ) (m : Values) → Fits types m → Fits (types_but profile declared x) m
-  fewer_fit x m fits y d is = by_number (y == x) is
-    where
-      by_number : (b : Bool) → cond b None (slice_get declared y) ≡ Some d → IsHeld d (m y)
-      by_number true h = absurd (none-some d h)
-      by_number false h = fits y d h
+  fewer_fit x m fits y d is = fits y d (declared_but (y == x) (slice_get declared y) d is)
 
   -- where a turn begins
   pub counted_fits : (x i : ℕ) → slice_get declared x ≡ Some (word_as counter_type false) → i < counter_limit

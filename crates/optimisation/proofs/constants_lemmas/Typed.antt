@@ -1,5 +1,5 @@
 -- Simpler statements are well typed where the statements are, and set under a control value what those set.
-use Rattle.std.proofs.Common.{◌≡◌, ℕ, ◌==◌, Bool, true, false, cond, List, [], ◌∷◌, map, Option, None, Some, slice_get}
+use Rattle.std.proofs.Common.{◌≡◌, ℕ, ◌==◌, Bool, false, List, [], ◌∷◌, map, Option, None, Some, slice_get}
 use Rattle.std.proofs.Common.{◌+◌, ◌-◌, ◌≤◌, ◌<◌, refl, sym, ap, ◌∙◌, arith}
 use Rattle.std.proofs.lemmas.Bool.{cond-false, ne_eqb}
 use Rattle.std.proofs.lemmas.List.{length-map}
@@ -17,7 +17,7 @@ use Rattle.optimisation.specs.constants.private.Folding.{simple, constant_of}
 use Rattle.optimisation.specs.constants.private.Known.{Words, behind, in_loop}
 use Rattle.optimisation.specs.constants.private.Simplification.{at_turn, set_to}
 use Rattle.optimisation.proofs.constants_lemmas.CopyLemmas.{set_by, source_alike}
-use Rattle.optimisation.proofs.constants_lemmas.Held.{counter_limit}
+use Rattle.optimisation.proofs.constants_lemmas.Held.{counter_limit, declared_but}
 use Rattle.optimisation.proofs.constants_lemmas.KnownLemmas.{Fact, valued, copy, word_by}
 use Rattle.optimisation.proofs.constants_lemmas.KnownLemmas.{without_known, IsSuited, AreOfKind}
 use Rattle.optimisation.proofs.constants_lemmas.StatementRules.{Simplifies, sets, fills, puts, takes, accepts, declines}
@@ -85,11 +85,6 @@ module _ (profile : Profile) (declared : List FlatVariable) where
       → AreOfKind (types_but profile declared x) words
   but_kinds words x own mutable size listed kinds f is = fewer f (kinds f is)
     where
-      inside : (y : ℕ) (d : FlatVariable) (b : Bool) → cond b None (slice_get declared y) ≡ Some d
-          → slice_get declared y ≡ Some d
-      inside y d true h = absurd (none-some d h)
-      inside y d false h = h
-
       -- a word is no array
       not_array : (y : ℕ) (word : WordType) (other : Bool) → slice_get declared y ≡ Some (word_as word other) → y ≡ x
           → ⊥
@@ -100,10 +95,10 @@ module _ (profile : Profile) (declared : List FlatVariable) where
 
       fewer : (g : Fact) → IsSuited (types_of profile declared) g → IsSuited (types_but profile declared x) g
       fewer (valued y c) suited =
-          λ word other there. suited word other (inside y (word_as word other) (y == x) there)
+          λ word other there. suited word other (declared_but (y == x) (slice_get declared y) _ there)
       fewer (copy c) suited =
           λ word other there.
-          let source = suited word other (inside c.variable (word_as word other) (c.variable == x) there) in (
+          let source = suited word other (declared_but (c.variable == x) (slice_get declared c.variable) _ there) in (
             source.0,
             cond-false (c.source == x) None (slice_get declared c.source)
                 (ne_eqb c.source x (not_array c.source word source.0 source.1)) ∙ source.1,
