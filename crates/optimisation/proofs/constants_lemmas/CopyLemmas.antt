@@ -16,7 +16,8 @@ use Rattle.optimisation.specs.declared.constants.known.Constant.{Constant}
 use Rattle.optimisation.specs.declared.constants.known.WordCopy.{WordCopy}
 use Rattle.optimisation.specs.constants.private.Folding.{constant_of}
 use Rattle.optimisation.specs.constants.private.Known.{Words, with_word}
-use Rattle.optimisation.specs.constants.private.Simplification.{are_alike, copied, copied_where, is_word, may_be_read_as}
+use Rattle.optimisation.specs.constants.private.Simplification.{are_alike, copied, copied_where, is_word}
+use Rattle.optimisation.specs.constants.private.Simplification.{may_be_read_as}
 use Rattle.optimisation.specs.constants.private.Simplification.{set_to, variable_of}
 use Rattle.optimisation.proofs.constants_lemmas.KnownLemmas.{Fact, valued, copy, IsFree, Knows, in_more, word_by}
 

@@ -114,7 +114,8 @@ module _ (profile : Profile) (declared : List FlatVariable) where
     pub turn_start : AllHolds (in_loop words x body) (counted x i t)
     turn_start = record {
       agrees = λ f is. same_truth f t.variables (counted x i t).variables
-          (λ y about. beside t.variables x y (i ∷ []) ((within_loop words x body f is).1.0 y about)) (holds.agrees f is);
+          (λ y about. beside t.variables x y (i ∷ []) ((within_loop words x body f is).1.0 y about))
+          (holds.agrees f is);
       kinds = holds.kinds;
       fits = counted_fits profile declared x i there below t holds.fits;
     }

@@ -1,7 +1,8 @@
 -- Simpler statements leave the state that the statements leave, and their path is fine where that of the statements
 -- is.
 use Rattle.std.proofs.Common.{◌≡◌, ℕ, zero, suc, ◌+◌, ◌-◌, ◌<◌, ◌≤◌, ◌==◌, Bool, true, false}
-use Rattle.std.proofs.Common.{if◌then◌else◌, List, [], ◌∷◌, ◌++◌, map, Option, None, Some, refl, sym, ap, ap₂, ◌∙◌, subst}
+use Rattle.std.proofs.Common.{if◌then◌else◌, List, [], ◌∷◌, ◌++◌, map, Option, None, Some, refl, sym, ap, ap₂, ◌∙◌}
+use Rattle.std.proofs.Common.{subst}
 use Rattle.std.proofs.Common.{arith}
 use Rattle.word.specs.declared.profile.Profile.{Profile}
 use Rattle.inline.proofs.Fitting.{value_fits}
@@ -53,8 +54,8 @@ module _ (most : List ℕ) where
       let one = each i s (omega (arith, below)) holds in
       let rest = turns_alike P f g p q limit each n (i + 1) (g i s) (omega (arith, below)) one.2 in (
         ap (turns n (i + 1) f) one.0 ∙ rest.0,
-        fine_parts most (q i s) (path_of_turns n (i + 1) g q (g i s)) (p i s) (path_of_turns n (i + 1) f p (f i s)) one.1
-            (λ fine. subst (λ t. AreFine most (path_of_turns n (i + 1) f p t)) (sym one.0) (rest.1 fine)),
+        fine_parts most (q i s) (path_of_turns n (i + 1) g q (g i s)) (p i s) (path_of_turns n (i + 1) f p (f i s))
+            one.1 (λ fine. subst (λ t. AreFine most (path_of_turns n (i + 1) f p t)) (sym one.0) (rest.1 fine)),
       )
 
   -- from a state code leads to that one, where these words are known, and its path is fine where this one is

@@ -1,6 +1,7 @@
 -- What becomes of statements, and what is known after them, by rules of inference. Each statement becomes what the pass
 -- makes of it by them: what each rule keeps, the pass keeps.
-use Rattle.std.proofs.Common.{◌≡◌, ℕ, zero, suc, ◌+◌, ◌-◌, ◌≤◌, Bool, true, false, List, map, Option, None, Some, slice_index}
+use Rattle.std.proofs.Common.{◌≡◌, ℕ, zero, suc, ◌+◌, ◌-◌, ◌≤◌, Bool, true, false, List, map, Option, None, Some}
+use Rattle.std.proofs.Common.{slice_index}
 use Rattle.std.proofs.Common.{nat_le, refl}
 use Rattle.std.proofs.lemmas.Bool.{cond_both, leb-true}
 use Rattle.inline.specs.declared.flat.FlatVariable.{FlatVariable}
@@ -139,7 +140,8 @@ module _ (copies : List ℕ) (declared : List FlatVariable) where
         arms_simplify words condition accepted otherwise (decision (simple words condition)) refl
         (all_simplify words accepted) (all_simplify words otherwise)
         (all_simplify (behind (knowing_all copies declared words accepted) accepted) otherwise)
-    simplifies words (repeats x low high body) = loop_simplifies x body (λ w. all_simplify w body) words low high _ _ refl refl
+    simplifies words (repeats x low high body) =
+        loop_simplifies x body (λ w. all_simplify w body) words low high _ _ refl refl
 
     pub all_simplify : (words : Words) (body : StraightBlock)
         → AllSimplify copies declared words body (simplified_all copies declared words body)

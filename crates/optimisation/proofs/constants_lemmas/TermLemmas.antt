@@ -222,16 +222,10 @@ module _ (most : List ℕ) (m : Values) where
   becomes_fine : {e f : TermTree} → Becomes e f → AreFine most (path_in m e) → AreFine most (path_in m f)
   becomes_fine stays fine = fine
   becomes_fine (and_then one other) fine = becomes_fine other (becomes_fine one fine)
-  becomes_fine (number_prefixed is) fine = tt
-  becomes_fine (number_rotated is) fine = tt
-  becomes_fine (number_converted is) fine = tt
-  becomes_fine (numbers_operated is also) fine = tt
   becomes_fine twice_negated fine = fine
   becomes_fine (comparison_negated {place = place} {left = left} {right = right} found) fine =
       subst (λ (marks : Path). AreFine most ((path_in m left ++ path_in m right) ++ marks))
       (sym (found.unmarked place (value_in m left) (value_in m right))) fine
-  becomes_fine (left_decides is decides) fine = tt
-  becomes_fine (right_decides is decides) fine = tt
   becomes_fine (left_alone {place = place} {operator = operator} {width = width} {left = left} {right =
       right} is leaves) fine =
       (operands_fine place operator width left right fine).0
@@ -265,6 +259,7 @@ module _ (most : List ℕ) (m : Values) where
       (fine_front most (path_in m condition ++ path_in m accepted) (path_in m otherwise) fine)
   becomes_fine (otherwise_chosen {condition = condition} {accepted = accepted} {otherwise = otherwise} is) fine =
       fine_back most (path_in m condition ++ path_in m accepted) (path_in m otherwise) fine
+  becomes_fine rule fine = tt
 
 module _ (most : List ℕ) (types : Types) (words : Words) (m : Values) (holds : Holds types words m) where
   variable_fine : (o : Option Constant) (x : ℕ) → AreFine most (path_in m (known_or o (variable x)))
@@ -318,5 +313,5 @@ module _ (most : List ℕ) (types : Types) (words : Words) (m : Values) (holds :
       → AreFine most (path_in_all m es) → AreFine most (path_in_all m (map (simple words) es))
   fine_path_all word [] suit = λ fine. tt
   fine_path_all word (e ∷ es) suit =
-      fine_parts most (path_in m e) (path_in_all m es) (path_in m (simple words e)) (path_in_all m (map (simple words) es))
-      (fine_suited suit.0) (fine_path_all word es suit.1)
+      fine_parts most (path_in m e) (path_in_all m es) (path_in m (simple words e))
+      (path_in_all m (map (simple words) es)) (fine_suited suit.0) (fine_path_all word es suit.1)

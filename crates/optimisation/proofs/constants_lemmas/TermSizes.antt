@@ -12,7 +12,8 @@ use Rattle.optimisation.specs.constants.private.Fields.{moved}
 use Rattle.optimisation.specs.constants.private.Folding.{constant_of, known_or, simple}
 use Rattle.optimisation.specs.constants.private.Known.{Words, known, source_in}
 use Rattle.optimisation.proofs.constants_lemmas.TermRules.{Becomes, and_then, comparison_turned, product_turned}
-use Rattle.optimisation.proofs.constants_lemmas.TermRules.{shifted_up, shifted_down, masked, bits_moved, around, simpler}
+use Rattle.optimisation.proofs.constants_lemmas.TermRules.{shifted_up, shifted_down, masked, bits_moved, around}
+use Rattle.optimisation.proofs.constants_lemmas.TermRules.{simpler}
 use Rattle.optimisation.proofs.constants_lemmas.TwoShifts.{lifted_by}
 
 pub some_node : (e : TermTree) → 1 ≤ term_nodes e

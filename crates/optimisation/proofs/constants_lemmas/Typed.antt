@@ -53,8 +53,8 @@ module _ {copies : List ℕ} {declared : List FlatVariable} where
         → AreHidden declared code
     still_hidden_turns no_turn hidden = tt
     still_hidden_turns (a_turn {x = x} {i = i} {code = code} {more = more} one others) hidden =
-        hidden-chain declared (first (set None x (number i counter_type.kind)) code) more (tt, still_hidden_all one hidden)
-        (still_hidden_turns others hidden)
+        hidden-chain declared (first (set None x (number i counter_type.kind)) code) more
+        (tt, still_hidden_all one hidden) (still_hidden_turns others hidden)
 
     pub still_hidden_all : {words after : Words} {body code : StraightBlock}
         → AllSimplify copies declared words body code after → AreHidden declared body → AreHidden declared code
@@ -125,8 +125,8 @@ module _ (profile : Profile) (declared : List FlatVariable) where
   set_kinds words (Some control) x e kinds is f found = kinds f (without_known words x f found).0
   set_kinds words None x e kinds is f found =
       set_by declared words x e (IsSuited types) (number_kind x e is)
-      (λ y same may word mutable there. source_alike declared x y word mutable may there) (λ g free known. kinds g known)
-      f found
+      (λ y same may word mutable there. source_alike declared x y word mutable may there)
+      (λ g free known. kinds g known) f found
 
   -- Counters.
 

@@ -171,8 +171,8 @@ fn leaves_right(operator: BinaryOperator, width: Width, left: &Term) -> bool
     }
 }
 
-/// The comparison that one with a number on its left is, its operands turned round. `opposite` tells whether an operator
-/// is a comparison: only these have an opposite one, and `turned` alone turns others round too.
+/// The comparison that one with a number on its left is, its operands turned round. `opposite` tells whether an
+/// operator is a comparison: only these have an opposite one, and `turned` alone turns others round too.
 fn turned_by(operator: BinaryOperator, left: &Term) -> Option<BinaryOperator>
     ensures { result ≡ folding.turned_by operator (constant_of (term_tree left.now)) }
 {

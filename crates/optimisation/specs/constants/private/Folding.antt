@@ -54,8 +54,8 @@ decision e = option_map (λ c. truth_of c.value) (constant_of e)
 
 -- Nodes with their operands.
 
--- the comparison that one with a number on its left is, its operands turned round; `opposite_of` tells whether an operator
--- is a comparison, since `turned_of` alone turns others round too
+-- the comparison that one with a number on its left is, its operands turned round; `opposite_of` tells whether an
+-- operator is a comparison, since `turned_of` alone turns others round too
 abbrev pub turned_by : BinaryOperator → Option Constant → Option BinaryOperator
 turned_by operator None = None
 turned_by operator (Some c) = option_and (opposite_of operator) (turned_of operator)

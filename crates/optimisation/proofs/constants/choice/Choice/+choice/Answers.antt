@@ -34,7 +34,8 @@ choose-returns-in-Branch t c =
       c.grow-in-Branch.ensures,
       tree_of_branch c.in-Branch.accepted c.in-Branch.otherwise c.in-Branch.is c.deref-in-Branch.ensures.value
           c.deref-in-Branch-2.ensures.value,
-      grown_by (choice_of c.args.self.now) c.saturating_add-in-Branch.result (1 + term_size (term_tree c.in-Branch.condition))
+      grown_by (choice_of c.args.self.now) c.saturating_add-in-Branch.result
+          (1 + term_size (term_tree c.in-Branch.condition))
           (omega (arith, c.saturating_add-in-Branch.ensures, c.nodes_in-in-Branch.ensures)),
     ) refl
 
