@@ -121,8 +121,7 @@ module _ (copies : List ℕ) (declared : List FlatVariable) where
         → constant_of (simple words low) ≡ a → constant_of (simple words high) ≡ b
         → LoopSimplifies words low high (numbers_of (slice_index copies x) a b)
     loop_simplifies words low high (Some a) (Some b) is also =
-        cond_both (nat_le (b.value - a.value) (slice_index copies x))
-        (Some (record { low = a.value; high = b.value })) None (LoopSimplifies words low high)
+        cond_both (nat_le (b.value - a.value) (slice_index copies x)) _ None (LoopSimplifies words low high)
         (λ few. unrolls is also (leb-true (b.value - a.value) (slice_index copies x) few)
         (turns_simplify (b.value - a.value) a.value words))
         (λ many. loops (inside (in_loop words x body)))

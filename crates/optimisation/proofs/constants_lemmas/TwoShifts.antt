@@ -65,8 +65,7 @@ is_field amount n = by_mask (cleared_by n) (is_mask n)
     by_mask None mask = tt
     by_mask (Some others) mask =
         let b = amount.value in
-        cond_both (b == others || (nat_lt b others && nat_le 2048 n))
-        (Some (record { up = others - b; down = others; kind = amount.kind })) None (λ o. IfSome o (IsField amount n))
+        cond_both (b == others || (nat_lt b others && nat_le 2048 n)) _ None (λ o. IfSome o (IsField amount n))
         (λ is. record {
           ones = mask.ones;
           few = mask.few;
