@@ -112,139 +112,122 @@ length_bounds (token.Sign _) n h = absurd (none-some _ h)
 
 small_expr : {level : ℕ} {tokens rest : List Lexeme} {tree : ExprTree} → ExprAt level tokens tree rest
     → SmallTokens tokens → AreSmall tree × SmallTokens rest
-small_expr (a_number level t n suffix rest is) small =
-    ((subst (λ (k : TokenKind). IsSmallToken k) is small.0, suffix_number suffix), small.1)
-small_expr (a_true level t rest is) small = (tt, small.1)
-small_expr (a_false level t rest is) small = (tt, small.1)
-small_expr (a_name level t rest is) small = (tt, small.1)
-small_expr (an_element level t opening closing inner rest index is opens in_index closes) small =
-    let a = small_expr in_index small.1.1 in
-    (a.0, a.1.1)
-small_expr (in_brackets level opening closing inner rest tree is middle is') small =
-    let m = small_expr middle small.1 in
-    (m.0, m.1.1)
-small_expr (a_conversion level t opening closing inner rest kind tree is opens middle closes) small =
-    let m = small_expr middle small.1.1 in
-    ((conversion_number t.kind kind is, m.0), m.1.1)
-small_expr (a_select level t opening comma comma' closing list second third rest condition taken otherwise i j one k
-    two l three m) small =
-    let a = small_expr one small.1.1 in
-    let b = small_expr two a.1.1 in
-    let c = small_expr three b.1.1 in
-    ((a.0, b.0, c.0), c.1.1)
-small_expr (a_prefix level t operator inner rest operand is middle) small = small_expr middle small.1
-small_expr (a_rotation level t amount n start rest operand is below one is_amount) small =
-    let a = small_expr one small in
-    ((a.0, amount_small amount.kind n is_amount a.1.1.0), a.1.1.1)
-small_expr (a_binary level t operator start second rest left right is below one two) small =
-    let a = small_expr one small in
-    let b = small_expr two a.1.1 in
-    ((a.0, b.0), b.1)
+small_expr (a_number {suffix =
+    suffix} is) small = ((subst (λ (k : TokenKind). IsSmallToken k) is small.0, suffix_number suffix), small.1)
+small_expr (a_true is) small = (tt, small.1)
+small_expr (a_false is) small = (tt, small.1)
+small_expr (a_name is) small = (tt, small.1)
+small_expr (an_element is opens in_index closes) small = let a = small_expr in_index small.1.1 in (a.0, a.1.1)
+small_expr (in_brackets is middle is') small = let m = small_expr middle small.1 in (m.0, m.1.1)
+small_expr (a_conversion is opens middle closes) small =
+    let m = small_expr middle small.1.1 in ((conversion_number _ _ is, m.0), m.1.1)
+small_expr (a_select i j one k two l three m) small =
+    let a = small_expr one small.1.1 in let b = small_expr two a.1.1 in let c = small_expr three b.1.1 in (
+      (
+        a.0,
+        b.0,
+        c.0,
+      ),
+      c.1.1,
+    )
+small_expr (a_prefix is middle) small = small_expr middle small.1
+small_expr (a_rotation is below one is_amount) small =
+    let a = small_expr one small in ((a.0, amount_small _ _ is_amount a.1.1.0), a.1.1.1)
+small_expr (a_binary is below one two) small =
+    let a = small_expr one small in let b = small_expr two a.1.1 in ((a.0, b.0), b.1)
 
 small_more : {end : TokenKind} {tokens rest : List Lexeme} {trees : List ExprTree} → MoreExprs end tokens trees rest
     → SmallTokens tokens → AreAllSmall trees × SmallTokens rest
-small_more (no_more closing rest is) small = (tt, small.1)
-small_more (one_more comma list second rest tree trees is one more) small =
+small_more (no_more is) small = (tt, small.1)
+small_more (one_more is one more) small =
     let a = small_expr one small.1 in
     let b = small_more more a.1 in
     ((a.0, b.0), b.1)
 
 small_some : {end : TokenKind} {tokens rest : List Lexeme} {trees : List ExprTree} → SomeExprs end tokens trees rest
     → SmallTokens tokens → AreAllSmall trees × SmallTokens rest
-small_some (some_exprs list second rest tree trees one more) small =
+small_some (some_exprs one more) small =
     let a = small_expr one small in
     let b = small_more more a.1 in
     ((a.0, b.0), b.1)
 
 small_arguments : {tokens rest : List Lexeme} {trees : List ExprTree} → Arguments tokens trees rest
     → SmallTokens tokens → AreAllSmall trees × SmallTokens rest
-small_arguments (no_arguments closing rest is) small = (tt, small.1)
-small_arguments (some_arguments list rest trees h) small = small_some h small
+small_arguments (no_arguments is) small = (tt, small.1)
+small_arguments (some_arguments h) small = small_some h small
 
 small_call : {tokens rest : List Lexeme} {tree : CallTree} → Call tokens tree rest → SmallTokens tokens
     → AreAllSmall tree.arguments × SmallTokens rest
-small_call (a_call t opening list rest trees is opens h) small = small_arguments h small.1.1
+small_call (a_call is opens h) small = small_arguments h small.1.1
 
 small_right : {tokens rest : List Lexeme} {tree : RightTree} → RightSide tokens tree rest → SmallTokens tokens
     → IsSmallRight tree × SmallTokens rest
-small_right (a_call_value list rest tree h) small = small_call h small
-small_right (a_value list rest tree h) small = small_expr h small
+small_right (a_call_value h) small = small_call h small
+small_right (a_value h) small = small_expr h small
 
 small_values : {tokens rest : List Lexeme} {trees : Option (List ExprTree)} → FirstValues tokens trees rest
     → SmallTokens tokens → AreSmallValues trees × SmallTokens rest
-small_values (no_values rest) small = (tt, small)
-small_values (some_values equals opening list rest trees is opens h) small = small_some h small.1.1
+small_values no_values small = (tt, small)
+small_values (some_values is opens h) small = small_some h small.1.1
 
 small_mutable : {tokens rest : List Lexeme} {is : Bool} → Mutable tokens is rest → SmallTokens tokens
     → SmallTokens rest
-small_mutable (no_mut rest) small = small
-small_mutable (a_mut t rest is) small = small.1
+small_mutable no_mut small = small
+small_mutable (a_mut is) small = small.1
 
 small_array : {tokens rest : List Lexeme} {kind : Kind} {n : ℕ} → ArrayType tokens kind n rest → SmallTokens tokens
     → IsArrayLength n × SmallTokens rest
-small_array (an_array_type word opening number closing rest kind n is opens is_length closes) small =
-    (length_bounds number.kind n is_length, small.1.1.1.1)
+small_array (an_array_type {number = number} is opens is_length closes) small =
+    (length_bounds number.kind _ is_length, small.1.1.1.1)
 
 mutual
   plain_statement : {tokens rest : List Lexeme} {tree : StatementTree} → Statement tokens tree rest
       → SmallTokens tokens → IsPlain tree × SmallTokens rest
-  plain_statement (a_declaration start second t equals semicolon list right rest label mutable kind tree is_label
-      is_mutable is_kind is_name is_equals in_right ends) small =
-      let a = small_mutable is_mutable small.1 in
-      let b = small_right in_right a.1.1.1 in
-      (b.0, b.1.1)
-  plain_statement (an_array start t semicolon list second values rest label mutable kind n trees is_label is_mutable
-      in_type is_name in_values ends) small =
-      let a = small_array in_type (small_mutable is_mutable small.1) in
-      let b = small_values in_values a.1.1 in
-      ((a.0, b.0), b.1.1)
-  plain_statement (an_assignment t equals semicolon right rest tree is_name is_equals in_right ends) small =
-      let a = small_right in_right small.1.1 in
-      (a.0, a.1.1)
-  plain_statement (an_element_assignment t opening closing equals semicolon inner right rest index tree is opens
-      in_index closes is_equals in_right ends) small =
-      let a = small_expr in_index small.1.1 in
-      let b = small_right in_right a.1.1.1 in
-      ((a.0, b.0), b.1.1)
-  plain_statement (a_call_statement semicolon list rest tree in_call ends) small =
-      let a = small_call in_call small in
-      (a.0, a.1.1)
-  plain_statement (a_conditional_statement list rest tree h) small = plain_conditional h small
-  plain_statement (a_loop t opening word counter from to closing low high body rest start end trees is opens is_word
-      is_name is_from in_low is_to in_high closes in_body) small =
-      let a = small_expr in_low small.1.1.1.1.1 in
-      let b = small_expr in_high a.1.1 in
-      let d = plain_body in_body b.1.1 in
-      ((a.0, b.0, d.0), d.1)
+  plain_statement (a_declaration is_label is_mutable is_kind is_name is_equals in_right ends) small =
+      let a = small_mutable is_mutable small.1 in let b = small_right in_right a.1.1.1 in (b.0, b.1.1)
+  plain_statement (an_array is_label is_mutable in_type is_name in_values ends) small =
+      let a = small_array in_type (small_mutable is_mutable small.1) in let b = small_values in_values a.1.1 in (
+        (
+          a.0,
+          b.0,
+        ),
+        b.1.1,
+      )
+  plain_statement (an_assignment is_name is_equals in_right ends) small =
+      let a = small_right in_right small.1.1 in (a.0, a.1.1)
+  plain_statement (an_element_assignment is opens in_index closes is_equals in_right ends) small =
+      let a = small_expr in_index small.1.1 in let b = small_right in_right a.1.1.1 in ((a.0, b.0), b.1.1)
+  plain_statement (a_call_statement in_call ends) small = let a = small_call in_call small in (a.0, a.1.1)
+  plain_statement (a_conditional_statement h) small = plain_conditional h small
+  plain_statement (a_loop is opens is_word is_name is_from in_low is_to in_high closes in_body) small =
+      let a = small_expr in_low small.1.1.1.1.1 in let b = small_expr in_high a.1.1 in let d = plain_body in_body
+      b.1.1 in ((a.0, b.0, d.0), d.1)
 
   plain_conditional : {tokens rest : List Lexeme} {tree : StatementTree} → Conditional tokens tree rest
       → SmallTokens tokens → IsPlain tree × SmallTokens rest
-  plain_conditional (a_conditional t opening closing list arm others rest condition taken otherwise is_if opens
-      in_condition closes in_arm in_others) small =
-      let a = small_expr in_condition small.1.1 in
-      let b = plain_body in_arm a.1.1 in
-      let d = plain_otherwise in_others b.1 in
-      ((a.0, b.0, d.0), d.1)
+  plain_conditional (a_conditional is_if opens in_condition closes in_arm in_others) small =
+      let a = small_expr in_condition small.1.1 in let b = plain_body in_arm a.1.1 in let d = plain_otherwise
+      in_others b.1 in ((a.0, b.0, d.0), d.1)
 
   plain_block : {tokens rest : List Lexeme} {trees : BlockTree} → Statements tokens trees rest → SmallTokens tokens
       → ArePlain trees × SmallTokens rest
-  plain_block (no_statement rest) small = (tt, small)
-  plain_block (one_statement list others rest tree trees in_one in_more) small =
+  plain_block no_statement small = (tt, small)
+  plain_block (one_statement in_one in_more) small =
       let a = plain_statement in_one small in
       let b = plain_block in_more a.1 in
       ((a.0, b.0), b.1)
 
   plain_body : {tokens rest : List Lexeme} {trees : BlockTree} → Block tokens trees rest → SmallTokens tokens
       → ArePlain trees × SmallTokens rest
-  plain_body (a_block opening closing list rest trees opens in_list closes) small =
+  plain_body (a_block opens in_list closes) small =
       let a = plain_block in_list small.1 in
       (a.0, a.1.1)
 
   plain_otherwise : {tokens rest : List Lexeme} {trees : BlockTree} → Otherwise tokens trees rest → SmallTokens tokens
       → ArePlain trees × SmallTokens rest
-  plain_otherwise (no_else rest) small = (tt, small)
-  plain_otherwise (an_else t arm rest trees is_else in_arm) small = plain_body in_arm small.1
-  plain_otherwise (an_else_if t list rest tree is_else h) small =
+  plain_otherwise no_else small = (tt, small)
+  plain_otherwise (an_else is_else in_arm) small = plain_body in_arm small.1
+  plain_otherwise (an_else_if is_else h) small =
       let a = plain_conditional h small.1 in
       ((a.0, tt), a.1)
 
@@ -253,56 +236,59 @@ HaveForms trees = AllByRecursion HasForm trees
 
 one_parameter : {tokens rest : List Lexeme} {tree : ParameterTree} → Parameter tokens tree rest → SmallTokens tokens
     → HasForm tree × SmallTokens rest
-one_parameter (a_word start second t rest label kind is_label is_kind is_name) small = (refl, small.1.1.1)
-one_parameter (a_fixed_array start t list rest label kind n is_label in_type is_name) small =
+one_parameter (a_word is_label is_kind is_name) small = (refl, small.1.1.1)
+one_parameter (a_fixed_array is_label in_type is_name) small =
     let a = small_array in_type small.1 in
     (a.0, a.1.1)
-one_parameter (a_mutable_array start word t list rest label kind n is_label is_mut in_type is_name) small =
+one_parameter (a_mutable_array is_label is_mut in_type is_name) small =
     let a = small_array in_type small.1.1 in
     (a.0, a.1.1)
 
 more_parameters : {tokens rest : List Lexeme} {trees : List ParameterTree} → MoreParameters tokens trees rest
     → SmallTokens tokens → HaveForms trees × SmallTokens rest
-more_parameters (no_more_parameters closing rest is) small = (tt, small.1)
-more_parameters (one_more_parameter comma list second rest tree trees is one more) small =
+more_parameters (no_more_parameters is) small = (tt, small.1)
+more_parameters (one_more_parameter is one more) small =
     let a = one_parameter one small.1 in
     let b = more_parameters more a.1 in
     ((a.0, b.0), b.1)
 
 all_parameters : {tokens rest : List Lexeme} {trees : List ParameterTree} → Parameters tokens trees rest
     → SmallTokens tokens → HaveForms trees × SmallTokens rest
-all_parameters (no_parameters closing rest is) small = (tt, small.1)
-all_parameters (some_parameters list second rest tree trees one more) small =
+all_parameters (no_parameters is) small = (tt, small.1)
+all_parameters (some_parameters one more) small =
     let a = one_parameter one small in
     let b = more_parameters more a.1 in
     ((a.0, b.0), b.1)
 
 small_export : {tokens rest : List Lexeme} {export : Option Place} → Exported tokens export rest → SmallTokens tokens
     → SmallTokens rest
-small_export (not_exported rest) small = small
-small_export (an_export t rest is) small = small.1
+small_export not_exported small = small
+small_export (an_export is) small = small.1
 
 small_result : {tokens rest : List Lexeme} {result : _} → ResultType tokens result rest → SmallTokens tokens
     → SmallTokens rest
-small_result (a_void t rest is) small = small.1
-small_result (a_type start second rest label kind is is_kind) small = small.1.1
+small_result (a_void is) small = small.1
+small_result (a_type is is_kind) small = small.1.1
 
 small_return : {tokens rest : List Lexeme} {returned : Option ReturnTree} → BodyEnd tokens returned rest
     → SmallTokens tokens → IsSmallReturn returned × SmallTokens rest
-small_return (no_return closing rest is) small = (tt, small.1)
-small_return (a_return t semicolon closing list rest tree is h ends closes) small =
+small_return (no_return is) small = (tt, small.1)
+small_return (a_return is h ends closes) small =
     let a = small_expr h small.1 in
     (a.0, a.1.1.1)
 
 a_grammatical : {tokens rest : List Lexeme} {tree : ProcedureTree} → Procedure tokens tree rest → SmallTokens tokens
     → IsGrammatical tree × SmallTokens rest
-a_grammatical (a_procedure t opening opening' list signature parameters body end rest export result own trees returned
-    is_export is_result is_name opens ps opens' ss in_end) small =
-    let s = small_result is_result (small_export is_export small) in
-    let a = all_parameters ps s.1.1 in
-    let b = plain_block ss a.1.1 in
-    let d = small_return in_end b.1 in
-    (record { parameters = a.0; body = b.0; returned = d.0 }, d.1)
+a_grammatical (a_procedure is_export is_result is_name opens ps opens' ss in_end) small =
+    let s = small_result is_result (small_export is_export small) in let a = all_parameters ps s.1.1 in let b =
+    plain_block ss a.1.1 in let d = small_return in_end b.1 in (
+      record {
+        parameters = a.0;
+        body = b.0;
+        returned = d.0;
+      },
+      d.1,
+    )
 
 abbrev AreGrammatical : List ProcedureTree → Type 0
 AreGrammatical trees = AllByRecursion IsGrammatical trees
@@ -310,13 +296,13 @@ AreGrammatical trees = AllByRecursion IsGrammatical trees
 all_grammatical : {tokens : List Lexeme} {trees : List ProcedureTree} → Procedures tokens trees → SmallTokens tokens
     → AreGrammatical trees
 all_grammatical no_procedure small = tt
-all_grammatical (one_procedure list others tree trees one more) small =
+all_grammatical (one_procedure one more) small =
     let a = a_grammatical one small in
     (a.0, all_grammatical more a.1)
 
 a_grammatical_program : {tokens : List Lexeme} {program : ProgramTree} → IsProgram tokens program → SmallTokens tokens
     → AreGrammatical program.procedures
-a_grammatical_program (a_program_rule list trees h) small = all_grammatical h small
+a_grammatical_program (a_program_rule h) small = all_grammatical h small
 
 answered : {tokens : List Lexeme} {end : Ending} (program : ProgramTree) → Answers tokens end (accepted program)
     → SmallTokens tokens → AreGrammatical program.procedures

@@ -1,5 +1,6 @@
 pub mod MachineKinds
 pub mod MachineMeaning
+pub mod MachineSteps
 pub mod SoundStatements
 pub mod MachineSound
 pub mod MachineExpressions

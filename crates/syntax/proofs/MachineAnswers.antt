@@ -15,7 +15,7 @@ use Rattle.syntax.specs.Reading.{OneAnswerForTokens, OneProgram}
 use Rattle.syntax.specs.Tokens.{Ending, ends_at, stops}
 use Rattle.language.specs.Tree.{ProgramTree}
 use Rattle.syntax.specs.private.Machine.{State, step, at_end, program, run, verdict, token_answer, ending_answer}
-use Rattle.syntax.proofs.SoundStatements.{and_then_some}
+use Rattle.syntax.proofs.MachineSound.{and_then_some}
 use Rattle.syntax.proofs.MachineSound.{begins_by_run, program_by_run}
 use Rattle.syntax.proofs.MachineComplete.{run_program, run_beginning, run_front}
 

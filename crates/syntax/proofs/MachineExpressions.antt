@@ -1,10 +1,11 @@
 -- The machine reads each expression, each list of expressions, each call and each right side, to its tree.
-use Rattle.std.proofs.Common.{◌≡◌, ℕ, ◌+◌, ◌<◌, ◌≤◌, Bool, true, false, ◌&&◌, List, [], ◌∷◌, ◌++◌, Option, Some, None}
-use Rattle.std.proofs.Common.{refl, sym, subst, ap, ◌∙◌, arith, if◌then◌else◌, append_assoc}
+use Rattle.std.proofs.Common.{◌≡◌, ℕ, ◌+◌, ◌<◌, ◌≤◌, Bool, true, false, List, [], ◌∷◌, ◌++◌, Option, Some, None, refl}
+use Rattle.std.proofs.Common.{sym, subst, ap, ◌∙◌, arith, if◌then◌else◌, append_assoc}
 use Rattle.std.proofs.lemmas.Bool.Decides.{nat_tests}
 use Rattle.std.proofs.lemmas.List.{append-nil}
+use Rattle.std.proofs.lemmas.Option.{same_Some}
 use Rattle.std.specs.Prelude.{nat_le}
-use Rattle.std.specs.Option.{option_map, option_and_then}
+use Rattle.std.specs.Option.{option_and_then}
 use Rattle.language.specs.declared.signature.Kind.{Kind}
 use Rattle.language.specs.declared.signature.Label.{Label}
 use Rattle.syntax.specs.declared.token.TokenKind.{TokenKind}
@@ -19,45 +20,106 @@ use Rattle.syntax.specs.Grammar.{some_arguments, a_call, RightSide, a_call_value
 use Rattle.syntax.specs.Grammar.{some_values}
 use Rattle.syntax.specs.Lexeme.{Lexeme}
 use Rattle.language.specs.Tree as tree
-use Rattle.language.specs.Tree.{ExprTree, CallTree, RightTree, StatementTree, BlockTree, nothing, first}
-use Rattle.language.specs.Tree.{ParameterTree, ReturnTree, ProcedureTree, ProgramTree}
+use Rattle.language.specs.Tree.{ExprTree, RightTree}
 use Rattle.syntax.specs.declared.parser.operator.Begins.{Begins}
-use Rattle.syntax.specs.declared.parser.operator.Begins.TheVariants.{Number as by_number, Truth as by_truth}
-use Rattle.syntax.specs.declared.parser.operator.Begins.TheVariants.{Name as by_name, Bracket as by_bracket}
-use Rattle.syntax.specs.declared.parser.operator.Begins.TheVariants.{Prefix as by_prefix, Conversion as by_conversion}
-use Rattle.syntax.specs.declared.parser.operator.Begins.TheVariants.{Select as by_select}
+use Rattle.syntax.specs.declared.parser.operator.Begins.TheVariants.{Name as by_name}
 use Rattle.syntax.specs.declared.parser.operator.Link.{Link}
 use Rattle.syntax.specs.declared.parser.operator.Link.TheVariants.{Operator as by_operator, Rotation as by_rotation}
 use Rattle.syntax.specs.private.Machine.{State, one, either, a_label, a_kind, a_length, an_amount, expr, more}
 use Rattle.syntax.specs.private.Machine.{more_exprs, fits, begins_of, link_of, link_level, link_left_level}
-use Rattle.syntax.specs.private.Machine.{some_exprs, call_of, named, operand, linked, right_from, right, right_end}
-use Rattle.syntax.specs.private.Machine.{first_values, within, joined, step, run}
+use Rattle.syntax.specs.private.Machine.{some_exprs, arguments, operand, linked, right, right_end, first_values}
+use Rattle.syntax.specs.private.Machine.{within, joined, step, run}
 use Rattle.syntax.proofs.MachineKinds.{kind-fits, fits-kind, Bars, prefix-begins, conversion-begins, operator-links}
-use Rattle.syntax.proofs.MachineKinds.{weak_level, left_levels, operator-bars}
+use Rattle.syntax.proofs.MachineKinds.{weak_level, left_levels, unlike}
+use Rattle.syntax.proofs.MachineSteps.{one-step, either-step, label-step, kind-step, length-step, amount-step}
+use Rattle.syntax.proofs.MachineSteps.{sign-step, operand-step}
 use Rattle.syntax.specs.declared.token.Sign.TheVariants as sign
+
+-- from a state, before some tokens, the machine comes to another one, before the rest
+pub record Moves (s : State) (ts : List Lexeme) (last : State) (rest : List Lexeme) : Type 0 where
+  pub same : run s ts ≡ run last rest
+
+pub stays : {s : State} {ts : List Lexeme} → Moves s ts s ts
+stays = record { same = refl }
+
+pub step-moves : {s next last : State} {t : Lexeme} {ts rest : List Lexeme} → step s t ≡ Some next
+    → Moves next ts last rest → Moves s (t ∷ ts) last rest
+step-moves {ts = ts} e h = record { same = ap (option_and_then (λ n. run n ts)) e ∙ h.same }
 
 -- such a token stands next, but not of this kind
 abbrev pub Lacks : TokenKind → List Lexeme → Type 0
 Lacks what [] = ⊥
 Lacks what (t ∷ ts) = fits what t.kind ≡ false
 
--- what stands next is no opening bracket, and no sign that binds at the level or stronger
+pub one-moves : {what : TokenKind} {k : Lexeme → State} {last : State} {t : Lexeme} {ts rest : List Lexeme}
+    → t.kind ≡ what → Moves (k t) ts last rest → Moves (one what k) (t ∷ ts) last rest
+one-moves {what} {k} {t = t} is h = step-moves (one-step what k t (fits-kind what t.kind is)) h
+
+pub either-moves : {what : TokenKind} {next : Lexeme → State} {other last : State} {t : Lexeme}
+    {ts rest : List Lexeme} → t.kind ≡ what → Moves (next t) ts last rest
+    → Moves (either what next other) (t ∷ ts) last rest
+either-moves {what} {next} {other} {t = t} is h =
+    step-moves (either-step what next other t (fits-kind what t.kind is)) h
+
+pub other-moves : {what : TokenKind} {next : Lexeme → State} {other last : State} {ts rest : List Lexeme}
+    → Lacks what ts → Moves other ts last rest → Moves (either what next other) ts last rest
+other-moves {ts = []} lacks h = absurd lacks
+other-moves {next = next} {other} {ts = t ∷ ts} lacks h = record {
+  same = ap (λ b. option_and_then (λ n. run n ts) (if b then Some (next t) else step other t)) lacks ∙ h.same;
+}
+
+pub label-moves : {k : Label → State} {last : State} {t : Lexeme} {ts rest : List Lexeme} {label : Label}
+    → label_of t.kind ≡ Some label → Moves (k label) ts last rest → Moves (a_label k) (t ∷ ts) last rest
+label-moves {k} {t = t} {label = label} is h = step-moves (label-step k t label is) h
+
+pub kind-moves : {k : Kind → State} {last : State} {t : Lexeme} {ts rest : List Lexeme} {kind : Kind}
+    → word_of t.kind ≡ Some kind → Moves (k kind) ts last rest → Moves (a_kind k) (t ∷ ts) last rest
+kind-moves {k} {t = t} {kind = kind} is h = step-moves (kind-step k t kind is) h
+
+pub length-moves : {k : ℕ → State} {last : State} {t : Lexeme} {ts rest : List Lexeme} {n : ℕ}
+    → length_of t.kind ≡ Some n → Moves (k n) ts last rest → Moves (a_length k) (t ∷ ts) last rest
+length-moves {k} {t = t} {n = n} is h = step-moves (length-step k t n is) h
+
+amount-moves : {k : ℕ → State} {last : State} {t : Lexeme} {ts rest : List Lexeme} {n : ℕ}
+    → amount_of t.kind ≡ Some n → Moves (k n) ts last rest → Moves (an_amount k) (t ∷ ts) last rest
+amount-moves {k} {t = t} {n = n} is h = step-moves (amount-step k t n is) h
+
+begins-moves : {level : ℕ} {k : ExprTree → State} {last : State} {t : Lexeme} {ts rest : List Lexeme} {b : Begins}
+    → begins_of t.kind ≡ Some b → Moves (operand b t (λ e. more level 11 e k)) ts last rest
+    → Moves (expr level k) (t ∷ ts) last rest
+begins-moves {level} {k} {t = t} {b = b} is h = step-moves (operand-step level k t b is) h
+
+link-moves : {level top : ℕ} {left : ExprTree} {k : ExprTree → State} {last : State} {t : Lexeme}
+    {ts rest : List Lexeme} (link : Link) → link_of t.kind ≡ Some link → level ≤ link_level link
+    → link_left_level link ≤ top → Moves (linked link t.place level left k) ts last rest
+    → Moves (more level top left k) (t ∷ ts) last rest
+link-moves {level} {top} {left} {k} {t = t} link is low high h =
+    step-moves (sign-step level top left k t link is low high) h
+
+-- no opening bracket, and no sign that binds at the level or stronger
+abbrev StopsAt : ℕ → TokenKind → Type 0
+StopsAt level kind = Bars kind × ((link : Link) → link_of kind ≡ Some link → link_level link < level)
+
+-- such a token stands next
 abbrev pub Stops : ℕ → List Lexeme → Type 0
 Stops level [] = ⊥
-Stops level (t ∷ ts) = Bars t.kind × ((link : Link) → link_of t.kind ≡ Some link → link_level link < level)
+Stops level (t ∷ ts) = StopsAt level t.kind
 
 -- a kind of token that is no opening bracket and no sign between operands
-abbrev Closes : TokenKind → Type 0
+abbrev pub Closes : TokenKind → Type 0
 Closes what = Bars what × (link_of what ≡ None)
 
-closes-stops : (what : TokenKind) → Closes what → (level : ℕ) (t : Lexeme) (ts : List Lexeme) → t.kind ≡ what
-    → Stops level (t ∷ ts)
-closes-stops what closes level t ts is =
+closes-stops : {what kind : TokenKind} {level : ℕ} → Closes what → kind ≡ what → StopsAt level kind
+closes-stops closes is =
     (subst Bars (sym is) closes.0, λ link e. let f = ap link_of is in let g = closes.1 in cc)
 
 stops-lacks-square : (level : ℕ) (ts : List Lexeme) → Stops level ts → Lacks (token.Sign sign.OpenSquare) ts
 stops-lacks-square level [] h = absurd h
 stops-lacks-square level (t ∷ ts) h = h.0.0
+
+stops-lacks-round : (level : ℕ) (ts : List Lexeme) → Stops level ts → Lacks (token.Sign sign.OpenRound) ts
+stops-lacks-round level [] h = absurd h
+stops-lacks-round level (t ∷ ts) h = h.0.1
 
 stops-more : (low high : ℕ) (rest : List Lexeme) → low ≤ high → Stops low rest → Stops high rest
 stops-more low high [] le h = h
@@ -71,416 +133,208 @@ stops-ten level (t ∷ ts) h = (h.0, λ link e. weak_level link)
 not_le : (level n : ℕ) → n < level → nat_le level n ≡ false
 not_le level n lt = grind (arith, nat_tests)
 
-both_le : (level n m top : ℕ) → level ≤ n → m ≤ top → (nat_le level n && nat_le m top) ≡ true
-both_le level n m top low high = grind (arith, nat_tests)
-
 within_none : (level top : ℕ) (o : Option Link) → ((link : Link) → o ≡ Some link → link_level link < level)
     → within level top o ≡ None
 within_none level top None h = refl
 within_none level top (Some link) h = let e = not_le level (link_level link) (h link refl) in rw e
 
-pub within_level : (level top : ℕ) (link : Link) → level ≤ link_level link → link_left_level link ≤ top
-    → within level top (Some link) ≡ Some link
-within_level level top link low high = let e = both_le level (link_level link) (link_left_level link) top low high in
-    rw e
-
 -- an expression that is complete makes way for what may stand after it
-stops-run : (level top : ℕ) (left : ExprTree) (k : ExprTree → State) (rest : List Lexeme) → Stops level rest
-    → run (more level top left k) rest ≡ run (k left) rest
-stops-run level top left k [] h = absurd h
-stops-run level top left k (t ∷ ts) h =
-    ap (λ o. option_and_then (λ n. run n ts) (joined o t.place level left k (step (k left) t)))
-    (within_none level top (link_of t.kind) h.1)
-
-link-run : (level top : ℕ) (left : ExprTree) (k : ExprTree → State) (t : Lexeme) (ts : List Lexeme) (link : Link)
-    → link_of t.kind ≡ Some link → level ≤ link_level link → link_left_level link ≤ top
-    → run (more level top left k) (t ∷ ts) ≡ run (linked link t.place level left k) ts
-link-run level top left k t ts link is low high =
-    ap (λ o. option_and_then (λ n. run n ts) (joined o t.place level left k (step (k left) t)))
-    (ap (within level top) is ∙ within_level level top link low high)
-
-pub one-run : (what : TokenKind) (k : Lexeme → State) (t : Lexeme) (ts : List Lexeme) → t.kind ≡ what
-    → run (one what k) (t ∷ ts) ≡ run (k t) ts
-one-run what k t ts is = ap (λ b. option_and_then (λ n. run n ts) (if b then Some (k t) else None))
-    (fits-kind what t.kind is)
-
-pub either-run : (what : TokenKind) (next : Lexeme → State) (other : State) (t : Lexeme) (ts : List Lexeme)
-    → t.kind ≡ what → run (either what next other) (t ∷ ts) ≡ run (next t) ts
-either-run what next other t ts is =
-    ap (λ b. option_and_then (λ n. run n ts) (if b then Some (next t) else step other t)) (fits-kind what t.kind is)
-
-pub other-run : (what : TokenKind) (next : Lexeme → State) (other : State) (ts : List Lexeme) → Lacks what ts
-    → run (either what next other) ts ≡ run other ts
-other-run what next other [] h = absurd h
-other-run what next other (t ∷ ts) h =
-    ap (λ b. option_and_then (λ n. run n ts) (if b then Some (next t) else step other t)) h
-
-pub label-run : (k : Label → State) (t : Lexeme) (ts : List Lexeme) (label : Label) → label_of t.kind ≡ Some label
-    → run (a_label k) (t ∷ ts) ≡ run (k label) ts
-label-run k t ts label is = ap (λ o. option_and_then (λ n. run n ts) (option_map k o)) is
-
-pub kind-run : (k : Kind → State) (t : Lexeme) (ts : List Lexeme) (kind : Kind) → word_of t.kind ≡ Some kind
-    → run (a_kind k) (t ∷ ts) ≡ run (k kind) ts
-kind-run k t ts kind is = ap (λ o. option_and_then (λ n. run n ts) (option_map k o)) is
-
-pub length-run : (k : ℕ → State) (t : Lexeme) (ts : List Lexeme) (n : ℕ) → length_of t.kind ≡ Some n
-    → run (a_length k) (t ∷ ts) ≡ run (k n) ts
-length-run k t ts n is = ap (λ o. option_and_then (λ n. run n ts) (option_map k o)) is
-
-amount-run : (k : ℕ → State) (t : Lexeme) (ts : List Lexeme) (n : ℕ) → amount_of t.kind ≡ Some n
-    → run (an_amount k) (t ∷ ts) ≡ run (k n) ts
-amount-run k t ts n is = ap (λ o. option_and_then (λ n. run n ts) (option_map k o)) is
-
-begins-run : (level : ℕ) (k : ExprTree → State) (t : Lexeme) (ts : List Lexeme) (b : Begins)
-    → begins_of t.kind ≡ Some b → run (expr level k) (t ∷ ts) ≡ run (operand b t (λ e. more level 11 e k)) ts
-begins-run level k t ts b is =
-    ap (λ o. option_and_then (λ n. run n ts) (option_map (λ b. operand b t (λ e. more level 11 e k)) o)) is
+stops-moves : {level top : ℕ} {left : ExprTree} {k : ExprTree → State} {last : State} (ts : List Lexeme)
+    {rest : List Lexeme} → Stops level ts → Moves (k left) ts last rest → Moves (more level top left k) ts last rest
+stops-moves [] stops h = absurd stops
+stops-moves {level} {top} {left} {k} (t ∷ ts) stops h = record {
+  same = ap (λ o. option_and_then (λ n. run n ts) (joined o t.place level left k (step (k left) t)))
+      (within_none level top (link_of t.kind) stops.1) ∙ h.same;
+}
 
 -- a sign between operands stops an expression that binds more strongly
-operator-stops : (o : BinaryOperator) (t : Lexeme) (ts : List Lexeme) (level : ℕ) → operator_of t.kind ≡ Some o
-    → level_of o < level → Stops level (t ∷ ts)
-operator-stops o t ts level is lt =
-    (operator-bars t.kind o is, λ link e. same link (link_of t.kind) (operator-links t.kind o is) e)
-  where
-    same : (link : Link) (found : Option Link) → found ≡ Some (by_operator o) → found ≡ Some link
-        → link_level link < level
-    same link found e f = let is : link ≡ by_operator o = cc in rw is lt
-
-rotation-stops : (t : Lexeme) (ts : List Lexeme) (level : ℕ) → t.kind ≡ token.Sign RotateLeft → 7 < level
-    → Stops level (t ∷ ts)
-rotation-stops t ts level is lt =
-    (subst Bars (sym is) (refl, refl), λ link e. same link (link_of t.kind) (ap link_of is) e)
-  where
-    same : (link : Link) (found : Option Link) → found ≡ Some by_rotation → found ≡ Some link
-        → link_level link < level
-    same link found e f = let is : link ≡ by_rotation = cc in rw is lt
-
--- that the machine reads an expression, and with which signs it may go on
-abbrev Read : ℕ → ℕ → (ExprTree → State) → List Lexeme → ExprTree → List Lexeme → Type 0
-Read level low k ts e rest = (top : ℕ) × (level ≤ top) × (run (expr low k) ts ≡ run (more low top e k) rest)
-
-whole : (k : ExprTree → State) (ts : List Lexeme) (e : ExprTree) (rest : List Lexeme) → Read 1 1 k ts e rest
-    → Stops 1 rest → run (expr 1 k) ts ≡ run (k e) rest
-whole k ts e rest (top, le, is) stops = is ∙ stops-run 1 top e k rest stops
-
-reads-expr : (level : ℕ) (ts : List Lexeme) (e : ExprTree) (rest : List Lexeme) → ExprAt level ts e rest → level ≤ 10
-    → Stops (level + 1) rest → (low : ℕ) → low ≤ level → (k : ExprTree → State) → Read level low k ts e rest
-reads-expr _ _ _ _ (a_number level t n suffix rest is) small stops low le k =
-    (11, omega arith, begins-run low k t rest (by_number n suffix) (ap begins_of is))
-reads-expr _ _ _ _ (a_true level t rest is) small stops low le k =
-    (11, omega arith, begins-run low k t rest (by_truth true) (ap begins_of is))
-reads-expr _ _ _ _ (a_false level t rest is) small stops low le k =
-    (11, omega arith, begins-run low k t rest (by_truth false) (ap begins_of is))
-reads-expr _ _ _ _ (a_name level t rest is) small stops low le k =
-    let k' = λ (x : ExprTree). more low 11 x k in (
-      11,
-      omega arith,
-      begins-run low k t rest by_name (ap begins_of is)
-          ∙ other-run (token.Sign sign.OpenSquare)
-          (λ opening.
-          expr 1 (λ x. one (token.Sign sign.CloseSquare)
-          (λ _. k' (tree.element opening.place t.place t.text x)))) (k' (tree.name t.place t.text)) rest
-          (stops-lacks-square (level + 1) rest stops),
-    )
-reads-expr _ _ _ _ (an_element level t opening closing inner rest i is opens e closes) small stops low le k =
-    let k' = λ (x : ExprTree). more low 11 x k in
-    let made = λ (q : Lexeme) (x : ExprTree).
-    one (token.Sign sign.CloseSquare) (λ _. k' (tree.element q.place t.place t.text x)) in
-    let h = reads-expr 1 inner i (closing ∷ rest) e (omega arith)
-    (closes-stops (token.Sign sign.CloseSquare) ((refl, refl), refl) 2 closing rest closes) 1 (omega arith)
-    (made opening) in (
-      11,
-      omega arith,
-      begins-run low k t (opening ∷ inner) by_name (ap begins_of is)
-          ∙ either-run (token.Sign sign.OpenSquare) (λ q. expr 1 (made q)) (k' (tree.name t.place t.text)) opening
-          inner opens
-          ∙ whole (made opening) inner i (closing ∷ rest) h
-          (closes-stops (token.Sign sign.CloseSquare) ((refl, refl), refl) 1 closing rest closes)
-          ∙ one-run (token.Sign sign.CloseSquare) (λ _. k' (tree.element opening.place t.place t.text i)) closing
-          rest closes,
-    )
-reads-expr _ _ _ _ (in_brackets level opening closing inner rest x opens e closes) small stops low le k =
-    let k' = λ (y : ExprTree). one (token.Sign sign.CloseRound) (λ _. more low 11 y k) in
-    let h = reads-expr 1 inner x (closing ∷ rest) e (omega arith)
-    (closes-stops (token.Sign sign.CloseRound) ((refl, refl), refl) 2 closing rest closes) 1 (omega arith) k' in (
-      11,
-      omega arith,
-      begins-run low k opening inner by_bracket (ap begins_of opens)
-          ∙ whole k' inner x (closing ∷ rest) h
-          (closes-stops (token.Sign sign.CloseRound) ((refl, refl), refl) 1 closing rest closes)
-          ∙ one-run (token.Sign sign.CloseRound) (λ _. more low 11 x k) closing rest closes,
-    )
-reads-expr _ _ _ _ (a_conversion level t opening closing inner rest kind x is opens e closes) small stops low le k =
-    let k' = λ (y : ExprTree). one (token.Sign sign.CloseRound) (λ _. more low 11 (tree.convert t.place kind y) k) in
-    let h = reads-expr 1 inner x (closing ∷ rest) e (omega arith)
-    (closes-stops (token.Sign sign.CloseRound) ((refl, refl), refl) 2 closing rest closes) 1 (omega arith) k' in (
-      11,
-      omega arith,
-      begins-run low k t (opening ∷ inner) (by_conversion kind) (conversion-begins t.kind kind is)
-          ∙ one-run (token.Sign sign.OpenRound) (λ _. expr 1 k') opening inner opens
-          ∙ whole k' inner x (closing ∷ rest) h
-          (closes-stops (token.Sign sign.CloseRound) ((refl, refl), refl) 1 closing rest closes)
-          ∙ one-run (token.Sign sign.CloseRound) (λ _. more low 11 (tree.convert t.place kind x) k) closing
-          rest closes,
-    )
-reads-expr _ _ _ _ (a_select level t opening comma comma' closing start second third rest a b c is opens in_a is_comma
-    in_b is_comma' in_c closes) small stops low le k =
-    let k₃ = λ (z : ExprTree). one (token.Sign sign.CloseRound) (λ _. more low 11 (tree.select t.place a b z) k) in
-    let k₂ = λ (y : ExprTree). one (token.Sign sign.Comma)
-    (λ _. expr 1 (λ z. one (token.Sign sign.CloseRound) (λ _. more low 11 (tree.select t.place a y z) k))) in
-    let k₁ = λ (x : ExprTree). one (token.Sign sign.Comma)
-    (λ _.
-    expr 1 (λ y. one (token.Sign sign.Comma)
-    (λ _. expr 1 (λ z. one (token.Sign sign.CloseRound)
-    (λ _. more low 11 (tree.select t.place x y z) k))))) in
-    let h₁ = reads-expr 1 start a (comma ∷ second) in_a (omega arith)
-    (closes-stops (token.Sign sign.Comma) ((refl, refl), refl) 2 comma second is_comma) 1 (omega arith) k₁ in
-    let h₂ = reads-expr 1 second b (comma' ∷ third) in_b (omega arith)
-    (closes-stops (token.Sign sign.Comma) ((refl, refl), refl) 2 comma' third is_comma') 1 (omega arith) k₂ in
-    let h₃ = reads-expr 1 third c (closing ∷ rest) in_c (omega arith)
-    (closes-stops (token.Sign sign.CloseRound) ((refl, refl), refl) 2 closing rest closes) 1 (omega arith) k₃ in (
-      11,
-      omega arith,
-      begins-run low k t (opening ∷ start) by_select (ap begins_of is)
-          ∙ one-run (token.Sign sign.OpenRound) (λ _. expr 1 k₁) opening start opens
-          ∙ whole k₁ start a (comma ∷ second) h₁
-          (closes-stops (token.Sign sign.Comma) ((refl, refl), refl) 1 comma second is_comma)
-          ∙ one-run (token.Sign sign.Comma) (λ _. expr 1 k₂) comma second is_comma
-          ∙ whole k₂ second b (comma' ∷ third) h₂
-          (closes-stops (token.Sign sign.Comma) ((refl, refl), refl) 1 comma' third is_comma')
-          ∙ one-run (token.Sign sign.Comma) (λ _. expr 1 k₃) comma' third is_comma'
-          ∙ whole k₃ third c (closing ∷ rest) h₃
-          (closes-stops (token.Sign sign.CloseRound) ((refl, refl), refl) 1 closing rest closes)
-          ∙ one-run (token.Sign sign.CloseRound) (λ _. more low 11 (tree.select t.place a b c) k) closing rest closes,
-    )
-reads-expr _ _ _ _ (a_prefix level t o inner rest x is e) small stops low le k =
-    let k' = λ (y : ExprTree). more low 11 (tree.prefix t.place o y) k in
-    let h = reads-expr 10 inner x rest e (omega arith) (stops-more (level + 1) 11 rest (omega arith) stops) 10
-    (omega arith) k' in (
-      11,
-      omega arith,
-      begins-run low k t inner (by_prefix o) (prefix-begins t.kind o is) ∙ h.2
-          ∙ stops-run 10 h.0 x k' rest (stops-ten (level + 1) rest stops),
-    )
-reads-expr _ _ _ _ (a_rotation level t number amount start rest x is at e is_amount) small stops low le k =
-    let h = reads-expr 7 start x (t ∷ number ∷ rest) e (omega arith)
-    (rotation-stops t (number ∷ rest) 8 is (omega arith)) low (omega arith) k in (
-      7,
-      at,
-      h.2
-          ∙ link-run low h.0 x k t (number ∷ rest) by_rotation (ap link_of is) (omega arith) h.1
-          ∙ amount-run (λ n. more low 7 (tree.rotate t.place x n) k) number rest amount is_amount,
-    )
-reads-expr _ _ _ _ (a_binary level t o start second rest left right is at in_left in_right) small stops low le k =
-    let levels = left_levels o in
-    let k' = λ (y : ExprTree). more low (level_of o) (tree.binary t.place o left y) k in
-    let h = reads-expr (left_level_of o) start left (t ∷ second) in_left (omega arith)
-    (operator-stops o t second (left_level_of o + 1) is (omega arith)) low (omega arith) k in
-    let g = reads-expr (level_of o + 1) second right rest in_right (omega arith)
-    (stops-more (level + 1) (level_of o + 1 + 1) rest (omega arith) stops) (level_of o + 1) (omega arith) k' in (
-      level_of o,
-      at,
-      h.2
-          ∙ link-run low h.0 left k t second (by_operator o) (operator-links t.kind o is) (omega arith) h.1
-          ∙ g.2
-          ∙ stops-run (level_of o + 1) g.0 right k' rest
-          (stops-more (level + 1) (level_of o + 1) rest (omega arith) stops),
-    )
-
--- an expression, and a token that ends it
-expr-run : (what : TokenKind) → Closes what → (ts : List Lexeme) (e : ExprTree) (t : Lexeme) (rest : List Lexeme)
-    → ExprAt 1 ts e (t ∷ rest) → t.kind ≡ what → (k : ExprTree → State) → run (expr 1 k) ts ≡ run (k e) (t ∷ rest)
-expr-run what closes ts e t rest h is k =
-    whole k ts e (t ∷ rest) (reads-expr 1 ts e (t ∷ rest) h (omega arith) (closes-stops what closes 2 t rest is) 1
-    (omega arith) k) (closes-stops what closes 1 t rest is)
-
-pub expr-one-run : (what : TokenKind) → Closes what
-    → (ts : List Lexeme) (e : ExprTree) (t : Lexeme) (rest : List Lexeme) → ExprAt 1 ts e (t ∷ rest) → t.kind ≡ what
-    → (k : ExprTree → State) → run (expr 1 (λ x. one what (λ _. k x))) ts ≡ run (k e) rest
-expr-one-run what closes ts e t rest h is k = expr-run what closes ts e t rest h is (λ x. one what (λ _. k x))
-    ∙ one-run what (λ _. k e) t rest is
-
--- a list of expressions, and what ends it
-more-first : (end : TokenKind) (ts : List Lexeme) (es : List ExprTree) (rest : List Lexeme) → MoreExprs end ts es rest
-    → Closes end → (t : Lexeme) × (others : List Lexeme) × (ts ≡ t ∷ others) × Stops 1 (t ∷ others)
-    × Stops 2 (t ∷ others)
-more-first end _ _ _ (no_more closing rest is) closes =
-    (closing, rest, refl, closes-stops end closes 1 closing rest is, closes-stops end closes 2 closing rest is)
-more-first end _ _ _ (one_more comma list second rest e es is in_e in_more) closes = (
-  comma,
-  list,
-  refl,
-  closes-stops (token.Sign sign.Comma) ((refl, refl), refl) 1 comma list is,
-  closes-stops (token.Sign sign.Comma) ((refl, refl), refl) 2 comma list is,
+operator-stops : (o : BinaryOperator) (kind : TokenKind) (level : ℕ) → operator_of kind ≡ Some o
+    → level_of o < level → StopsAt level kind
+operator-stops o kind level is lt = (
+  (unlike operator_of (token.Sign sign.OpenSquare) refl is, unlike operator_of (token.Sign sign.OpenRound) refl is),
+  λ link e. let same : link ≡ by_operator o = same_Some _ _ (sym e ∙ operator-links kind o is) in rw same lt,
 )
 
-item-run : (end : TokenKind) → Closes end
-    → (ts : List Lexeme) (e : ExprTree) (second : List Lexeme) (es : List ExprTree) (rest : List Lexeme)
-    → ExprAt 1 ts e second → MoreExprs end second es rest → (k : ExprTree → State)
-    → run (expr 1 k) ts ≡ run (k e) second
-item-run end closes ts e second es rest h in_more k =
-    let w = more-first end second es rest in_more closes in
-    whole k ts e second (reads-expr 1 ts e second h (omega arith) (subst (Stops 2) (sym w.2) w.4) 1 (omega arith) k)
-    (subst (Stops 1) (sym w.2) w.3)
+rotation-stops : (kind : TokenKind) (level : ℕ) → kind ≡ token.Sign RotateLeft → 7 < level → StopsAt level kind
+rotation-stops kind level is lt = (
+  subst Bars (sym is) (refl, refl),
+  λ link e. let same : link ≡ by_rotation = same_Some _ _ (sym e ∙ ap link_of is) in rw same lt,
+)
 
--- after an expression of a list, by the kind of the next token
-abbrev after_expr : TokenKind → TokenKind → List ExprTree → (List ExprTree → State) → Option State
-after_expr end kind es k = if fits (token.Sign sign.Comma) kind
-    then Some (expr 1 (λ x. more_exprs end (es ++ x ∷ []) k)) else (if fits end kind then Some (k es) else None)
+-- after an expression, the token that ends it
+closed : {what : TokenKind} {top : ℕ} {e : ExprTree} {k : ExprTree → State} {last : State} {t : Lexeme}
+    {ts rest : List Lexeme} → Closes what → t.kind ≡ what → Moves (k e) ts last rest
+    → Moves (more 1 top e (λ x. one what (λ _. k x))) (t ∷ ts) last rest
+closed closes is h = stops-moves _ (closes-stops {level = 1} closes is) (one-moves is h)
 
-last-run : (end : TokenKind) (t : Lexeme) (rest : List Lexeme) (es : List ExprTree) (k : List ExprTree → State)
-    → fits (token.Sign sign.Comma) t.kind ≡ false → fits end t.kind ≡ true
-    → run (more_exprs end es k) (t ∷ rest) ≡ run (k es) rest
-last-run end t rest es k other ends =
-    ap (λ b. option_and_then (λ n. run n rest) (if b then Some (expr 1 (λ x. more_exprs end (es ++ x ∷ []) k))
-    else (if fits end t.kind then Some (k es) else None))) other
-    ∙ ap (λ b. option_and_then (λ n. run n rest) (if b then Some (k es) else None)) ends
+-- the machine reads an expression, and may go on with signs that bind less strongly
+reads-expr : {level low : ℕ} {ts tail : List Lexeme} {e : ExprTree} {k : ExprTree → State} {last : State}
+    {rest : List Lexeme} → ExprAt level ts e tail → level ≤ 10 → Stops (level + 1) tail → low ≤ level
+    → ((top : ℕ) → level ≤ top → Moves (more low top e k) tail last rest) → Moves (expr low k) ts last rest
+reads-expr (a_number is) small stops le h = begins-moves (ap begins_of is) (h 11 (omega arith))
+reads-expr (a_true is) small stops le h = begins-moves (ap begins_of is) (h 11 (omega arith))
+reads-expr (a_false is) small stops le h = begins-moves (ap begins_of is) (h 11 (omega arith))
+reads-expr (a_name {level} {rest = rest} is) small stops le h =
+    begins-moves (ap begins_of is) (other-moves (stops-lacks-square (level + 1) rest stops) (h 11 (omega arith)))
+reads-expr (an_element is opens e closes) small stops le h =
+    begins-moves (ap begins_of is)
+    (either-moves opens
+    (reads-expr e (omega arith) (closes-stops ((refl, refl), refl) closes) (omega arith)
+    (λ top _. closed ((refl, refl), refl) closes (h 11 (omega arith)))))
+reads-expr (in_brackets opens e closes) small stops le h =
+    begins-moves (ap begins_of opens)
+    (reads-expr e (omega arith) (closes-stops ((refl, refl), refl) closes) (omega arith)
+    (λ top _. closed ((refl, refl), refl) closes (h 11 (omega arith))))
+reads-expr (a_conversion is opens e closes) small stops le h =
+    begins-moves (conversion-begins _ _ is)
+    (one-moves opens
+    (reads-expr e (omega arith) (closes-stops ((refl, refl), refl) closes) (omega arith)
+    (λ top _. closed ((refl, refl), refl) closes (h 11 (omega arith)))))
+reads-expr (a_select is opens in_a comma in_b comma' in_c closes) small stops le h =
+    begins-moves (ap begins_of is)
+    (one-moves opens
+    (reads-expr in_a (omega arith) (closes-stops ((refl, refl), refl) comma) (omega arith)
+    (λ top _. closed ((refl, refl), refl) comma
+    (reads-expr in_b (omega arith) (closes-stops ((refl, refl), refl) comma') (omega arith)
+    (λ top _. closed ((refl, refl), refl) comma'
+    (reads-expr in_c (omega arith) (closes-stops ((refl, refl), refl) closes) (omega arith)
+    (λ top _. closed ((refl, refl), refl) closes (h 11 (omega arith)))))))))
+reads-expr (a_prefix {level} {rest = rest} is e) small stops le h =
+    begins-moves (prefix-begins _ _ is)
+    (reads-expr e (omega arith) (stops-more (level + 1) 11 rest (omega arith) stops) (omega arith)
+    (λ top _. stops-moves rest (stops-ten (level + 1) rest stops) (h 11 (omega arith))))
+reads-expr (a_rotation {t = t} is at e is_amount) small stops le h =
+    reads-expr e (omega arith) (rotation-stops t.kind 8 is (omega arith)) (omega arith)
+    (λ top high. link-moves by_rotation (ap link_of is) (omega arith) high (amount-moves is_amount (h 7 at)))
+reads-expr (a_binary {level} {t} {operator = o} {rest = rest} is at in_left in_right) small stops le h =
+    let levels = left_levels o in
+    reads-expr in_left (omega arith) (operator-stops o t.kind (left_level_of o + 1) is (omega arith)) (omega arith)
+    (λ top high.
+    link-moves (by_operator o) (operator-links t.kind o is) (omega arith) high
+    (reads-expr in_right (omega arith) (stops-more (level + 1) (level_of o + 1 + 1) rest (omega arith) stops)
+    (omega arith)
+    (λ top' _.
+    stops-moves rest (stops-more (level + 1) (level_of o + 1) rest (omega arith) stops) (h (level_of o) at))))
 
-more-run : (end : TokenKind) → Closes end → fits (token.Sign sign.Comma) end ≡ false
-    → (ts : List Lexeme) (fs : List ExprTree) (rest : List Lexeme) → MoreExprs end ts fs rest
-    → (es : List ExprTree) (k : List ExprTree → State) → run (more_exprs end es k) ts ≡ run (k (es ++ fs)) rest
-more-run end closes other _ _ _ (no_more closing rest is) es k =
-    last-run end closing rest es k (ap (fits (token.Sign sign.Comma)) is ∙ other) (fits-kind end closing.kind is)
-    ∙ ap (λ xs. run (k xs) rest) (sym (append-nil es))
-more-run end closes other _ _ _ (one_more comma list second rest e fs is in_e in_more) es k =
-    ap (λ kind. option_and_then (λ n. run n list) (after_expr end kind es k)) is
-    ∙ item-run end closes list e second fs rest in_e in_more (λ x. more_exprs end (es ++ x ∷ []) k)
-    ∙ more-run end closes other second fs rest in_more (es ++ e ∷ []) k
-    ∙ ap (λ xs. run (k xs) rest) (append_assoc es (e ∷ []) fs)
+expr-moves : {ts tail rest : List Lexeme} {e : ExprTree} {k : ExprTree → State} {last : State} → ExprAt 1 ts e tail
+    → Stops 1 tail → Moves (k e) tail last rest → Moves (expr 1 k) ts last rest
+expr-moves {tail = tail} is stops h =
+    reads-expr is (omega arith) (stops-more 1 2 tail (omega arith) stops) (omega arith)
+    (λ top _. stops-moves tail stops h)
 
-some-run : (end : TokenKind) → Closes end → fits (token.Sign sign.Comma) end ≡ false
-    → (ts : List Lexeme) (es : List ExprTree) (rest : List Lexeme) → SomeExprs end ts es rest
-    → (k : List ExprTree → State) → run (some_exprs end k) ts ≡ run (k es) rest
-some-run end closes other _ _ _ (some_exprs_rule list second rest e es in_e in_more) k =
-    item-run end closes list e second es rest in_e in_more (λ x. more_exprs end (x ∷ []) k)
-    ∙ more-run end closes other second es rest in_more (e ∷ []) k
+-- an expression, and a token that ends it
+pub expr-one-moves : {what : TokenKind} {ts tail rest : List Lexeme} {t : Lexeme} {e : ExprTree}
+    {k : ExprTree → State} {last : State} → Closes what → ExprAt 1 ts e (t ∷ tail) → t.kind ≡ what
+    → Moves (k e) tail last rest → Moves (expr 1 (λ x. one what (λ _. k x))) ts last rest
+expr-one-moves closes in_e is h = expr-moves in_e (closes-stops closes is) (one-moves is h)
 
--- an expression's first token is no closing bracket
-expr-lacks : (level : ℕ) (ts : List Lexeme) (e : ExprTree) (rest : List Lexeme) → ExprAt level ts e rest
-    → Lacks (token.Sign sign.CloseRound) ts
-expr-lacks _ _ _ _ (a_number level t n suffix rest is) = ap (fits (token.Sign sign.CloseRound)) is
-expr-lacks _ _ _ _ (a_true level t rest is) = ap (fits (token.Sign sign.CloseRound)) is
-expr-lacks _ _ _ _ (a_false level t rest is) = ap (fits (token.Sign sign.CloseRound)) is
-expr-lacks _ _ _ _ (a_name level t rest is) = ap (fits (token.Sign sign.CloseRound)) is
-expr-lacks _ _ _ _ (an_element level t opening closing inner rest i is opens e closes) =
-    ap (fits (token.Sign sign.CloseRound)) is
-expr-lacks _ _ _ _ (in_brackets level opening closing inner rest x opens e closes) =
-    ap (fits (token.Sign sign.CloseRound)) opens
-expr-lacks _ _ _ _ (a_conversion level t opening closing inner rest kind x is opens e closes) = not_closing t.kind is
-  where
-    not_closing : (which : TokenKind) → conversion_of which ≡ Some kind
-        → fits (token.Sign sign.CloseRound) which ≡ false
-    not_closing (token.Keyword _) e = refl
-    not_closing (token.Sign _) e = cc
-    not_closing token.Name e = refl
-    not_closing (token.Number _ _) e = refl
-expr-lacks _ _ _ _ (a_select level t opening comma comma' closing start second third rest a b c is opens in_a is_comma
-    in_b is_comma' in_c closes) = ap (fits (token.Sign sign.CloseRound)) is
-expr-lacks _ _ _ _ (a_prefix level t o inner rest x is e) = let f = prefix-begins t.kind o is in
-    closing (fits (token.Sign sign.CloseRound) t.kind) refl f
-  where
-    closing : (b : Bool) → fits (token.Sign sign.CloseRound) t.kind ≡ b → begins_of t.kind ≡ Some (by_prefix o)
-        → b ≡ false
-    closing false e f = refl
-    closing true e f = let g = ap begins_of (kind-fits (token.Sign sign.CloseRound) t.kind e) in cc
-expr-lacks _ _ _ _ (a_rotation level t number amount start rest x is at e is_amount) =
-    expr-lacks 7 start x (t ∷ number ∷ rest) e
-expr-lacks _ _ _ _ (a_binary level t o start second rest left right is at in_left in_right) =
-    expr-lacks (left_level_of o) start left (t ∷ second) in_left
+-- a list of expressions, and what ends it
+more-stops : {end : TokenKind} {ts rest : List Lexeme} {es : List ExprTree} → Closes end → MoreExprs end ts es rest
+    → Stops 1 ts
+more-stops closes (no_more is) = closes-stops closes is
+more-stops closes (one_more is in_e in_more) = closes-stops ((refl, refl), refl) is
 
-some-lacks : (end : TokenKind) (ts : List Lexeme) (es : List ExprTree) (rest : List Lexeme) → SomeExprs end ts es rest
-    → Lacks (token.Sign sign.CloseRound) ts
-some-lacks end _ _ _ (some_exprs_rule list second rest e es in_e in_more) = expr-lacks 1 list e second in_e
+comma-step : (end : TokenKind) (es : List ExprTree) (k : List ExprTree → State) (t : Lexeme)
+    → t.kind ≡ token.Sign sign.Comma
+    → step (more_exprs end es k) t ≡ Some (expr 1 (λ x. more_exprs end (es ++ x ∷ []) k))
+comma-step end es k t is = rw is
 
--- a call, after its opening bracket
-pub call-run : (t : Lexeme) (list rest : List Lexeme) (es : List ExprTree) → Arguments list es rest
-    → (k : CallTree → State) → run (call_of t k) list
-    ≡ run (k (record { place = t.place; name = t.text; arguments = es })) rest
-call-run t _ _ _ (no_arguments closing rest is) k =
-    let k' = λ (es : List ExprTree). k (record { place = t.place; name = t.text; arguments = es }) in
-    either-run (token.Sign sign.CloseRound) (λ _. k' []) (some_exprs (token.Sign sign.CloseRound) k') closing rest is
-call-run t _ _ _ (some_arguments list rest es h) k =
-    let k' = λ (es : List ExprTree). k (record { place = t.place; name = t.text; arguments = es }) in
-    other-run (token.Sign sign.CloseRound) (λ _. k' []) (some_exprs (token.Sign sign.CloseRound) k') list
-    (some-lacks ((token.Sign sign.CloseRound)) list es rest h)
-    ∙ some-run (token.Sign sign.CloseRound) ((refl, refl), refl) refl list es rest h k'
+last-step : (end : TokenKind) (es : List ExprTree) (k : List ExprTree → State) (t : Lexeme)
+    → fits (token.Sign sign.Comma) end ≡ false → t.kind ≡ end → step (more_exprs end es k) t ≡ Some (k es)
+last-step end es k t other is = let ends = fits-kind end end refl in rw (is, other, ends)
 
--- where a name stands first, no opening bracket stands second
-abbrev Apart : List Lexeme → Type 0
-Apart [] = ⊥
-Apart (t ∷ ts) = t.kind ≡ token.Name → Lacks (token.Sign sign.OpenRound) ts
+more-moves : {end : TokenKind} {ts tail rest : List Lexeme} {fs : List ExprTree} {last : State}
+    (es : List ExprTree) (k : List ExprTree → State) → Closes end → fits (token.Sign sign.Comma) end ≡ false
+    → MoreExprs end ts fs tail → Moves (k (es ++ fs)) tail last rest → Moves (more_exprs end es k) ts last rest
+more-moves {end} es k closes other (no_more {closing} is) h =
+    step-moves (last-step end es k closing other is) (rw append-nil at h)
+more-moves {end} es k closes other (one_more {comma} {tree = e} is in_e in_more) h =
+    step-moves (comma-step end es k comma is)
+    (expr-moves in_e (more-stops closes in_more)
+    (more-moves (es ++ e ∷ []) k closes other in_more (rw append_assoc h)))
 
-apart : (level : ℕ) (ts : List Lexeme) (e : ExprTree) (rest : List Lexeme) → ExprAt level ts e rest
-    → Lacks (token.Sign sign.OpenRound) rest → Apart ts
-apart _ _ _ _ (a_number level t n suffix rest is) h = λ e. let f : token.Number n suffix ≡ token.Name =
-    sym is ∙ e in cc
-apart _ _ _ _ (a_true level t rest is) h = λ e. cc
-apart _ _ _ _ (a_false level t rest is) h = λ e. cc
-apart _ _ _ _ (a_name level t rest is) h = λ e. h
-apart _ _ _ _ (an_element level t opening closing inner rest i is opens e closes) h =
-    λ e. ap (fits (token.Sign sign.OpenRound)) opens
-apart _ _ _ _ (in_brackets level opening closing inner rest x opens e closes) h = λ e. cc
-apart _ _ _ _ (a_conversion level t opening closing inner rest kind x is opens e closes) h = λ e. let f =
-    ap conversion_of e in cc
-apart _ _ _ _ (a_select level t opening comma comma' closing start second third rest a b c is opens in_a is_comma in_b
-    is_comma' in_c closes) h = λ e. cc
-apart _ _ _ _ (a_prefix level t o inner rest x is e) h = λ e. let f = ap prefix_of e in cc
-apart _ _ _ _ (a_rotation level t number amount start rest x is at e is_amount) h =
-    apart 7 start x (t ∷ number ∷ rest) e (ap (fits (token.Sign sign.OpenRound)) is)
-apart _ _ _ _ (a_binary level t o start second rest left right is at in_left in_right) h =
-    apart (left_level_of o) start left (t ∷ second) in_left (operator-bars t.kind o is).1
+some-moves : {end : TokenKind} {ts tail rest : List Lexeme} {es : List ExprTree} {last : State}
+    (k : List ExprTree → State) → Closes end → fits (token.Sign sign.Comma) end ≡ false → SomeExprs end ts es tail
+    → Moves (k es) tail last rest → Moves (some_exprs end k) ts last rest
+some-moves k closes other (some_exprs_rule {tree = e} in_e in_more) h =
+    expr-moves in_e (more-stops closes in_more) (more-moves (e ∷ []) k closes other in_more h)
+
+-- the first token begins an operand, and no opening bracket follows a name that stands first
+abbrev Front : List Lexeme → Type 0
+Front [] = ⊥
+Front (t ∷ ts) = (b : Begins) × (begins_of t.kind ≡ Some b)
+    × (t.kind ≡ token.Name → Lacks (token.Sign sign.OpenRound) ts)
+
+front : {level : ℕ} {ts rest : List Lexeme} {e : ExprTree} → ExprAt level ts e rest
+    → Lacks (token.Sign sign.OpenRound) rest → Front ts
+front (a_number is) h = (_, ap begins_of is, λ e. let f = sym is ∙ e in cc)
+front (a_true is) h = (_, ap begins_of is, λ e. cc)
+front (a_false is) h = (_, ap begins_of is, λ e. cc)
+front (a_name is) h = (_, ap begins_of is, λ e. h)
+front (an_element is opens in_e closes) h = (_, ap begins_of is, λ e. ap (fits (token.Sign sign.OpenRound)) opens)
+front (in_brackets opens in_e closes) h = (_, ap begins_of opens, λ e. cc)
+front (a_conversion is opens in_e closes) h = (_, conversion-begins _ _ is, λ e. let f = ap conversion_of e in cc)
+front (a_select is opens in_a comma in_b comma' in_c closes) h = (_, ap begins_of is, λ e. cc)
+front (a_prefix is in_e) h = (_, prefix-begins _ _ is, λ e. let f = ap prefix_of e in cc)
+front (a_rotation is at in_e is_amount) h = front in_e (ap (fits (token.Sign sign.OpenRound)) is)
+front (a_binary is at in_left in_right) h = front in_left (unlike operator_of (token.Sign sign.OpenRound) refl is)
+
+front-lacks : (ts : List Lexeme) → Front ts → Lacks (token.Sign sign.CloseRound) ts
+front-lacks [] h = absurd h
+front-lacks (t ∷ ts) h = unlike begins_of (token.Sign sign.CloseRound) refl h.1
+
+some-lacks : {end : TokenKind} {rest : List Lexeme} {es : List ExprTree} (ts : List Lexeme) → Closes end
+    → SomeExprs end ts es rest → Lacks (token.Sign sign.CloseRound) ts
+some-lacks ts closes (some_exprs_rule {second = second} in_e in_more) =
+    front-lacks ts (front in_e (stops-lacks-round 1 second (more-stops closes in_more)))
+
+-- arguments, after their opening bracket
+pub arguments-moves : {ts tail rest : List Lexeme} {es : List ExprTree} {last : State} (k : List ExprTree → State)
+    → Arguments ts es tail → Moves (k es) tail last rest → Moves (arguments k) ts last rest
+arguments-moves k (no_arguments is) h = either-moves is h
+arguments-moves k (some_arguments {list} is) h =
+    other-moves (some-lacks list ((refl, refl), refl) is) (some-moves k ((refl, refl), refl) refl is h)
 
 -- a right side that is an expression
-right-expr : (ts : List Lexeme) → Apart ts → (k : RightTree → State)
-    → run (right k) ts ≡ run (expr 1 (λ e. k (tree.computed e))) ts
-right-expr [] h k = absurd h
-right-expr (t ∷ ts) h k = go (fits token.Name t.kind) refl
+right-expr : {last : State} {rest : List Lexeme} (ts : List Lexeme) (k : RightTree → State) → Front ts
+    → Moves (expr 1 (λ e. k (tree.computed e))) ts last rest → Moves (right k) ts last rest
+right-expr [] k front h = absurd front
+right-expr {last} {rest} (t ∷ ts) k front h = by (fits token.Name t.kind) refl
   where
-    go : (b : Bool) → fits token.Name t.kind ≡ b
-        → run (right k) (t ∷ ts) ≡ run (expr 1 (λ e. k (tree.computed e))) (t ∷ ts)
-    go false e = other-run token.Name (λ t. right_from t k) (expr 1 (λ e. k (tree.computed e))) (t ∷ ts) e
-    go true e =
+    by : (b : Bool) → fits token.Name t.kind ≡ b → Moves (right k) (t ∷ ts) last rest
+    by false e = other-moves e h
+    by true e =
         let is = kind-fits token.Name t.kind e in
-        let k' = λ (x : ExprTree). k (tree.computed x) in
-        either-run token.Name (λ t. right_from t k) (expr 1 k') t ts is
-        ∙ other-run (token.Sign sign.OpenRound) (λ _. call_of t (λ c. k (tree.called c)))
-        (named t (λ e. more 1 11 e k')) ts (h is)
-        ∙ sym (begins-run 1 k' t ts by_name (ap begins_of is))
+        let begun = operand-step 1 (λ e. k (tree.computed e)) t by_name (ap begins_of is) in
+        either-moves is (other-moves (front.2 is) (record {
+          same = sym (ap (option_and_then (λ n. run n ts)) begun) ∙ h.same;
+        }))
 
-pub right-end-run : (ts : List Lexeme) (r : RightTree) (semicolon : Lexeme) (rest : List Lexeme)
-    → RightSide ts r (semicolon ∷ rest) → semicolon.kind ≡ (token.Sign sign.Semicolon) → (k : RightTree → State)
-    → run (right_end k) ts ≡ run (k r) rest
-right-end-run _ _ semicolon rest (a_call_value _ _ _ (a_call t opening list _ es is opens in_list)) ends k =
-    let k' = λ (r : RightTree). one (token.Sign sign.Semicolon) (λ _. k r) in
-    let found : CallTree = record { place = t.place; name = t.text; arguments = es } in
-    either-run token.Name (λ t. right_from t k') (expr 1 (λ e. k' (tree.computed e))) t (opening ∷ list) is
-    ∙ either-run (token.Sign sign.OpenRound) (λ _. call_of t (λ c. k' (tree.called c)))
-    (named t (λ e. more 1 11 e (λ e. k' (tree.computed e)))) opening list opens
-    ∙ call-run t list (semicolon ∷ rest) es in_list (λ c. k' (tree.called c))
-    ∙ one-run (token.Sign sign.Semicolon) (λ _. k (tree.called found)) semicolon rest ends
-right-end-run _ _ semicolon rest (a_value list _ e in_e) ends k =
-    let k' = λ (r : RightTree). one (token.Sign sign.Semicolon) (λ _. k r) in
-    right-expr list (apart 1 list e (semicolon ∷ rest) in_e (ap (fits (token.Sign sign.OpenRound)) ends)) k'
-    ∙ expr-one-run (token.Sign sign.Semicolon) ((refl, refl), refl) list e semicolon rest in_e ends
-    (λ e. k (tree.computed e))
+right-moves : {ts tail rest : List Lexeme} {r : RightTree} {last : State} (k : RightTree → State)
+    → RightSide ts r tail → Stops 1 tail → Moves (k r) tail last rest → Moves (right k) ts last rest
+right-moves k (a_call_value (a_call {t} is opens in_list)) stops h =
+    either-moves is (either-moves opens (arguments-moves (λ es. k (tree.called (record {
+      place = t.place;
+      name = t.text;
+      arguments = es;
+    }))) in_list h))
+right-moves k (a_value {list} {rest} in_e) stops h =
+    right-expr list k (front in_e (stops-lacks-round 1 rest stops)) (expr-moves in_e stops h)
 
-pub values-run : (ts : List Lexeme) (vs : Option (List ExprTree)) (semicolon : Lexeme) (rest : List Lexeme)
-    → FirstValues ts vs (semicolon ∷ rest) → semicolon.kind ≡ (token.Sign sign.Semicolon)
-    → (k : Option (List ExprTree) → State) → run (first_values (λ vs. one (token.Sign sign.Semicolon) (λ _. k vs))) ts
-    ≡ run (k vs) rest
-values-run _ _ semicolon rest (no_values _) ends k =
-    let k' = λ (vs : Option (List ExprTree)). one (token.Sign sign.Semicolon) (λ _. k vs) in
-    other-run (token.Sign sign.Assign)
-    (λ _. one (token.Sign sign.OpenCurly) (λ _. some_exprs (token.Sign sign.CloseCurly) (λ es. k' (Some es))))
-    (k' None) (semicolon ∷ rest) (ap (fits (token.Sign sign.Assign)) ends)
-    ∙ one-run (token.Sign sign.Semicolon) (λ _. k None) semicolon rest ends
-values-run _ _ semicolon rest (some_values equals opening list _ es is opens in_list) ends k =
-    let k' = λ (vs : Option (List ExprTree)). one (token.Sign sign.Semicolon) (λ _. k vs) in
-    either-run (token.Sign sign.Assign)
-    (λ _. one (token.Sign sign.OpenCurly) (λ _. some_exprs (token.Sign sign.CloseCurly) (λ es. k' (Some es))))
-    (k' None) equals (opening ∷ list) is
-    ∙ one-run (token.Sign sign.OpenCurly) (λ _. some_exprs (token.Sign sign.CloseCurly) (λ es. k' (Some es)))
-    opening list opens
-    ∙ some-run (token.Sign sign.CloseCurly) ((refl, refl), refl) refl list es (semicolon ∷ rest) in_list
-    (λ es. k' (Some es))
-    ∙ one-run (token.Sign sign.Semicolon) (λ _. k (Some es)) semicolon rest ends
+pub right-end-moves : {ts tail rest : List Lexeme} {r : RightTree} {semicolon : Lexeme} {last : State}
+    (k : RightTree → State) → RightSide ts r (semicolon ∷ tail) → semicolon.kind ≡ token.Sign sign.Semicolon
+    → Moves (k r) tail last rest → Moves (right_end k) ts last rest
+right-end-moves k in_right ends h =
+    right-moves (λ r. one (token.Sign sign.Semicolon) (λ _. k r)) in_right
+    (closes-stops ((refl, refl), refl) ends) (one-moves ends h)
+
+pub values-moves : {ts tail rest : List Lexeme} {vs : Option (List ExprTree)} {semicolon : Lexeme} {last : State}
+    (k : Option (List ExprTree) → State) → FirstValues ts vs (semicolon ∷ tail)
+    → semicolon.kind ≡ token.Sign sign.Semicolon → Moves (k vs) tail last rest
+    → Moves (first_values (λ vs. one (token.Sign sign.Semicolon) (λ _. k vs))) ts last rest
+values-moves k no_values ends h = other-moves (ap (fits (token.Sign sign.Assign)) ends) (one-moves ends h)
+values-moves k (some_values is opens in_list) ends h =
+    either-moves is
+    (one-moves opens
+    (some-moves (λ es. one (token.Sign sign.Semicolon) (λ _. k (Some es))) ((refl, refl), refl) refl in_list
+    (one-moves ends h)))

@@ -23,16 +23,15 @@ use Rattle.language.specs.declared.signature.Kind.{Kind}
 use Rattle.language.specs.declared.signature.Label.{Label}
 use Rattle.syntax.specs.declared.token.TokenKind.{TokenKind}
 use Rattle.syntax.specs.declared.token.TokenKind.TheVariants as token
-use Rattle.syntax.specs.declared.token.Keyword.TheVariants.{Export, Void, Public, Secret, Mut, Uint32, True, False}
-use Rattle.syntax.specs.declared.token.Keyword.TheVariants.{If, Else, For, From, To, Return, Select}
+use Rattle.syntax.specs.declared.token.Keyword.TheVariants.{True, False}
+use Rattle.syntax.specs.declared.token.Keyword.TheVariants.{If, For, Select}
 use Rattle.syntax.specs.declared.token.Sign.TheVariants.{RotateLeft, OpenRound, CloseRound, OpenCurly, CloseCurly}
 use Rattle.syntax.specs.declared.token.Sign.TheVariants.{OpenSquare, CloseSquare, Comma, Semicolon, Assign}
 use Rattle.language.specs.declared.operators.BinaryOperator.{BinaryOperator}
 use Rattle.language.specs.declared.operators.BinaryOperator.TheVariants as operator
 use Rattle.language.specs.declared.operators.PrefixOperator.{PrefixOperator}
-use Rattle.syntax.specs.Grammar.{prefix_of, operator_of, level_of, left_level_of, label_of, word_of, conversion_of}
+use Rattle.syntax.specs.Grammar.{prefix_of, operator_of, level_of, left_level_of, label_of, conversion_of}
 use Rattle.syntax.specs.private.Machine.{fits, begins_of, link_of, link_level, starts_with}
-use Rattle.syntax.specs.declared.token.Keyword.TheVariants as keyword
 use Rattle.syntax.specs.declared.token.Sign.TheVariants as sign
 
 -- ---- two kinds fit exactly where they are one
@@ -123,9 +122,7 @@ pub prefix-begins : (kind : TokenKind) (operator : PrefixOperator) → prefix_of
     → begins_of kind ≡ Some (by_prefix operator)
 prefix-begins (token.Sign OpenRound) operator e = cc
 prefix-begins (token.Sign _) operator e = ap (option_map by_prefix) e
-prefix-begins (token.Keyword _) operator e = cc
-prefix-begins token.Name operator e = cc
-prefix-begins (token.Number _ _) operator e = cc
+prefix-begins _ operator e = cc
 
 pub conversion-begins : (kind : TokenKind) (what : Kind) → conversion_of kind ≡ Some what
     → begins_of kind ≡ Some (by_conversion what)
@@ -133,9 +130,7 @@ conversion-begins (token.Keyword True) what e = cc
 conversion-begins (token.Keyword False) what e = cc
 conversion-begins (token.Keyword Select) what e = cc
 conversion-begins (token.Keyword _) what e = ap (option_map by_conversion) e
-conversion-begins (token.Sign _) what e = cc
-conversion-begins token.Name what e = cc
-conversion-begins (token.Number _ _) what e = cc
+conversion-begins _ what e = cc
 
 -- the kind of a token that is such a sign
 abbrev pub LinksBy : TokenKind → Link → Type 0
@@ -192,29 +187,11 @@ left_levels o = (omega arith, omega arith)
 abbrev pub Bars : TokenKind → Type 0
 Bars kind = (fits (token.Sign sign.OpenSquare) kind ≡ false) × (fits (token.Sign sign.OpenRound) kind ≡ false)
 
-pub operator-bars : (kind : TokenKind) (o : BinaryOperator) → operator_of kind ≡ Some o → Bars kind
-operator-bars (token.Sign OpenSquare) o e = cc
-operator-bars (token.Sign OpenRound) o e = cc
-operator-bars (token.Sign _) o e = (refl, refl)
-operator-bars (token.Keyword _) o e = cc
-operator-bars token.Name o e = cc
-operator-bars (token.Number _ _) o e = cc
-
--- what a keyword of a type is not
-pub label-no : (kind : TokenKind) (label : Label) → label_of kind ≡ Some label
-    → (fits (token.Keyword keyword.Else) kind ≡ false) × (fits (token.Sign sign.CloseRound) kind ≡ false)
-    × (fits (token.Keyword keyword.Void) kind ≡ false) × (fits (token.Keyword keyword.Export) kind ≡ false)
-label-no (token.Keyword Public) label e = (refl, refl, refl, refl)
-label-no (token.Keyword Secret) label e = (refl, refl, refl, refl)
-label-no (token.Keyword _) label e = cc
-label-no (token.Sign _) label e = cc
-label-no token.Name label e = cc
-label-no (token.Number _ _) label e = cc
-
-pub word-no-mut : (which : TokenKind) (kind : Kind) → word_of which ≡ Some kind
-    → fits (token.Keyword keyword.Mut) which ≡ false
-word-no-mut (token.Keyword Mut) kind e = cc
-word-no-mut (token.Keyword _) kind e = refl
-word-no-mut (token.Sign _) kind e = cc
-word-no-mut token.Name kind e = cc
-word-no-mut (token.Number _ _) kind e = cc
+-- what has an entry in a table is nothing that has none
+pub unlike : {A : Type 0} (table : TokenKind → Option A) (what : TokenKind) → table what ≡ None
+    → {kind : TokenKind} {x : A} → table kind ≡ Some x → fits what kind ≡ false
+unlike table what none {kind} {x} is = by (fits what kind) refl
+  where
+    by : (b : Bool) → fits what kind ≡ b → b ≡ false
+    by false e = refl
+    by true e = let found : None ≡ Some x = sym none ∙ ap table (sym (kind-fits what kind e)) ∙ is in cc

@@ -1,11 +1,15 @@
 -- What a state of the machine stands for: the tokens that finish the program from there on.
-use Rattle.std.proofs.Common.{◌≡◌, ℕ, ◌⊎◌, List, ◌∷◌, ◌++◌, Some}
+use Rattle.std.proofs.Common.{◌≡◌, ℕ, List, ◌∷◌, ◌++◌, Option, Some}
+use Rattle.word.specs.declared.place.Place.{Place}
 use Rattle.language.specs.declared.signature.Kind.{Kind}
 use Rattle.language.specs.declared.signature.Label.{Label}
+use Rattle.language.specs.declared.typing.WordType.{WordType}
+use Rattle.syntax.specs.declared.token.TokenKind.{TokenKind}
 use Rattle.syntax.specs.Grammar.{ExprAt, MoreExprs, MoreParameters, Statements, Otherwise, Procedures, label_of}
 use Rattle.syntax.specs.Grammar.{word_of, length_of, amount_of}
 use Rattle.syntax.specs.Lexeme.{Lexeme}
-use Rattle.language.specs.Tree.{ExprTree, BlockTree, ParameterTree, ProcedureTree, ProgramTree}
+use Rattle.language.specs.Tree.{ExprTree, BlockTree, ParameterTree, ReturnTree, ProcedureTree}
+use Rattle.language.specs.Tree.{ProgramTree}
 use Rattle.syntax.specs.private.Machine.{State, procedures, one, either, a_label, a_kind, a_length, an_amount}
 use Rattle.syntax.specs.private.Machine.{more_parameters, expr, more, more_exprs, statements, otherwise}
 
@@ -14,26 +18,50 @@ abbrev pub Grows : ℕ → ℕ → ExprTree → List Lexeme → ExprTree → Lis
 Grows level top left tokens tree rest = (start : List Lexeme) → ExprAt top start left tokens
     → ExprAt level start left tokens → ExprAt level start tree rest
 
-abbrev pub Finishes : State → List Lexeme → ProgramTree → Type 0
-Finishes (procedures ps) ts p = (qs : List ProcedureTree) × Procedures ts qs × (p.procedures ≡ ps ++ qs)
-Finishes (one wanted k) ts p = (t : Lexeme) × (rest : List Lexeme) × (ts ≡ t ∷ rest) × (t.kind ≡ wanted)
-    × Finishes (k t) rest p
-Finishes (either wanted next other) ts p = Finishes other ts p
-    ⊎ ((t : Lexeme) × (rest : List Lexeme) × (ts ≡ t ∷ rest) × (t.kind ≡ wanted) × Finishes (next t) rest p)
-Finishes (a_label k) ts p = (t : Lexeme) × (rest : List Lexeme) × (label : Label) × (ts ≡ t ∷ rest)
-    × (label_of t.kind ≡ Some label) × Finishes (k label) rest p
-Finishes (a_kind k) ts p = (t : Lexeme) × (rest : List Lexeme) × (kind : Kind) × (ts ≡ t ∷ rest)
-    × (word_of t.kind ≡ Some kind) × Finishes (k kind) rest p
-Finishes (a_length k) ts p = (t : Lexeme) × (rest : List Lexeme) × (n : ℕ) × (ts ≡ t ∷ rest)
-    × (length_of t.kind ≡ Some n) × Finishes (k n) rest p
-Finishes (an_amount k) ts p = (t : Lexeme) × (rest : List Lexeme) × (n : ℕ) × (ts ≡ t ∷ rest)
-    × (amount_of t.kind ≡ Some n) × Finishes (k n) rest p
-Finishes (more_parameters ps k) ts p = (qs : List ParameterTree) × (rest : List Lexeme) × MoreParameters ts qs rest
-    × Finishes (k (ps ++ qs)) rest p
-Finishes (expr level k) ts p = (e : ExprTree) × (rest : List Lexeme) × ExprAt level ts e rest × Finishes (k e) rest p
-Finishes (more level top left k) ts p = (e : ExprTree) × (rest : List Lexeme) × Grows level top left ts e rest
-    × Finishes (k e) rest p
-Finishes (more_exprs end es k) ts p = (fs : List ExprTree) × (rest : List Lexeme) × MoreExprs end ts fs rest
-    × Finishes (k (es ++ fs)) rest p
-Finishes (statements k) ts p = (b : BlockTree) × (rest : List Lexeme) × Statements ts b rest × Finishes (k b) rest p
-Finishes (otherwise k) ts p = (b : BlockTree) × (rest : List Lexeme) × Otherwise ts b rest × Finishes (k b) rest p
+pub data Finishes (p : ProgramTree) : State → List Lexeme → Type 0 where
+  with_procedures : {ps qs : List ProcedureTree} {ts : List Lexeme} → Procedures ts qs → p.procedures ≡ ps ++ qs
+      → Finishes p (procedures ps) ts
+  with_token : {wanted : TokenKind} {k : Lexeme → State} {t : Lexeme} {ts : List Lexeme} → t.kind ≡ wanted
+      → Finishes p (k t) ts → Finishes p (one wanted k) (t ∷ ts)
+  with_either : {wanted : TokenKind} {next : Lexeme → State} {other : State} {t : Lexeme} {ts : List Lexeme}
+      → t.kind ≡ wanted → Finishes p (next t) ts → Finishes p (either wanted next other) (t ∷ ts)
+  with_other : {wanted : TokenKind} {next : Lexeme → State} {other : State} {ts : List Lexeme} → Finishes p other ts
+      → Finishes p (either wanted next other) ts
+  with_label : {k : Label → State} {t : Lexeme} {ts : List Lexeme} {label : Label} → label_of t.kind ≡ Some label
+      → Finishes p (k label) ts → Finishes p (a_label k) (t ∷ ts)
+  with_kind : {k : Kind → State} {t : Lexeme} {ts : List Lexeme} {kind : Kind} → word_of t.kind ≡ Some kind
+      → Finishes p (k kind) ts → Finishes p (a_kind k) (t ∷ ts)
+  with_length : {k : ℕ → State} {t : Lexeme} {ts : List Lexeme} {n : ℕ} → length_of t.kind ≡ Some n
+      → Finishes p (k n) ts → Finishes p (a_length k) (t ∷ ts)
+  with_amount : {k : ℕ → State} {t : Lexeme} {ts : List Lexeme} {n : ℕ} → amount_of t.kind ≡ Some n
+      → Finishes p (k n) ts → Finishes p (an_amount k) (t ∷ ts)
+  with_parameters : {ps qs : List ParameterTree} {k : List ParameterTree → State} {ts rest : List Lexeme}
+      → MoreParameters ts qs rest → Finishes p (k (ps ++ qs)) rest → Finishes p (more_parameters ps k) ts
+  with_expr : {level : ℕ} {k : ExprTree → State} {e : ExprTree} {ts rest : List Lexeme} → ExprAt level ts e rest
+      → Finishes p (k e) rest → Finishes p (expr level k) ts
+  with_more : {level top : ℕ} {left e : ExprTree} {k : ExprTree → State} {ts rest : List Lexeme}
+      → Grows level top left ts e rest → Finishes p (k e) rest → Finishes p (more level top left k) ts
+  with_exprs : {end : TokenKind} {es fs : List ExprTree} {k : List ExprTree → State} {ts rest : List Lexeme}
+      → MoreExprs end ts fs rest → Finishes p (k (es ++ fs)) rest → Finishes p (more_exprs end es k) ts
+  with_statements : {k : BlockTree → State} {b : BlockTree} {ts rest : List Lexeme} → Statements ts b rest
+      → Finishes p (k b) rest → Finishes p (statements k) ts
+  with_otherwise : {k : BlockTree → State} {b : BlockTree} {ts rest : List Lexeme} → Otherwise ts b rest
+      → Finishes p (k b) rest → Finishes p (otherwise k) ts
+
+-- a form with its tree, which stands first, and what finishes the program after it
+abbrev pub ReadsThen : {T : Type 0} → ProgramTree → (List Lexeme → T → List Lexeme → Type 0) → (T → State)
+    → List Lexeme → Type 0
+ReadsThen {T} p Form k ts = (tree : T) × (rest : List Lexeme) × Form ts tree rest × Finishes p (k tree) rest
+
+-- a procedure, from its parts
+abbrev pub procedure_of : Option Place → Option WordType → Lexeme → List ParameterTree → BlockTree
+    → Option ReturnTree → ProcedureTree
+procedure_of export result t ps b r = record {
+  export = export;
+  result = result;
+  place = t.place;
+  name = t.text;
+  parameters = ps;
+  body = b;
+  returned = r;
+}

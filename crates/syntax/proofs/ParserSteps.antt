@@ -1,30 +1,24 @@
 -- What the parser's functions share: faults passed on, and single steps of the machine.
-use Rattle.std.proofs.Common.{◌≡◌, ℕ, ◌≤◌, true, false, List, [], ◌∷◌, ◌++◌, map, length, nat_eq, Option, Some, None}
-use Rattle.std.proofs.Common.{Result, Ok, Err, MatchResult, refl, sym, subst, ap, ◌∙◌, if◌then◌else◌}
+use Rattle.std.proofs.Common.{◌≡◌, true, false, List, [], ◌∷◌, ◌++◌, map, length, nat_eq, Option, Some, None}
+use Rattle.std.proofs.Common.{Result, Ok, Err, MatchResult, refl, sym, subst, ap, ◌∙◌}
 use Rattle.std.specs.Result.{IsErrAnd}
 use Rattle.std.specs.Prelude.{is_some}
-use Rattle.std.specs.Option.{option_map}
-use Rattle.language.specs.declared.signature.Kind.{Kind}
-use Rattle.language.specs.declared.signature.Label.{Label}
 use Rattle.syntax.specs.declared.parser.Fault.{Fault}
 use Rattle.syntax.specs.declared.parser.Parser.{Parser}
-use Rattle.syntax.specs.declared.parser.operator.Begins.{Begins}
-use Rattle.syntax.specs.declared.parser.operator.Link.{Link}
-use Rattle.syntax.specs.declared.parser.statement.Start.{Start}
 use Rattle.syntax.specs.declared.token.Token.{Token}
-use Rattle.syntax.specs.Grammar.{label_of, word_of, amount_of, length_of}
 use Rattle.syntax.specs.Lexeme.{Lexeme, lexeme, lexemes}
 use Rattle.syntax.specs.Nesting.{Nest, after}
 use Rattle.syntax.specs.Tokens.{Ending, ending}
-use Rattle.syntax.specs.private.Machine.{State, procedures, fits, one, either, statements, starts_with, statement}
-use Rattle.syntax.specs.private.Machine.{started, a_label, a_kind, a_length, an_amount, expr, more, more_exprs}
-use Rattle.syntax.specs.private.Machine.{more_parameters, otherwise, after_else, begins_of, operand, link_of}
-use Rattle.syntax.specs.private.Machine.{link_level, link_left_level, linked, within, joined, step, at_end, parameter}
+use Rattle.syntax.specs.private.Machine.{State, procedures, one, either}
+use Rattle.syntax.specs.private.Machine.{expr, more_exprs}
+use Rattle.syntax.specs.private.Machine.{more_parameters, otherwise, after_else}
+use Rattle.syntax.specs.private.Machine.{step, at_end, parameter}
 use Rattle.syntax.specs.private.Machine.{procedure, verdict, ending_answer, token_answer}
 use Rattle.syntax.specs.private.ParserViews.{Leads, FaultIs, ahead, nest, taken}
 use Rattle.syntax.specs.Reading.{Answer}
-use Rattle.language.specs.Tree.{ExprTree, StatementTree, BlockTree, nothing, first, ParameterTree, ProcedureTree}
-use Rattle.syntax.proofs.MachineExpressions.{within_level}
+use Rattle.language.specs.Tree.{ExprTree, BlockTree, nothing, ParameterTree, ProcedureTree}
+pub use Rattle.syntax.proofs.MachineSteps.{one-step, either-step, label-step, kind-step, length-step, amount-step}
+pub use Rattle.syntax.proofs.MachineSteps.{sign-step, operand-step, more_statements, start-step}
 use Rattle.syntax.specs.declared.token.TokenKind.TheVariants as token
 use Rattle.syntax.specs.declared.token.TokenKind.{TokenKind}
 use Rattle.syntax.specs.declared.token.Keyword.TheVariants as keyword
@@ -73,48 +67,6 @@ pub none-taken : (s n other : State) (o : Option Token) (old new : Parser)
     → ahead s old ≡ ahead (taken (λ _. n) other o) new → is_some o ≡ false → ahead s old ≡ ahead other new
 none-taken s n other (Some t) old new e is = cc
 none-taken s n other None old new e is = e
-
--- single steps
-pub one-step : (what : TokenKind) (k : Lexeme → State) (t : Lexeme) → fits what t.kind ≡ true
-    → step (one what k) t ≡ Some (k t)
-one-step what k t is = ap (λ b. if b then Some (k t) else None) is
-
-pub either-step : (what : TokenKind) (next : Lexeme → State) (other : State) (t : Lexeme) → fits what t.kind ≡ true
-    → step (either what next other) t ≡ Some (next t)
-either-step what next other t is = ap (λ b. if b then Some (next t) else step other t) is
-
-pub label-step : (k : Label → State) (t : Lexeme) (label : Label) → label_of t.kind ≡ Some label
-    → step (a_label k) t ≡ Some (k label)
-label-step k t label is = ap (option_map k) is
-
-pub kind-step : (k : Kind → State) (t : Lexeme) (kind : Kind) → word_of t.kind ≡ Some kind
-    → step (a_kind k) t ≡ Some (k kind)
-kind-step k t kind is = ap (option_map k) is
-
-pub length-step : (k : ℕ → State) (t : Lexeme) (n : ℕ) → length_of t.kind ≡ Some n → step (a_length k) t ≡ Some (k n)
-length-step k t n is = ap (option_map k) is
-
-pub amount-step : (k : ℕ → State) (t : Lexeme) (n : ℕ) → amount_of t.kind ≡ Some n → step (an_amount k) t ≡ Some (k n)
-amount-step k t n is = ap (option_map k) is
-
-pub sign-step : (level top : ℕ) (left : ExprTree) (k : ExprTree → State) (t : Lexeme) (link : Link)
-    → link_of t.kind ≡ Some link → level ≤ link_level link → link_left_level link ≤ top
-    → step (more level top left k) t ≡ Some (linked link t.place level left k)
-sign-step level top left k t link is low high =
-    ap (λ o. joined o t.place level left k (step (k left) t)) (ap (within level top) is
-    ∙ within_level level top link low high)
-
-pub operand-step : (level : ℕ) (k : ExprTree → State) (t : Lexeme) (b : Begins) → begins_of t.kind ≡ Some b
-    → step (expr level k) t ≡ Some (operand b t (λ e. more level 11 e k))
-operand-step level k t b is = ap (option_map (λ b. operand b t (λ e. more level 11 e k))) is
-
--- after a statement
-abbrev pub more_statements : (BlockTree → State) → StatementTree → State
-more_statements k s = statements (λ b. k (first s b))
-
-pub start-step : (k : BlockTree → State) (t : Lexeme) (start : Start) → starts_with t.kind ≡ Some start
-    → step (statements k) t ≡ Some (statement start t (more_statements k))
-start-step k t start is = ap (λ o. started o t (more_statements k) (step (k nothing) t)) is
 
 -- states between which no token can tell
 same-verdict : (s s' : State) (n : Nest) (ts : List Lexeme) (e : Ending) → at_end s ≡ at_end s'

@@ -84,28 +84,28 @@ name = one (of_kind token.Name)
 -- a phrase may be these parts, one after another
 pub data Case : Phrase → List Part → Type 0 where
   -- an expression, in which no sign between operands, outside all brackets, binds below the level
-  a_number : (level : ℕ) → Case (expr level) (one any_number ∷ [])
-  a_true : (level : ℕ) → Case (expr level) (keyword True ∷ [])
-  a_false : (level : ℕ) → Case (expr level) (keyword False ∷ [])
-  a_name : (level : ℕ) → Case (expr level) (name ∷ [])
-  an_element : (level : ℕ) → Case (expr level) (name ∷ sign OpenSquare ∷ all (expr 1) ∷ sign CloseSquare ∷ [])
-  in_brackets : (level : ℕ) → Case (expr level) (sign OpenRound ∷ all (expr 1) ∷ sign CloseRound ∷ [])
-  a_conversion : (level : ℕ)
+  a_number : {level : ℕ} → Case (expr level) (one any_number ∷ [])
+  a_true : {level : ℕ} → Case (expr level) (keyword True ∷ [])
+  a_false : {level : ℕ} → Case (expr level) (keyword False ∷ [])
+  a_name : {level : ℕ} → Case (expr level) (name ∷ [])
+  an_element : {level : ℕ} → Case (expr level) (name ∷ sign OpenSquare ∷ all (expr 1) ∷ sign CloseSquare ∷ [])
+  in_brackets : {level : ℕ} → Case (expr level) (sign OpenRound ∷ all (expr 1) ∷ sign CloseRound ∷ [])
+  a_conversion : {level : ℕ}
       → Case (expr level) (one any_conversion ∷ sign OpenRound ∷ all (expr 1) ∷ sign CloseRound ∷ [])
-  a_select : (level : ℕ)
+  a_select : {level : ℕ}
       → Case (expr level) (keyword Select ∷ sign OpenRound ∷ all (expr 1) ∷ sign Comma ∷ all (expr 1) ∷ sign Comma
       ∷ all (expr 1) ∷ sign CloseRound ∷ [])
-  a_prefix : (level : ℕ) → Case (expr level) (one any_prefix ∷ all (expr prefix_level) ∷ [])
-  a_rotation : (level : ℕ) → level ≤ rotation_level
+  a_prefix : {level : ℕ} → Case (expr level) (one any_prefix ∷ all (expr prefix_level) ∷ [])
+  a_rotation : {level : ℕ} → level ≤ rotation_level
       → Case (expr level) (all (expr rotation_level) ∷ sign RotateLeft ∷ one any_amount ∷ [])
-  a_binary : (level : ℕ) (operator : BinaryOperator) → level ≤ level_of operator
+  a_binary : {level : ℕ} {operator : BinaryOperator} → level ≤ level_of operator
       → Case (expr level) (all (expr (left_level_of operator)) ∷ one (the_operator operator)
       ∷ all (expr (level_of operator + 1)) ∷ [])
   -- what stands after an expression of a list, with the token that ends the list
-  no_more : (end : TokenKind) → Case (more_exprs end) (one (of_kind end) ∷ [])
-  one_more : (end : TokenKind) → Case (more_exprs end) (sign Comma ∷ all (expr 1) ∷ all (more_exprs end) ∷ [])
+  no_more : {end : TokenKind} → Case (more_exprs end) (one (of_kind end) ∷ [])
+  one_more : {end : TokenKind} → Case (more_exprs end) (sign Comma ∷ all (expr 1) ∷ all (more_exprs end) ∷ [])
   -- expressions and that token
-  some_exprs : (end : TokenKind) → Case (expr_list end) (all (expr 1) ∷ all (more_exprs end) ∷ [])
+  some_exprs : {end : TokenKind} → Case (expr_list end) (all (expr 1) ∷ all (more_exprs end) ∷ [])
   -- arguments and the closing bracket
   no_arguments : Case arguments (sign CloseRound ∷ [])
   some_arguments : Case arguments (all (expr_list (token.Sign CloseRound)) ∷ [])

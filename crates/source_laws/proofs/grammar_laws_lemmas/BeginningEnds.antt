@@ -11,15 +11,15 @@ use Rattle.syntax.specs.declared.token.TokenKind.TheVariants as token
 use Rattle.language.specs.declared.operators.BinaryOperator.{BinaryOperator}
 use Rattle.language.specs.declared.operators.BinaryOperator.TheVariants as operator
 use Rattle.language.specs.declared.operators.PrefixOperator.TheVariants as prefix
-use Rattle.syntax.specs.Beginning.{Whole, WholeParts, Begins, in_case, BeginsParts, no_token, past_token, past_phrase}
-use Rattle.syntax.specs.Beginning.{in_phrase}
+use Rattle.syntax.specs.Beginning.{Whole, by_case, WholeParts, no_part, a_token, a_phrase, Begins, in_case}
+use Rattle.syntax.specs.Beginning.{BeginsParts, no_token, past_token, past_phrase, in_phrase}
 use Rattle.syntax.specs.Cases as cases
 use Rattle.syntax.specs.Cases.{Single, of_kind, any_number, any_amount, any_length, any_label, any_word}
 use Rattle.syntax.specs.Cases.{any_conversion, any_prefix, the_operator, IsOne, Phrase, Part, one, all, Case}
 use Rattle.syntax.specs.Grammar.{operator_of}
 use Rattle.syntax.specs.Lexeme.{Lexeme}
 use Rattle.word.specs.Places.{origin}
-use Rattle.source_laws.proofs.grammar_laws_lemmas.BeginningLaws.{ending, token_then, phrase_then, by, frame}
+use Rattle.source_laws.proofs.grammar_laws_lemmas.BeginningLaws.{frame}
 
 abbrev of : TokenKind → Lexeme
 of kind = record { kind = kind; place = origin; text = [] }
@@ -66,107 +66,6 @@ some_token any_conversion = (key keyword.Uint8, (kind.Uint8, refl))
 some_token any_prefix = (mark sign.Bang, (prefix.Not, refl))
 some_token (the_operator o) = let w = spelled o in (mark w.0, w.1)
 
--- some tokens are the whole phrase, whatever stands behind them
-abbrev CanBe : Phrase → Type 0
-CanBe phrase = (front : List Lexeme) × ((rest : List Lexeme) → Whole phrase (front ++ rest) rest)
-
-an_expr : (level : ℕ) (rest : List Lexeme) → Whole (cases.expr level) (zero' ∷ rest) rest
-an_expr level rest = by (cases.a_number level) (token_then (0, None, refl) ending)
-
-a_list_end : (end : TokenKind) (rest : List Lexeme) → Whole (cases.more_exprs end) (of end ∷ rest) rest
-a_list_end end rest = by (cases.no_more end) (token_then refl ending)
-
-a_list : (end : TokenKind) (rest : List Lexeme) → Whole (cases.expr_list end) (zero' ∷ of end ∷ rest) rest
-a_list end rest =
-    by (cases.some_exprs end) (phrase_then (an_expr 1 (of end ∷ rest)) (phrase_then (a_list_end end rest) ending))
-
-no_arguments : (rest : List Lexeme) → Whole cases.arguments (mark sign.CloseRound ∷ rest) rest
-no_arguments rest = by cases.no_arguments (token_then refl ending)
-
-a_call : (rest : List Lexeme)
-    → Whole cases.call (of token.Name ∷ mark sign.OpenRound ∷ mark sign.CloseRound ∷ rest) rest
-a_call rest = by cases.a_call (token_then refl (token_then refl (phrase_then (no_arguments rest) ending)))
-
-an_array_type : (rest : List Lexeme)
-    → Whole cases.array_type (key keyword.Bool ∷ mark sign.OpenSquare ∷ of (token.Number 1 None)
-    ∷ mark sign.CloseSquare ∷ rest) rest
-an_array_type rest =
-    by cases.an_array_type
-    (token_then (kind.Boolean, refl) (token_then refl (token_then (1, refl) (token_then refl ending))))
-
-a_block : (rest : List Lexeme) → Whole cases.block (mark sign.OpenCurly ∷ mark sign.CloseCurly ∷ rest) rest
-a_block rest =
-    by cases.a_block (token_then refl (phrase_then (by cases.no_statement ending) (token_then refl ending)))
-
-a_conditional : (rest : List Lexeme)
-    → Whole cases.conditional (key keyword.If ∷ mark sign.OpenRound ∷ zero' ∷ mark sign.CloseRound
-    ∷ mark sign.OpenCurly ∷ mark sign.CloseCurly ∷ rest) rest
-a_conditional rest =
-    by cases.a_conditional
-    (token_then refl
-    (token_then refl
-    (phrase_then (an_expr 1 (mark sign.CloseRound ∷ mark sign.OpenCurly ∷ mark sign.CloseCurly ∷ rest))
-    (token_then refl
-    (phrase_then (a_block rest) (phrase_then (by cases.no_else ending) ending))))))
-
-a_parameter : (rest : List Lexeme)
-    → Whole cases.parameter (key keyword.Public ∷ key keyword.Bool ∷ of token.Name ∷ rest) rest
-a_parameter rest =
-    by cases.a_word (token_then (label.Public, refl) (token_then (kind.Boolean, refl) (token_then refl ending)))
-
-no_parameters : (rest : List Lexeme) → Whole cases.parameters (mark sign.CloseRound ∷ rest) rest
-no_parameters rest = by cases.no_parameters (token_then refl ending)
-
-no_return : (rest : List Lexeme) → Whole cases.body_end (mark sign.CloseCurly ∷ rest) rest
-no_return rest = by cases.no_return (token_then refl ending)
-
-a_procedure : (rest : List Lexeme)
-    → Whole cases.procedure (key keyword.Void ∷ of token.Name ∷ mark sign.OpenRound ∷ mark sign.CloseRound
-    ∷ mark sign.OpenCurly ∷ mark sign.CloseCurly ∷ rest) rest
-a_procedure rest =
-    by cases.a_procedure
-    (phrase_then (by cases.not_exported ending)
-    (phrase_then (by cases.a_void (token_then refl ending)) (token_then refl (token_then refl
-    (phrase_then (no_parameters (mark sign.OpenCurly ∷ mark sign.CloseCurly ∷ rest))
-    (token_then refl (phrase_then (by cases.no_statement ending) (phrase_then (no_return rest) ending))))))))
-
-can_be : (phrase : Phrase) → CanBe phrase
-can_be (cases.expr level) = (zero' ∷ [], an_expr level)
-can_be (cases.more_exprs end) = (of end ∷ [], a_list_end end)
-can_be (cases.expr_list end) = (zero' ∷ of end ∷ [], a_list end)
-can_be cases.arguments = (mark sign.CloseRound ∷ [], no_arguments)
-can_be cases.call = (of token.Name ∷ mark sign.OpenRound ∷ mark sign.CloseRound ∷ [], a_call)
-can_be cases.right_side = (zero' ∷ [], λ rest. by cases.a_value (phrase_then (an_expr 1 rest) ending))
-can_be cases.mutable = ([], λ rest. by cases.no_mut ending)
-can_be cases.array_type =
-    (key keyword.Bool ∷ mark sign.OpenSquare ∷ of (token.Number 1 None) ∷ mark sign.CloseSquare ∷ [], an_array_type)
-can_be cases.first_values = ([], λ rest. by cases.no_values ending)
-can_be cases.statement = (
-  of token.Name ∷ mark sign.OpenRound ∷ mark sign.CloseRound ∷ mark sign.Semicolon ∷ [],
-  λ rest. by cases.a_call_statement (phrase_then (a_call (mark sign.Semicolon ∷ rest)) (token_then refl ending)),
-)
-can_be cases.conditional = (
-  key keyword.If ∷ mark sign.OpenRound ∷ zero' ∷ mark sign.CloseRound ∷ mark sign.OpenCurly ∷ mark sign.CloseCurly
-      ∷ [],
-  a_conditional,
-)
-can_be cases.statements = ([], λ rest. by cases.no_statement ending)
-can_be cases.block = (mark sign.OpenCurly ∷ mark sign.CloseCurly ∷ [], a_block)
-can_be cases.otherwise = ([], λ rest. by cases.no_else ending)
-can_be cases.parameter = (key keyword.Public ∷ key keyword.Bool ∷ of token.Name ∷ [], a_parameter)
-can_be cases.more_parameters =
-    (mark sign.CloseRound ∷ [], λ rest. by cases.no_more_parameters (token_then refl ending))
-can_be cases.parameters = (mark sign.CloseRound ∷ [], no_parameters)
-can_be cases.result_type = (key keyword.Void ∷ [], λ rest. by cases.a_void (token_then refl ending))
-can_be cases.body_end = (mark sign.CloseCurly ∷ [], no_return)
-can_be cases.exported = ([], λ rest. by cases.not_exported ending)
-can_be cases.procedure = (
-  key keyword.Void ∷ of token.Name ∷ mark sign.OpenRound ∷ mark sign.CloseRound ∷ mark sign.OpenCurly
-      ∷ mark sign.CloseCurly ∷ [],
-  a_procedure,
-)
-can_be cases.procedures = ([], λ rest. by cases.no_procedure ending)
-
 -- with these tokens behind some, they are whole parts
 abbrev Ends : List Part → List Lexeme → Type 0
 Ends parts tokens = (others : List Lexeme)
@@ -183,28 +82,104 @@ phrase_and_parts : (phrase : Phrase) (parts : List Part) (tokens : List Lexeme) 
 phrase_and_parts phrase parts tokens (front, whole) (others, more) = (
   front ++ others,
   λ rest. subst (λ x. WholeParts (all phrase ∷ parts) (tokens ++ x) rest) (sym (append_assoc front others rest))
-      (phrase_then (whole (others ++ rest)) (more rest)),
+      (a_phrase (whole (others ++ rest)) (more rest)),
 )
 
-parts_can_be : (parts : List Part) → Ends parts []
-parts_can_be [] = ([], λ rest. ending)
-parts_can_be (one single ∷ parts) =
-    let t = some_token single in
-    let more = parts_can_be parts in
-    (t.0 ∷ more.0, λ rest. token_then t.1 (more.1 rest))
-parts_can_be (all phrase ∷ parts) = phrase_and_parts phrase parts [] (can_be phrase) (parts_can_be parts)
+-- some tokens are the whole phrase, or all the parts
+abbrev CanBe : Phrase → Type 0
+CanBe phrase = EndsPhrase phrase []
+
+abbrev CanAllBe : List Part → Type 0
+CanAllBe parts = Ends parts []
+
+done : CanAllBe []
+done = ([], λ rest. no_part)
+
+token_then : {single : Single} {parts : List Part} → CanAllBe parts → CanAllBe (one single ∷ parts)
+token_then {single} more = let t = some_token single in (t.0 ∷ more.0, λ rest. a_token t.1 (more.1 rest))
+
+phrase_then : {phrase : Phrase} {parts : List Part} → CanBe phrase → CanAllBe parts → CanAllBe (all phrase ∷ parts)
+phrase_then {phrase} {parts} whole more = phrase_and_parts phrase parts [] whole more
+
+by : {phrase : Phrase} {parts : List Part} → Case phrase parts → CanAllBe parts → CanBe phrase
+by c parts = (parts.0, λ rest. by_case c (parts.1 rest))
+
+an_expr : (level : ℕ) → CanBe (cases.expr level)
+an_expr level = by cases.a_number (token_then done)
+
+a_list_end : (end : TokenKind) → CanBe (cases.more_exprs end)
+a_list_end end = by cases.no_more (token_then done)
+
+no_arguments : CanBe cases.arguments
+no_arguments = by cases.no_arguments (token_then done)
+
+a_call : CanBe cases.call
+a_call = by cases.a_call (token_then (token_then (phrase_then no_arguments done)))
+
+no_statement : CanBe cases.statements
+no_statement = by cases.no_statement done
+
+a_block : CanBe cases.block
+a_block = by cases.a_block (token_then (phrase_then no_statement (token_then done)))
+
+no_else : CanBe cases.otherwise
+no_else = by cases.no_else done
+
+no_parameters : CanBe cases.parameters
+no_parameters = by cases.no_parameters (token_then done)
+
+a_void : CanBe cases.result_type
+a_void = by cases.a_void (token_then done)
+
+no_return : CanBe cases.body_end
+no_return = by cases.no_return (token_then done)
+
+not_exported : CanBe cases.exported
+not_exported = by cases.not_exported done
+
+can_be : (phrase : Phrase) → CanBe phrase
+can_be (cases.expr level) = an_expr level
+can_be (cases.more_exprs end) = a_list_end end
+can_be (cases.expr_list end) = by cases.some_exprs (phrase_then (an_expr 1) (phrase_then (a_list_end end) done))
+can_be cases.arguments = no_arguments
+can_be cases.call = a_call
+can_be cases.right_side = by cases.a_value (phrase_then (an_expr 1) done)
+can_be cases.mutable = by cases.no_mut done
+can_be cases.array_type = by cases.an_array_type (token_then (token_then (token_then (token_then done))))
+can_be cases.first_values = by cases.no_values done
+can_be cases.statement = by cases.a_call_statement (phrase_then a_call (token_then done))
+can_be cases.conditional =
+    by cases.a_conditional
+    (token_then (token_then (phrase_then (an_expr 1)
+    (token_then (phrase_then a_block (phrase_then no_else done))))))
+can_be cases.statements = no_statement
+can_be cases.block = a_block
+can_be cases.otherwise = no_else
+can_be cases.parameter = by cases.a_word (token_then (token_then (token_then done)))
+can_be cases.more_parameters = by cases.no_more_parameters (token_then done)
+can_be cases.parameters = no_parameters
+can_be cases.result_type = a_void
+can_be cases.body_end = no_return
+can_be cases.exported = not_exported
+can_be cases.procedure =
+    by cases.a_procedure
+    (phrase_then not_exported (phrase_then a_void (token_then (token_then (phrase_then no_parameters
+    (token_then (phrase_then no_statement (phrase_then no_return done))))))))
+can_be cases.procedures = by cases.no_procedure done
+
+parts_can_be : (parts : List Part) → CanAllBe parts
+parts_can_be [] = done
+parts_can_be (one single ∷ parts) = token_then (parts_can_be parts)
+parts_can_be (all phrase ∷ parts) = phrase_then (can_be phrase) (parts_can_be parts)
 
 mutual
-  pub ends : (phrase : Phrase) (tokens : List Lexeme) → Begins phrase tokens → EndsPhrase phrase tokens
-  ends _ _ (in_case phrase parts tokens c begins) = let w = ends_parts parts tokens begins in
-      (w.0, λ rest. by c (w.1 rest))
+  pub ends : {phrase : Phrase} {tokens : List Lexeme} → Begins phrase tokens → EndsPhrase phrase tokens
+  ends (in_case c begins) = let w = ends_parts begins in (w.0, λ rest. by_case c (w.1 rest))
 
-  ends_parts : (parts : List Part) (tokens : List Lexeme) → BeginsParts parts tokens → Ends parts tokens
-  ends_parts _ _ (no_token parts) = parts_can_be parts
-  ends_parts _ _ (past_token single parts t tokens is begins) = let w = ends_parts parts tokens begins in
-      (w.0, λ rest. token_then is (w.1 rest))
-  ends_parts _ _ (past_phrase phrase parts tokens second whole begins) =
-      let w = ends_parts parts second begins in
-      (w.0, λ rest. phrase_then (frame phrase tokens second whole (w.0 ++ rest)) (w.1 rest))
-  ends_parts _ _ (in_phrase phrase parts tokens begins) =
-      phrase_and_parts phrase parts tokens (ends phrase tokens begins) (parts_can_be parts)
+  ends_parts : {parts : List Part} {tokens : List Lexeme} → BeginsParts parts tokens → Ends parts tokens
+  ends_parts (no_token {parts}) = parts_can_be parts
+  ends_parts (past_token is begins) = let w = ends_parts begins in (w.0, λ rest. a_token is (w.1 rest))
+  ends_parts (past_phrase whole begins) = let w = ends_parts begins in
+      (w.0, λ rest. a_phrase (frame whole (w.0 ++ rest)) (w.1 rest))
+  ends_parts (in_phrase {phrase} {parts} {tokens} begins) =
+      phrase_and_parts phrase parts tokens (ends begins) (parts_can_be parts)

@@ -11,10 +11,10 @@ use Rattle.source_laws.proofs.grammar_laws_lemmas.CasesOfTrees.{whole_procedures
 use Rattle.source_laws.proofs.grammar_laws_lemmas.TreesOfCases.{tree_of}
 
 program_whole : (tokens : List Lexeme) (tree : ProgramTree) → IsProgram tokens tree → Whole procedures tokens []
-program_whole _ _ (a_program tokens trees is) = whole_procedures tokens trees is
+program_whole _ _ (a_program is) = whole_procedures is
 
 whole_program : (tokens : List Lexeme) → Whole procedures tokens [] → (tree : ProgramTree) × IsProgram tokens tree
-whole_program tokens whole = let w = tree_of procedures tokens [] whole refl in (_, a_program tokens w.0 w.1)
+whole_program tokens whole = let w = tree_of whole refl in (_, a_program w.1)
 
 beginning_begins : (tokens : List Lexeme) → IsBeginning tokens → Begins procedures tokens
 beginning_begins tokens (others, tree, is) =
@@ -22,7 +22,7 @@ beginning_begins tokens (others, tree, is) =
 
 begins_beginning : (tokens : List Lexeme) → Begins procedures tokens → IsBeginning tokens
 begins_beginning tokens begins =
-    let w = ends procedures tokens begins in
+    let w = ends begins in
     let p = whole_program (tokens ++ (w.0 ++ [])) (w.1 []) in
     (w.0 ++ [], p.0, p.1)
 

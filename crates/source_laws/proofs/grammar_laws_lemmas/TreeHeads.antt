@@ -37,192 +37,142 @@ among w (t ∷ tokens) = w t.place + among w tokens
 module _ (w : Place → ℕ) where
   expr : {level : ℕ} {tokens rest : List Lexeme} {tree : ExprTree} → ExprAt level tokens tree rest
       → in_expr w tree + among w rest ≤ among w tokens
-  expr (a_number level t value suffix rest is) = omega arith
-  expr (a_true level t rest is) = omega arith
-  expr (a_false level t rest is) = omega arith
-  expr (a_name level t rest is) = omega arith
-  expr (an_element level t opening closing inner rest index is opens in_index closes) = let h = expr in_index in
-      omega (arith, h)
-  expr (in_brackets level opening closing inner rest tree opens in_tree closes) = let h = expr in_tree in
-      omega (arith, h)
-  expr (a_conversion level t opening closing inner rest kind tree is opens in_tree closes) = let h = expr in_tree in
-      omega (arith, h)
-  expr (a_select level t opening comma comma' closing start second third rest a b c is opens in_a is_comma in_b
-      is_comma' in_c closes) =
-      let ha = expr in_a in
-      let hb = expr in_b in
-      let hc = expr in_c in
-      omega (arith, ha, hb, hc)
-  expr (a_prefix level t operator inner rest operand is in_operand) = let h = expr in_operand in omega (arith, h)
-  expr (a_rotation level t number amount start rest operand is at in_operand is_amount) = let h = expr in_operand in
-      omega (arith, h)
-  expr (a_binary level t operator start second rest left right is at in_left in_right) =
-      let hl = expr in_left in
-      let hr = expr in_right in
-      omega (arith, hl, hr)
+  expr (a_number is) = omega arith
+  expr (a_true is) = omega arith
+  expr (a_false is) = omega arith
+  expr (a_name is) = omega arith
+  expr (an_element is opens in_index closes) = omega (arith, expr in_index)
+  expr (in_brackets opens in_tree closes) = omega (arith, expr in_tree)
+  expr (a_conversion is opens in_tree closes) = omega (arith, expr in_tree)
+  expr (a_select is opens in_a is_comma in_b is_comma' in_c closes) = omega (arith, expr in_a, expr in_b, expr in_c)
+  expr (a_prefix is in_operand) = omega (arith, expr in_operand)
+  expr (a_rotation is at in_operand is_amount) = omega (arith, expr in_operand)
+  expr (a_binary is at in_left in_right) = omega (arith, expr in_left, expr in_right)
 
   more_exprs : {end : TokenKind} {tokens rest : List Lexeme} {trees : List ExprTree} → MoreExprs end tokens trees rest
       → in_exprs w trees + among w rest ≤ among w tokens
-  more_exprs (no_more closing rest is) = omega arith
-  more_exprs (one_more comma list second rest tree trees is in_tree in_trees) =
-      let h = expr in_tree in
-      let hs = more_exprs in_trees in
-      omega (arith, h, hs)
+  more_exprs (no_more is) = omega arith
+  more_exprs (one_more is in_tree in_trees) = omega (arith, expr in_tree, more_exprs in_trees)
 
   exprs : {end : TokenKind} {tokens rest : List Lexeme} {trees : List ExprTree} → SomeExprs end tokens trees rest
       → in_exprs w trees + among w rest ≤ among w tokens
-  exprs (some_exprs list second rest tree trees in_tree in_trees) =
-      let h = expr in_tree in
-      let hs = more_exprs in_trees in
-      omega (arith, h, hs)
+  exprs (some_exprs in_tree in_trees) = omega (arith, expr in_tree, more_exprs in_trees)
 
   arguments : {tokens rest : List Lexeme} {trees : List ExprTree} → Arguments tokens trees rest
       → in_exprs w trees + among w rest ≤ among w tokens
-  arguments (no_arguments closing rest is) = omega arith
-  arguments (some_arguments list rest trees in_trees) = exprs in_trees
+  arguments (no_arguments is) = omega arith
+  arguments (some_arguments in_trees) = exprs in_trees
 
   call : {tokens rest : List Lexeme} {tree : CallTree} → Call tokens tree rest
       → in_call w tree + among w rest ≤ among w tokens
-  call (a_call t opening list rest trees is opens in_trees) = let h = arguments in_trees in omega (arith, h)
+  call (a_call is opens in_trees) = omega (arith, arguments in_trees)
 
   right : {tokens rest : List Lexeme} {tree : RightTree} → RightSide tokens tree rest
       → in_right w tree + among w rest ≤ among w tokens
-  right (a_call_value list rest tree in_tree) = call in_tree
-  right (a_value list rest tree in_tree) = expr in_tree
+  right (a_call_value in_tree) = call in_tree
+  right (a_value in_tree) = expr in_tree
 
   mutable : {tokens rest : List Lexeme} {is : Bool} → Mutable tokens is rest → among w rest ≤ among w tokens
-  mutable (no_mut rest) = omega arith
-  mutable (a_mut t rest is) = omega arith
+  mutable no_mut = omega arith
+  mutable (a_mut is) = omega arith
 
   array_type : {tokens rest : List Lexeme} {kind : Kind} {length : ℕ} → ArrayType tokens kind length rest
       → among w rest ≤ among w tokens
-  array_type (an_array_type word opening number closing rest kind length is opens is_length closes) = omega arith
+  array_type (an_array_type is opens is_length closes) = omega arith
 
   values : {tokens rest : List Lexeme} {trees : Option (List ExprTree)} → FirstValues tokens trees rest
       → in_values w trees + among w rest ≤ among w tokens
-  values (no_values rest) = omega arith
-  values (some_values equals opening list rest trees is opens in_trees) = let h = exprs in_trees in omega (arith, h)
+  values no_values = omega arith
+  values (some_values is opens in_trees) = omega (arith, exprs in_trees)
 
   mutual
     statement : {tokens rest : List Lexeme} {tree : StatementTree} → Statement tokens tree rest
         → in_statement w tree + among w rest ≤ among w tokens
-    statement (a_declaration start second t equals semicolon list right' rest label is_mut kind tree is in_mut is_kind
-        is_name is_equals in_right ends) =
-        let hm = mutable in_mut in
-        let hr = right in_right in
-        omega (arith, hm, hr)
-    statement (an_array start t semicolon list second values' rest label is_mut kind length trees is in_mut in_type
-        is_name in_values ends) =
-        let hm = mutable in_mut in
-        let ht = array_type in_type in
-        let hv = values in_values in
-        omega (arith, hm, ht, hv)
-    statement (an_assignment t equals semicolon right' rest tree is is_equals in_right ends) = let h =
-        right in_right in omega (arith, h)
-    statement (an_element_assignment t opening closing equals semicolon inner right' rest index tree is opens in_index
-        closes is_equals in_right ends) =
-        let hi = expr in_index in
-        let hr = right in_right in
-        omega (arith, hi, hr)
-    statement (a_call_statement semicolon list rest tree in_call ends) = let h = call in_call in omega (arith, h)
-    statement (a_conditional_statement list rest tree in_tree) = conditional in_tree
-    statement (a_loop t opening word counter from to closing low high body rest start end trees is opens is_word
-        is_name is_from in_low is_to in_high closes in_body) =
-        let hl = expr in_low in
-        let hh = expr in_high in
-        let hb = block in_body in
-        omega (arith, hl, hh, hb)
+    statement (a_declaration is in_mut is_kind is_name is_equals in_right ends) =
+        omega (arith, mutable in_mut, right in_right)
+    statement (an_array is in_mut in_type is_name in_values ends) =
+        omega (arith, mutable in_mut, array_type in_type, values in_values)
+    statement (an_assignment is is_equals in_right ends) = omega (arith, right in_right)
+    statement (an_element_assignment is opens in_index closes is_equals in_right ends) =
+        omega (arith, expr in_index, right in_right)
+    statement (a_call_statement in_call ends) = omega (arith, call in_call)
+    statement (a_conditional_statement in_tree) = conditional in_tree
+    statement (a_loop is opens is_word is_name is_from in_low is_to in_high closes in_body) =
+        omega (arith, expr in_low, expr in_high, block in_body)
 
     conditional : {tokens rest : List Lexeme} {tree : StatementTree} → Conditional tokens tree rest
         → in_statement w tree + among w rest ≤ among w tokens
-    conditional (a_conditional t opening closing list arm others rest condition one other is opens in_condition closes
-        in_arm in_otherwise) =
-        let hc = expr in_condition in
-        let ha = block in_arm in
-        let ho = otherwise in_otherwise in
-        omega (arith, hc, ha, ho)
+    conditional (a_conditional is opens in_condition closes in_arm in_otherwise) =
+        omega (arith, expr in_condition, block in_arm, otherwise in_otherwise)
 
     statements : {tokens rest : List Lexeme} {tree : BlockTree} → Statements tokens tree rest
         → in_block w tree + among w rest ≤ among w tokens
-    statements (no_statement rest) = omega arith
-    statements (one_statement list others rest tree trees in_tree in_trees) =
-        let h = statement in_tree in
-        let hs = statements in_trees in
-        omega (arith, h, hs)
+    statements no_statement = omega arith
+    statements (one_statement in_tree in_trees) = omega (arith, statement in_tree, statements in_trees)
 
     block : {tokens rest : List Lexeme} {tree : BlockTree} → Block tokens tree rest
         → in_block w tree + among w rest ≤ among w tokens
-    block (a_block opening closing list rest trees opens in_trees closes) = let h = statements in_trees in
-        omega (arith, h)
+    block (a_block opens in_trees closes) = omega (arith, statements in_trees)
 
     otherwise : {tokens rest : List Lexeme} {tree : BlockTree} → Otherwise tokens tree rest
         → in_block w tree + among w rest ≤ among w tokens
-    otherwise (no_else rest) = omega arith
-    otherwise (an_else t arm rest trees is in_arm) = let h = block in_arm in omega (arith, h)
-    otherwise (an_else_if t list rest tree is in_tree) = let h = conditional in_tree in omega (arith, h)
+    otherwise no_else = omega arith
+    otherwise (an_else is in_arm) = omega (arith, block in_arm)
+    otherwise (an_else_if is in_tree) = omega (arith, conditional in_tree)
 
   parameter : {tokens rest : List Lexeme} {tree : ParameterTree} → Parameter tokens tree rest
       → w tree.place + among w rest ≤ among w tokens
-  parameter (a_word start second t rest label kind is is_kind is_name) = omega arith
-  parameter (a_fixed_array start t list rest label kind length is in_type is_name) = let h = array_type in_type in
-      omega (arith, h)
-  parameter (a_mutable_array start word t list rest label kind length is is_mut in_type is_name) = let h =
-      array_type in_type in omega (arith, h)
+  parameter (a_word is is_kind is_name) = omega arith
+  parameter (a_fixed_array is in_type is_name) = omega (arith, array_type in_type)
+  parameter (a_mutable_array is is_mut in_type is_name) = omega (arith, array_type in_type)
 
   more_parameters : {tokens rest : List Lexeme} {trees : List ParameterTree} → MoreParameters tokens trees rest
       → in_parameters w trees + among w rest ≤ among w tokens
-  more_parameters (no_more_parameters closing rest is) = omega arith
-  more_parameters (one_more_parameter comma list second rest tree trees is in_tree in_trees) =
-      let h = parameter in_tree in
-      let hs = more_parameters in_trees in
-      omega (arith, h, hs)
+  more_parameters (no_more_parameters is) = omega arith
+  more_parameters (one_more_parameter is in_tree in_trees) =
+      omega (arith, parameter in_tree, more_parameters in_trees)
 
   parameters : {tokens rest : List Lexeme} {trees : List ParameterTree} → Parameters tokens trees rest
       → in_parameters w trees + among w rest ≤ among w tokens
-  parameters (no_parameters closing rest is) = omega arith
-  parameters (some_parameters list second rest tree trees in_tree in_trees) =
-      let h = parameter in_tree in
-      let hs = more_parameters in_trees in
-      omega (arith, h, hs)
+  parameters (no_parameters is) = omega arith
+  parameters (some_parameters in_tree in_trees) = omega (arith, parameter in_tree, more_parameters in_trees)
 
   result : {tokens rest : List Lexeme} {type : Option WordType} → ResultType tokens type rest
       → among w rest ≤ among w tokens
-  result (a_void t rest is) = omega arith
-  result (a_type start second rest label kind is is_kind) = omega arith
+  result (a_void is) = omega arith
+  result (a_type is is_kind) = omega arith
 
   returned : {tokens rest : List Lexeme} {tree : Option ReturnTree} → BodyEnd tokens tree rest
       → in_return w tree + among w rest ≤ among w tokens
-  returned (no_return closing rest is) = omega arith
-  returned (a_return t semicolon closing list rest tree is in_tree ends closes) = let h = expr in_tree in
-      omega (arith, h)
+  returned (no_return is) = omega arith
+  returned (a_return is in_tree ends closes) = omega (arith, expr in_tree)
 
   exported : {tokens rest : List Lexeme} {place : Option Place} → Exported tokens place rest
       → in_export w place + among w rest ≤ among w tokens
-  exported (not_exported rest) = omega arith
-  exported (an_export t rest is) = omega arith
+  exported not_exported = omega arith
+  exported (an_export is) = omega arith
 
   procedure : {tokens rest : List Lexeme} {tree : ProcedureTree} → Procedure tokens tree rest
       → in_procedure w tree + among w rest ≤ among w tokens
-  procedure (a_procedure t opening opening' list signature parameters' body end rest export type own trees returned'
-      in_export in_result is opens in_parameters opens' in_body in_end) =
-      let he = exported in_export in
-      let ht = result in_result in
-      let hp = parameters in_parameters in
-      let hb = statements in_body in
-      let hr = returned in_end in
-      omega (arith, he, ht, hp, hb, hr)
+  procedure (a_procedure in_export in_result is opens in_parameters opens' in_body in_end) =
+      omega (
+        arith,
+        exported in_export,
+        result in_result,
+        parameters in_parameters,
+        statements in_body,
+        returned
+            in_end,
+      )
 
   procedures : {tokens : List Lexeme} {trees : List ProcedureTree} → Procedures tokens trees
       → in_procedures w trees ≤ among w tokens
   procedures no_procedure = omega arith
-  procedures (one_procedure list others tree trees in_tree in_trees) =
-      let h = procedure in_tree in
-      let hs = procedures in_trees in
-      omega (arith, h, hs)
+  procedures (one_procedure in_tree in_trees) = omega (arith, procedure in_tree, procedures in_trees)
 
   pub program : {tokens : List Lexeme} {tree : ProgramTree} → IsProgram tokens tree
       → in_program w tree ≤ among w tokens
-  program (a_program list trees in_trees) = procedures in_trees
+  program (a_program in_trees) = procedures in_trees
 
 module _ (n : ℕ) where
   -- a place is at the offset or not

@@ -41,239 +41,117 @@ HasTree cases.procedures tokens rest = rest ≡ [] → (trees : List ProcedureTr
 
 -- the parts of a case, each phrase with its tree
 data HaveTrees : List Part → List Lexeme → List Lexeme → Type 0 where
-  no_tree : (rest : List Lexeme) → HaveTrees [] rest rest
-  token_tree : (single : Single) (parts : List Part) (t : Lexeme) (tokens rest : List Lexeme) → IsOne single t
+  no_tree : {rest : List Lexeme} → HaveTrees [] rest rest
+  token_tree : {single : Single} {parts : List Part} {t : Lexeme} {tokens rest : List Lexeme} → IsOne single t
       → HaveTrees parts tokens rest → HaveTrees (one single ∷ parts) (t ∷ tokens) rest
-  phrase_tree : (phrase : Phrase) (parts : List Part) (tokens second rest : List Lexeme)
+  phrase_tree : {phrase : Phrase} {parts : List Part} {tokens second rest : List Lexeme}
       → HasTree phrase tokens second → HaveTrees parts second rest → HaveTrees (all phrase ∷ parts) tokens rest
 
-case_tree : (phrase : Phrase) (parts : List Part) (tokens rest : List Lexeme) → Case phrase parts
+case_tree : {phrase : Phrase} {parts : List Part} {tokens rest : List Lexeme} → Case phrase parts
     → HaveTrees parts tokens rest → HasTree phrase tokens rest
-case_tree _ _ _ _ (cases.a_number level) (token_tree _ _ t _ _ (value, suffix, is_0) (no_tree rest)) =
-    (_, grammar.a_number level t value suffix rest is_0)
-case_tree _ _ _ _ (cases.a_true level) (token_tree _ _ t _ _ is_0 (no_tree rest)) =
-    (_, grammar.a_true level t rest is_0)
-case_tree _ _ _ _ (cases.a_false level) (token_tree _ _ t _ _ is_0 (no_tree rest)) =
-    (_, grammar.a_false level t rest is_0)
-case_tree _ _ _ _ (cases.a_name level) (token_tree _ _ t _ _ is_0 (no_tree rest)) =
-    (_, grammar.a_name level t rest is_0)
-case_tree _ _ _ _ (cases.an_element level)
-    (token_tree _ _ t _ _ is_0
-    (token_tree _ _ opening _ _ is_1
-    (phrase_tree _ _ inner _ _ (index, made_2) (token_tree _ _ closing _ _ is_3 (no_tree rest))))) =
-    (_, grammar.an_element level t opening closing inner rest index is_0 is_1 made_2 is_3)
-case_tree _ _ _ _ (cases.in_brackets level)
-    (token_tree _ _ opening _ _ is_0
-    (phrase_tree _ _ inner _ _ (tree, made_1) (token_tree _ _ closing _ _ is_2 (no_tree rest)))) =
-    (_, grammar.in_brackets level opening closing inner rest tree is_0 made_1 is_2)
-case_tree _ _ _ _ (cases.a_conversion level)
-    (token_tree _ _ t _ _ (kind, is_0)
-    (token_tree _ _ opening _ _ is_1
-    (phrase_tree _ _ inner _ _ (tree, made_2) (token_tree _ _ closing _ _ is_3 (no_tree rest))))) =
-    (_, grammar.a_conversion level t opening closing inner rest kind tree is_0 is_1 made_2 is_3)
-case_tree _ _ _ _ (cases.a_select level)
-    (token_tree _ _ t _ _ is_0
-    (token_tree _ _ opening _ _ is_1
-    (phrase_tree _ _ start _ _ (condition, made_2)
-    (token_tree _ _ comma _ _ is_3
-    (phrase_tree _ _ second _ _ (accepted, made_4)
-    (token_tree _ _ comma' _ _ is_5
-    (phrase_tree _ _ third _ _ (otherwise, made_6) (token_tree _ _ closing _ _ is_7 (no_tree rest))))))))) = (
-      _,
-      grammar.a_select level t opening comma comma' closing start second third rest condition accepted otherwise
-          is_0 is_1 made_2 is_3 made_4 is_5 made_6 is_7,
-    )
-case_tree _ _ _ _ (cases.a_prefix level)
-    (token_tree _ _ t _ _ (operator, is_0) (phrase_tree _ _ inner _ _ (operand, made_1) (no_tree rest))) =
-    (_, grammar.a_prefix level t operator inner rest operand is_0 made_1)
-case_tree _ _ _ _ (cases.a_rotation level low)
-    (phrase_tree _ _ start _ _ (operand, made_2)
-    (token_tree _ _ t _ _ is_0 (token_tree _ _ number _ _ (amount, is_3) (no_tree rest)))) =
-    (_, grammar.a_rotation level t number amount start rest operand is_0 low made_2 is_3)
-case_tree _ _ _ _ (cases.a_binary level operator low)
-    (phrase_tree _ _ start _ _ (left, made_2)
-    (token_tree _ _ t _ _ is_0 (phrase_tree _ _ second _ _ (right, made_3) (no_tree rest)))) =
-    (_, grammar.a_binary level t operator start second rest left right is_0 low made_2 made_3)
-case_tree _ _ _ _ (cases.no_more end) (token_tree _ _ closing _ _ is_0 (no_tree rest)) =
-    (_, grammar.no_more closing rest is_0)
-case_tree _ _ _ _ (cases.one_more end)
-    (token_tree _ _ comma _ _ is_0
-    (phrase_tree _ _ list _ _ (tree, made_1) (phrase_tree _ _ second _ _ (trees, made_2) (no_tree rest)))) =
-    (_, grammar.one_more comma list second rest tree trees is_0 made_1 made_2)
-case_tree _ _ _ _ (cases.some_exprs end)
-    (phrase_tree _ _ list _ _ (tree, made_0) (phrase_tree _ _ second _ _ (trees, made_1) (no_tree rest))) =
-    (_, grammar.some_exprs list second rest tree trees made_0 made_1)
-case_tree _ _ _ _ cases.no_arguments (token_tree _ _ closing _ _ is_0 (no_tree rest)) =
-    (_, grammar.no_arguments closing rest is_0)
-case_tree _ _ _ _ cases.some_arguments (phrase_tree _ _ list _ _ (trees, made_0) (no_tree rest)) =
-    (_, grammar.some_arguments list rest trees made_0)
-case_tree _ _ _ _ cases.a_call
-    (token_tree _ _ t _ _ is_0
-    (token_tree _ _ opening _ _ is_1 (phrase_tree _ _ list _ _ (trees, made_2) (no_tree rest)))) =
-    (_, grammar.a_call t opening list rest trees is_0 is_1 made_2)
-case_tree _ _ _ _ cases.a_call_value (phrase_tree _ _ list _ _ (tree, made_0) (no_tree rest)) =
-    (_, grammar.a_call_value list rest tree made_0)
-case_tree _ _ _ _ cases.a_value (phrase_tree _ _ list _ _ (tree, made_0) (no_tree rest)) =
-    (_, grammar.a_value list rest tree made_0)
-case_tree _ _ _ _ cases.no_mut (no_tree rest) = (_, grammar.no_mut rest)
-case_tree _ _ _ _ cases.a_mut (token_tree _ _ t _ _ is_0 (no_tree rest)) = (_, grammar.a_mut t rest is_0)
-case_tree _ _ _ _ cases.an_array_type
-    (token_tree _ _ word _ _ (kind, is_0)
-    (token_tree _ _ opening _ _ is_1
-    (token_tree _ _ number _ _ (length, is_2) (token_tree _ _ closing _ _ is_3 (no_tree rest))))) =
-    (_, _, grammar.an_array_type word opening number closing rest kind length is_0 is_1 is_2 is_3)
-case_tree _ _ _ _ cases.no_values (no_tree rest) = (_, grammar.no_values rest)
-case_tree _ _ _ _ cases.some_values
-    (token_tree _ _ equals _ _ is_0
-    (token_tree _ _ opening _ _ is_1 (phrase_tree _ _ list _ _ (trees, made_2) (no_tree rest)))) =
-    (_, grammar.some_values equals opening list rest trees is_0 is_1 made_2)
-case_tree _ _ _ _ cases.a_declaration
-    (token_tree _ _ start _ _ (label, is_0)
-    (phrase_tree _ _ list _ _ (mutable, made_1)
-    (token_tree _ _ second _ _ (kind, is_2)
-    (token_tree _ _ t _ _ is_3
-    (token_tree _ _ equals _ _ is_4
-    (phrase_tree _ _ right _ _ (tree, made_5) (token_tree _ _ semicolon _ _ is_6 (no_tree rest)))))))) = (
-      _,
-      grammar.a_declaration start second t equals semicolon list right rest label mutable kind tree is_0 made_1 is_2
-          is_3 is_4 made_5 is_6,
-    )
-case_tree _ _ _ _ cases.an_array
-    (token_tree _ _ start _ _ (label, is_0)
-    (phrase_tree _ _ list _ _ (mutable, made_1)
-    (phrase_tree _ _ second _ _ (kind, length, made_2)
-    (token_tree _ _ t _ _ is_3
-    (phrase_tree _ _ values _ _ (trees, made_4) (token_tree _ _ semicolon _ _ is_5 (no_tree rest))))))) = (
-      _,
-      grammar.an_array start t semicolon list second values rest label mutable kind length trees is_0 made_1 made_2
-          is_3 made_4 is_5,
-    )
-case_tree _ _ _ _ cases.an_assignment
-    (token_tree _ _ t _ _ is_0
-    (token_tree _ _ equals _ _ is_1
-    (phrase_tree _ _ right _ _ (tree, made_2) (token_tree _ _ semicolon _ _ is_3 (no_tree rest))))) =
-    (_, grammar.an_assignment t equals semicolon right rest tree is_0 is_1 made_2 is_3)
-case_tree _ _ _ _ cases.an_element_assignment
-    (token_tree _ _ t _ _ is_0
-    (token_tree _ _ opening _ _ is_1
-    (phrase_tree _ _ inner _ _ (index, made_2)
-    (token_tree _ _ closing _ _ is_3
-    (token_tree _ _ equals _ _ is_4
-    (phrase_tree _ _ right _ _ (tree, made_5) (token_tree _ _ semicolon _ _ is_6 (no_tree rest)))))))) = (
-      _,
-      grammar.an_element_assignment t opening closing equals semicolon inner right rest index tree is_0 is_1 made_2
-          is_3 is_4 made_5 is_6,
-    )
-case_tree _ _ _ _ cases.a_call_statement
-    (phrase_tree _ _ list _ _ (tree, made_0) (token_tree _ _ semicolon _ _ is_1 (no_tree rest))) =
-    (_, grammar.a_call_statement semicolon list rest tree made_0 is_1)
-case_tree _ _ _ _ cases.a_conditional_statement (phrase_tree _ _ list _ _ (tree, made_0) (no_tree rest)) =
-    (_, grammar.a_conditional_statement list rest tree made_0)
-case_tree _ _ _ _ cases.a_loop
-    (token_tree _ _ t _ _ is_0
-    (token_tree _ _ opening _ _ is_1
-    (token_tree _ _ word _ _ is_2
-    (token_tree _ _ counter _ _ is_3
-    (token_tree _ _ from _ _ is_4
-    (phrase_tree _ _ low _ _ (start, made_5)
-    (token_tree _ _ to _ _ is_6
-    (phrase_tree _ _ high _ _ (end, made_7)
-    (token_tree _ _ closing _ _ is_8 (phrase_tree _ _ body _ _ (trees, made_9) (no_tree rest))))))))))) = (
-      _,
-      grammar.a_loop t opening word counter from to closing low high body rest start end trees is_0 is_1 is_2 is_3
-          is_4 made_5 is_6 made_7 is_8 made_9,
-    )
-case_tree _ _ _ _ cases.a_conditional
-    (token_tree _ _ t _ _ is_0
-    (token_tree _ _ opening _ _ is_1
-    (phrase_tree _ _ list _ _ (condition, made_2)
-    (token_tree _ _ closing _ _ is_3
-    (phrase_tree _ _ arm _ _ (accepted, made_4)
-    (phrase_tree _ _ others _ _ (otherwise, made_5) (no_tree rest))))))) = (
-      _,
-      grammar.a_conditional t opening closing list arm others rest condition accepted otherwise is_0 is_1 made_2
-          is_3 made_4 made_5,
-    )
-case_tree _ _ _ _ cases.no_statement (no_tree rest) = (_, grammar.no_statement rest)
-case_tree _ _ _ _ cases.one_statement
-    (phrase_tree _ _ list _ _ (tree, made_0) (phrase_tree _ _ others _ _ (trees, made_1) (no_tree rest))) =
-    (_, grammar.one_statement list others rest tree trees made_0 made_1)
-case_tree _ _ _ _ cases.a_block
-    (token_tree _ _ opening _ _ is_0
-    (phrase_tree _ _ list _ _ (trees, made_1) (token_tree _ _ closing _ _ is_2 (no_tree rest)))) =
-    (_, grammar.a_block opening closing list rest trees is_0 made_1 is_2)
-case_tree _ _ _ _ cases.no_else (no_tree rest) = (_, grammar.no_else rest)
-case_tree _ _ _ _ cases.an_else (token_tree _ _ t _ _ is_0 (phrase_tree _ _ arm _ _ (trees, made_1) (no_tree rest))) =
-    (_, grammar.an_else t arm rest trees is_0 made_1)
-case_tree _ _ _ _ cases.an_else_if
-    (token_tree _ _ t _ _ is_0 (phrase_tree _ _ list _ _ (tree, made_1) (no_tree rest))) =
-    (_, grammar.an_else_if t list rest tree is_0 made_1)
-case_tree _ _ _ _ cases.a_word
-    (token_tree _ _ start _ _ (label, is_0)
-    (token_tree _ _ second _ _ (kind, is_1) (token_tree _ _ t _ _ is_2 (no_tree rest)))) =
-    (_, grammar.a_word start second t rest label kind is_0 is_1 is_2)
-case_tree _ _ _ _ cases.a_fixed_array
-    (token_tree _ _ start _ _ (label, is_0)
-    (phrase_tree _ _ list _ _ (kind, length, made_1) (token_tree _ _ t _ _ is_2 (no_tree rest)))) =
-    (_, grammar.a_fixed_array start t list rest label kind length is_0 made_1 is_2)
-case_tree _ _ _ _ cases.a_mutable_array
-    (token_tree _ _ start _ _ (label, is_0)
-    (token_tree _ _ word _ _ is_1
-    (phrase_tree _ _ list _ _ (kind, length, made_2) (token_tree _ _ t _ _ is_3 (no_tree rest))))) =
-    (_, grammar.a_mutable_array start word t list rest label kind length is_0 is_1 made_2 is_3)
-case_tree _ _ _ _ cases.no_more_parameters (token_tree _ _ closing _ _ is_0 (no_tree rest)) =
-    (_, grammar.no_more_parameters closing rest is_0)
-case_tree _ _ _ _ cases.one_more_parameter
-    (token_tree _ _ comma _ _ is_0
-    (phrase_tree _ _ list _ _ (tree, made_1) (phrase_tree _ _ second _ _ (trees, made_2) (no_tree rest)))) =
-    (_, grammar.one_more_parameter comma list second rest tree trees is_0 made_1 made_2)
-case_tree _ _ _ _ cases.no_parameters (token_tree _ _ closing _ _ is_0 (no_tree rest)) =
-    (_, grammar.no_parameters closing rest is_0)
-case_tree _ _ _ _ cases.some_parameters
-    (phrase_tree _ _ list _ _ (tree, made_0) (phrase_tree _ _ second _ _ (trees, made_1) (no_tree rest))) =
-    (_, grammar.some_parameters list second rest tree trees made_0 made_1)
-case_tree _ _ _ _ cases.a_void (token_tree _ _ t _ _ is_0 (no_tree rest)) = (_, grammar.a_void t rest is_0)
-case_tree _ _ _ _ cases.a_type
-    (token_tree _ _ start _ _ (label, is_0) (token_tree _ _ second _ _ (kind, is_1) (no_tree rest))) =
-    (_, grammar.a_type start second rest label kind is_0 is_1)
-case_tree _ _ _ _ cases.no_return (token_tree _ _ closing _ _ is_0 (no_tree rest)) =
-    (_, grammar.no_return closing rest is_0)
-case_tree _ _ _ _ cases.a_return
-    (token_tree _ _ t _ _ is_0
-    (phrase_tree _ _ list _ _ (tree, made_1)
-    (token_tree _ _ semicolon _ _ is_2 (token_tree _ _ closing _ _ is_3 (no_tree rest))))) =
-    (_, grammar.a_return t semicolon closing list rest tree is_0 made_1 is_2 is_3)
-case_tree _ _ _ _ cases.not_exported (no_tree rest) = (_, grammar.not_exported rest)
-case_tree _ _ _ _ cases.an_export (token_tree _ _ t _ _ is_0 (no_tree rest)) = (_, grammar.an_export t rest is_0)
-case_tree _ _ _ _ cases.a_procedure
-    (phrase_tree _ _ list _ _ (export, made_0)
-    (phrase_tree _ _ signature _ _ (result, made_1)
-    (token_tree _ _ t _ _ is_2
-    (token_tree _ _ opening _ _ is_3
-    (phrase_tree _ _ parameters _ _ (own, made_4)
-    (token_tree _ _ opening' _ _ is_5
-    (phrase_tree _ _ body _ _ (trees, made_6)
-    (phrase_tree _ _ end _ _ (returned, made_7) (no_tree rest))))))))) = (
-      _,
-      grammar.a_procedure t opening opening' list signature parameters body end rest export result own trees
-          returned made_0 made_1 is_2 is_3 made_4 is_5 made_6 made_7,
-    )
-case_tree _ _ _ _ cases.no_procedure (no_tree _) = λ is. ([], rw is grammar.no_procedure)
-case_tree _ _ _ _ cases.one_procedure
-    (phrase_tree _ _ list _ _ (tree, made_0) (phrase_tree _ _ others _ _ trees (no_tree _))) = λ is. let w =
-    trees is in (tree ∷ w.0, grammar.one_procedure list others tree w.0 made_0 w.1)
+case_tree cases.a_number (token_tree (_, _, is_0) no_tree) = (_, grammar.a_number is_0)
+case_tree cases.a_true (token_tree is_0 no_tree) = (_, grammar.a_true is_0)
+case_tree cases.a_false (token_tree is_0 no_tree) = (_, grammar.a_false is_0)
+case_tree cases.a_name (token_tree is_0 no_tree) = (_, grammar.a_name is_0)
+case_tree cases.an_element (token_tree is_0 (token_tree is_1 (phrase_tree (_, made_2) (token_tree is_3 no_tree)))) =
+    (_, grammar.an_element is_0 is_1 made_2 is_3)
+case_tree cases.in_brackets (token_tree is_0 (phrase_tree (_, made_1) (token_tree is_2 no_tree))) =
+    (_, grammar.in_brackets is_0 made_1 is_2)
+case_tree cases.a_conversion (token_tree (_, is_0) (token_tree is_1 (phrase_tree (_, made_2)
+    (token_tree is_3 no_tree)))) =
+    (_, grammar.a_conversion is_0 is_1 made_2 is_3)
+case_tree cases.a_select (token_tree is_0 (token_tree is_1 (phrase_tree (_, made_2) (token_tree is_3
+    (phrase_tree (_, made_4) (token_tree is_5 (phrase_tree (_, made_6) (token_tree is_7 no_tree)))))))) =
+    (_, grammar.a_select is_0 is_1 made_2 is_3 made_4 is_5 made_6 is_7)
+case_tree cases.a_prefix (token_tree (_, is_0) (phrase_tree (_, made_1) no_tree)) = (_, grammar.a_prefix is_0 made_1)
+case_tree (cases.a_rotation low) (phrase_tree (_, made_2) (token_tree is_0 (token_tree (_, is_3) no_tree))) =
+    (_, grammar.a_rotation is_0 low made_2 is_3)
+case_tree (cases.a_binary low) (phrase_tree (_, made_2) (token_tree is_0 (phrase_tree (_, made_3) no_tree))) =
+    (_, grammar.a_binary is_0 low made_2 made_3)
+case_tree cases.no_more (token_tree is_0 no_tree) = (_, grammar.no_more is_0)
+case_tree cases.one_more (token_tree is_0 (phrase_tree (_, made_1) (phrase_tree (_, made_2) no_tree))) =
+    (_, grammar.one_more is_0 made_1 made_2)
+case_tree cases.some_exprs (phrase_tree (_, made_0) (phrase_tree (_, made_1) no_tree)) =
+    (_, grammar.some_exprs made_0 made_1)
+case_tree cases.no_arguments (token_tree is_0 no_tree) = (_, grammar.no_arguments is_0)
+case_tree cases.some_arguments (phrase_tree (_, made_0) no_tree) = (_, grammar.some_arguments made_0)
+case_tree cases.a_call (token_tree is_0 (token_tree is_1 (phrase_tree (_, made_2) no_tree))) =
+    (_, grammar.a_call is_0 is_1 made_2)
+case_tree cases.a_call_value (phrase_tree (_, made_0) no_tree) = (_, grammar.a_call_value made_0)
+case_tree cases.a_value (phrase_tree (_, made_0) no_tree) = (_, grammar.a_value made_0)
+case_tree cases.no_mut no_tree = (_, grammar.no_mut)
+case_tree cases.a_mut (token_tree is_0 no_tree) = (_, grammar.a_mut is_0)
+case_tree cases.an_array_type (token_tree (_, is_0) (token_tree is_1 (token_tree (_, is_2)
+    (token_tree is_3 no_tree)))) =
+    (_, _, grammar.an_array_type is_0 is_1 is_2 is_3)
+case_tree cases.no_values no_tree = (_, grammar.no_values)
+case_tree cases.some_values (token_tree is_0 (token_tree is_1 (phrase_tree (_, made_2) no_tree))) =
+    (_, grammar.some_values is_0 is_1 made_2)
+case_tree cases.a_declaration (token_tree (_, is_0) (phrase_tree (_, made_1) (token_tree (_, is_2) (token_tree is_3
+    (token_tree is_4 (phrase_tree (_, made_5) (token_tree is_6 no_tree))))))) =
+    (_, grammar.a_declaration is_0 made_1 is_2 is_3 is_4 made_5 is_6)
+case_tree cases.an_array (token_tree (_, is_0) (phrase_tree (_, made_1) (phrase_tree (_, _, made_2) (token_tree is_3
+    (phrase_tree (_, made_4) (token_tree is_5 no_tree)))))) =
+    (_, grammar.an_array is_0 made_1 made_2 is_3 made_4 is_5)
+case_tree cases.an_assignment (token_tree is_0 (token_tree is_1 (phrase_tree (_, made_2)
+    (token_tree is_3 no_tree)))) =
+    (_, grammar.an_assignment is_0 is_1 made_2 is_3)
+case_tree cases.an_element_assignment (token_tree is_0 (token_tree is_1 (phrase_tree (_, made_2) (token_tree is_3
+    (token_tree is_4 (phrase_tree (_, made_5) (token_tree is_6 no_tree))))))) =
+    (_, grammar.an_element_assignment is_0 is_1 made_2 is_3 is_4 made_5 is_6)
+case_tree cases.a_call_statement (phrase_tree (_, made_0) (token_tree is_1 no_tree)) =
+    (_, grammar.a_call_statement made_0 is_1)
+case_tree cases.a_conditional_statement (phrase_tree (_, made_0) no_tree) =
+    (_, grammar.a_conditional_statement made_0)
+case_tree cases.a_loop (token_tree is_0 (token_tree is_1 (token_tree is_2 (token_tree is_3 (token_tree is_4
+    (phrase_tree (_, made_5) (token_tree is_6 (phrase_tree (_, made_7) (token_tree is_8
+    (phrase_tree (_, made_9) no_tree)))))))))) =
+    (_, grammar.a_loop is_0 is_1 is_2 is_3 is_4 made_5 is_6 made_7 is_8 made_9)
+case_tree cases.a_conditional (token_tree is_0 (token_tree is_1 (phrase_tree (_, made_2) (token_tree is_3
+    (phrase_tree (_, made_4) (phrase_tree (_, made_5) no_tree)))))) =
+    (_, grammar.a_conditional is_0 is_1 made_2 is_3 made_4 made_5)
+case_tree cases.no_statement no_tree = (_, grammar.no_statement)
+case_tree cases.one_statement (phrase_tree (_, made_0) (phrase_tree (_, made_1) no_tree)) =
+    (_, grammar.one_statement made_0 made_1)
+case_tree cases.a_block (token_tree is_0 (phrase_tree (_, made_1) (token_tree is_2 no_tree))) =
+    (_, grammar.a_block is_0 made_1 is_2)
+case_tree cases.no_else no_tree = (_, grammar.no_else)
+case_tree cases.an_else (token_tree is_0 (phrase_tree (_, made_1) no_tree)) = (_, grammar.an_else is_0 made_1)
+case_tree cases.an_else_if (token_tree is_0 (phrase_tree (_, made_1) no_tree)) = (_, grammar.an_else_if is_0 made_1)
+case_tree cases.a_word (token_tree (_, is_0) (token_tree (_, is_1) (token_tree is_2 no_tree))) =
+    (_, grammar.a_word is_0 is_1 is_2)
+case_tree cases.a_fixed_array (token_tree (_, is_0) (phrase_tree (_, _, made_1) (token_tree is_2 no_tree))) =
+    (_, grammar.a_fixed_array is_0 made_1 is_2)
+case_tree cases.a_mutable_array (token_tree (_, is_0) (token_tree is_1 (phrase_tree (_, _, made_2)
+    (token_tree is_3 no_tree)))) =
+    (_, grammar.a_mutable_array is_0 is_1 made_2 is_3)
+case_tree cases.no_more_parameters (token_tree is_0 no_tree) = (_, grammar.no_more_parameters is_0)
+case_tree cases.one_more_parameter (token_tree is_0 (phrase_tree (_, made_1) (phrase_tree (_, made_2) no_tree))) =
+    (_, grammar.one_more_parameter is_0 made_1 made_2)
+case_tree cases.no_parameters (token_tree is_0 no_tree) = (_, grammar.no_parameters is_0)
+case_tree cases.some_parameters (phrase_tree (_, made_0) (phrase_tree (_, made_1) no_tree)) =
+    (_, grammar.some_parameters made_0 made_1)
+case_tree cases.a_void (token_tree is_0 no_tree) = (_, grammar.a_void is_0)
+case_tree cases.a_type (token_tree (_, is_0) (token_tree (_, is_1) no_tree)) = (_, grammar.a_type is_0 is_1)
+case_tree cases.no_return (token_tree is_0 no_tree) = (_, grammar.no_return is_0)
+case_tree cases.a_return (token_tree is_0 (phrase_tree (_, made_1) (token_tree is_2 (token_tree is_3 no_tree)))) =
+    (_, grammar.a_return is_0 made_1 is_2 is_3)
+case_tree cases.not_exported no_tree = (_, grammar.not_exported)
+case_tree cases.an_export (token_tree is_0 no_tree) = (_, grammar.an_export is_0)
+case_tree cases.a_procedure (phrase_tree (_, made_0) (phrase_tree (_, made_1) (token_tree is_2 (token_tree is_3
+    (phrase_tree (_, made_4) (token_tree is_5 (phrase_tree (_, made_6) (phrase_tree (_, made_7) no_tree)))))))) =
+    (_, grammar.a_procedure made_0 made_1 is_2 is_3 made_4 is_5 made_6 made_7)
+case_tree cases.no_procedure no_tree = λ is. ([], rw is grammar.no_procedure)
+case_tree cases.one_procedure (phrase_tree (_, made_0) (phrase_tree trees no_tree)) =
+    λ is. let w = trees is in (_, grammar.one_procedure made_0 w.1)
 
 mutual
   -- what is whole has a tree
-  pub tree_of : (phrase : Phrase) (tokens rest : List Lexeme) → Whole phrase tokens rest → HasTree phrase tokens rest
-  tree_of _ _ _ (by_case phrase parts tokens rest c whole) =
-      case_tree phrase parts tokens rest c (trees_of parts tokens rest whole)
+  pub tree_of : {phrase : Phrase} {tokens rest : List Lexeme} → Whole phrase tokens rest → HasTree phrase tokens rest
+  tree_of (by_case c whole) = case_tree c (trees_of whole)
 
-  trees_of : (parts : List Part) (tokens rest : List Lexeme) → WholeParts parts tokens rest
+  trees_of : {parts : List Part} {tokens rest : List Lexeme} → WholeParts parts tokens rest
       → HaveTrees parts tokens rest
-  trees_of _ _ _ (no_part rest) = no_tree rest
-  trees_of _ _ _ (a_token single parts t tokens rest is more) =
-      token_tree single parts t tokens rest is (trees_of parts tokens rest more)
-  trees_of _ _ _ (a_phrase phrase parts tokens second rest whole more) =
-      phrase_tree phrase parts tokens second rest (tree_of phrase tokens second whole)
-      (trees_of parts second rest more)
+  trees_of no_part = no_tree
+  trees_of (a_token is more) = token_tree is (trees_of more)
+  trees_of (a_phrase whole more) = phrase_tree (tree_of whole) (trees_of more)
