@@ -15,20 +15,20 @@ use Rattle.syntax.proofs.TokenLaws.{one_list}
 
 -- a text has one answer
 pub one_answer : OneAnswer
-one_answer text _ _ (too_long _ long) (too_long _ long') = refl
-one_answer text _ two (too_long _ long) (by_tokens _ tokens ending _ short lexes h) = absurd (omega arith)
-one_answer text one _ (by_tokens _ tokens ending _ short lexes h) (too_long _ long) = absurd (omega arith)
-one_answer text one two (by_tokens _ tokens ending _ short lexes h) (by_tokens _ tokens' ending' _ short' lexes' h') =
-    let same = one_list text tokens tokens' ending ending' lexes lexes' in
-    one_answer_for_tokens tokens' ending' one two
-    (subst (λ e. Answers tokens' e one) same.1 (subst (λ ts. Answers ts ending one) same.0 h)) h'
+one_answer text _ _ (too_long long) (too_long long') = refl
+one_answer text _ _ (too_long long) (by_tokens short lexes h) = absurd (omega arith)
+one_answer text _ _ (by_tokens short lexes h) (too_long long) = absurd (omega arith)
+one_answer text one two (by_tokens {ending = ending} short lexes h) (by_tokens {tokens = ts} {ending = ending'} short' lexes' h') =
+    let same = one_list text _ ts _ ending' lexes lexes' in
+    one_answer_for_tokens ts ending' one two
+    (subst (λ e. Answers ts e one) same.1 (subst (λ ts. Answers ts ending one) same.0 h)) h'
 
 -- what refuses the tokens of a text refuses the text
 pub text-refused : (text : List ℕ) (tokens : List Lexeme) (ending : Ending) (r : Refusal) → length text ≤ text_limit
     → Lexes text tokens ending → IsRefusedAs (Answers tokens ending) r → IsRefusedAs (Reads text) r
 text-refused text tokens ending r short lexes (inl memory) = inl memory
 text-refused text tokens ending r short lexes (inr w) =
-    inr (w.0, w.1, by_tokens text tokens ending (refused r.rule w.0) short lexes w.2)
+    inr (w.0, w.1, by_tokens short lexes w.2)
 
 pub not-long : (n : ℕ) → (text_limit < n → ⊥) → n ≤ text_limit
 not-long n h = go (nat_lt text_limit n) refl
@@ -49,6 +49,6 @@ lexer-refused text r long memory = go (nat_lt text_limit (length text)) refl
           origin,
           w.1,
           subst (λ rule. Reads text (refused rule origin)) (sym w.0)
-              (too_long text (lt-true text_limit (length text) e)),
+              (too_long (lt-true text_limit (length text) e)),
         )
     go false e = inl (memory (lt-false text_limit (length text) e))

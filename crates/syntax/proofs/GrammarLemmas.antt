@@ -67,12 +67,12 @@ small_piece what bytes (spelling.sign mark) = tt
 
 small_tokens : {place : Place} {text : List ℕ} {tokens : List Lexeme} {end : Ending} → LexesFrom place text tokens end
     → SmallTokens tokens
-small_tokens (at_end place) = tt
-small_tokens (past_space place text front rest tokens end begins more) = small_tokens more
-small_tokens (past_token place text front rest kind tokens end begins more) =
+small_tokens at_end = tt
+small_tokens (past_space begins more) = small_tokens more
+small_tokens (past_token {spelling = front} {kind = kind} begins more) =
     (small_piece (piece.Token kind) front begins.spelled, small_tokens more)
-small_tokens (at_bad_number place text front rest begins) = tt
-small_tokens (at_unknown_character place b text none) = tt
+small_tokens (at_bad_number begins) = tt
+small_tokens (at_unknown_character none) = tt
 
 suffix_number : (suffix : Option Suffix) → IsNumberKind (suffix_kind suffix)
 suffix_number (Some U8) = tt
@@ -310,7 +310,7 @@ answered program (a_program tokens place tree is within) small = a_grammatical_p
 
 pub read_text : (text : List ℕ) (program : ProgramTree) → Reads text (accepted program)
     → AreGrammatical program.procedures
-read_text text program (by_tokens bytes tokens end answer short lexes answers) =
+read_text text program (by_tokens short lexes answers) =
     answered program answers (small_tokens lexes)
 
 -- the procedures of a text are as the grammar has them

@@ -1,12 +1,11 @@
 -- What the machine's tables say of a token's kind.
-use Rattle.std.proofs.Common.{◌≡◌, ◌≤◌, ◌<◌, ◌↔◌, ◌&&◌, nat_eq, ℕ, Bool, true, false, List, [], ◌∷◌, find, Option}
+use Rattle.std.proofs.Common.{◌≡◌, ◌≤◌, ◌<◌, ◌↔◌, ◌&&◌, nat_eq, Bool, true, false, Option}
 use Rattle.std.proofs.Common.{Some, None, refl, sym, subst, ap, ap₂, ◌∙◌, arith, eqb-true, eq-eqb}
 use Rattle.std.specs.Str.{bytes_eq}
 use Rattle.std.proofs.lemmas.Slice.Eq.{bytes_eq-Decides}
-use Rattle.syntax.specs.declared.token.Suffix.{Suffix}
-use Rattle.syntax.specs.declared.token.Suffix.TheVariants.{U8, U16, U32}
 use Rattle.syntax.specs.Spelling.{keyword_text, sign_text, suffix_text}
 use Rattle.syntax.proofs.TokenLaws.{keyword_unique, sign_unique}
+use Rattle.syntax.proofs.TokenNumbers.{suffix_unique}
 use Rattle.syntax.proofs.TokenRuns.{and_true}
 use Rattle.std.specs.Option.{option_map}
 use Rattle.syntax.specs.declared.parser.operator.Begins.{Begins}
@@ -35,20 +34,6 @@ use Rattle.syntax.specs.private.Machine.{fits, begins_of, link_of, link_level, s
 use Rattle.syntax.specs.declared.token.Sign.TheVariants as sign
 
 -- ---- two kinds fit exactly where they are one
-
-abbrev suffix_named : List ℕ → Option (Option Suffix)
-suffix_named text = find (λ suffix. bytes_eq text (suffix_text suffix)) (None ∷ Some U8 ∷ Some U16 ∷ Some U32 ∷ [])
-
-suffix_found : (suffix : Option Suffix) → suffix_named (suffix_text suffix) ≡ Some suffix
-suffix_found None = refl
-suffix_found (Some U8) = refl
-suffix_found (Some U16) = refl
-suffix_found (Some U32) = refl
-
-suffix_unique : (a b : Option Suffix) → suffix_text a ≡ suffix_text b → a ≡ b
-suffix_unique a b e =
-    let same : Some a ≡ Some b = sym (suffix_found a) ∙ ap suffix_named e ∙ suffix_found b in
-    cc
 
 pub kind-fits : (what kind : TokenKind) → fits what kind ≡ true → kind ≡ what
 kind-fits token.Name token.Name e = refl

@@ -21,7 +21,7 @@ use Rattle.syntax.specs.declared.lexer.sign.TheConstants.{SIGNS}
 use Rattle.syntax.specs.Lexeme.{Lexeme}
 use Rattle.syntax.specs.Spelling.{Spells, blank, comment, keyword, name, number, bad_number, sign, keyword_text}
 use Rattle.syntax.specs.Spelling.{sign_text, is_blank, is_word_byte, is_name_or_keyword, is_number_or_bad, IsNumber}
-use Rattle.syntax.specs.Tokens.{BeginsWith, Ending, LexesFrom, at_end, past_space, past_token, at_bad_number}
+use Rattle.syntax.specs.Tokens.{BeginsWith, BeginsWithNone, Ending, LexesFrom, at_end, past_space, past_token, at_bad_number}
 use Rattle.syntax.specs.Tokens.{at_unknown_character, place_after, OneList}
 use Rattle.syntax.proofs.TokenBytes.{blank_is_no_word_byte}
 use Rattle.syntax.proofs.TokenRuns.{and_true}
@@ -171,52 +171,48 @@ nothing_begins {p} {s} {r} a = none s (spelled_some a.spelled) a.parts
     none [] some e = absurd (omega arith)
     none (x ∷ l) some e = absurd (cc)
 
+clash : {A : Type 0} {text s r t u : List ℕ} {p q : Piece} → BeginsWith text p s r → BeginsWith text q t u
+    → (p ≡ q → ⊥) → A
+clash a b unlike = absurd (unlike (begins_unique _ _ _ _ _ _ _ a b).0)
+
+none_begins : {A : Type 0} {text s r : List ℕ} {p : Piece} → BeginsWith text p s r → BeginsWithNone text → A
+none_begins a none = absurd (none _ _ _ a.spelled a.parts)
+
 pub lexes_unique : {place : Place} {text : List ℕ} {xs ys : List Lexeme} {e f : Ending} → LexesFrom place text xs e
     → LexesFrom place text ys f → (xs ≡ ys) × (e ≡ f)
-lexes_unique (at_end place) (at_end place') = (refl, refl)
-lexes_unique (at_end place) (past_space place' text s r xs e a h) = absurd (nothing_begins a)
-lexes_unique (at_end place) (past_token place' text s r k xs e a h) = absurd (nothing_begins a)
-lexes_unique (at_end place) (at_bad_number place' text s r a) = absurd (nothing_begins a)
-lexes_unique (past_space place text s r xs e a h) (at_end place') = absurd (nothing_begins a)
-lexes_unique (past_space place text s r xs e a h) (past_space place' text' t u ys f b g) =
+lexes_unique at_end at_end = (refl, refl)
+lexes_unique at_end (past_space a h) = absurd (nothing_begins a)
+lexes_unique at_end (past_token a h) = absurd (nothing_begins a)
+lexes_unique at_end (at_bad_number a) = absurd (nothing_begins a)
+lexes_unique (past_space a h) at_end = absurd (nothing_begins a)
+lexes_unique (past_space {place} {rest = r} a h) (past_space {spelling = t} {tokens = ys} {end = f} b g) =
     let same = begins_unique _ _ _ _ _ _ _ a b in
     lexes_unique h (subst (λ l. LexesFrom (place_after place l) r ys f) (sym same.1)
     (subst (λ l. LexesFrom (place_after place t) l ys f) (sym same.2) g))
-lexes_unique (past_space place text s r xs e a h) (past_token place' text' t u k ys f b g) =
-    absurd (let same = (begins_unique _ _ _ _ _ _ _ a b).0 in cc)
-lexes_unique (past_space place text s r xs e a h) (at_bad_number place' text' t u b) =
-    absurd (let same = (begins_unique _ _ _ _ _ _ _ a b).0 in cc)
-lexes_unique (past_space place text s r xs e a h) (at_unknown_character place' c rest none) =
-    absurd (none _ s r a.spelled a.parts)
-lexes_unique (past_token place text s r k xs e a h) (at_end place') = absurd (nothing_begins a)
-lexes_unique (past_token place text s r k xs e a h) (past_space place' text' t u ys f b g) =
-    absurd (let same = (begins_unique _ _ _ _ _ _ _ a b).0 in cc)
-lexes_unique (past_token place text s r k xs e a h) (past_token place' text' t u l ys f b g) =
+lexes_unique (past_space a h) (past_token b g) = clash a b (λ e. cc)
+lexes_unique (past_space a h) (at_bad_number b) = clash a b (λ e. cc)
+lexes_unique (past_space a h) (at_unknown_character none) = none_begins a none
+lexes_unique (past_token a h) at_end = absurd (nothing_begins a)
+lexes_unique (past_token a h) (past_space b g) = clash a b (λ e. cc)
+lexes_unique (past_token {place} {rest = r} {kind = k} a h)
+    (past_token {spelling = t} {kind = l} {tokens = ys} {end = f} b g) =
     let same = begins_unique _ _ _ _ _ _ _ a b in
     let kinds : k ≡ l = let pieces : Token k ≡ Token l = same.0 in cc in
     let both =
     lexes_unique h (subst (λ z. LexesFrom (place_after place z) r ys f) (sym same.1)
     (subst (λ z. LexesFrom (place_after place t) z ys f) (sym same.2) g)) in
     ((λ i. record { kind = kinds i; place = place; text = same.1 i } ∷ both.0 i), both.1)
-lexes_unique (past_token place text s r k xs e a h) (at_bad_number place' text' t u b) =
-    absurd (let same = (begins_unique _ _ _ _ _ _ _ a b).0 in cc)
-lexes_unique (past_token place text s r k xs e a h) (at_unknown_character place' c rest none) =
-    absurd (none _ s r a.spelled a.parts)
-lexes_unique (at_bad_number place text s r a) (at_end place') = absurd (nothing_begins a)
-lexes_unique (at_bad_number place text s r a) (past_space place' text' t u ys f b g) =
-    absurd (let same = (begins_unique _ _ _ _ _ _ _ a b).0 in cc)
-lexes_unique (at_bad_number place text s r a) (past_token place' text' t u l ys f b g) =
-    absurd (let same = (begins_unique _ _ _ _ _ _ _ a b).0 in cc)
-lexes_unique (at_bad_number place text s r a) (at_bad_number place' text' t u b) = (refl, refl)
-lexes_unique (at_bad_number place text s r a) (at_unknown_character place' c rest none) =
-    absurd (none _ s r a.spelled a.parts)
-lexes_unique (at_unknown_character place c rest none) (past_space place' text' t u ys f b g) =
-    absurd (none _ t u b.spelled b.parts)
-lexes_unique (at_unknown_character place c rest none) (past_token place' text' t u l ys f b g) =
-    absurd (none _ t u b.spelled b.parts)
-lexes_unique (at_unknown_character place c rest none) (at_bad_number place' text' t u b) =
-    absurd (none _ t u b.spelled b.parts)
-lexes_unique (at_unknown_character place c rest none) (at_unknown_character place' c' rest' none') = (refl, refl)
+lexes_unique (past_token a h) (at_bad_number b) = clash a b (λ e. cc)
+lexes_unique (past_token a h) (at_unknown_character none) = none_begins a none
+lexes_unique (at_bad_number a) at_end = absurd (nothing_begins a)
+lexes_unique (at_bad_number a) (past_space b g) = clash a b (λ e. cc)
+lexes_unique (at_bad_number a) (past_token b g) = clash a b (λ e. cc)
+lexes_unique (at_bad_number a) (at_bad_number b) = (refl, refl)
+lexes_unique (at_bad_number a) (at_unknown_character none) = none_begins a none
+lexes_unique (at_unknown_character none) (past_space b g) = none_begins b none
+lexes_unique (at_unknown_character none) (past_token b g) = none_begins b none
+lexes_unique (at_unknown_character none) (at_bad_number b) = none_begins b none
+lexes_unique (at_unknown_character none) (at_unknown_character none') = (refl, refl)
 
 pub one_list : OneList
 one_list text xs ys e f h g = lexes_unique h g

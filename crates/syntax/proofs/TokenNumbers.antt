@@ -3,7 +3,8 @@ use Rattle.std.proofs.Common.{◌≡◌, ℕ, ◌<◌, ◌≤◌, Bool, true, fa
 use Rattle.std.proofs.Common.{refl, sym, ap, ◌∙◌, subst, arith, eqb-true, ⊎_elim}
 use Rattle.std.specs.Prelude.{not, ◌&&◌}
 use Rattle.std.specs.Char.{digit_value, is_ascii_digit}
-use Rattle.std.specs.List.{list_any, list_all}
+use Rattle.std.specs.List.{find, list_any, list_all}
+use Rattle.std.specs.Str.{bytes_eq}
 use Rattle.std.specs.Str.Parse.{AllDigits, digits_value}
 use Rattle.syntax.specs.declared.token.Suffix.{Suffix}
 use Rattle.syntax.specs.declared.token.Suffix.TheVariants.{U8, U16, U32}
@@ -62,23 +63,19 @@ name_word [] some digit all = absurd (omega arith)
 name_word (b ∷ word) some digit all =
     and_is_true (not (is_ascii_digit b)) (list_all is_word_byte (b ∷ word)) (ap not digit) all
 
-suffix_unique : (r s : Option Suffix) → suffix_text r ≡ suffix_text s → r ≡ s
-suffix_unique None None e = refl
-suffix_unique None (Some U8) e = absurd (cc)
-suffix_unique None (Some U16) e = absurd (cc)
-suffix_unique None (Some U32) e = absurd (cc)
-suffix_unique (Some U8) None e = absurd (cc)
-suffix_unique (Some U8) (Some U8) e = refl
-suffix_unique (Some U8) (Some U16) e = absurd (cc)
-suffix_unique (Some U8) (Some U32) e = absurd (cc)
-suffix_unique (Some U16) None e = absurd (cc)
-suffix_unique (Some U16) (Some U8) e = absurd (cc)
-suffix_unique (Some U16) (Some U16) e = refl
-suffix_unique (Some U16) (Some U32) e = absurd (let bad : 49 ≡ 51 = ap (λ l. get_or l 1 0) e in omega arith)
-suffix_unique (Some U32) None e = absurd (cc)
-suffix_unique (Some U32) (Some U8) e = absurd (cc)
-suffix_unique (Some U32) (Some U16) e = absurd (let bad : 51 ≡ 49 = ap (λ l. get_or l 1 0) e in omega arith)
-suffix_unique (Some U32) (Some U32) e = refl
+abbrev suffix_named : List ℕ → Option (Option Suffix)
+suffix_named text = find (λ suffix. bytes_eq text (suffix_text suffix)) (None ∷ Some U8 ∷ Some U16 ∷ Some U32 ∷ [])
+
+suffix_found : (suffix : Option Suffix) → suffix_named (suffix_text suffix) ≡ Some suffix
+suffix_found None = refl
+suffix_found (Some U8) = refl
+suffix_found (Some U16) = refl
+suffix_found (Some U32) = refl
+
+pub suffix_unique : (a b : Option Suffix) → suffix_text a ≡ suffix_text b → a ≡ b
+suffix_unique a b e =
+    let same : Some a ≡ Some b = sym (suffix_found a) ∙ ap suffix_named e ∙ suffix_found b in
+    cc
 
 -- decimal digits are no hexadecimal number
 no_x : (digits hexadecimal : List ℕ) → AllDigits 10 digits → digits ≡ 48 ∷ 120 ∷ hexadecimal → ⊥

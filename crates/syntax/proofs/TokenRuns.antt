@@ -53,6 +53,11 @@ pub run_at : (p : ℕ → Bool) (xs : List ℕ)
 run_at p [] = record { parts = refl; before = refl; next = tt }
 run_at p (x ∷ xs) = SplitsAtFirst-cons p x xs (position_or_len p xs) (p x) refl (run_at p xs)
 
+-- what code cuts there
+pub splits_at : (p : ℕ → Bool) (xs front rest : List ℕ) (n : ℕ) → n ≡ position_or_len p xs → front ≡ take n xs
+    → rest ≡ drop n xs → SplitsAtFirst p xs front rest
+splits_at p xs front rest n at front_is rest_is = rw (front_is, rest_is, at) (run_at p xs)
+
 -- no front in which none passes is longer than the run
 pub run_longest : (p : ℕ → Bool) (front others run rest : List ℕ) → list_any p front ≡ false
     → IsEmptyOrBeginsWith p rest → run ++ rest ≡ front ++ others → length front ≤ length run

@@ -2,15 +2,12 @@
 use Rattle.std.proofs.Common.{◌≡◌, ℕ, zero, suc, ◌≤◌, Bool, true, false, cond, List, [], ◌∷◌, ◌++◌, length, drop}
 use Rattle.std.proofs.Common.{Some, None, refl, sym, ap, ◌∙◌, subst, arith, leb-true, inl, inr, ⊎_elim, ◌⊎◌}
 use Rattle.std.specs.Prelude.{nat_eq, nat_le, ◌&&◌}
-use Rattle.std.specs.List.{find, slice_get, starts_with}
+use Rattle.std.specs.List.{find, position_or_len, slice_get, starts_with}
+use Rattle.std.specs.Str.{bytes_eq}
 use Rattle.std.proofs.lemmas.Slice.Eq.{starts_is}
 use Rattle.std.proofs.lemmas.Bool.Decides.{Decides-eqb}
 use Rattle.syntax.specs.declared.token.Sign.{Sign}
-use Rattle.syntax.specs.declared.token.Sign.TheVariants.{RotateLeft, ShiftLeft, ShiftRight, AtMost, AtLeast, Equals}
-use Rattle.syntax.specs.declared.token.Sign.TheVariants.{Differs, AndAlso, OrElse, OpenRound, CloseRound, OpenCurly}
-use Rattle.syntax.specs.declared.token.Sign.TheVariants.{CloseCurly, OpenSquare, CloseSquare, Comma, Semicolon}
-use Rattle.syntax.specs.declared.token.Sign.TheVariants.{Assign, Plus, Minus, Star, Slash, Percent, Ampersand, Bar}
-use Rattle.syntax.specs.declared.token.Sign.TheVariants.{Caret, Tilde, Bang, Below, Above}
+use Rattle.syntax.specs.declared.token.Sign.TheVariants.{RotateLeft}
 use Rattle.syntax.specs.declared.lexer.sign.TheConstants.{SIGNS}
 use Rattle.syntax.specs.Spelling.{sign_text}
 use Rattle.syntax.proofs.TokenRuns.{and_true}
@@ -79,40 +76,10 @@ module _ (test : Sign → Bool) where
       (find_head s signs found e)
 
 -- where a sign stands in the table
-rank : Sign → ℕ
-rank RotateLeft = 0
-rank ShiftLeft = 1
-rank ShiftRight = 2
-rank AtMost = 3
-rank AtLeast = 4
-rank Equals = 5
-rank Differs = 6
-rank AndAlso = 7
-rank OrElse = 8
-rank OpenRound = 9
-rank CloseRound = 10
-rank OpenCurly = 11
-rank CloseCurly = 12
-rank OpenSquare = 13
-rank CloseSquare = 14
-rank Comma = 15
-rank Semicolon = 16
-rank Assign = 17
-rank Plus = 18
-rank Minus = 19
-rank Star = 20
-rank Slash = 21
-rank Percent = 22
-rank Ampersand = 23
-rank Bar = 24
-rank Caret = 25
-rank Tilde = 26
-rank Bang = 27
-rank Below = 28
-rank Above = 29
+abbrev rank : Sign → ℕ
+rank mark = position_or_len (λ s. bytes_eq (sign_text s) (sign_text mark)) SIGNS
 
 in_table : (mark : Sign) → slice_get SIGNS (rank mark) ≡ Some mark
-unfolding rank
 in_table mark = elim mark as (λ m. slice_get SIGNS (rank m) ≡ Some m) [ RotateLeft ↦ refl | _ ↦ refl ]
 
 table_falls : falls 3 SIGNS ≡ true

@@ -24,7 +24,7 @@ pub goes_on_past_space : (text : List ℕ) (tokens : List Token) (place : Place)
     → BeginsWith rest Space spelling others → GoesOn text tokens place rest
     → GoesOn text tokens (place_after place spelling) others
 goes_on_past_space text tokens place rest spelling others begins goes =
-    λ more end h. goes more end (past_space place rest spelling others more end begins h)
+    λ more end h. goes more end (past_space begins h)
 
 pub goes_on_past_token : (text : List ℕ) (tokens : List Token) (place : Place) (rest others : List ℕ) (token : Token)
     → token.place ≡ place → BeginsWith rest (TokenPiece token.kind) token.text.now others
@@ -32,7 +32,7 @@ pub goes_on_past_token : (text : List ℕ) (tokens : List Token) (place : Place)
 goes_on_past_token text tokens place rest others token same begins goes = λ more end h.
     let one : Lexes text (lexemes tokens
     ++ (record { kind = token.kind; place = place; text = token.text.now } ∷ more)) end =
-    goes _ end (past_token place rest token.text.now others token.kind more end begins h) in
+    goes _ end (past_token begins h) in
     let placed : lexemes tokens ++ (record { kind = token.kind; place = place; text = token.text.now } ∷ more)
     ≡ lexemes tokens ++ (lexeme token ∷ more) =
     (λ i. lexemes tokens ++ (record { kind = token.kind; place = sym same i; text = token.text.now } ∷ more)) in
@@ -49,7 +49,7 @@ goes_on_end text tokens place rest end goes h =
 
 pub goes_on_to_end : (text : List ℕ) (tokens : List Token) (place : Place) (rest : List ℕ)
     → GoesOn text tokens place rest → length rest ≡ 0 → Lexes text (lexemes tokens) (ends_at place)
-goes_on_to_end text tokens place [] goes none = goes_on_end text tokens place [] (ends_at place) goes (at_end place)
+goes_on_to_end text tokens place [] goes none = goes_on_end text tokens place [] (ends_at place) goes at_end
 goes_on_to_end text tokens place (b ∷ rest) goes none = absurd (omega arith)
 
 pub goes_on_to_unknown : (text : List ℕ) (tokens : List Token) (place : Place) (rest : List ℕ)
@@ -57,15 +57,14 @@ pub goes_on_to_unknown : (text : List ℕ) (tokens : List Token) (place : Place)
     → Lexes text (lexemes tokens) (stops UnknownCharacter place)
 goes_on_to_unknown text tokens place [] goes some none = absurd (omega arith)
 goes_on_to_unknown text tokens place (b ∷ rest) goes some none =
-    goes_on_end text tokens place (b ∷ rest) (stops UnknownCharacter place) goes
-    (at_unknown_character place b rest none)
+    goes_on_end text tokens place (b ∷ rest) (stops UnknownCharacter place) goes (at_unknown_character none)
 
 pub goes_on_to_bad_number : (text : List ℕ) (tokens : List Token) (place : Place) (rest spelling others : List ℕ)
     → GoesOn text tokens place rest → BeginsWith rest BadNumber spelling others
     → Lexes text (lexemes tokens) (stops BadNumberRule place)
 goes_on_to_bad_number text tokens place rest spelling others goes begins =
     goes_on_end text tokens place rest (stops BadNumberRule place) goes
-    (at_bad_number place rest spelling others begins)
+    (at_bad_number begins)
 
 -- less is left
 pub rest_shorter : (rest : List ℕ) (piece : Piece) (spelling others : List ℕ) → BeginsWith rest piece spelling others
@@ -88,15 +87,15 @@ rest_at text rest spelling others place at parts =
 
 slices_from : {place : Place} {rest : List ℕ} {tokens : List Lexeme} {end : Ending} → LexesFrom place rest tokens end
     → (text : List ℕ) → drop place.offset text ≡ rest → AllByRecursion (IsSliceOf text) tokens
-slices_from (at_end place) text at = tt
-slices_from (past_space place rest spelling others tokens end begins h) text at =
+slices_from at_end text at = tt
+slices_from (past_space {place} {text = rest} {spelling} {rest = others} begins h) text at =
     slices_from h text (rest_at text rest spelling others place at begins.parts)
-slices_from (past_token place rest spelling others kind tokens end begins h) text at = (
+slices_from (past_token {place} {text = rest} {spelling} {rest = others} begins h) text at = (
   ap (take (length spelling)) (at ∙ begins.parts) ∙ take_at spelling others (length spelling) refl,
   slices_from h text (rest_at text rest spelling others place at begins.parts),
 )
-slices_from (at_bad_number place rest spelling others begins) text at = tt
-slices_from (at_unknown_character place b rest none) text at = tt
+slices_from (at_bad_number begins) text at = tt
+slices_from (at_unknown_character none) text at = tt
 
 pub slices : (text : List ℕ) (tokens : List Lexeme) (end : Ending) → Lexes text tokens end
     → All (IsSliceOf text) tokens

@@ -41,8 +41,8 @@ pub data Answers : List Lexeme → Ending → Answer → Type 0 where
 
 -- the answer to a text
 pub data Reads : List ℕ → Answer → Type 0 where
-  too_long : (text : List ℕ) → text_limit < length text → Reads text (refused TextTooLong origin)
-  by_tokens : (text : List ℕ) (tokens : List Lexeme) (ending : Ending) (answer : Answer) → length text ≤ text_limit
+  too_long : {text : List ℕ} → text_limit < length text → Reads text (refused TextTooLong origin)
+  by_tokens : {text : List ℕ} {tokens : List Lexeme} {ending : Ending} {answer : Answer} → length text ≤ text_limit
       → Lexes text tokens ending → Answers tokens ending answer → Reads text answer
 
 -- a list of tokens has one answer at most

@@ -48,16 +48,16 @@ BeginsWithNone text = (piece : Piece) (front others : List ℕ) → Spells piece
 
 -- what stands from a place on spells these tokens
 pub data LexesFrom : Place → List ℕ → List Lexeme → Ending → Type 0 where
-  at_end : (place : Place) → LexesFrom place [] [] (ends_at place)
-  past_space : (place : Place) (text spelling rest : List ℕ) (tokens : List Lexeme) (end : Ending)
+  at_end : {place : Place} → LexesFrom place [] [] (ends_at place)
+  past_space : {place : Place} {text spelling rest : List ℕ} {tokens : List Lexeme} {end : Ending}
       → BeginsWith text Space spelling rest → LexesFrom (place_after place spelling) rest tokens end
       → LexesFrom place text tokens end
-  past_token : (place : Place) (text spelling rest : List ℕ) (kind : TokenKind) (tokens : List Lexeme) (end : Ending)
+  past_token : {place : Place} {text spelling rest : List ℕ} {kind : TokenKind} {tokens : List Lexeme} {end : Ending}
       → BeginsWith text (Token kind) spelling rest → LexesFrom (place_after place spelling) rest tokens end
       → LexesFrom place text (record { kind = kind; place = place; text = spelling } ∷ tokens) end
-  at_bad_number : (place : Place) (text spelling rest : List ℕ) → BeginsWith text BadNumber spelling rest
+  at_bad_number : {place : Place} {text spelling rest : List ℕ} → BeginsWith text BadNumber spelling rest
       → LexesFrom place text [] (stops BadNumberRule place)
-  at_unknown_character : (place : Place) (b : ℕ) (text : List ℕ) → BeginsWithNone (b ∷ text)
+  at_unknown_character : {place : Place} {b : ℕ} {text : List ℕ} → BeginsWithNone (b ∷ text)
       → LexesFrom place (b ∷ text) [] (stops UnknownCharacter place)
 
 -- the text spells these tokens, with their places, and the list of them ends so

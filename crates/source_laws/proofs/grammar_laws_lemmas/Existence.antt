@@ -81,24 +81,24 @@ stepped : (n : ℕ) → ((place : Place) (text : List ℕ) → length text ≤ n
 stepped n shorter place text less Space spelling rest begins =
     let parts = rest_shorter text Space spelling rest begins in
     let h = shorter (place_after place spelling) rest (omega (arith, less, parts.0, parts.1)) in
-    (h.0, h.1, past_space place text spelling rest h.0 h.1 begins h.2)
+    (h.0, h.1, past_space begins h.2)
 stepped n shorter place text less (Token kind) spelling rest begins =
     let parts = rest_shorter text (Token kind) spelling rest begins in
     let h = shorter (place_after place spelling) rest (omega (arith, less, parts.0, parts.1)) in (
       record { kind = kind; place = place; text = spelling } ∷ h.0,
       h.1,
-      past_token place text spelling rest kind h.0 h.1 begins h.2,
+      past_token begins h.2,
     )
 stepped n shorter place text less BadNumber spelling rest begins =
-    ([], stops BadNumberRule place, at_bad_number place text spelling rest begins)
+    ([], stops BadNumberRule place, at_bad_number begins)
 
 within : (n : ℕ) (place : Place) (text : List ℕ) → length text ≤ n → Lexing place text
-within n place [] less = ([], ends_at place, at_end place)
+within n place [] less = ([], ends_at place, at_end)
 within zero place (b ∷ tail) less = absurd (omega (arith, less))
 within (suc n) place (b ∷ tail) less =
     ⊎_elim
     (λ h. stepped n (within n) place (b ∷ tail) less h.0 h.1 h.2 h.3)
-    (λ none. ([], stops UnknownCharacter place, at_unknown_character place b tail none))
+    (λ none. ([], stops UnknownCharacter place, at_unknown_character none))
     (by_blank b tail (is_blank b) refl)
 
 pub tokens_of : (text : List ℕ) → (tokens : List Lexeme) × (end : Ending) × Lexes text tokens end
@@ -107,8 +107,8 @@ tokens_of text = within (length text) origin text (omega arith)
 pub answer_to : (text : List ℕ) → (answer : Answer) × Reads text answer
 answer_to text =
     ⊎_elim
-    (λ long. (refused TextTooLong origin, too_long text long))
+    (λ long. (refused TextTooLong origin, too_long long))
     (λ short.
     let h = tokens_of text in
-    (verdict program outside h.0 h.1, by_tokens text h.0 h.1 _ short h.2 (answers h.0 h.1)))
+    (verdict program outside h.0 h.1, by_tokens short h.2 (answers h.0 h.1)))
     (below text_limit (length text))

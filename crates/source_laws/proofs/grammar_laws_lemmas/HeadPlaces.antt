@@ -41,7 +41,7 @@ answered text tokens ending tree (program_answer _ end _ is within) none = let h
 
 pub heads_in_place : (text : List ℕ) (tree : ProgramTree) → Reads text (accepted tree)
     → in_program (astray text) tree ≡ 0
-heads_in_place text tree (by_tokens _ tokens ending _ short lexes answers) =
+heads_in_place text tree (by_tokens {tokens = tokens} {ending} short lexes answers) =
     answered text tokens ending tree answers (tokens_in_place text tokens (placed text tokens ending lexes))
 
 -- two places at one offset are one

@@ -44,17 +44,17 @@ after front spelling place is = ap (λ p. place_after p spelling) is ∙ sym (af
 placed_from : {place : Place} {rest : List ℕ} {tokens : List Lexeme} {end : Ending} → LexesFrom place rest tokens end
     → (text front : List ℕ) → text ≡ front ++ rest → place ≡ place_after origin front
     → AllByRecursion (IsPlacedIn text) tokens
-placed_from (at_end place) text front parts is = tt
-placed_from (past_space place rest spelling others tokens end begins h) text front parts is =
+placed_from at_end text front parts is = tt
+placed_from (past_space {place} {text = rest} {spelling} {rest = others} begins h) text front parts is =
     placed_from h text (front ++ spelling) (further text front rest spelling others parts begins.parts)
     (after front spelling place is)
-placed_from (past_token place rest spelling others kind tokens end begins h) text front parts is = (
+placed_from (past_token {place} {text = rest} {spelling} {rest = others} begins h) text front parts is = (
   placed_at text front rest place parts is,
   placed_from h text (front ++ spelling) (further text front rest spelling others parts begins.parts)
       (after front spelling place is),
 )
-placed_from (at_bad_number place rest spelling others begins) text front parts is = tt
-placed_from (at_unknown_character place b rest none) text front parts is = tt
+placed_from (at_bad_number begins) text front parts is = tt
+placed_from (at_unknown_character none) text front parts is = tt
 
 pub placed : (text : List ℕ) (tokens : List Lexeme) (end : Ending) → Lexes text tokens end
     → All (IsPlacedIn text) tokens

@@ -190,12 +190,12 @@ module _ (n : ℕ) where
   -- tokens stand one after another
   apart : {place : Place} {text : List ℕ} {tokens : List Lexeme} {end : Ending} → LexesFrom place text tokens end
       → (n < place.offset → among (here n) tokens ≡ 0) × (among (here n) tokens ≤ 1)
-  apart (at_end place) = (λ _. refl, omega arith)
-  apart (past_space place text spelling rest tokens end begins h) =
+  apart at_end = (λ _. refl, omega arith)
+  apart (past_space {place} {spelling = spelling} begins h) =
       let later = offset_after place spelling in
       let r = apart h in
       (λ less. r.0 (omega (arith, less, later)), r.1)
-  apart (past_token place text spelling rest kind tokens end begins h) =
+  apart (past_token {place} {spelling = spelling} begins h) =
       let later = offset_after place spelling in
       let some = spelled_some begins.spelled in
       let r = apart h in
@@ -206,8 +206,8 @@ module _ (n : ℕ) where
       (λ less. absurd (omega (arith, less, is.0)), omega (arith, is.1, z)))
       (λ no. (λ less. let z = none (omega (arith, less, later)) in omega (arith, no.1, z), omega (arith, no.1, few)))
       (where_is place)
-  apart (at_bad_number place text spelling rest begins) = (λ _. refl, omega arith)
-  apart (at_unknown_character place b text none) = (λ _. refl, omega arith)
+  apart (at_bad_number begins) = (λ _. refl, omega arith)
+  apart (at_unknown_character none) = (λ _. refl, omega arith)
 
   answered : (tokens : List Lexeme) (ending : Ending) (tree : ProgramTree) → Answers tokens ending (accepted tree)
       → among (here n) tokens ≤ 1 → in_program (here n) tree ≤ 1
@@ -217,5 +217,5 @@ module _ (n : ℕ) where
 -- at each offset stands one head at most
 pub one_head : (text : List ℕ) (tree : ProgramTree) → Reads text (accepted tree) → (n : ℕ)
     → in_program (here n) tree ≤ 1
-one_head text tree (by_tokens _ tokens ending _ short lexes answers) n =
+one_head text tree (by_tokens {tokens = tokens} {ending} short lexes answers) n =
     answered n tokens ending tree answers (apart n lexes).1

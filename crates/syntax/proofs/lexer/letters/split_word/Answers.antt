@@ -1,9 +1,9 @@
-use Rattle.std.proofs.Common.{◌≡◌, refl, List, ℕ, take, drop, ap, ◌∙◌, subst, sym}
+use Rattle.std.proofs.Common.{◌≡◌, refl, subst, sym}
 use Rattle.std.specs.Str.{IsCharBoundary}
 use Rattle.std.specs.List.{position_or_len}
-use Rattle.syntax.specs.private.Splitting.{is_no_word_byte, SplitsAtFirst}
+use Rattle.syntax.specs.private.Splitting.{is_no_word_byte}
 use Rattle.syntax.proofs.TokenBytes.{word_byte_ascii}
-use Rattle.syntax.proofs.TokenRuns.{boundary_after, cut_is, run_at}
+use Rattle.syntax.proofs.TokenRuns.{boundary_after, cut_is, splits_at}
 use Rattle.syntax.proofs.lexer.letters.split_word.Goals as goal
 use Rattle.syntax.proofs.lexer.letters.split_word.Goals.{After-unwrap_or}
 
@@ -18,10 +18,5 @@ split_at-requires c =
 
 pub returns : goal.returns
 returns c =
-    let at = cut (goal.at.returns c).After-unwrap_or in
-    let Split : List ℕ → List ℕ → Type 0 = λ front rest. SplitsAtFirst is_no_word_byte c.args.text.now front rest in
-    let front = c.split_at.ensures.front ∙ ap (λ n. take n c.args.text.now) at in
-    let rest = c.split_at.ensures.back ∙ ap (λ n. drop n c.args.text.now) at in
-    subst (λ l. Split l c.split_at.result.1.now) (sym front)
-    (subst (λ l. Split (take (position_or_len is_no_word_byte c.args.text.now) c.args.text.now) l) (sym rest)
-    (run_at is_no_word_byte c.args.text.now))
+    splits_at is_no_word_byte c.args.text.now _ _ _ (cut (goal.at.returns c).After-unwrap_or) c.split_at.ensures.front
+    c.split_at.ensures.back

@@ -1,8 +1,8 @@
-use Rattle.std.proofs.Common.{◌≡◌, refl, List, ℕ, take, drop, ap, ◌∙◌, subst, sym, arith, eqb-true}
+use Rattle.std.proofs.Common.{◌≡◌, refl, subst, sym, arith, eqb-true}
 use Rattle.std.specs.Str.{IsCharBoundary}
 use Rattle.std.specs.List.{position_or_len}
-use Rattle.syntax.specs.private.Splitting.{is_suffix_letter, SplitsAtFirst}
-use Rattle.syntax.proofs.TokenRuns.{boundary_at, cut_is, run_at}
+use Rattle.syntax.specs.private.Splitting.{is_suffix_letter}
+use Rattle.syntax.proofs.TokenRuns.{boundary_at, cut_is, splits_at}
 use Rattle.syntax.proofs.lexer.number.split_digits.Goals as goal
 use Rattle.syntax.proofs.lexer.number.split_digits.Goals.{After-unwrap_or}
 
@@ -17,10 +17,5 @@ split_at-requires c =
 
 pub returns : goal.returns
 returns c =
-    let at = cut (goal.at.returns c).After-unwrap_or in
-    let Split : List ℕ → List ℕ → Type 0 = λ front rest. SplitsAtFirst is_suffix_letter c.args.word.now front rest in
-    let front = c.split_at.ensures.front ∙ ap (λ n. take n c.args.word.now) at in
-    let rest = c.split_at.ensures.back ∙ ap (λ n. drop n c.args.word.now) at in
-    subst (λ l. Split l c.split_at.result.1.now) (sym front)
-    (subst (λ l. Split (take (position_or_len is_suffix_letter c.args.word.now) c.args.word.now) l) (sym rest)
-    (run_at is_suffix_letter c.args.word.now))
+    splits_at is_suffix_letter c.args.word.now _ _ _ (cut (goal.at.returns c).After-unwrap_or) c.split_at.ensures.front
+    c.split_at.ensures.back

@@ -1,9 +1,8 @@
-use Rattle.std.proofs.Common.{◌≡◌, refl, List, ℕ, take, drop, ap, ◌∙◌, subst, sym, arith, eqb-true}
+use Rattle.std.proofs.Common.{◌≡◌, refl, subst, sym, arith, eqb-true}
 use Rattle.std.specs.Str.{IsCharBoundary}
 use Rattle.std.specs.List.{position_or_len}
 use Rattle.syntax.specs.Spelling.{is_line_feed}
-use Rattle.syntax.specs.private.Splitting.{SplitsAtFirst}
-use Rattle.syntax.proofs.TokenRuns.{boundary_at, cut_is, run_at}
+use Rattle.syntax.proofs.TokenRuns.{boundary_at, cut_is, splits_at}
 use Rattle.syntax.proofs.lexer.piece.split_line.Goals as goal
 use Rattle.syntax.proofs.lexer.piece.split_line.Goals.{After-unwrap_or}
 
@@ -18,10 +17,5 @@ split_at-requires c =
 
 pub returns : goal.returns
 returns c =
-    let at = cut (goal.at.returns c).After-unwrap_or in
-    let Split : List ℕ → List ℕ → Type 0 = λ front rest. SplitsAtFirst is_line_feed c.args.text.now front rest in
-    let front = c.split_at.ensures.front ∙ ap (λ n. take n c.args.text.now) at in
-    let rest = c.split_at.ensures.back ∙ ap (λ n. drop n c.args.text.now) at in
-    subst (λ l. Split l c.split_at.result.1.now) (sym front)
-    (subst (λ l. Split (take (position_or_len is_line_feed c.args.text.now) c.args.text.now) l) (sym rest)
-    (run_at is_line_feed c.args.text.now))
+    splits_at is_line_feed c.args.text.now _ _ _ (cut (goal.at.returns c).After-unwrap_or) c.split_at.ensures.front
+    c.split_at.ensures.back
