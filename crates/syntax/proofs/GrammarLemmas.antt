@@ -44,26 +44,18 @@ use Rattle.language.specs.Tree.{ProcedureTree, ProgramTree}
 -- a number that a token writes is a word
 abbrev IsSmallToken : TokenKind → Type 0
 IsSmallToken (token.Number n suffix) = n < 2 ^ 32
-IsSmallToken (token.Keyword word) = Unit {0}
-IsSmallToken token.Name = Unit {0}
-IsSmallToken (token.Sign sign) = Unit {0}
+IsSmallToken _ = Unit {0}
 
 abbrev SmallTokens : List Lexeme → Type 0
 SmallTokens tokens = AllByRecursion (λ (t : Lexeme). IsSmallToken t.kind) tokens
 
 abbrev IsSmallPiece : Piece → Type 0
 IsSmallPiece (piece.Token kind) = IsSmallToken kind
-IsSmallPiece piece.Space = Unit {0}
-IsSmallPiece piece.BadNumber = Unit {0}
+IsSmallPiece _ = Unit {0}
 
 small_piece : (what : Piece) (bytes : List ℕ) → Spells what bytes → IsSmallPiece what
-small_piece what bytes (spelling.blank b h) = tt
-small_piece what bytes (spelling.comment b h) = tt
-small_piece what bytes (spelling.keyword word) = tt
-small_piece what bytes (spelling.name b h k) = tt
-small_piece what bytes (spelling.number b n suffix h is) = is.small
-small_piece what bytes (spelling.bad_number b h k) = tt
-small_piece what bytes (spelling.sign mark) = tt
+small_piece _ _ (spelling.number b n suffix h is) = is.small
+small_piece _ _ _ = tt
 
 small_tokens : {place : Place} {text : List ℕ} {tokens : List Lexeme} {end : Ending} → LexesFrom place text tokens end
     → SmallTokens tokens
@@ -85,16 +77,12 @@ conversion_number (token.Keyword Uint8Word) kind h = subst (λ (k : Kind). IsNum
 conversion_number (token.Keyword Uint16Word) kind h = subst (λ (k : Kind). IsNumberKind k) (same_Some _ _ h) tt
 conversion_number (token.Keyword Uint32Word) kind h = subst (λ (k : Kind). IsNumberKind k) (same_Some _ _ h) tt
 conversion_number (token.Keyword _) kind h = absurd (none-some _ h)
-conversion_number token.Name kind h = absurd (none-some _ h)
-conversion_number (token.Number _ _) kind h = absurd (none-some _ h)
-conversion_number (token.Sign _) kind h = absurd (none-some _ h)
+conversion_number _ kind h = absurd (none-some _ h)
 
 amount_small : (t : TokenKind) (n : ℕ) → amount_of t ≡ Some n → IsSmallToken t → n < 2 ^ 32
 amount_small (token.Number m None) n h small = subst (λ (x : ℕ). x < 2 ^ 32) (same_Some _ _ h) small
 amount_small (token.Number m (Some _)) n h small = absurd (none-some _ h)
-amount_small (token.Keyword _) n h small = absurd (none-some _ h)
-amount_small token.Name n h small = absurd (none-some _ h)
-amount_small (token.Sign _) n h small = absurd (none-some _ h)
+amount_small _ n h small = absurd (none-some _ h)
 
 between : (n : ℕ) → (nat_le 1 n && nat_le n most_elements) ≡ true → IsArrayLength n
 between n e = record { some = grind (arith, nat_tests); few = grind (arith, nat_tests) }
@@ -106,9 +94,7 @@ length_within false m n is e = absurd (none-some _ e)
 length_bounds : (t : TokenKind) (n : ℕ) → length_of t ≡ Some n → IsArrayLength n
 length_bounds (token.Number m None) n h = length_within (is_length m) m n refl h
 length_bounds (token.Number m (Some _)) n h = absurd (none-some _ h)
-length_bounds (token.Keyword _) n h = absurd (none-some _ h)
-length_bounds token.Name n h = absurd (none-some _ h)
-length_bounds (token.Sign _) n h = absurd (none-some _ h)
+length_bounds _ n h = absurd (none-some _ h)
 
 small_expr : {level : ℕ} {tokens rest : List Lexeme} {tree : ExprTree} → ExprAt level tokens tree rest
     → SmallTokens tokens → AreSmall tree × SmallTokens rest

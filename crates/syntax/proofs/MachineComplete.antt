@@ -1,6 +1,6 @@
 -- The machine reads each program, to its tree.
 use Rattle.std.proofs.Common.{◌≡◌, ℕ, Bool, false, List, [], ◌∷◌, ◌++◌, Option, Some, None, refl, ap, ◌∙◌}
-use Rattle.std.proofs.Common.{if◌then◌else◌, append_assoc}
+use Rattle.std.proofs.Common.{append_assoc}
 use Rattle.std.proofs.lemmas.List.{append-nil}
 use Rattle.std.specs.Option.{option_and_then}
 use Rattle.word.specs.declared.place.Place.{Place}
@@ -22,14 +22,14 @@ use Rattle.language.specs.Tree.{CallTree, StatementTree, BlockTree, nothing, fir
 use Rattle.language.specs.Tree.{ProcedureTree, ProgramTree}
 use Rattle.syntax.specs.declared.parser.statement.Start.{Start}
 use Rattle.syntax.specs.private.Machine.{State, procedures, one, more_parameters, statements, otherwise, fits, starts_with}
-use Rattle.syntax.specs.private.Machine.{declared_array, declared_as, declared, block, conditioned, after_else}
+use Rattle.syntax.specs.private.Machine.{declared_array, declared_as, declared, block, conditioned}
 use Rattle.syntax.specs.private.Machine.{statement, parameter, parameters, returned, procedure_from, result_type}
 use Rattle.syntax.specs.private.Machine.{exported, procedure, program, started, step, at_end, run}
 use Rattle.syntax.proofs.MachineKinds.{label-starts, unlike}
 use Rattle.syntax.proofs.MachineMeaning.{procedure_of}
-use Rattle.syntax.proofs.MachineSteps.{start-step, more_statements}
+use Rattle.syntax.proofs.MachineSteps.{start-step, more_statements, after_parameters, before_else}
 use Rattle.syntax.proofs.MachineSound.{and_then_some}
-use Rattle.syntax.proofs.MachineExpressions.{Moves, stays, step-moves, Lacks, one-moves, either-moves, other-moves}
+use Rattle.syntax.proofs.MachineExpressions.{Moves, stays, step-moves, IsSome, alike-moves, Lacks, lacks-some, one-moves, either-moves, other-moves}
 use Rattle.syntax.proofs.MachineExpressions.{label-moves, kind-moves, length-moves, expr-one-moves, arguments-moves}
 use Rattle.syntax.proofs.MachineExpressions.{right-end-moves, values-moves}
 use Rattle.syntax.specs.declared.token.TokenKind.TheVariants as token
@@ -95,23 +95,6 @@ end-moves : {k : BlockTree → State} {last : State} {rest : List Lexeme} (ts : 
 end-moves [] ends h = absurd ends
 end-moves {k} (t ∷ ts) ends h = record {
   same = ap (λ o. option_and_then (λ n. run n ts) (started o t (more_statements k) (step (k nothing) t))) ends.0
-      ∙ h.same;
-}
-
-else-moves : {k : BlockTree → State} {t : Lexeme} {ts rest : List Lexeme} {last : State}
-    → t.kind ≡ token.Keyword keyword.Else → Moves (after_else k) ts last rest
-    → Moves (otherwise k) (t ∷ ts) last rest
-else-moves {k} {t} is h = step-moves (taken k t is) h
-  where
-    taken : (k : BlockTree → State) (t : Lexeme) → t.kind ≡ token.Keyword keyword.Else
-        → step (otherwise k) t ≡ Some (after_else k)
-    taken k t is = rw is
-
-no-else-moves : {k : BlockTree → State} {last : State} {rest : List Lexeme} (ts : List Lexeme)
-    → Lacks (token.Keyword keyword.Else) ts → Moves (k nothing) ts last rest → Moves (otherwise k) ts last rest
-no-else-moves [] lacks h = absurd lacks
-no-else-moves {k} (t ∷ ts) lacks h = record {
-  same = ap (λ b. option_and_then (λ n. run n ts) (if b then Some (after_else k) else step (k nothing) t)) lacks
       ∙ h.same;
 }
 
@@ -194,12 +177,15 @@ mutual
   otherwise-moves : {ts tail rest : List Lexeme} {b : BlockTree} {k : BlockTree → State} {last : State}
       → Otherwise ts b tail → Lacks (token.Keyword keyword.Else) tail → Moves (k b) tail last rest
       → Moves (otherwise k) ts last rest
-  otherwise-moves no_else lacks h = no-else-moves _ lacks h
-  otherwise-moves (an_else is in_arm) lacks h =
-      else-moves is (other-moves (block-lacks in_arm) (block-moves in_arm h))
+  otherwise-moves {k = k} (no_else {rest}) lacks h =
+      alike-moves (before_else k) rest (lacks-some (token.Keyword keyword.Else) rest lacks) (λ t. refl) (other-moves lacks h)
+  otherwise-moves {k = k} (an_else is in_arm) lacks h =
+      alike-moves (before_else k) _ tt (λ t. refl)
+      (either-moves is (other-moves (block-lacks in_arm) (block-moves in_arm h)))
   otherwise-moves {k = k} (an_else_if is in_tree) lacks h =
-      else-moves is
-      (conditional-moves (λ s. k (first s nothing)) in_tree lacks h (λ t ts is_if m. either-moves is_if m))
+      alike-moves (before_else k) _ tt (λ t. refl)
+      (either-moves is
+      (conditional-moves (λ s. k (first s nothing)) in_tree lacks h (λ t ts is_if m. either-moves is_if m)))
 
 -- parameters
 parameter-moves : {ts tail rest : List Lexeme} {q : ParameterTree} {last : State} (k : ParameterTree → State)
@@ -218,24 +204,17 @@ parameter-moves k (a_mutable_array is is_mut (an_array_type is_kind opens is_len
     (either-moves is_mut (kind-moves is_kind
     (one-moves opens (length-moves is_length (one-moves closes (one-moves is_name h))))))
 
-comma-step : (ps : List ParameterTree) (k : List ParameterTree → State) (t : Lexeme)
-    → t.kind ≡ token.Sign sign.Comma
-    → step (more_parameters ps k) t ≡ Some (parameter (λ q. more_parameters (ps ++ q ∷ []) k))
-comma-step ps k t is = rw is
-
-last-step : (ps : List ParameterTree) (k : List ParameterTree → State) (t : Lexeme)
-    → t.kind ≡ token.Sign sign.CloseRound → step (more_parameters ps k) t ≡ Some (k ps)
-last-step ps k t is = rw is
-
 more-parameters-moves : {ts tail rest : List Lexeme} {qs : List ParameterTree} {last : State}
     (ps : List ParameterTree) (k : List ParameterTree → State) → MoreParameters ts qs tail
     → Moves (k (ps ++ qs)) tail last rest → Moves (more_parameters ps k) ts last rest
-more-parameters-moves ps k (no_more_parameters {closing} is) h =
-    step-moves (last-step ps k closing is) (rw append-nil at h)
-more-parameters-moves ps k (one_more_parameter {comma} {tree = q} is in_one in_more) h =
-    step-moves (comma-step ps k comma is)
+more-parameters-moves ps k (no_more_parameters is) h =
+    alike-moves (after_parameters ps k) _ tt (λ t. refl)
+    (other-moves (ap (fits (token.Sign sign.Comma)) is) (one-moves is (rw append-nil at h)))
+more-parameters-moves ps k (one_more_parameter {tree = q} is in_one in_more) h =
+    alike-moves (after_parameters ps k) _ tt (λ t. refl)
+    (either-moves is
     (parameter-moves (λ q. more_parameters (ps ++ q ∷ []) k) in_one
-    (more-parameters-moves (ps ++ q ∷ []) k in_more (rw append_assoc h)))
+    (more-parameters-moves (ps ++ q ∷ []) k in_more (rw append_assoc h))))
 
 parameter-lacks : {ts rest : List Lexeme} {q : ParameterTree} → Parameter ts q rest
     → Lacks (token.Sign sign.CloseRound) ts
@@ -293,11 +272,6 @@ procedure-moves k (a_procedure {t} {export = export} {result} {own} {trees} is_e
     (one-moves opens'
     (statements-moves _ in_body (end-ends in_end) (returned-moves (made own trees) in_end h)))))))
 
--- some token stands there
-abbrev IsSome : List Lexeme → Type 0
-IsSome [] = ⊥
-IsSome (t ∷ ts) = Unit {0}
-
 result-some : {ts rest : List Lexeme} {r : Option WordType} → ResultType ts r rest → IsSome ts
 result-some (a_void is) = tt
 result-some (a_type is is_kind) = tt
@@ -310,16 +284,11 @@ procedure-some : {ts rest : List Lexeme} {q : ProcedureTree} → Procedure ts q 
 procedure-some (a_procedure is_export is_result is_name opens in_list opens' in_body in_end) =
     exported-some is_export (result-some is_result)
 
-begins-procedure : {last : State} {rest : List Lexeme} (ps : List ProcedureTree) (ts : List Lexeme) → IsSome ts
-    → Moves (procedure (λ q. procedures (ps ++ q ∷ []))) ts last rest → Moves (procedures ps) ts last rest
-begins-procedure ps [] some h = absurd some
-begins-procedure ps (t ∷ ts) some h = record { same = h.same }
-
 procedures-move : {ts : List Lexeme} {qs : List ProcedureTree} (ps : List ProcedureTree) → Procedures ts qs
     → Moves (procedures ps) ts (procedures (ps ++ qs)) []
 procedures-move ps no_procedure = rw append-nil stays
 procedures-move ps (one_procedure {list} {tree = q} in_one in_more) =
-    begins-procedure ps list (procedure-some in_one)
+    alike-moves (procedure (λ q. procedures (ps ++ q ∷ []))) list (procedure-some in_one) (λ t. refl)
     (procedure-moves (λ q. procedures (ps ++ q ∷ [])) in_one
     (rw append_assoc at (procedures-move (ps ++ q ∷ []) in_more)))
 

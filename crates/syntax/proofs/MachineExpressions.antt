@@ -32,7 +32,7 @@ use Rattle.syntax.specs.private.Machine.{within, joined, step, run}
 use Rattle.syntax.proofs.MachineKinds.{kind-fits, fits-kind, Bars, prefix-begins, conversion-begins, operator-links}
 use Rattle.syntax.proofs.MachineKinds.{weak_level, left_levels, unlike}
 use Rattle.syntax.proofs.MachineSteps.{one-step, either-step, label-step, kind-step, length-step, amount-step}
-use Rattle.syntax.proofs.MachineSteps.{sign-step, operand-step}
+use Rattle.syntax.proofs.MachineSteps.{sign-step, operand-step, after_exprs}
 use Rattle.syntax.specs.declared.token.Sign.TheVariants as sign
 
 -- from a state, before some tokens, the machine comes to another one, before the rest
@@ -46,10 +46,25 @@ pub step-moves : {s next last : State} {t : Lexeme} {ts rest : List Lexeme} → 
     → Moves next ts last rest → Moves s (t ∷ ts) last rest
 step-moves {ts = ts} e h = record { same = ap (option_and_then (λ n. run n ts)) e ∙ h.same }
 
+-- some token stands next
+abbrev pub IsSome : List Lexeme → Type 0
+IsSome [] = ⊥
+IsSome (t ∷ ts) = Unit {0}
+
+-- a state may be taken for one that steps as it does
+pub alike-moves : {s last : State} {rest : List Lexeme} (other : State) (ts : List Lexeme) → IsSome ts
+    → ((t : Lexeme) → step s t ≡ step other t) → Moves other ts last rest → Moves s ts last rest
+alike-moves other [] some e h = absurd some
+alike-moves other (t ∷ ts) some e h = record { same = ap (option_and_then (λ n. run n ts)) (e t) ∙ h.same }
+
 -- such a token stands next, but not of this kind
 abbrev pub Lacks : TokenKind → List Lexeme → Type 0
 Lacks what [] = ⊥
 Lacks what (t ∷ ts) = fits what t.kind ≡ false
+
+pub lacks-some : (what : TokenKind) (ts : List Lexeme) → Lacks what ts → IsSome ts
+lacks-some what [] lacks = lacks
+lacks-some what (t ∷ ts) lacks = tt
 
 pub one-moves : {what : TokenKind} {k : Lexeme → State} {last : State} {t : Lexeme} {ts rest : List Lexeme}
     → t.kind ≡ what → Moves (k t) ts last rest → Moves (one what k) (t ∷ ts) last rest
@@ -234,24 +249,17 @@ more-stops : {end : TokenKind} {ts rest : List Lexeme} {es : List ExprTree} → 
 more-stops closes (no_more is) = closes-stops closes is
 more-stops closes (one_more is in_e in_more) = closes-stops ((refl, refl), refl) is
 
-comma-step : (end : TokenKind) (es : List ExprTree) (k : List ExprTree → State) (t : Lexeme)
-    → t.kind ≡ token.Sign sign.Comma
-    → step (more_exprs end es k) t ≡ Some (expr 1 (λ x. more_exprs end (es ++ x ∷ []) k))
-comma-step end es k t is = rw is
-
-last-step : (end : TokenKind) (es : List ExprTree) (k : List ExprTree → State) (t : Lexeme)
-    → fits (token.Sign sign.Comma) end ≡ false → t.kind ≡ end → step (more_exprs end es k) t ≡ Some (k es)
-last-step end es k t other is = let ends = fits-kind end end refl in rw (is, other, ends)
-
 more-moves : {end : TokenKind} {ts tail rest : List Lexeme} {fs : List ExprTree} {last : State}
     (es : List ExprTree) (k : List ExprTree → State) → Closes end → fits (token.Sign sign.Comma) end ≡ false
     → MoreExprs end ts fs tail → Moves (k (es ++ fs)) tail last rest → Moves (more_exprs end es k) ts last rest
-more-moves {end} es k closes other (no_more {closing} is) h =
-    step-moves (last-step end es k closing other is) (rw append-nil at h)
-more-moves {end} es k closes other (one_more {comma} {tree = e} is in_e in_more) h =
-    step-moves (comma-step end es k comma is)
+more-moves {end} es k closes other (no_more is) h =
+    alike-moves (after_exprs end es k) _ tt (λ t. refl)
+    (other-moves (ap (fits (token.Sign sign.Comma)) is ∙ other) (one-moves is (rw append-nil at h)))
+more-moves {end} es k closes other (one_more {tree = e} is in_e in_more) h =
+    alike-moves (after_exprs end es k) _ tt (λ t. refl)
+    (either-moves is
     (expr-moves in_e (more-stops closes in_more)
-    (more-moves (es ++ e ∷ []) k closes other in_more (rw append_assoc h)))
+    (more-moves (es ++ e ∷ []) k closes other in_more (rw append_assoc h))))
 
 some-moves : {end : TokenKind} {ts tail rest : List Lexeme} {es : List ExprTree} {last : State}
     (k : List ExprTree → State) → Closes end → fits (token.Sign sign.Comma) end ≡ false → SomeExprs end ts es tail

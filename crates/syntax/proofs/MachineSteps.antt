@@ -1,11 +1,12 @@
--- Single steps of the machine.
-use Rattle.std.proofs.Common.{◌≡◌, ℕ, ◌≤◌, true, Some, ap, ◌∙◌, ◌&&◌, if◌then◌else◌, None, arith}
+-- Single steps of the machine, and states that step as others do.
+use Rattle.std.proofs.Common.{◌≡◌, ℕ, ◌≤◌, true, ◌&&◌, List, [], ◌∷◌, ◌++◌, Some, None, ap, ◌∙◌, arith}
+use Rattle.std.proofs.Common.{if◌then◌else◌}
 use Rattle.std.proofs.lemmas.Bool.Decides.{nat_tests}
 use Rattle.std.specs.Prelude.{nat_le}
 use Rattle.std.specs.Option.{option_map}
 use Rattle.language.specs.declared.signature.Kind.{Kind}
 use Rattle.language.specs.declared.signature.Label.{Label}
-use Rattle.language.specs.Tree.{ExprTree, StatementTree, BlockTree, nothing, first}
+use Rattle.language.specs.Tree.{ExprTree, StatementTree, BlockTree, nothing, first, ParameterTree}
 use Rattle.syntax.specs.declared.parser.operator.Begins.{Begins}
 use Rattle.syntax.specs.declared.parser.operator.Link.{Link}
 use Rattle.syntax.specs.declared.parser.statement.Start.{Start}
@@ -14,7 +15,11 @@ use Rattle.syntax.specs.Grammar.{label_of, word_of, amount_of, length_of}
 use Rattle.syntax.specs.Lexeme.{Lexeme}
 use Rattle.syntax.specs.private.Machine.{State, fits, one, either, statements, starts_with, statement, started, a_label}
 use Rattle.syntax.specs.private.Machine.{a_kind, a_length, an_amount, expr, more, begins_of, operand, link_of}
-use Rattle.syntax.specs.private.Machine.{link_level, link_left_level, linked, within, joined, step}
+use Rattle.syntax.specs.private.Machine.{link_level, link_left_level, linked, within, joined, step, more_exprs}
+use Rattle.syntax.specs.private.Machine.{more_parameters, parameter, after_else}
+use Rattle.syntax.specs.declared.token.TokenKind.TheVariants as token
+use Rattle.syntax.specs.declared.token.Keyword.TheVariants as keyword
+use Rattle.syntax.specs.declared.token.Sign.TheVariants as sign
 
 pub one-step : (what : TokenKind) (k : Lexeme → State) (t : Lexeme) → fits what t.kind ≡ true
     → step (one what k) t ≡ Some (k t)
@@ -64,3 +69,23 @@ more_statements k s = statements (λ b. k (first s b))
 pub start-step : (k : BlockTree → State) (t : Lexeme) (start : Start) → starts_with t.kind ≡ Some start
     → step (statements k) t ≡ Some (statement start t (more_statements k))
 start-step k t start is = ap (λ o. started o t (more_statements k) (step (k nothing) t)) is
+
+-- a further expression of the list
+abbrev pub further : TokenKind → List ExprTree → (List ExprTree → State) → State
+further end es k = expr 1 (λ e. more_exprs end (es ++ e ∷ []) k)
+
+-- expressions of a list: a comma and a further one, or the end
+abbrev pub after_exprs : TokenKind → List ExprTree → (List ExprTree → State) → State
+after_exprs end es k = either (token.Sign sign.Comma) (λ _. further end es k) (one end (λ _. k es))
+
+-- parameters: a comma and a further one, or the end
+abbrev pub further_parameter : List ParameterTree → (List ParameterTree → State) → State
+further_parameter ps k = parameter (λ p. more_parameters (ps ++ p ∷ []) k)
+
+abbrev pub after_parameters : List ParameterTree → (List ParameterTree → State) → State
+after_parameters ps k = either (token.Sign sign.Comma) (λ _. further_parameter ps k)
+    (one (token.Sign sign.CloseRound) (λ _. k ps))
+
+-- a second arm, or what else may stand there
+abbrev pub before_else : (BlockTree → State) → State
+before_else k = either (token.Keyword keyword.Else) (λ _. after_else k) (k nothing)

@@ -1,25 +1,19 @@
--- What the parser's functions share: faults passed on, and single steps of the machine.
-use Rattle.std.proofs.Common.{◌≡◌, true, false, List, [], ◌∷◌, ◌++◌, length, nat_eq, Option, Some, None}
-use Rattle.std.proofs.Common.{refl, ap}
+-- States of the machine that the parser's functions take for one another.
+use Rattle.std.proofs.Common.{◌≡◌, true, false, List, [], ◌∷◌, ◌++◌, length, nat_eq, Option, Some, None, refl}
+use Rattle.std.proofs.Common.{ap}
 use Rattle.std.specs.Prelude.{is_some}
 use Rattle.syntax.specs.declared.parser.Parser.{Parser}
 use Rattle.syntax.specs.declared.token.Token.{Token}
 use Rattle.syntax.specs.Lexeme.{Lexeme, lexemes}
 use Rattle.syntax.specs.Nesting.{Nest, after}
 use Rattle.syntax.specs.Tokens.{Ending, ending}
-use Rattle.syntax.specs.private.Machine.{State, procedures, one, either}
-use Rattle.syntax.specs.private.Machine.{expr, more_exprs}
-use Rattle.syntax.specs.private.Machine.{more_parameters, otherwise, after_else}
-use Rattle.syntax.specs.private.Machine.{step, at_end, parameter}
-use Rattle.syntax.specs.private.Machine.{procedure, verdict, ending_answer, token_answer}
+use Rattle.syntax.specs.private.Machine.{State, procedures, more_exprs, more_parameters, otherwise}
+use Rattle.syntax.specs.private.Machine.{step, at_end, procedure, verdict, ending_answer}
+use Rattle.syntax.specs.private.Machine.{token_answer}
 use Rattle.syntax.specs.private.ParserViews.{ahead, nest}
-use Rattle.language.specs.Tree.{ExprTree, BlockTree, nothing, ParameterTree, ProcedureTree}
-pub use Rattle.syntax.proofs.MachineSteps.{one-step, either-step, label-step, kind-step, length-step, amount-step}
-pub use Rattle.syntax.proofs.MachineSteps.{sign-step, operand-step, more_statements, start-step}
-use Rattle.syntax.specs.declared.token.TokenKind.TheVariants as token
+use Rattle.language.specs.Tree.{ExprTree, BlockTree, ParameterTree, ProcedureTree}
+use Rattle.syntax.proofs.MachineSteps.{after_exprs, after_parameters, before_else}
 use Rattle.syntax.specs.declared.token.TokenKind.{TokenKind}
-use Rattle.syntax.specs.declared.token.Keyword.TheVariants as keyword
-use Rattle.syntax.specs.declared.token.Sign.TheVariants as sign
 
 -- what is there, and what is not
 pub some-is : {A : Type 0} (o : Option A) → is_some o ≡ true → (x : A) × (o ≡ Some x)
@@ -38,36 +32,19 @@ same-verdict s s' n (t ∷ ts) e last h =
     let n' = after t.kind n in
     ap (λ o. token_answer o t n' (λ next. verdict next n' ts e)) (h t)
 
--- a further expression of the list
-abbrev pub further : TokenKind → List ExprTree → (List ExprTree → State) → State
-further end es k = expr 1 (λ e. more_exprs end (es ++ e ∷ []) k)
-
--- expressions of a list: a comma and a further one, or the end
-abbrev pub after_exprs : TokenKind → List ExprTree → (List ExprTree → State) → State
-after_exprs end es k = either (token.Sign sign.Comma) (λ _. further end es k) (one end (λ _. k es))
-
 pub ahead-exprs : (end : TokenKind) (es : List ExprTree) (k : List ExprTree → State) (p : Parser)
     → ahead (more_exprs end es k) p ≡ ahead (after_exprs end es k) p
 ahead-exprs end es k p = same-verdict (more_exprs end es k) (after_exprs end es k) (nest p.nesting)
     (lexemes p.rest.now) (ending p.end) refl (λ t. refl)
-
--- parameters: a comma and a further one, or the end
-abbrev pub further_parameter : List ParameterTree → (List ParameterTree → State) → State
-further_parameter ps k = parameter (λ p. more_parameters (ps ++ p ∷ []) k)
-
-abbrev pub after_parameters : List ParameterTree → (List ParameterTree → State) → State
-after_parameters ps k = either (token.Sign sign.Comma) (λ _. further_parameter ps k)
-    (one (token.Sign sign.CloseRound) (λ _. k ps))
 
 pub ahead-parameters : (ps : List ParameterTree) (k : List ParameterTree → State) (p : Parser)
     → ahead (more_parameters ps k) p ≡ ahead (after_parameters ps k) p
 ahead-parameters ps k p = same-verdict (more_parameters ps k) (after_parameters ps k) (nest p.nesting)
     (lexemes p.rest.now) (ending p.end) refl (λ t. refl)
 
-pub ahead-otherwise : (k : BlockTree → State) (p : Parser)
-    → ahead (otherwise k) p ≡ ahead (either (token.Keyword keyword.Else) (λ _. after_else k) (k nothing)) p
-ahead-otherwise k p = same-verdict (otherwise k) (either (token.Keyword keyword.Else) (λ _. after_else k) (k nothing))
-    (nest p.nesting) (lexemes p.rest.now) (ending p.end) refl (λ t. refl)
+pub ahead-otherwise : (k : BlockTree → State) (p : Parser) → ahead (otherwise k) p ≡ ahead (before_else k) p
+ahead-otherwise k p = same-verdict (otherwise k) (before_else k) (nest p.nesting) (lexemes p.rest.now)
+    (ending p.end) refl (λ t. refl)
 
 -- procedures: where a token is left, a further one
 ahead-procedure-at : (ps : List ProcedureTree) (n : Nest) (xs : List Token) (e : Ending)

@@ -64,10 +64,7 @@ pub run_longest : (p : ℕ → Bool) (front others run rest : List ℕ) → list
 run_longest p [] others run rest none stops e = omega arith
 run_longest p (x ∷ front) others [] [] none stops e = absurd (cc)
 run_longest p (x ∷ front) others [] (y ∷ rest) none stops e =
-    let same : y ≡ x = cc in
-    let passes : p x ≡ true = sym (ap p same) ∙ stops in
-    let fails : p x ≡ false = (or_false _ _ none).0 in
-    absurd (let bad : true ≡ false = sym passes ∙ fails in cc)
+    let fails : p x ≡ false = (or_false _ _ none).0 in cc
 run_longest p (x ∷ front) others (y ∷ run) rest none stops e =
     let tails : run ++ rest ≡ front ++ others = cc in
     let shorter : length front ≤ length run = run_longest p front others run rest (or_false _ _ none).1 stops tails in
@@ -78,13 +75,11 @@ pub run_unique : (p : ℕ → Bool) (xs ys r s : List ℕ) → list_any p xs ≡
     → IsEmptyOrBeginsWith p r → IsEmptyOrBeginsWith p s → xs ++ r ≡ ys ++ s → (xs ≡ ys) × (r ≡ s)
 run_unique p [] [] r s n m q t e = (refl, e)
 run_unique p [] (y ∷ ys) [] s n m q t e = absurd (cc)
-run_unique p [] (y ∷ ys) (x ∷ r) s n m q t e =
-    let same : x ≡ y = cc in
-    absurd (let bad : true ≡ false = sym q ∙ ap p same ∙ (or_false _ _ m).0 in cc)
+run_unique p [] (y ∷ ys) (x ∷ r) s n m q t e = let fails : p y ≡ false = (or_false _ _ m).0 in
+    cc
 run_unique p (x ∷ xs) [] r [] n m q t e = absurd (cc)
-run_unique p (x ∷ xs) [] r (y ∷ s) n m q t e =
-    let same : x ≡ y = cc in
-    absurd (let bad : true ≡ false = sym t ∙ sym (ap p same) ∙ (or_false _ _ n).0 in cc)
+run_unique p (x ∷ xs) [] r (y ∷ s) n m q t e = let fails : p x ≡ false = (or_false _ _ n).0 in
+    cc
 run_unique p (x ∷ xs) (y ∷ ys) r s n m q t e =
     let tails : xs ++ r ≡ ys ++ s = cc in
     let same : x ≡ y = cc in

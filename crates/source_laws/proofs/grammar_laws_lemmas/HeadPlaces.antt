@@ -56,7 +56,4 @@ one_place text p q h k same =
     (pc ∙ ap (λ n. (place_after origin (take n text)).column) same ∙ sym qc)
   where
     alike : (a b : Place) → a.offset ≡ b.offset → a.line ≡ b.line → a.column ≡ b.column → a ≡ b
-    alike a b offset line column =
-        ap {B = Place} (λ n. record { offset = n; line = a.line; column = a.column }) offset
-        ∙ ap {B = Place} (λ n. record { offset = b.offset; line = n; column = a.column }) line
-        ∙ ap {B = Place} (λ n. record { offset = b.offset; line = b.line; column = n }) column
+    alike a b offset line column = (λ i. record { offset = offset i; line = line i; column = column i })
