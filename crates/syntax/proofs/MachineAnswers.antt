@@ -139,15 +139,9 @@ passes-all : (ts : List Lexeme) (s next : State) (nest : Nest) (ending : Ending)
 passes-all ts s next nest ending e within = ap (λ xs. verdict s nest xs ending) (sym (append-nil ts))
     ∙ passes ts [] s next nest ending e within
 
-step_is_none : (s : State) (t : Lexeme) (o : Option State) → step s t ≡ o
-    → ((next : State) → ¬ (step s t ≡ Some next)) → step s t ≡ None
-step_is_none s t None is h = is
-step_is_none s t (Some next) is h = absurd (h next is)
-
-end_is_none : (s : State) (o : Option ProgramTree) → at_end s ≡ o → ((p : ProgramTree) → ¬ (at_end s ≡ Some p))
-    → at_end s ≡ None
-end_is_none s None is h = is
-end_is_none s (Some p) is h = absurd (h p is)
+none_from : {A : Type 0} (o : Option A) → ((x : A) → ¬ (o ≡ Some x)) → o ≡ None
+none_from None h = refl
+none_from (Some x) h = absurd (h x refl)
 
 -- each answer is the machine's
 pub answered : (ts : List Lexeme) (ending : Ending) (a : Answer) → Answers ts ending a
@@ -157,7 +151,7 @@ answered _ _ _ (a_program tokens end tree h within) =
     sym (passes-all tokens program w.0 outside (ends_at end) w.1 within ∙ ap (ending_answer (ends_at end)) w.2)
 answered _ _ _ (unexpected front rest t ending begins not within) =
     let w = run_beginning front begins in
-    let none = step_is_none w.0 t (step w.0 t) refl
+    let none = none_from (step w.0 t)
     (λ next is. not (begins_by_run (front ++ t ∷ []) next (run-append front (t ∷ []) program w.0 w.1
     ∙ run-one w.0 next t is))) in
     let n = after t.kind (after_all front outside) in
@@ -165,7 +159,7 @@ answered _ _ _ (unexpected front rest t ending begins not within) =
     ∙ ap (λ o. token_answer o t n (λ x. verdict x n rest ending)) none)
 answered _ _ _ (unexpected_end tokens end begins not within) =
     let w = run_beginning tokens begins in
-    let none = end_is_none w.0 (at_end w.0) refl (λ p is. not p (program_by_run tokens w.0 p w.1 is)) in
+    let none = none_from (at_end w.0) (λ p is. not p (program_by_run tokens w.0 p w.1 is)) in
     sym (passes-all tokens program w.0 outside (ends_at end) w.1 within ∙ ap (ending_answer (ends_at end)) none)
 answered _ _ _ (too_deep front rest t ending begins within deep) =
     let v = run_beginning (front ++ t ∷ []) begins in

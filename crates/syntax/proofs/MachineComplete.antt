@@ -272,17 +272,13 @@ procedure-moves k (a_procedure {t} {export = export} {result} {own} {trees} is_e
     (one-moves opens'
     (statements-moves _ in_body (end-ends in_end) (returned-moves (made own trees) in_end h)))))))
 
-result-some : {ts rest : List Lexeme} {r : Option WordType} → ResultType ts r rest → IsSome ts
-result-some (a_void is) = tt
-result-some (a_type is is_kind) = tt
-
 exported-some : {ts rest : List Lexeme} {export : Option Place} → Exported ts export rest → IsSome rest → IsSome ts
 exported-some not_exported h = h
 exported-some (an_export is) h = tt
 
 procedure-some : {ts rest : List Lexeme} {q : ProcedureTree} → Procedure ts q rest → IsSome ts
 procedure-some (a_procedure is_export is_result is_name opens in_list opens' in_body in_end) =
-    exported-some is_export (result-some is_result)
+    exported-some is_export (lacks-some (token.Keyword keyword.Export) _ (result-lacks is_result))
 
 procedures-move : {ts : List Lexeme} {qs : List ProcedureTree} (ps : List ProcedureTree) → Procedures ts qs
     → Moves (procedures ps) ts (procedures (ps ++ qs)) []

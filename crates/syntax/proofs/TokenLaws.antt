@@ -28,14 +28,14 @@ use Rattle.syntax.proofs.TokenRuns.{and_true}
 use Rattle.syntax.proofs.TokenNumbers.{number_unique}
 use Rattle.syntax.proofs.TokenSigns.{begins}
 
-abbrev keywords : List Keyword
+abbrev pub keywords : List Keyword
 keywords = Export ∷ Void ∷ Public ∷ Secret ∷ Mut ∷ BoolWord ∷ Uint8 ∷ Uint16 ∷ Uint32 ∷ True ∷ False ∷ If ∷ Else ∷ For
     ∷ From ∷ To ∷ Return ∷ Select ∷ []
 
 abbrev keyword_named : List ℕ → Option Keyword
 keyword_named text = find (λ word. bytes_eq text (keyword_text word)) keywords
 
-keyword_found : (word : Keyword) → keyword_named (keyword_text word) ≡ Some word
+pub keyword_found : (word : Keyword) → keyword_named (keyword_text word) ≡ Some word
 keyword_found word = elim word as (λ w. keyword_named (keyword_text w) ≡ Some w) [ Export ↦ refl | _ ↦ refl ]
 
 pub keyword_unique : (v w : Keyword) → keyword_text v ≡ keyword_text w → v ≡ w

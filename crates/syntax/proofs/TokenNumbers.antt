@@ -63,10 +63,13 @@ name_word [] some digit all = absurd (omega arith)
 name_word (b ∷ word) some digit all =
     and_is_true (not (is_ascii_digit b)) (list_all is_word_byte (b ∷ word)) (ap not digit) all
 
-abbrev suffix_named : List ℕ → Option (Option Suffix)
-suffix_named text = find (λ suffix. bytes_eq text (suffix_text suffix)) (None ∷ Some U8 ∷ Some U16 ∷ Some U32 ∷ [])
+abbrev pub suffixes : List (Option Suffix)
+suffixes = None ∷ Some U8 ∷ Some U16 ∷ Some U32 ∷ []
 
-suffix_found : (suffix : Option Suffix) → suffix_named (suffix_text suffix) ≡ Some suffix
+abbrev suffix_named : List ℕ → Option (Option Suffix)
+suffix_named text = find (λ suffix. bytes_eq text (suffix_text suffix)) suffixes
+
+pub suffix_found : (suffix : Option Suffix) → suffix_named (suffix_text suffix) ≡ Some suffix
 suffix_found None = refl
 suffix_found (Some U8) = refl
 suffix_found (Some U16) = refl

@@ -29,8 +29,8 @@ falls_below (s ∷ signs) most f (suc i) mark e =
     let later : length (sign_text mark) ≤ length (sign_text s) = falls_below signs _ both.1 i mark e in
     omega arith
 
-module _ (test : Sign → Bool) where
-  find_head : (s : Sign) (signs : List Sign) (found : Sign) → find test (s ∷ signs) ≡ Some found
+module _ {A : Type 0} (test : A → Bool) where
+  find_head : (s : A) (signs : List A) (found : A) → find test (s ∷ signs) ≡ Some found
       → ((test s ≡ true) × (s ≡ found)) ⊎ ((test s ≡ false) × (find test signs ≡ Some found))
   find_head s signs found e = by (test s) refl
     where
@@ -40,11 +40,12 @@ module _ (test : Sign → Bool) where
           inl (v, (let same : Some s ≡ Some found = sym (ap (λ b. cond b (Some s) (find test signs)) v) ∙ e in cc))
       by false v = inr (v, sym (ap (λ b. cond b (Some s) (find test signs)) v) ∙ e)
 
-  pub find_passes : (signs : List Sign) (found : Sign) → find test signs ≡ Some found → test found ≡ true
+  pub find_passes : (signs : List A) (found : A) → find test signs ≡ Some found → test found ≡ true
   find_passes [] found e = absurd (cc)
   find_passes (s ∷ signs) found e =
       ⊎_elim (λ h. sym (ap test h.1) ∙ h.0) (λ h. find_passes signs found h.1) (find_head s signs found e)
 
+module _ (test : Sign → Bool) where
   find_none : (signs : List Sign) → find test signs ≡ None → (i : ℕ) (mark : Sign) → slice_get signs i ≡ Some mark
       → test mark ≡ false
   find_none [] e i mark at = absurd (cc)
@@ -67,13 +68,13 @@ module _ (test : Sign → Bool) where
       (λ h. let is : mark ≡ found = sym same ∙ h.1 in
       subst (λ m. length (sign_text mark) ≤ length (sign_text m)) is (omega arith))
       (λ h. absurd (let bad : true ≡ false = sym passes ∙ sym (ap test same) ∙ h.0 in cc))
-      (find_head s signs found e)
+      (find_head test s signs found e)
   find_longest (s ∷ signs) most f found e (suc i) mark at passes =
       let both = and_true (nat_le (length (sign_text s)) most) _ f in
       ⊎_elim
       (λ h. subst (λ m. length (sign_text mark) ≤ length (sign_text m)) h.1 (falls_below signs _ both.1 i mark at))
       (λ h. find_longest signs _ both.1 found h.1 i mark at passes)
-      (find_head s signs found e)
+      (find_head test s signs found e)
 
 -- where a sign stands in the table
 abbrev rank : Sign → ℕ

@@ -4,25 +4,21 @@ use Rattle.std.proofs.Common.{◌++◌, length, take, drop, get_or, Option, Some
 use Rattle.std.specs.Prelude.{codes, nat_lt}
 use Rattle.std.specs.Bool.{Decides}
 use Rattle.std.specs.Char.{digit_value, is_ascii_digit}
-use Rattle.std.specs.List.{AllByRecursion, list_all}
+use Rattle.std.specs.List.{find, list_all}
 use Rattle.std.specs.Str.{bytes_eq}
 use Rattle.std.specs.Str.Parse.{AllDigits, IsNumeral, digits_value}
 use Rattle.std.proofs.lemmas.List.{take-append-drop}
 use Rattle.std.proofs.lemmas.Slice.Eq.{bytes_eq-Decides}
 use Rattle.syntax.specs.declared.lexer.piece.Piece.{Piece}
 use Rattle.syntax.specs.declared.lexer.piece.Piece.TheVariants.{Token, BadNumber}
-use Rattle.syntax.specs.declared.token.Keyword.{Keyword}
-use Rattle.syntax.specs.declared.token.Keyword.TheVariants.{Export, Void, Public, Secret, Mut, Bool as BoolWord}
-use Rattle.syntax.specs.declared.token.Keyword.TheVariants.{Uint8, Uint16, Uint32, True, False, If, Else, For, From}
-use Rattle.syntax.specs.declared.token.Keyword.TheVariants.{To, Return, Select}
 use Rattle.syntax.specs.declared.token.Suffix.{Suffix}
-use Rattle.syntax.specs.declared.token.Suffix.TheVariants.{U8, U16, U32}
 use Rattle.syntax.specs.declared.token.TokenKind.TheVariants.{Keyword as KeywordToken, Name as NameToken}
 use Rattle.syntax.specs.declared.token.TokenKind.TheVariants.{Number as NumberToken}
 use Rattle.syntax.specs.Spelling.{IsNumber, Spells, WritesValue, bad_number, keyword, keyword_text, is_word_byte}
 use Rattle.syntax.specs.Spelling.{name, number, suffix_text}
 use Rattle.syntax.specs.private.Splitting.{SplitsAtFirst, is_suffix_letter}
-use Rattle.source_laws.proofs.grammar_laws_lemmas.Below.{lt-true, lt-false, name_word, number_cut, number_word, value_unique, run_at}
+use Rattle.source_laws.proofs.grammar_laws_lemmas.Below.{lt-true, lt-false, name_word, number_cut, number_word, suffixes, suffix_found}
+use Rattle.source_laws.proofs.grammar_laws_lemmas.Below.{keywords, keyword_found, find_passes, value_unique, run_at}
 
 -- what a test decides, holds or does not
 by_test : {P : Type 0} (b : Bool) → Decides b P → P ⊎ (P → ⊥)
@@ -39,65 +35,25 @@ below n m = by (nat_lt n m) refl
 same_bytes : (xs ys : List ℕ) → (xs ≡ ys) ⊎ (xs ≡ ys → ⊥)
 same_bytes xs ys = by_test (bytes_eq xs ys) (bytes_eq-Decides xs ys)
 
--- Keywords.
+-- a word is one of the spellings, or none
+spelled_or_not : {A : Type 0} (spelling : A → List ℕ) (all : List A)
+    → ((x : A) → find (λ y. bytes_eq (spelling x) (spelling y)) all ≡ Some x) → (word : List ℕ)
+    → ((x : A) × (word ≡ spelling x)) ⊎ ((x : A) → word ≢ spelling x)
+spelled_or_not {A} spelling all known word = by (find (λ y. bytes_eq word (spelling y)) all) refl
+  where
+    none : (x : A) → find (λ y. bytes_eq word (spelling y)) all ≡ None → word ≡ spelling x → ⊥
+    none x e is =
+        let found : None ≡ Some x = sym e ∙ ap (λ w. find (λ y. bytes_eq w (spelling y)) all) is ∙ known x in
+        cc
 
-keywords : List Keyword
-keywords = Export ∷ Void ∷ Public ∷ Secret ∷ Mut ∷ BoolWord ∷ Uint8 ∷ Uint16 ∷ Uint32 ∷ True ∷ False ∷ If ∷ Else ∷ For
-    ∷ From ∷ To ∷ Return ∷ Select ∷ []
-
-each : (P : Keyword → Type 0) → AllByRecursion P keywords → (word : Keyword) → P word
-unfolding keywords
-each P all Export = all.0
-each P all Void = all.1.0
-each P all Public = all.1.1.0
-each P all Secret = all.1.1.1.0
-each P all Mut = all.1.1.1.1.0
-each P all BoolWord = all.1.1.1.1.1.0
-each P all Uint8 = all.1.1.1.1.1.1.0
-each P all Uint16 = all.1.1.1.1.1.1.1.0
-each P all Uint32 = all.1.1.1.1.1.1.1.1.0
-each P all True = all.1.1.1.1.1.1.1.1.1.0
-each P all False = all.1.1.1.1.1.1.1.1.1.1.0
-each P all If = all.1.1.1.1.1.1.1.1.1.1.1.0
-each P all Else = all.1.1.1.1.1.1.1.1.1.1.1.1.0
-each P all For = all.1.1.1.1.1.1.1.1.1.1.1.1.1.0
-each P all From = all.1.1.1.1.1.1.1.1.1.1.1.1.1.1.0
-each P all To = all.1.1.1.1.1.1.1.1.1.1.1.1.1.1.1.0
-each P all Return = all.1.1.1.1.1.1.1.1.1.1.1.1.1.1.1.1.0
-each P all Select = all.1.1.1.1.1.1.1.1.1.1.1.1.1.1.1.1.1.0
-
-abbrev None_of : List ℕ → List Keyword → Type 0
-None_of word = AllByRecursion (λ spelled. word ≢ keyword_text spelled)
-
-one_of : (word : List ℕ) (all : List Keyword) → ((spelled : Keyword) × (word ≡ keyword_text spelled))
-    ⊎ None_of word all
-one_of word [] = inr tt
-one_of word (spelled ∷ all) =
-    ⊎_elim
-    (λ is. inl (spelled, is))
-    (λ no. ⊎_elim (λ found. inl found) (λ none. inr (no, none)) (one_of word all))
-    (same_bytes word (keyword_text spelled))
+    by : (o : Option A) → find (λ y. bytes_eq word (spelling y)) all ≡ o
+        → ((x : A) × (word ≡ spelling x)) ⊎ ((x : A) → word ≢ spelling x)
+    by (Some x) e =
+        let same = find_passes (λ y. bytes_eq word (spelling y)) all x e in
+        inl (x, (bytes_eq-Decides word (spelling x)).0 same)
+    by None e = inr (λ x is. none x e is)
 
 -- Numbers.
-
-suffixes : (tail : List ℕ) → ((suffix : Option Suffix) × (suffix_text suffix ≡ tail))
-    ⊎ ((suffix : Option Suffix) → suffix_text suffix ≡ tail → ⊥)
-suffixes tail =
-    ⊎_elim (λ is. inl (None, is)) (λ no0.
-    ⊎_elim (λ is. inl (Some U8, is)) (λ no1.
-    ⊎_elim (λ is. inl (Some U16, is)) (λ no2.
-    ⊎_elim (λ is. inl (Some U32, is)) (λ no3. inr (λ suffix. no no0 no1 no2 no3 suffix))
-    (same_bytes (suffix_text (Some U32)) tail))
-    (same_bytes (suffix_text (Some U16)) tail))
-    (same_bytes (suffix_text (Some U8)) tail))
-    (same_bytes (suffix_text None) tail)
-  where
-    no : (suffix_text None ≡ tail → ⊥) → (suffix_text (Some U8) ≡ tail → ⊥) → (suffix_text (Some U16) ≡ tail → ⊥)
-        → (suffix_text (Some U32) ≡ tail → ⊥) → (suffix : Option Suffix) → suffix_text suffix ≡ tail → ⊥
-    no a b c d None = a
-    no a b c d (Some U8) = b
-    no a b c d (Some U16) = c
-    no a b c d (Some U32) = d
 
 all_digits : (radix : ℕ) (digits : List ℕ) → AllDigits radix digits ⊎ (AllDigits radix digits → ⊥)
 all_digits radix [] = inl tt
@@ -163,9 +119,9 @@ module _ (word digits tail : List ℕ) (split : SplitsAtFirst is_suffix_letter w
   read_parts : Read word
   read_parts =
       ⊎_elim
-      (λ h. ⊎_elim (λ w. with_value h.0 h.1 w.0 w.1) (λ no. inr (λ v s n. no v (same_digits v s n))) (written digits))
-      (λ no. inr (λ v s n. no s (number_cut word digits tail split v s n).1))
-      (suffixes tail)
+      (λ h. ⊎_elim (λ w. with_value h.0 (sym h.1) w.0 w.1) (λ no. inr (λ v s n. no v (same_digits v s n))) (written digits))
+      (λ no. inr (λ v s n. no s (sym (number_cut word digits tail split v s n).1)))
+      (spelled_or_not suffix_text suffixes suffix_found tail)
 
 read : (word : List ℕ) → Read word
 read word = read_parts word _ _ (run_at is_suffix_letter word)
@@ -185,9 +141,5 @@ word_spelled word some all = by (is_ascii_digit (get_or word 0 0)) refl
     by false e =
         ⊎_elim
         (λ h. (Token (KeywordToken h.0), subst (Spells (Token (KeywordToken h.0))) (sym h.1) (keyword h.0)))
-        (λ none. (
-          Token NameToken,
-          name word (name_word word some e all)
-              (each (λ spelled. word ≢ keyword_text spelled) none),
-        ))
-        (one_of word keywords)
+        (λ none. (Token NameToken, name word (name_word word some e all) none))
+        (spelled_or_not keyword_text keywords keyword_found word)
