@@ -18,7 +18,8 @@ pub one_answer : OneAnswer
 one_answer text _ _ (too_long long) (too_long long') = refl
 one_answer text _ _ (too_long long) (by_tokens short lexes h) = absurd (omega arith)
 one_answer text _ _ (by_tokens short lexes h) (too_long long) = absurd (omega arith)
-one_answer text one two (by_tokens {ending = ending} short lexes h) (by_tokens {tokens = ts} {ending = ending'} short' lexes' h') =
+one_answer text one two (by_tokens {ending = ending} short lexes h)
+    (by_tokens {tokens = ts} {ending = ending'} short' lexes' h') =
     let same = one_list text _ ts _ ending' lexes lexes' in
     one_answer_for_tokens ts ending' one two
     (subst (λ e. Answers ts e one) same.1 (subst (λ ts. Answers ts ending one) same.0 h)) h'

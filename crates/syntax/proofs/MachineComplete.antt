@@ -21,7 +21,8 @@ use Rattle.language.specs.Tree as tree
 use Rattle.language.specs.Tree.{CallTree, StatementTree, BlockTree, nothing, first, ParameterTree, ReturnTree}
 use Rattle.language.specs.Tree.{ProcedureTree, ProgramTree}
 use Rattle.syntax.specs.declared.parser.statement.Start.{Start}
-use Rattle.syntax.specs.private.Machine.{State, procedures, one, more_parameters, statements, otherwise, fits, starts_with}
+use Rattle.syntax.specs.private.Machine.{State, procedures, one, more_parameters, statements, otherwise, fits}
+use Rattle.syntax.specs.private.Machine.{starts_with}
 use Rattle.syntax.specs.private.Machine.{declared_array, declared_as, declared, block, conditioned}
 use Rattle.syntax.specs.private.Machine.{statement, parameter, parameters, returned, procedure_from, result_type}
 use Rattle.syntax.specs.private.Machine.{exported, procedure, program, started, step, at_end, run}
@@ -29,7 +30,8 @@ use Rattle.syntax.proofs.MachineKinds.{label-starts, unlike}
 use Rattle.syntax.proofs.MachineMeaning.{procedure_of}
 use Rattle.syntax.proofs.MachineSteps.{start-step, more_statements, after_parameters, before_else}
 use Rattle.syntax.proofs.MachineSound.{and_then_some}
-use Rattle.syntax.proofs.MachineExpressions.{Moves, stays, step-moves, IsSome, alike-moves, Lacks, lacks-some, one-moves, either-moves, other-moves}
+use Rattle.syntax.proofs.MachineExpressions.{Moves, stays, step-moves, IsSome, alike-moves, Lacks, lacks-some}
+use Rattle.syntax.proofs.MachineExpressions.{one-moves, either-moves, other-moves}
 use Rattle.syntax.proofs.MachineExpressions.{label-moves, kind-moves, length-moves, expr-one-moves, arguments-moves}
 use Rattle.syntax.proofs.MachineExpressions.{right-end-moves, values-moves}
 use Rattle.syntax.specs.declared.token.TokenKind.TheVariants as token
@@ -120,7 +122,8 @@ mutual
       start-moves (label-starts _ _ is)
       (mutable-moves (more_statements k) is_mutable (array-lacks in_type)
       (array-moves (more_statements k) in_type (one-moves is_name
-      (values-moves (λ vs. more_statements k (tree.array t.place label mutable kind length t.text vs)) in_list ends h))))
+      (values-moves (λ vs. more_statements k (tree.array t.place label mutable kind length t.text vs)) in_list ends
+      h))))
   statement-moves {k = k} (an_assignment {t} {equals} is is_equals in_right ends) lacks h =
       start-moves (ap starts_with is)
       (either-moves is_equals
@@ -178,7 +181,8 @@ mutual
       → Otherwise ts b tail → Lacks (token.Keyword keyword.Else) tail → Moves (k b) tail last rest
       → Moves (otherwise k) ts last rest
   otherwise-moves {k = k} (no_else {rest}) lacks h =
-      alike-moves (before_else k) rest (lacks-some (token.Keyword keyword.Else) rest lacks) (λ t. refl) (other-moves lacks h)
+      alike-moves (before_else k) rest (lacks-some (token.Keyword keyword.Else) rest lacks) (λ t. refl)
+      (other-moves lacks h)
   otherwise-moves {k = k} (an_else is in_arm) lacks h =
       alike-moves (before_else k) _ tt (λ t. refl)
       (either-moves is (other-moves (block-lacks in_arm) (block-moves in_arm h)))

@@ -19,7 +19,8 @@ use Rattle.language.specs.declared.typing.WordType.{WordType}
 use Rattle.syntax.specs.Grammar.{label_of, word_of, length_of, amount_of, ExprAt, a_number}
 use Rattle.syntax.specs.Grammar.{a_true, a_false, a_name, an_element, in_brackets, a_conversion, a_select, a_prefix}
 use Rattle.syntax.specs.Grammar.{a_rotation, a_binary, no_more, one_more, an_array_type, no_statement, one_statement}
-use Rattle.syntax.specs.Grammar.{no_else, Statement, MoreParameters, Parameter, a_word, a_fixed_array, a_mutable_array, no_more_parameters}
+use Rattle.syntax.specs.Grammar.{no_else, Statement, MoreParameters, Parameter, a_word, a_fixed_array}
+use Rattle.syntax.specs.Grammar.{a_mutable_array, no_more_parameters}
 use Rattle.syntax.specs.Grammar.{one_more_parameter, Parameters, no_parameters, some_parameters, ResultType, a_void}
 use Rattle.syntax.specs.Grammar.{a_type, BodyEnd, no_return, a_return, Exported, not_exported, an_export, Procedure}
 use Rattle.syntax.specs.Grammar.{a_procedure, no_procedure, one_procedure, IsProgram, a_program, IsBeginning}
@@ -39,7 +40,8 @@ use Rattle.syntax.specs.private.Machine.{joined, step_result, step, at_end, run}
 use Rattle.syntax.proofs.MachineKinds.{kind-fits, begins-by, LinksBy, links-by, starts-by}
 use Rattle.syntax.proofs.MachineMeaning.{Grows, Finishes, ReadsThen, with_procedures, with_token, with_either}
 use Rattle.syntax.proofs.MachineMeaning.{with_other, with_label, with_kind, with_length, with_amount, with_parameters}
-use Rattle.syntax.proofs.MachineMeaning.{with_expr, with_more, with_exprs, with_statements, with_otherwise, procedure_of}
+use Rattle.syntax.proofs.MachineMeaning.{with_expr, with_more, with_exprs, with_statements, with_otherwise}
+use Rattle.syntax.proofs.MachineMeaning.{procedure_of}
 use Rattle.syntax.proofs.SoundStatements.{operand-finishes, whole-finishes, after-else-finishes, statement-finishes}
 use Rattle.syntax.specs.declared.token.Keyword.TheVariants as keyword
 use Rattle.syntax.specs.declared.token.Sign.TheVariants as sign
@@ -104,7 +106,8 @@ body_then k ps = one (token.Sign sign.OpenCurly) (λ _. statements (λ b. return
 body-finishes : {p : ProgramTree} {t opening : Lexeme} {list signature ts : List Lexeme} (export : Option Place)
     (result : Option WordType) (k : ProcedureTree → State) → Exported list export signature
     → ResultType signature result (t ∷ opening ∷ ts) → t.kind ≡ token.Name → opening.kind ≡ token.Sign sign.OpenRound
-    → ReadsThen p Parameters (body_then (λ ps b r. k (procedure_of export result t ps b r))) ts → ReadsThen p (λ _. Procedure list) k ts
+    → ReadsThen p Parameters (body_then (λ ps b r. k (procedure_of export result t ps b r))) ts
+    → ReadsThen p (λ _. Procedure list) k ts
 body-finishes {t = t} export result k is_export is_result is_name opens
     (ps, _, in_list, with_token opens' (with_statements {b = b} in_body h)) =
     let w = returned-finishes (λ r. k (procedure_of export result t ps b r)) h in

@@ -123,7 +123,8 @@ declared-word-finishes : {p : ProgramTree} {start second : Lexeme} {list ts : Li
     (mutable : Bool) (kind : Kind) (k : StatementTree → State) → label_of start.kind ≡ Some label
     → Mutable list mutable (second ∷ ts) → word_of second.kind ≡ Some kind
     → Finishes p (declared_word label mutable kind k) ts → ReadsThen p (λ _. Statement (start ∷ list)) k ts
-declared-word-finishes label mutable kind k is is_mutable is_kind (with_token {t = t} is_name (with_token is_equals h)) =
+declared-word-finishes label mutable kind k is is_mutable is_kind
+    (with_token {t = t} is_name (with_token is_equals h)) =
     let w = right-end-finishes (λ v. k (tree.declaration t.place label mutable kind t.text v)) h in
     (_, _, a_declaration is is_mutable is_kind is_name is_equals w.2.1 w.2.2, w.3)
 

@@ -21,7 +21,8 @@ use Rattle.syntax.specs.declared.lexer.sign.TheConstants.{SIGNS}
 use Rattle.syntax.specs.Lexeme.{Lexeme}
 use Rattle.syntax.specs.Spelling.{Spells, blank, comment, keyword, name, number, bad_number, sign, keyword_text}
 use Rattle.syntax.specs.Spelling.{sign_text, is_blank, is_word_byte, is_name_or_keyword, is_number_or_bad, IsNumber}
-use Rattle.syntax.specs.Tokens.{BeginsWith, BeginsWithNone, Ending, LexesFrom, at_end, past_space, past_token, at_bad_number}
+use Rattle.syntax.specs.Tokens.{BeginsWith, BeginsWithNone, Ending, LexesFrom, at_end, past_space, past_token}
+use Rattle.syntax.specs.Tokens.{at_bad_number}
 use Rattle.syntax.specs.Tokens.{at_unknown_character, place_after, OneList}
 use Rattle.syntax.proofs.TokenBytes.{blank_is_no_word_byte}
 use Rattle.syntax.proofs.TokenRuns.{and_true}

@@ -18,7 +18,8 @@ use Rattle.syntax.specs.private.Splitting.{is_no_word_byte}
 use Rattle.syntax.specs.Tokens.{BeginsWith, BeginsWithNone, Ending, ends_at, stops, Lexes, LexesFrom, at_end}
 use Rattle.syntax.specs.Tokens.{past_space, past_token, at_bad_number, at_unknown_character, place_after}
 use Rattle.syntax.specs.private.Machine.{program, verdict}
-use Rattle.source_laws.proofs.grammar_laws_lemmas.Below.{answers, OnlySigns, blank_piece, comment_piece, signs, word_piece, word_some}
+use Rattle.source_laws.proofs.grammar_laws_lemmas.Below.{answers, OnlySigns, blank_piece, comment_piece, signs}
+use Rattle.source_laws.proofs.grammar_laws_lemmas.Below.{word_piece, word_some}
 use Rattle.source_laws.proofs.grammar_laws_lemmas.Below.{run_at, none_from_all, rest_shorter}
 use Rattle.source_laws.proofs.grammar_laws_lemmas.Words.{below, word_spelled}
 

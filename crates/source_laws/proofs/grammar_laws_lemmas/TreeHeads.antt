@@ -26,8 +26,10 @@ use Rattle.syntax.specs.Tokens.{Ending, LexesFrom, at_end, past_space, past_toke
 use Rattle.syntax.specs.Tokens.{at_unknown_character}
 use Rattle.source_laws.proofs.grammar_laws_lemmas.Below.{spelled_some}
 use Rattle.source_laws.proofs.grammar_laws_lemmas.TokenPlaces.{offset_after}
-use Rattle.source_laws.specs.grammar_laws.Heads.{here, in_expr, in_exprs, in_values, in_call, in_right, in_statement, in_block}
-use Rattle.source_laws.specs.grammar_laws.Heads.{in_parameters, in_return, in_export, in_procedure, in_procedures, in_program}
+use Rattle.source_laws.specs.grammar_laws.Heads.{here, in_expr, in_exprs, in_values, in_call, in_right, in_statement}
+use Rattle.source_laws.specs.grammar_laws.Heads.{in_block}
+use Rattle.source_laws.specs.grammar_laws.Heads.{in_parameters, in_return, in_export, in_procedure, in_procedures}
+use Rattle.source_laws.specs.grammar_laws.Heads.{in_program}
 
 -- the weights of the tokens' places, summed
 abbrev pub among : (Place → ℕ) → List Lexeme → ℕ

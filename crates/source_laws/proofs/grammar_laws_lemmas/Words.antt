@@ -17,7 +17,8 @@ use Rattle.syntax.specs.declared.token.TokenKind.TheVariants.{Number as NumberTo
 use Rattle.syntax.specs.Spelling.{IsNumber, Spells, WritesValue, bad_number, keyword, keyword_text, is_word_byte}
 use Rattle.syntax.specs.Spelling.{name, number, suffix_text}
 use Rattle.syntax.specs.private.Splitting.{SplitsAtFirst, is_suffix_letter}
-use Rattle.source_laws.proofs.grammar_laws_lemmas.Below.{lt-true, lt-false, name_word, number_cut, number_word, suffixes, suffix_found}
+use Rattle.source_laws.proofs.grammar_laws_lemmas.Below.{lt-true, lt-false, name_word, number_cut, number_word}
+use Rattle.source_laws.proofs.grammar_laws_lemmas.Below.{suffixes, suffix_found}
 use Rattle.source_laws.proofs.grammar_laws_lemmas.Below.{keywords, keyword_found, find_passes, value_unique, run_at}
 
 -- what a test decides, holds or does not
@@ -119,7 +120,8 @@ module _ (word digits tail : List ℕ) (split : SplitsAtFirst is_suffix_letter w
   read_parts : Read word
   read_parts =
       ⊎_elim
-      (λ h. ⊎_elim (λ w. with_value h.0 (sym h.1) w.0 w.1) (λ no. inr (λ v s n. no v (same_digits v s n))) (written digits))
+      (λ h. ⊎_elim (λ w. with_value h.0 (sym h.1) w.0 w.1) (λ no. inr (λ v s n. no v (same_digits v s n)))
+      (written digits))
       (λ no. inr (λ v s n. no s (sym (number_cut word digits tail split v s n).1)))
       (spelled_or_not suffix_text suffixes suffix_found tail)
 

@@ -33,7 +33,8 @@ new-requires c =
     let lexes = subst (λ ts. Lexes text (lexemes ts) end) (sym c.as_slice.ensures.value)
     c.in_ok-lexed.ensures.tokens in
     let program = program_tree c.in_ok-procedures.procedures.items in
-    read_text text program (by_tokens (not-long _ c.in_ok-lexed.ensures.too_long) lexes c.in_ok-procedures.ensures.accepted)
+    read_text text program
+    (by_tokens (not-long _ c.in_ok-lexed.ensures.too_long) lexes c.in_ok-procedures.ensures.accepted)
 
 pub returns-clause-accepted : goal.returns-clause-accepted
 returns-clause-accepted c =
