@@ -1,13 +1,13 @@
 // Instructions as assembly text.
 
-ghost use Rattle.std.specs.Prelude.{Some};
-ghost use Rattle.std.specs.Fmt.{WritesOnOk, decimal};
-ghost use Rattle.rv_code.specs.FieldText.{reg_text, immediate_text, upper_text, branch_offset_text};
+ghost use Rattle.std.specs.Prelude.{Some, IfSome};
+ghost use Rattle.std.specs.Fmt.{WritesOnOk};
+ghost use Rattle.rv_code.specs.FieldText.{reg_text, upper_text};
 ghost use Rattle.rv_code.specs.Text.{address_text, text_of, three_operands, two_operands};
 ghost use Rattle.rv_code.specs.declared.instructions.Instr.TheVariants.{Fence, Jump};
 
 use crate::instructions::Instr;
-use crate::{BranchOffset, FenceBits, Immediate12, JumpOffset, Reg, ShiftAmount, UpperImmediate};
+use crate::{FenceBits, Immediate12, JumpOffset, Reg, UpperImmediate};
 use std::fmt;
 
 impl fmt::Display for Instr {
@@ -18,41 +18,29 @@ impl fmt::Display for Instr {
             Instr::Upper(operation, rd, value) => upper(f, operation.row().mnemonic, rd, value),
             Instr::Jump(rd, offset) => jump(f, rd, offset),
             Instr::JumpRegister(rd, rs1, offset) => at_address(f, "jalr", rd, offset, rs1),
-            Instr::Branch(test, rs1, rs2, offset) => branch(
-                f,
-                test.row().mnemonic,
-                rs1,
-                rs2,
-                offset,
-            ),
+            Instr::Branch(test, rs1, rs2, offset) => {
+                three(f, test.row().mnemonic, rs1, rs2, offset)
+            }
             Instr::Load(operation, rd, rs1, offset) => {
                 at_address(f, operation.row().mnemonic, rd, offset, rs1)
             }
             Instr::Store(operation, rs2, rs1, offset) => {
                 at_address(f, operation.row().mnemonic, rs2, offset, rs1)
             }
-            Instr::Immediate(operation, rd, rs1, value) => immediate(
-                f,
-                operation.row().mnemonic,
-                rd,
-                rs1,
-                value,
-            ),
-            Instr::Shift(operation, rd, rs1, amount) => shift(
-                f,
-                operation.row().mnemonic,
-                rd,
-                rs1,
-                amount,
-            ),
+            Instr::Immediate(operation, rd, rs1, value) => {
+                three(f, operation.row().mnemonic, rd, rs1, value)
+            }
+            Instr::Shift(operation, rd, rs1, amount) => {
+                three(f, operation.row().mnemonic, rd, rs1, amount)
+            }
             Instr::Register(operation, rd, rs1, rs2) => {
-                registers(f, operation.row().mnemonic, rd, rs1, rs2)
+                three(f, operation.row().mnemonic, rd, rs1, rs2)
             }
             Instr::Multiply(operation, rd, rs1, rs2) => {
-                registers(f, operation.row().mnemonic, rd, rs1, rs2)
+                three(f, operation.row().mnemonic, rd, rs1, rs2)
             }
             Instr::Divide(operation, rd, rs1, rs2) => {
-                registers(f, operation.row().mnemonic, rd, rs1, rs2)
+                three(f, operation.row().mnemonic, rd, rs1, rs2)
             }
             Instr::Fence(mode, before, after, rs1, rd) => fence(f, (mode, before, after), rs1, rd),
             Instr::Ecall => f.write_str("ecall"),
@@ -61,17 +49,17 @@ impl fmt::Display for Instr {
     }
 }
 
-/// A mnemonic and three registers.
-fn registers<W: fmt::Write>(
+/// A mnemonic, two registers, and a third operand.
+fn three<W: fmt::Write, T: fmt::Display + Drop>(
     f: &mut fmt::Formatter<W>,
     mnemonic: &str,
-    rd: Reg,
-    rs1: Reg,
-    rs2: Reg,
+    first: Reg,
+    second: Reg,
+    third: T,
 ) -> fmt::Result
-    ensures { WritesOnOk W.write_str_gives f.old result (three_operands mnemonic.now (reg_text rd) (reg_text rs1) (reg_text rs2)) f.new }
+    ensures { IfSome (T.output third) (λ text. WritesOnOk W.write_str_gives f.old result (three_operands mnemonic.now (reg_text first) (reg_text second) text) f.new) }
 {
-    write!(f, "{mnemonic} {rd}, {rs1}, {rs2}")
+    write!(f, "{mnemonic} {first}, {second}, {third}")
 }
 
 /// A mnemonic, a register, and the address of an offset from another one.
@@ -102,42 +90,6 @@ fn jump<W: fmt::Write>(f: &mut fmt::Formatter<W>, rd: Reg, offset: JumpOffset) -
     ensures { WritesOnOk W.write_str_gives f.old result (text_of (Jump rd offset)) f.new }
 {
     write!(f, "jal {rd}, {offset}")
-}
-
-fn branch<W: fmt::Write>(
-    f: &mut fmt::Formatter<W>,
-    mnemonic: &str,
-    rs1: Reg,
-    rs2: Reg,
-    offset: BranchOffset,
-) -> fmt::Result
-    ensures { WritesOnOk W.write_str_gives f.old result (three_operands mnemonic.now (reg_text rs1) (reg_text rs2) (branch_offset_text offset)) f.new }
-{
-    write!(f, "{mnemonic} {rs1}, {rs2}, {offset}")
-}
-
-fn immediate<W: fmt::Write>(
-    f: &mut fmt::Formatter<W>,
-    mnemonic: &str,
-    rd: Reg,
-    rs1: Reg,
-    value: Immediate12,
-) -> fmt::Result
-    ensures { WritesOnOk W.write_str_gives f.old result (three_operands mnemonic.now (reg_text rd) (reg_text rs1) (immediate_text value)) f.new }
-{
-    write!(f, "{mnemonic} {rd}, {rs1}, {value}")
-}
-
-fn shift<W: fmt::Write>(
-    f: &mut fmt::Formatter<W>,
-    mnemonic: &str,
-    rd: Reg,
-    rs1: Reg,
-    amount: ShiftAmount,
-) -> fmt::Result
-    ensures { WritesOnOk W.write_str_gives f.old result (three_operands mnemonic.now (reg_text rd) (reg_text rs1) (decimal amount)) f.new }
-{
-    write!(f, "{mnemonic} {rd}, {rs1}, {amount}")
 }
 
 /// A fence: its mode, and the kinds of accesses before and after it.
