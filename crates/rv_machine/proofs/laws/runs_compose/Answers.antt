@@ -4,12 +4,10 @@ use Rattle.rv_machine.proofs.RunLaws.{Leads-append, Halts-after}
 use Rattle.rv_machine.proofs.TotalLaws.{Runs-more}
 use Rattle.rv_machine.proofs.laws.runs_compose.Goals as goal
 
-pub returns-clause-leads : goal.returns-clause-leads
-returns-clause-leads c = λ code m n s t u a b. Leads-append
-
-pub returns-clause-halts : goal.returns-clause-halts
-returns-clause-halts c = λ code m n s t u a b stop. Halts-after
-
-pub returns-clause-runs : goal.returns-clause-runs
-returns-clause-runs c = λ code budget s t u o seen stop turn run.
-    subst (λ n. Runs code n s (o ∷ seen) stop u) (sym (add-one budget)) (Runs-more turn run)
+pub returns : goal.returns
+returns c = record {
+  leads = λ code m n s t u a b. Leads-append;
+  halts = λ code m n s t u a b stop. Halts-after;
+  runs = λ code budget s t u o seen stop turn run.
+      subst (λ n. Runs code n s (o ∷ seen) stop u) (sym (add-one budget)) (Runs-more turn run);
+}
