@@ -1,13 +1,12 @@
 -- Certified runs in progress: turns that have been made, and how the run ends after them.
-use Rattle.std.proofs.Common.{◌≡◌, ℕ, suc, ◌+◌, ◌<◌, ◌≤◌, List, [], ◌∷◌, ◌++◌, length, length-append, append_assoc}
-use Rattle.std.proofs.Common.{refl, sym}
-use Rattle.std.proofs.Common.{ap, ◌∙◌, subst, arith}
+use Rattle.std.proofs.Common.{◌≡◌, ℕ, suc, ◌+◌, ◌-◌, ◌<◌, ◌≤◌, List, [], ◌∷◌, ◌++◌, length, zero-add, suc-add, refl}
+use Rattle.std.proofs.Common.{sym, ap, arith}
 use Rattle.rv_machine.specs.declared.observation.Observation.{Observation}
 use Rattle.rv_machine.specs.declared.stops.Stop.{Stop}
 use Rattle.rv_machine.specs.declared.stops.Stop.TheVariants.{Budget}
 use Rattle.rv_machine.specs.Entries.{entries_of}
 use Rattle.rv_machine.specs.Machine.{Code}
-use Rattle.certified_runs.proofs.Below.{entries_of-append}
+use Rattle.certified_runs.proofs.Below.{entry_count-append}
 use Rattle.certified_runs.specs.Certified.{KnownTurn, leads_on, ends, depends, RunEnding, same, may_differ}
 use Rattle.certified_runs.specs.Certified.{CertifiedRun, spent, halts, cut, turns, KnownEnding, KnownLeads, stays}
 use Rattle.certified_runs.specs.Certified.{leads}
@@ -17,77 +16,18 @@ use Rattle.certified_runs.specs.Known.{Known}
 use Rattle.certified_runs.specs.declared.certifying.CertifiedEnd.{CertifiedEnd}
 use Rattle.certified_runs.specs.declared.certifying.CertifiedEnd.TheVariants.{Same, MayDiffer}
 
--- however a certified run ends from what is known later, one from what was known ends so, having shown this list
--- first
-abbrev pub LeadsTo : Code → ℕ → Known → List Observation → ℕ → Known → Type 0
-LeadsTo code m k seen n now =
-    (rest : List Observation) (ending : RunEnding) → CertifiedRun code n now rest ending
-    → CertifiedRun code m k (seen ++ rest) ending
-
--- and that list has so many entries
-abbrev pub HasLed : Code → ℕ → Known → ℕ → Known → ℕ → Type 0
-HasLed code m k n now entries =
-    (seen : List Observation) × (length (entries_of seen) ≡ entries) × LeadsTo code m k seen n now
-
-pub not_begun : (code : Code) (m : ℕ) (k : Known) → HasLed code m k m k 0
-not_begun code m k = ([], refl, λ rest ending run. run)
+-- turns that lead on, and then a run
+pub run_after : {code : Code} {m n budget : ℕ} {k now : Known} {seen more : List Observation} {ending : RunEnding}
+    → KnownLeads code m k seen now → CertifiedRun code n now more ending → m + n ≡ budget
+    → CertifiedRun code budget k (seen ++ more) ending
+run_after stays run all = rw (sym all, zero-add) run
+run_after (leads first rest) run all = rw (sym all, suc-add) (turns first (run_after rest run refl))
 
 -- how the certified run is answered
 abbrev pub IsEnd : Code → ℕ → Known → CertifiedEnd → Type 0
 IsEnd code m k answer =
     (seen : List Observation) × (ending : RunEnding) × CertifiedRun code m k seen ending
     × (answer ≡ end_of seen ending)
-
-entries_after : (seen more : List Observation) (entries others : ℕ) → length (entries_of seen) ≡ entries
-    → length (entries_of more) ≡ others → length (entries_of (seen ++ more)) ≡ entries + others
-entries_after seen more entries others is is' =
-    ap length (entries_of-append seen more) ∙ length-append (entries_of seen) (entries_of more)
-    ∙ omega (arith, is, is')
-
-module _ {code : Code} {m : ℕ} {k : Known} {n : ℕ} {now : Known} {entries : ℕ}
-    (led : HasLed code m k (suc n) now entries) where
-  pub leads_further : {next : Known} {o : Observation} (more : ℕ) → KnownTurn code now (leads_on o next)
-      → length (entries_of (o ∷ [])) ≡ more → HasLed code m k n next (entries + more)
-  leads_further {next} {o} more turn many =
-      let list : (rest : List Observation) → (led.0 ++ o ∷ []) ++ rest ≡ led.0 ++ o ∷ rest =
-      λ rest. append_assoc led.0 (o ∷ []) rest in (
-        led.0 ++ o ∷ [],
-        entries_after led.0 (o ∷ []) entries more led.1 many,
-        λ rest ending run. subst (λ xs. CertifiedRun code m k xs ending) (sym (list rest))
-            (led.2 (o ∷ rest) ending (turns turn run)),
-      )
-
-  pub ends_by : {more : List Observation} {stop : Stop} (others : ℕ) → KnownTurn code now (ends more stop)
-      → length (entries_of more) ≡ others → IsEnd code m k (Same stop (entries + others))
-  ends_by {more} {stop} others turn many = (
-    led.0 ++ more,
-    same stop,
-    led.2 more (same stop) (halts turn),
-    ap (Same stop) (sym (entries_after led.0 more entries others led.1 many)),
-  )
-
-  pub ends_open : KnownTurn code now depends → IsEnd code m k (MayDiffer (entries + 1) now.state.pc)
-  ends_open turn =
-      let all : length (entries_of (led.0 ++ [])) ≡ entries + 0 = entries_after led.0 [] entries 0 led.1 refl in
-      let behind : entries + 1 ≡ length (entries_of (led.0 ++ [])) + 1 = omega (arith, all) in (
-        led.0 ++ [],
-        may_differ now.state.pc,
-        led.2 [] (may_differ now.state.pc) (cut turn),
-        ap (λ j. MayDiffer j now.state.pc) behind,
-      )
-
-pub ends_at_last : {code : Code} {m : ℕ} {k : Known} {n : ℕ} {now : Known} {entries : ℕ}
-    → HasLed code m k n now entries → n ≡ 0 → IsEnd code m k (Same Budget entries)
-ends_at_last {code} {m} {k} {n} {now} {entries} led none =
-    let all : length (entries_of (led.0 ++ [])) ≡ entries + 0 = entries_after led.0 [] entries 0 led.1 refl in
-    let many : entries ≡ length (entries_of (led.0 ++ [])) = omega (arith, all) in (
-      led.0 ++ [],
-      same Budget,
-      led.2 [] (same Budget) (subst (λ left. CertifiedRun code left now [] (same Budget)) (sym none) spent),
-      ap (Same Budget) many,
-    )
-
--- Turns that have been made, by their count.
 
 -- so many turns, of as many as this and those that are left, have shown so many entries
 abbrev pub HasMade : Code → ℕ → Known → ℕ → Known → ℕ → Type 0
@@ -97,6 +37,33 @@ HasMade code m k left now entries =
 
 pub none_made : (code : Code) (m : ℕ) (k : Known) → HasMade code m k m k 0
 none_made code m k = (0, [], stays, omega arith, refl)
+
+module _ {code : Code} {m : ℕ} {k : Known} {left : ℕ} {now : Known} {entries : ℕ}
+    (made : HasMade code m k left now entries) where
+  pub ends_by : {more : List Observation} {stop : Stop} (others : ℕ) → 0 < left → KnownTurn code now (ends more stop)
+      → length (entries_of more) ≡ others → IsEnd code m k (Same stop (entries + others))
+  ends_by {more} {stop} others some turn many = (
+    made.1 ++ more,
+    same stop,
+    run_after made.2 (halts {n = left - 1} turn) (omega (arith, made.3, some)),
+    ap (Same stop) (omega (arith, entry_count-append made.1 more, made.4, many)),
+  )
+
+  pub ends_open : 0 < left → KnownTurn code now depends → IsEnd code m k (MayDiffer (entries + 1) now.state.pc)
+  ends_open some turn = (
+    made.1 ++ [],
+    may_differ now.state.pc,
+    run_after made.2 (cut {n = left - 1} turn) (omega (arith, made.3, some)),
+    ap (λ j. MayDiffer j now.state.pc) (omega (arith, entry_count-append made.1 [], made.4)),
+  )
+
+  pub ends_at_last : left ≡ 0 → IsEnd code m k (Same Budget entries)
+  ends_at_last none = (
+    made.1 ++ [],
+    same Budget,
+    run_after made.2 spent (omega (arith, made.3, none)),
+    ap (Same Budget) (omega (arith, entry_count-append made.1 [], made.4)),
+  )
 
 -- one more turn
 pub KnownLeads-more : {code : Code} {n : ℕ} {k now next : Known} {seen : List Observation} {o : Observation}
@@ -113,19 +80,16 @@ one_more_made {entries = entries} {o = o} more made fewer turn many = (
   made.1 ++ o ∷ [],
   KnownLeads-more made.2 turn,
   omega (arith, made.3, fewer),
-  entries_after made.1 (o ∷ []) entries more made.4 many,
+  omega (arith, entry_count-append made.1 (o ∷ []), made.4, many),
 )
 
 -- all of them
 pub all_made : {code : Code} {m left entries : ℕ} {k now : Known} → HasMade code m k left now entries → left ≡ 0
     → (seen : List Observation) × KnownLeads code m k seen now
     × (Same Budget entries ≡ Same Budget (length (entries_of seen)))
-all_made {code} {m} {k = k} {now = now} made none =
-    let all : made.0 ≡ m = omega (arith, made.3, none) in (
-      made.1,
-      subst (λ n. KnownLeads code n k made.1 now) all made.2,
-      ap (Same Budget) (sym made.4),
-    )
+all_made {m = m} made none =
+    let all : made.0 ≡ m = omega (arith, made.3, none) in
+    (made.1, rw all at made.2, ap (Same Budget) (sym made.4))
 
 -- a turn that does not lead on is the last
 abbrev IsLast : KnownEnding → Type 0
@@ -136,12 +100,11 @@ IsLast depends = Unit {0}
 no_longer : {code : Code} {m n : ℕ} {k now later : Known} {seen more : List Observation} {e : KnownEnding}
     → KnownLeads code m k seen now → KnownTurn code now e → IsLast e → KnownLeads code n k more later → n ≤ m
 no_longer first end last stays = omega arith
-no_longer stays end last (leads other rest) = absurd (subst IsLast (KnownTurn-determined end other) last)
-no_longer {code} {later = later} (leads {n = m} {next = next} first rest) end last
-    (leads {n = n} {next = next'} {seen = more} other then) =
+no_longer stays end last (leads other rest) = absurd (rw (KnownTurn-determined end other) at last)
+no_longer (leads {next = next} first rest) end last (leads {next = next'} other then) =
     let e = KnownTurn-determined first other in
     let same : next' ≡ next = cc in
-    omega (arith, no_longer rest end last (subst (λ x. KnownLeads code n x more later) same then))
+    omega (arith, no_longer rest end last (rw same at then))
 
 pub not_all : {code : Code} {m left entries : ℕ} {k now later : Known} {seen : List Observation} {e : KnownEnding}
     → HasMade code m k left now entries → 0 < left → KnownTurn code now e → IsLast e

@@ -4,19 +4,13 @@ use Rattle.rv_machine.specs.Harts.{state_of}
 use Rattle.rv_machine.specs.Regions.{code_of}
 use Rattle.certified_runs.specs.Parts.{known_of}
 use Rattle.certified_runs.specs.private.Turned.{HaveOneExtent}
-use Rattle.certified_runs.proofs.Ends.{HasLed, HasMade}
+use Rattle.certified_runs.proofs.Ends.{HasMade}
 use Rattle.certified_runs.proofs.certifying.certify.Given as goal
 
 abbrev pub invariant-loop-run : goal.invariant-loop-run
 invariant-loop-run g l =
     let bytes = g.M.Memory.bytes in
     record {
-      led : HasLed (code_of l.code)
-          l.fn.run.turns_left (known_of (state_of l.fn.run.hart (bytes l.fn.run.memory)) l.fn.known.registers
-          (bytes l.fn.known.marks) l.fn.known.shifts)
-          l.run.turns_left (known_of (state_of l.run.hart (bytes l.run.memory)) l.known.registers
-          (bytes l.known.marks) l.known.shifts)
-          l.entries;
       made : HasMade (code_of l.code)
           l.fn.run.turns_left (known_of (state_of l.fn.run.hart (bytes l.fn.run.memory)) l.fn.known.registers
           (bytes l.fn.known.marks) l.fn.known.shifts)

@@ -1,35 +1,25 @@
 -- Another piece, or the last one.
-use Rattle.std.proofs.Common.{◌≡◌, ℕ, ◌+◌, ◌*◌, ◌≤◌, [], ◌++◌, length, length-append, inl, inr, refl}
-use Rattle.std.proofs.Common.{ap}
-use Rattle.std.proofs.Common.{◌∙◌, subst, arith}
-use Rattle.certified_runs.specs.Certified.{KnownLeads, stays}
-use Rattle.certified_runs.specs.Parts.{known_of}
-use Rattle.run_reports.proofs.progress_lemmas.KnownPieces.{leads_append, run_after, stretched, few_of_leads, few_at_end}
-use Rattle.run_reports.proofs.progress_lemmas.KnownPieces.{end_of_both}
-use Rattle.run_reports.proofs.progress_lemmas.KnownPieces.{lines_of_known}
+use Rattle.std.proofs.Common.{◌≡◌, ◌+◌, ◌*◌, [], ◌++◌, length, inl, inr, refl, sym, ap, ◌∙◌, arith}
+use Rattle.certified_runs.proofs.Ends.{run_after}
+use Rattle.certified_runs.specs.Certified.{stays}
+use Rattle.run_reports.proofs.progress_lemmas.KnownPieces.{leads_append, stretched, few_of_leads, few_at_end}
+use Rattle.run_reports.proofs.progress_lemmas.KnownPieces.{end_of_both, lines_of_known}
 use Rattle.run_reports.proofs.progress_lemmas.Told.{none_yet, all_told}
 use Rattle.run_reports.specs.progress.Certified.{entries_at, end_behind}
 use Rattle.run_reports.specs.progress.Lines.{turns_a_line}
-use Rattle.rv_machine.proofs.Face.{entries_of-append}
+use Rattle.rv_machine.proofs.Face.{entry_count-append}
 use Rattle.rv_machine.specs.Entries.{entries_of}
-use Rattle.rv_machine.specs.Harts.{state_of}
-use Rattle.rv_machine.specs.Regions.{code_of}
 use Rattle.run_reports.proofs.progress.certifying.certify_in_pieces.Goals as goal
 
 pub loop-left-init : goal.loop-left-init
 loop-left-init g c =
-    let bytes = g.M.Memory.bytes in
-    let begun = c.args.run.now in
-    let k = known_of (state_of begun.hart (bytes begun.memory)) c.args.known.now.registers
-    (bytes c.args.known.now.marks) c.args.known.now.shifts in
     let none : 0 ≡ c.new-lines.result.count * turns_a_line = omega (arith, c.new-lines.ensures.none) in
     record {
       made = omega (arith, none);
       more = inl c.new-lines.ensures.none;
-      led = ([], subst (λ (n : ℕ). KnownLeads (code_of c.args.code.now) n k [] k) none stays, refl);
+      led = ([], rw (sym none) stays, refl);
       extent = c.requires.extent;
-      told = λ tells.
-          none_yet c.new-lines.result.whole c.new-lines.result.count (g.E.Sink.taken c.args.err.now)
+      told = λ tells. none_yet c.new-lines.result.whole c.new-lines.result.count (g.E.Sink.taken c.args.err.now)
           c.new-lines.ensures.whole c.new-lines.ensures.none;
     }
 
@@ -37,44 +27,48 @@ pub end_behind-requires : goal.end_behind-requires
 end_behind-requires g c =
     let led = c.loop-left.invariant.led in
     let run = c.certify-end.ensures.certified in
-    let before = subst (λ (n : ℕ). n ≤ 2 * (c.loop-left.lines.count * turns_a_line)) led.2 (few_of_leads led.1) in
-    let later = few_at_end c.certify-end.result run.2 run.3 in
-    omega (arith, before, later, c.loop-left.invariant.made, c.loop-left-test.true, c.requires.few)
+    omega (
+      arith,
+      led.2,
+      few_of_leads led.1,
+      few_at_end c.certify-end.result run.2 run.3,
+      c.loop-left.invariant.made,
+      c.loop-left-test.true,
+      c.requires.few,
+    )
 
-pub returns-then-run-gt0-clause-certified : goal.returns-then-run-gt0-clause-certified
-returns-then-run-gt0-clause-certified g c =
+pub returns-then-run-gt0 : goal.returns-then-run-gt0
+returns-then-run-gt0 g c =
+    let lines = c.loop-left.lines in
     let led = c.loop-left.invariant.led in
     let run = c.certify-end.ensures.certified in
     let some = c.if-run-gt0.true in
-    let all = stretched run.2 (λ others later all. c.certify-end.ensures.ended others later some all) (omega (arith, c.loop-left-test.true)) in (
-      led.0 ++ run.0,
-      run.1,
-      run_after led.1 all c.loop-left.invariant.made,
-      c.end_behind.ensures ∙ ap (end_behind c.loop-left.entries) run.3
-          ∙ end_of_both led.0 run.0 run.1 c.loop-left.entries led.2,
-    )
-
-pub returns-then-run-gt0-clause-told : goal.returns-then-run-gt0-clause-told
-returns-then-run-gt0-clause-told g c = λ tells.
-    let lines = c.loop-left.lines in
-    let led = c.loop-left.invariant.led in
-    let some = c.if-run-gt0.true in (
-      lines.count,
-      lines_of_known (led.0, led.1) c.loop-left.invariant.made c.loop-left.invariant.more
-          (λ others later all. c.certify-end.ensures.ended others later some all),
-      all_told lines.whole lines.count _ _ (c.loop-left.invariant.told tells),
-    )
+    record {
+      certified = (
+        led.0 ++ run.0,
+        run.1,
+        run_after led.1 (stretched run.2 (λ others later. c.certify-end.ensures.ended others later some)
+            (omega (arith, c.loop-left-test.true))) c.loop-left.invariant.made,
+        c.end_behind.ensures ∙ ap (end_behind c.loop-left.entries) run.3
+            ∙ end_of_both led.0 run.0 run.1 c.loop-left.entries led.2,
+      );
+      told = λ tells. (
+        lines.count,
+        lines_of_known (led.0, led.1) c.loop-left.invariant.made c.loop-left.invariant.more
+            (λ others later. c.certify-end.ensures.ended others later some),
+        all_told lines.whole lines.count _ _ (c.loop-left.invariant.told tells),
+      );
+    }
 
 pub overflow_add-entries : goal.overflow_add-entries
 overflow_add-entries g c =
     let led = c.loop-left.invariant.led in
     let run = c.certify-end.ensures.certified in
-    let before = subst (λ (n : ℕ). n ≤ 2 * (c.loop-left.lines.count * turns_a_line)) led.2 (few_of_leads led.1) in
-    let later = few_at_end c.certify-end.result run.2 run.3 in
     omega (
       arith,
-      before,
-      later,
+      led.2,
+      few_of_leads led.1,
+      few_at_end c.certify-end.result run.2 run.3,
       c.entries_at-entries.ensures,
       c.loop-left.invariant.made,
       c.loop-left-test.true,
@@ -83,21 +77,12 @@ overflow_add-entries g c =
 
 pub loop-left-preserved : goal.loop-left-preserved
 loop-left-preserved g c =
-    let bytes = g.M.Memory.bytes in
-    let begun = c.args.run.now in
-    let code = code_of c.args.code.now in
-    let k = known_of (state_of begun.hart (bytes begun.memory)) c.args.known.now.registers
-    (bytes c.args.known.now.marks) c.args.known.now.shifts in
-    let run = c.certify-end.new.run in
-    let known = c.certify-end.new.known in
-    let now = known_of (state_of run.hart (bytes run.memory)) known.registers (bytes known.marks) known.shifts in
     let led = c.loop-left.invariant.led in
     let left = c.loop-left-test.true in
     let none = c.if-run-gt0.false in
     let spent = c.certify-end.ensures.spent (omega (arith, none)) in
     let next : c.loop-left.lines.count * turns_a_line + turns_a_line ≡ c.tell.new.self.count * turns_a_line =
     omega (arith, c.tell.ensures.next) in
-    let all = ap length (entries_of-append led.0 spent.0) ∙ length-append (entries_of led.0) (entries_of spent.0) in
     let more : c.entries_at-entries.result ≡ length (entries_of spent.0) =
     c.entries_at-entries.ensures ∙ ap entries_at spent.2 in
     record {
@@ -105,8 +90,8 @@ loop-left-preserved g c =
       more = inr (omega (arith, left));
       led = (
         led.0 ++ spent.0,
-        subst (λ (n : ℕ). KnownLeads code n k (led.0 ++ spent.0) now) next (leads_append led.1 spent.1),
-        omega (arith, all, more, led.2),
+        rw (sym next) (leads_append led.1 spent.1),
+        omega (arith, entry_count-append led.0 spent.0, more, led.2),
       );
       extent = c.certify-end.ensures.extent;
       told = λ tells. c.tell.ensures.told (g.E.Sink.taken c.args.err.now) tells (c.loop-left.invariant.told tells);
@@ -116,9 +101,14 @@ pub end_behind-requires-2 : goal.end_behind-requires-2
 end_behind-requires-2 g c =
     let led = c.loop-left.invariant.led in
     let run = c.certify-end-2.ensures.certified in
-    let before = subst (λ (n : ℕ). n ≤ 2 * (c.loop-left.lines.count * turns_a_line)) led.2 (few_of_leads led.1) in
-    let later = few_at_end c.certify-end-2.result run.2 run.3 in
-    omega (arith, before, later, c.loop-left.invariant.made, c.requires.few)
+    omega (
+      arith,
+      led.2,
+      few_of_leads led.1,
+      few_at_end c.certify-end-2.result run.2 run.3,
+      c.loop-left.invariant.made,
+      c.requires.few,
+    )
 
 pub returns-clause-certified : goal.returns-clause-certified
 returns-clause-certified g c =
