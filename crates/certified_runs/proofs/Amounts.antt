@@ -1,17 +1,14 @@
 -- By how much covered states shift: where the amounts are seen, by what is known.
 use Rattle.std.specs.Prelude.{◌||◌, not, if◌then◌else◌}
-use Rattle.std.proofs.Common.{◌≡◌, ℕ, zero, suc, ◌%◌, Bool, true, false, List, [], ◌∷◌, ◌++◌, refl, sym, ap, ap₂, ◌∙◌}
-use Rattle.std.proofs.Common.{subst}
+use Rattle.std.proofs.Common.{◌≡◌, ℕ, zero, suc, ◌%◌, Bool, true, false, List, [], ◌∷◌, ◌++◌, refl, sym, ap₂, ◌∙◌}
 use Rattle.rv_code.specs.declared.instructions.Instr.{Instr}
-use Rattle.rv_code.specs.declared.instructions.Instr.TheVariants.{Upper, Jump, JumpRegister, Branch, Load, Store}
-use Rattle.rv_code.specs.declared.instructions.Instr.TheVariants.{Immediate, Shift, Register, Multiply, Divide, Fence}
-use Rattle.rv_code.specs.declared.instructions.Instr.TheVariants.{Ecall, Ebreak}
+use Rattle.rv_code.specs.declared.instructions.Instr.TheVariants.{Register}
 use Rattle.rv_machine.specs.declared.observation.Observation.{Observation}
 use Rattle.rv_machine.specs.declared.stops.Stop.{Stop}
 use Rattle.rv_machine.specs.Machine.{State, Code, IsAt, Ending, goes_on, stops, Turn, pc_misaligned, not_code}
 use Rattle.rv_machine.specs.Machine.{no_instruction, executes}
 use Rattle.rv_machine.specs.Registers.{register}
-use Rattle.certified_runs.proofs.Below.{Turn-determined, goes_on≢stops, turn_of_state}
+use Rattle.certified_runs.proofs.Below.{goes_on-determined, goes_on≢stops, turn_of_state}
 use Rattle.word.specs.declared.profile.Profile.{Profile}
 use Rattle.certified_runs.specs.Amounts.{is_shift, amounts_of, ShiftsBy, spent, halts, turns}
 use Rattle.certified_runs.specs.Known.{Known, knows, Covers}
@@ -29,16 +26,13 @@ amounts_determined spent spent = refl
 amounts_determined (halts turn) (halts turn') = refl
 amounts_determined (halts turn) (turns i at turn' rest) = absurd (goes_on≢stops turn' turn)
 amounts_determined (turns i at turn rest) (halts turn') = absurd (goes_on≢stops turn turn')
-amounts_determined {code} {s = s} (turns {n = n} {t = t} {o = o} i at turn rest)
-    (turns {t = u} {o = p} {amounts = others} j at' turn' rest') =
-    let end = Turn-determined turn turn' in
-    let there : u ≡ t = cc in
+amounts_determined {s = s} (turns i at turn rest) (turns j at' turn' rest') =
     ap₂ (λ x xs. amounts_of x s.regs ++ xs) (one_instruction at at')
-    (amounts_determined rest (subst (λ v. ShiftsBy code n v others) there rest'))
+    (amounts_determined rest (rw (goes_on-determined turn' turn).1 at rest'))
 
 -- Each run has such a list.
 
-abbrev HasAmounts : Code → ℕ → State → Type 0
+abbrev pub HasAmounts : Code → ℕ → State → Type 0
 HasAmounts code n s = (amounts : List ℕ) × ShiftsBy code n s amounts
 
 module _ (code : Code) (n : ℕ) (s : State) (after : (t : State) → HasAmounts code n t) where
@@ -53,7 +47,7 @@ module _ (code : Code) (n : ℕ) (s : State) (after : (t : State) → HasAmounts
   amounts_from {ending} (executes i even is ok end) =
       executed ending i (record { aligned = even; word = is; in_range = ok }) (executes i even is ok end)
 
-pub some_amounts : (code : Code) (budget : ℕ) (s : State) → (amounts : List ℕ) × ShiftsBy code budget s amounts
+pub some_amounts : (code : Code) (budget : ℕ) (s : State) → HasAmounts code budget s
 some_amounts code zero s = ([], spent)
 some_amounts code (suc n) s = amounts_from code n s (λ t. some_amounts code n t) (turn_of_state code s).1
 
@@ -61,47 +55,33 @@ some_amounts code (suc n) s = amounts_from code n s (λ t. some_amounts code n t
 
 amount_same : (shift known : Bool) (a a' : ℕ) → (not shift || known) ≡ true → (known ≡ true → a' ≡ a)
     → ◌≡◌ {A = List ℕ} (if shift then a' % 32 ∷ [] else []) (if shift then a % 32 ∷ [] else [])
-amount_same true known a a' sure value = ap (λ v. v % 32 ∷ []) (value sure)
+amount_same true known a a' sure value = rw (value sure)
 amount_same false known a a' sure value = refl
 
 module _ (k : Known) (s : State) (covers : Covers k s) where
   amounts_same : (profile : Profile) (i : Instr) → decides profile Seen i k.registers ≡ true
       → amounts_of i s.regs ≡ amounts_of i k.state.regs
-  amounts_same profile (Upper operation rd immediate) sure = refl
-  amounts_same profile (Jump rd offset) sure = refl
-  amounts_same profile (JumpRegister rd rs1 offset) sure = refl
-  amounts_same profile (Branch test rs1 rs2 offset) sure = refl
-  amounts_same profile (Load operation rd rs1 offset) sure = refl
-  amounts_same profile (Store operation rs2 rs1 offset) sure = refl
-  amounts_same profile (Immediate operation rd rs1 immediate) sure = refl
-  amounts_same profile (Shift operation rd rs1 amount) sure = refl
   amounts_same profile (Register operation rd rs1 rs2) sure =
       amount_same (is_shift operation) (knows k.registers rs2) (register k.state.regs rs2) (register s.regs rs2) sure
       (covers.registers rs2)
-  amounts_same profile (Multiply operation rd rs1 rs2) sure = refl
-  amounts_same profile (Divide operation rd rs1 rs2) sure = refl
-  amounts_same profile (Fence mode before after rs1 rd) sure = refl
-  amounts_same profile Ecall sure = refl
-  amounts_same profile Ebreak sure = refl
+  amounts_same profile _ sure = refl
 
 -- So all covered states shift by the amounts of one list.
 
-abbrev AllShiftBy : Code → ℕ → Known → List ℕ → Type 0
+abbrev pub AllShiftBy : Code → ℕ → Known → List ℕ → Type 0
 AllShiftBy code budget k amounts = (s : State) → Covers k s → ShiftsBy code budget s amounts
 
 all_turn : {code : Code} {n : ℕ} {k next : Known} {o : Observation} {amounts : List ℕ} → k.shifts ≡ Seen
     → KnownTurn code k (leads_on o next) → AllShiftBy code n next amounts
     → (more : List ℕ) × AllShiftBy code (suc n) k (more ++ amounts)
-all_turn {code} {n} {k} {next} {o} {amounts} shown (decided {t = t} i at sure turn) rest =
-    let seen : decides code.profile Seen i k.registers ≡ true =
-    subst (λ w. decides code.profile w i k.registers ≡ true) shown sure in (
-      amounts_of i k.state.regs,
-      λ s covers.
-          let first = leads_kept code k s covers o (known_after i k t) (decided i at sure turn) in
-          let there : IsAt code s.pc i = subst (λ pc. IsAt code pc i) (sym covers.pc) at in
-          subst (λ xs. ShiftsBy code (suc n) s (xs ++ amounts)) (amounts_same k s covers code.profile i seen)
-          (turns i there first.1 (rest first.0 first.2)),
-    )
+all_turn {code} {k = k} {o = o} shown (decided {t = t} i at sure turn) rest = (
+  amounts_of i k.state.regs,
+  λ s covers.
+      let first = leads_kept code k s covers o (known_after i k t) (decided i at sure turn) in
+      let there : IsAt code s.pc i = rw covers.pc at in
+      rw (sym (amounts_same k s covers code.profile i (rw shown at sure)))
+      (turns i there first.1 (rest first.0 first.2)),
+)
 
 kept_shifts : {code : Code} {k next : Known} {o : Observation} → KnownTurn code k (leads_on o next)
     → next.shifts ≡ k.shifts
@@ -109,11 +89,11 @@ kept_shifts (decided i at sure turn) = refl
 
 pub all_shift_alike : {code : Code} {budget : ℕ} {k : Known} {seen : List Observation} {stop : Stop}
     → CertifiedRun code budget k seen (same stop) → k.shifts ≡ Seen
-    → (amounts : List ℕ) × ((s : State) → Covers k s → ShiftsBy code budget s amounts)
+    → (amounts : List ℕ) × AllShiftBy code budget k amounts
 all_shift_alike certified.spent shown = ([], λ s covers. spent)
-all_shift_alike {code} (certified.halts {n = n} {k = k} {seen = seen} {stop = stop} turn) shown =
+all_shift_alike {code} (certified.halts {k = k} {seen = seen} {stop = stop} turn) shown =
     ([], λ s covers. halts (stop_kept code k s covers seen stop turn))
-all_shift_alike {code} (certified.turns {n = n} {k = k} {next = next} {o = o} turn rest) shown =
+all_shift_alike (certified.turns turn rest) shown =
     let after = all_shift_alike rest (kept_shifts turn ∙ shown) in
     let first = all_turn shown turn after.1 in
     (first.0 ++ after.0, first.1)

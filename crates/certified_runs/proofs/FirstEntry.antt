@@ -1,13 +1,14 @@
 -- The turn that may differ shows its program counter first, whatever is unknown.
-use Rattle.std.proofs.Common.{◌≡◌, ◌≢◌, ℕ, suc, List, [], ◌∷◌, ◌++◌, None, refl, sym, ap, ◌∙◌, subst, arith}
+use Rattle.std.proofs.Common.{◌≡◌, ◌≢◌, ℕ, suc, List, [], ◌∷◌, ◌++◌, None, refl, sym, ap, ◌∙◌, subst}
 use Rattle.rv_machine.specs.declared.observation.Observation.{Observation}
 use Rattle.rv_machine.specs.declared.stops.Stop.{Stop}
 use Rattle.rv_machine.specs.declared.stops.Stop.TheVariants.{RecorderRefused}
 use Rattle.rv_machine.specs.Effects.{effect_of}
 use Rattle.rv_machine.specs.Entries.{Entry, program_counter, events_of, entries_of}
-use Rattle.rv_machine.specs.Leakage.{stays, halts, Runs, halted}
-use Rattle.rv_machine.specs.Machine.{State, Code, Ending, goes_on, stops, observed, Turn}
-use Rattle.certified_runs.proofs.Below.{IsOwn, effect_own, Runs-determined, entries_of-append, Runs-more, run_of_state}
+use Rattle.rv_machine.specs.Leakage.{Runs}
+use Rattle.rv_machine.specs.Machine.{State, Code, Ending, observed, Turn}
+use Rattle.certified_runs.proofs.Below.{IsOwn, goes_own, stops_own, effect_own, Runs-determined, entries_of-append}
+use Rattle.certified_runs.proofs.Below.{Runs-more, Runs-stop, run_of_state}
 use Rattle.certified_runs.specs.Known.{Known, Covers}
 use Rattle.certified_runs.specs.Certified.{KnownTurn, undecided, depends, may_differ, CertifiedRun, cut, turns}
 use Rattle.certified_runs.proofs.Runs.{turn_at, leads_kept}
@@ -18,24 +19,24 @@ RunsPast code budget s seen pc =
     (o : Observation) × (rest : List Observation) × (stop : Stop) × (t : State) × (o.pc ≡ pc)
     × Runs code budget s (seen ++ o ∷ rest) stop t × (stop ≢ RecorderRefused)
 
-begins_run : (code : Code) (n : ℕ) (s : State) (ending : Ending) → Turn code s ending → IsOwn s ending
+begins_run : {code : Code} {s : State} {ending : Ending} (n : ℕ) → Turn code s ending → IsOwn s ending
     → RunsPast code (suc n) s [] s.pc
-begins_run code n s (goes_on o t) turn own =
+begins_run {code} {s} n turn (goes_own {shown = shown} {t = t}) =
     let rest = run_of_state code n t in
-    (o, rest.0, rest.1, rest.2, own, Runs-more turn rest.3, rest.4)
-begins_run code n s (stops seen stop) turn own =
-    (observed s None, [], stop, s, refl, halted (omega arith) (halts stays turn (sym own.0)), own.1)
+    (observed s shown, rest.0, rest.1, rest.2, refl, Runs-more turn rest.3, rest.4)
+begins_run {s = s} n turn (stops_own {stop = stop} calm more) =
+    (observed s None, [], stop, s, refl, Runs-stop turn, calm)
 
 at_program_counter : (code : Code) (n : ℕ) (k : Known) (s : State) → Covers k s → KnownTurn code k depends
     → RunsPast code (suc n) s [] k.state.pc
 at_program_counter code n k s covers (undecided i at unknown) =
     subst (RunsPast code (suc n) s []) covers.pc
-    (begins_run code n s _ (turn_at code k s covers i at) (effect_own code.profile (effect_of i s.pc s.regs) s))
+    (begins_run n (turn_at code k s covers i at) (effect_own code.profile (effect_of i s.pc s.regs) s))
 
 pub runs_past : {code : Code} {budget : ℕ} {k : Known} {s : State} {seen : List Observation} {pc : ℕ}
     → CertifiedRun code budget k seen (may_differ pc) → Covers k s → RunsPast code budget s seen pc
 runs_past {code} {s = s} (cut {n = n} {k = k} turn) covers = at_program_counter code n k s covers turn
-runs_past {code} {s = s} (turns {n = n} {k = k} {next = next} {o = o} turn rest) covers =
+runs_past {code} {s = s} (turns {k = k} {next = next} {o = o} turn rest) covers =
     let first = leads_kept code k s covers o next turn in
     let then = runs_past rest first.2 in
     (then.0, then.1, then.2, then.3, then.4, Runs-more first.1 then.5, then.6)

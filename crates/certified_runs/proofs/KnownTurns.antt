@@ -1,7 +1,7 @@
 -- The turn of the machine that the engine makes is the turn of what is known.
 use Rattle.std.specs.Prelude.{nat_eq, is_some}
-use Rattle.std.proofs.Common.{◌≡◌, ◌≢◌, ℕ, ◌%◌, ◌≤◌, Bool, true, false, cond, List, [], ◌∷◌, length, Option, Some}
-use Rattle.std.proofs.Common.{None, refl, sym, ◌∙◌, subst, arith}
+use Rattle.std.proofs.Common.{◌≡◌, ◌≢◌, ℕ, ◌%◌, ◌≤◌, Bool, true, false, cond, List, [], ◌∷◌, length, Option, Some, None}
+use Rattle.std.proofs.Common.{refl, sym, ◌∙◌, arith}
 use Rattle.std.proofs.lemmas.Option.{same_Some}
 use Rattle.rv_code.specs.declared.instructions.Instr.{Instr}
 use Rattle.rv_code.specs.declared.instructions.Instr.TheVariants.{Store}
@@ -19,10 +19,10 @@ use Rattle.rv_machine.specs.Leakage.{Done, went_on, stopped, refused}
 use Rattle.rv_machine.specs.Machine.{State, Code, IsAt, Ending, goes_on, stops, stored, ending_of, Turn, executes}
 use Rattle.rv_machine.specs.Registers.{register}
 use Rattle.rv_machine.specs.Sizes.{byte_count}
-use Rattle.certified_runs.proofs.Below.{IsSameTurn, turn_same, count-few, Turn-determined, turn_stops}
+use Rattle.certified_runs.proofs.Below.{IsSameTurn, both_go, turn_same, count-few, Turn-determined, turn_stops}
 use Rattle.word.specs.declared.profile.Profile.{Profile}
 use Rattle.certified_runs.specs.Certified as certified
-use Rattle.certified_runs.specs.Certified.{decides, registers_after, bytes_after, KnownTurn, decided, leads_on, ends}
+use Rattle.certified_runs.specs.Certified.{decides, registers_after, bytes_after, KnownTurn, decided, ends}
 use Rattle.certified_runs.specs.Known.{Known}
 use Rattle.certified_runs.specs.declared.shifts.Shifts.{Shifts}
 use Rattle.certified_runs.proofs.Covering.{number_extent}
@@ -65,13 +65,10 @@ stores_data marks profile _ s t o extent goes = tt
 -- Turns.
 
 led_extent : {code : Code} {s t : State} {o : Observation} → Turn code s (goes_on o t) → HaveOneExtent t.bytes s.bytes
-led_extent {code} {s} {t} {o} turn =
-    let same = turn_same s s.bytes (λ a h. refl) code (goes_on o t) turn in
-    of_same same.0 same.2
+led_extent {code} {s} {t} {o} turn = of_same (turn_same s s.bytes (λ a h. refl) code (goes_on o t) turn).2
   where
-    of_same : (e : Ending) → IsSameTurn s s.bytes (goes_on o t) e → HaveOneExtent t.bytes s.bytes
-    of_same (goes_on p u) same = same.3.extent
-    of_same (stops seen stop) same = absurd same
+    of_same : {e : Ending} → IsSameTurn s s.bytes (goes_on o t) e → HaveOneExtent t.bytes s.bytes
+    of_same (both_go pcs registers changes) = changes.extent
 
 -- which addresses are data stays
 pub extent_kept : {code : Code} {s t : State} {ending : Ending} {answer : Option Stop} {seen : List Observation}
@@ -96,35 +93,31 @@ same_known t same_registers same_bytes same_shifts = cc
 module _ (code : Code) (k : Known) (i : Instr) (at : IsAt code k.state.pc i)
     (sure : decides code.profile k.shifts i k.registers ≡ true) where
   -- the turn went on, and the change of its instruction was made
-  pub has_led : (t : State) (registers bytes : ℕ → Bool) (shifts : Shifts) (ending : Ending) (seen : List Observation)
-      (entries : ℕ) → Turn code k.state ending → Done k.state ending None t seen
+  pub has_led : {t : State} {registers bytes : ℕ → Bool} {shifts : Shifts} {ending : Ending} {seen : List Observation}
+      {entries : ℕ} → Turn code k.state ending → Done k.state ending None t seen
       → registers ≡ registers_after i k → bytes ≡ bytes_after i k → shifts ≡ k.shifts
       → length (entries_of seen) ≡ entries
       → HasTurned code k (LeadsOn entries)
       (record { state = t; registers = registers; bytes = bytes; shifts = shifts })
-  has_led t registers bytes shifts ending seen entries turn (went_on {o = o}) is is' as_seen many = (
-    o,
-    subst (λ n. KnownTurn code k (leads_on o n)) (sym (same_known t is is' as_seen)) (decided i at sure turn),
-    many,
-  )
+  has_led {t = t} turn (went_on {o = o}) is is' as_seen many =
+      (o, rw (same_known t is is' as_seen) (decided i at sure turn), many)
 
   -- the turn stopped
-  pub has_stopped : (t : State) (next : Known) (ending : Ending) (stop : Stop) (seen : List Observation) (entries : ℕ)
+  pub has_stopped : {t : State} (next : Known) {ending : Ending} {stop : Stop} {seen : List Observation} {entries : ℕ}
       → Turn code k.state ending → Done k.state ending (Some stop) t seen
       → Some stop ≢ Some RecorderRefused → length (entries_of seen) ≡ entries
       → HasTurned code k (Ends entries stop) next
-  has_stopped t next ending stop seen entries turn done calm many = (
+  has_stopped next {seen = seen} turn done calm many = (
     seen,
-    certified.stopped (λ j there. subst (λ x. decides code.profile k.shifts x k.registers ≡ true)
-        (one_instruction at there) sure) (stopped_so turn done calm),
+    certified.stopped (λ j there. rw (one_instruction there at) sure) (stopped_so turn done calm),
     many,
   )
 
   -- what is stored where the turn goes on is data
-  pub led_stores : (marks : ByteMap) (t : State) (ending : Ending) (seen : List Observation)
+  pub led_stores : (marks : ByteMap) {t : State} {ending : Ending} {seen : List Observation}
       → HaveOneExtent marks k.state.bytes → Turn code k.state ending → Done k.state ending None t seen
       → StoresData marks i (accessed i k.state.regs)
-  led_stores marks t ending seen extent turn (went_on {o = o}) =
+  led_stores marks {t = t} extent turn (went_on {o = o}) =
       stores_data marks code.profile i k.state t o extent
       (Turn-determined (executes i at.aligned at.word at.in_range refl) turn)
 

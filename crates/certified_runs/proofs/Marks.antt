@@ -1,17 +1,15 @@
 -- Flags and marks: what is read of them, and what becomes of them when some are set.
 use Rattle.std.specs.Prelude.{nat_eq, slice_index_or, is_some, ◌&&◌}
-use Rattle.std.proofs.Common.{◌≡◌, ◌≢◌, ℕ, zero, suc, ◌+◌, ◌*◌, ◌/◌, ◌%◌, ◌<◌, ◌≤◌, Bool, true, false}
-use Rattle.std.proofs.Common.{Option, Some, None, eq-eqb, ne_eqb, refl, sym, ap, ◌∙◌, ⊎_elim, arith}
-use Rattle.std.proofs.Common.{replicate}
+use Rattle.std.proofs.Common.{◌≡◌, ℕ, zero, suc, ◌+◌, ◌*◌, ◌/◌, ◌%◌, ◌<◌, ◌≤◌, Bool, true, false, Option, Some, None}
+use Rattle.std.proofs.Common.{eq-eqb, ne_eqb, refl, sym, ap, ◌∙◌, inl, inr, arith, replicate}
 use Rattle.std.specs.Option.{option_eq}
 use Rattle.std.proofs.Math.Path.{fun_ext}
-use Rattle.std.proofs.lemmas.Bool.{cases_eq, cases_lt, le-leb, lt-leb, lt-ltb, le-ltb}
+use Rattle.std.proofs.lemmas.Bool.{cases_eq}
 use Rattle.rv_machine.specs.declared.memory.Size.{Size}
 use Rattle.rv_machine.specs.declared.memory.Size.TheVariants.{Byte, Half, Word}
 use Rattle.rv_machine.specs.Bytes.{ByteMap, joined, number_at, with_number}
 use Rattle.rv_machine.specs.Sizes.{byte_count}
-use Rattle.certified_runs.proofs.Below.{number_at-zero, number_at-suc, with_number-suc, with_byte_same}
-use Rattle.certified_runs.proofs.Below.{with_byte_other, with_number_below, with_number_above, is_some-with_number}
+use Rattle.certified_runs.proofs.Below.{is_inside, is_outside, place, with_number_outside, is_some-with_number}
 use Rattle.certified_runs.specs.Known.{knows_bytes, with_bytes_known}
 use Rattle.certified_runs.specs.Parts.{known_registers, all_registers, is_known_mark, known_bytes}
 use Rattle.certified_runs.specs.private.Changes.{mark_of}
@@ -31,14 +29,13 @@ all_flags n = fun_ext (all_set n)
 -- Bytes.
 
 both_zero : (l h : ℕ) → nat_eq (l + 256 * h) 0 ≡ (nat_eq l 0 && nat_eq h 0)
-both_zero l h =
-    ⊎_elim
-    (λ (e : l ≡ 0). ⊎_elim
-    (λ (e' : h ≡ 0). eq-eqb (l + 256 * h) 0 (omega arith) ∙ sym (rw (eq-eqb l 0 e, eq-eqb h 0 e') refl))
-    (λ (ne : h ≢ 0). ne_eqb (l + 256 * h) 0 (λ is. ne (omega arith)) ∙ sym (rw (eq-eqb l 0 e, ne_eqb h 0 ne) refl))
-    (cases_eq h 0))
-    (λ (ne : l ≢ 0). ne_eqb (l + 256 * h) 0 (λ is. ne (omega arith)) ∙ sym (rw (ne_eqb l 0 ne) refl))
-    (cases_eq l 0)
+both_zero l h = elim (cases_eq l 0) [
+  | inl e ↦ elim (cases_eq h 0) [
+    | inl e' ↦ rw (eq-eqb (l + 256 * h) 0 (omega arith), eq-eqb l 0 e, eq-eqb h 0 e')
+    | inr ne ↦ rw (ne_eqb (l + 256 * h) 0 (λ is. ne (omega arith)), eq-eqb l 0 e, ne_eqb h 0 ne)
+  ]
+  | inr ne ↦ rw (ne_eqb (l + 256 * h) 0 (λ is. ne (omega arith)), ne_eqb l 0 ne)
+]
 
 and_none : (b : Bool) → false ≡ (b && false)
 and_none true = refl
@@ -53,11 +50,9 @@ zero_parts None p = refl
 -- bytes are known where the number of their marks is 0
 pub zero_marks : (marks : ByteMap) (n a : ℕ)
     → is_known_mark (number_at marks n a) ≡ knows_bytes (known_bytes marks) n a
-unfolding knows_bytes
-zero_marks marks zero a = ap is_known_mark (number_at-zero marks a)
-zero_marks marks (suc n) a =
-    ap is_known_mark (number_at-suc marks n a) ∙ zero_parts (marks a) (number_at marks n (a + 1))
-    ∙ ap (λ b. is_known_mark (marks a) && b) (zero_marks marks n (a + 1))
+unfolding number_at knows_bytes
+zero_marks marks zero a = refl
+zero_marks marks (suc n) a = rw (zero_parts, zero_marks marks n (a + 1))
 
 -- a number of marks that was read is 0
 pub eq_zero : (o : Option ℕ) → option_eq nat_eq o (Some 0) ≡ is_known_mark o
@@ -79,35 +74,23 @@ are_marks false Word = (refl, (refl, (refl, (refl, tt))))
 
 marked_inside : (marks : ByteMap) (known : Bool) (n a v x : ℕ) → AreMarks known n v → a ≤ x → x < a + n
     → known_bytes (with_number marks n a v) x ≡ known
+unfolding with_number
 marked_inside marks known zero a v x are low high = absurd (omega arith)
-marked_inside marks known (suc n) a v x are low high =
-    let above = with_number marks n (a + 1) (v / 256) in
-    let step = ap (λ (m : ByteMap). is_known_mark (m x)) (with_number-suc marks n a v) in
-    ⊎_elim
-    (λ (e : x ≡ a). step ∙ ap is_known_mark (with_byte_same above a (v % 256) x e) ∙ are.0)
-    (λ (e : x ≢ a). step ∙ ap is_known_mark (with_byte_other above a (v % 256) x e)
-    ∙ marked_inside marks known n (a + 1) (v / 256) x are.1 (omega arith) (omega arith))
-    (cases_eq x a)
+marked_inside marks known (suc n) a v x are low high = elim (cases_eq x a) [
+  | inl e ↦ rw (eq-eqb x a e) are.0
+  | inr e ↦ rw (ne_eqb x a e) (marked_inside marks known n (a + 1) (v / 256) x are.1 (omega arith) (omega arith))
+]
 
 -- so many bytes were marked anew
 pub marks_put : (marks : ByteMap) (known : Bool) (size : Size) (a : ℕ)
     → known_bytes (with_number marks (byte_count size) a (mark_of known))
     ≡ with_bytes_known (known_bytes marks) (byte_count size) a known
-marks_put marks known size a = fun_ext at
-  where
-    at : (x : ℕ) → known_bytes (with_number marks (byte_count size) a (mark_of known)) x
-        ≡ with_bytes_known (known_bytes marks) (byte_count size) a known x
-    at x =
-        ⊎_elim
-        (λ (below : x < a). rw (lt-leb a x below)
-        (ap is_known_mark (with_number_below marks (byte_count size) a (mark_of known) x below)))
-        (λ (low : a ≤ x). ⊎_elim
-        (λ (high : x < a + byte_count size). rw (le-leb a x low, lt-ltb x (a + byte_count size) high)
-        (marked_inside marks known (byte_count size) a (mark_of known) x (are_marks known size) low high))
-        (λ (above : a + byte_count size ≤ x). rw (le-leb a x low, le-ltb x (a + byte_count size) above)
-        (ap is_known_mark (with_number_above marks (byte_count size) a (mark_of known) x above)))
-        (cases_lt x (a + byte_count size)))
-        (cases_lt x a)
+marks_put marks known size a = fun_ext (λ x. elim (place a (byte_count size) x) [
+  | is_inside is from to ↦
+      rw is (marked_inside marks known (byte_count size) a (mark_of known) x (are_marks known size) from to)
+  | is_outside is out ↦
+      rw is (ap is_known_mark (with_number_outside marks (byte_count size) a (mark_of known) x out))
+])
 
 -- which bytes there are stays where a memory is asked to store a number
 pub store_extent : (old new : ByteMap) (n a v : ℕ) (answer : Bool) → answer ≡ is_some (number_at old n a)

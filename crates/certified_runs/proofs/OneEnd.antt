@@ -1,14 +1,14 @@
 -- A certified run has one end.
-use Rattle.std.proofs.Common.{◌≡◌, ℕ, zero, suc, Bool, true, false, List, [], ◌∷◌, refl, sym, ap, ◌∙◌, subst}
-use Rattle.std.proofs.lemmas.Bool.{false≢true}
-use Rattle.std.proofs.lemmas.Option.{none-some, same_Some}
+use Rattle.std.proofs.Common.{◌≡◌, ℕ, zero, suc, Bool, true, false, List, [], ◌∷◌, refl, sym, ◌∙◌}
+use Rattle.std.proofs.lemmas.Bool.{both_ways}
+use Rattle.std.proofs.lemmas.Option.{same_Some}
 use Rattle.rv_code.specs.declared.instructions.Instr.{Instr}
 use Rattle.rv_code.specs.Words.{word_of}
 use Rattle.rv_machine.specs.declared.observation.Observation.{Observation}
 use Rattle.rv_machine.specs.declared.stops.Stop.TheVariants.{Budget}
-use Rattle.rv_machine.specs.Machine.{Code, IsAt, Ending, goes_on, stops, Turn, pc_misaligned, not_code}
-use Rattle.rv_machine.specs.Machine.{no_instruction, executes}
-use Rattle.certified_runs.proofs.Below.{Turn-determined, goes_on≢stops, turn_of_state}
+use Rattle.rv_machine.specs.Machine.{Code, IsAt, Ending, goes_on, stops, Turn, pc_misaligned, not_code, no_instruction}
+use Rattle.rv_machine.specs.Machine.{executes}
+use Rattle.certified_runs.proofs.Below.{Turn-determined, goes_on-determined, goes_on≢stops, turn_of_state}
 use Rattle.certified_runs.specs.Known.{Known}
 use Rattle.certified_runs.specs.Certified.{decides, known_after, KnownEnding, leads_on, ends, depends, KnownTurn}
 use Rattle.certified_runs.specs.Certified.{decided, stopped, undecided, RunEnding, same, may_differ, CertifiedRun}
@@ -18,21 +18,17 @@ use Rattle.certified_runs.proofs.KnownTurns.{one_instruction}
 -- what decides an instruction at the program counter is known or not
 unsure : (code : Code) (k : Known) (i j : Instr) → IsAt code k.state.pc i → IsAt code k.state.pc j
     → decides code.profile k.shifts i k.registers ≡ true → decides code.profile k.shifts j k.registers ≡ false → ⊥
-unsure code k i j at at' sure unknown =
-    false≢true
-    (sym (subst (λ x. decides code.profile k.shifts x k.registers ≡ false) (sym (one_instruction at at'))
-    unknown) ∙ sure)
+unsure code k i j at at' sure unknown = both_ways _ (rw (sym (one_instruction at at')) at unknown) sure
 
 -- what is known has one turn
 pub KnownTurn-determined : {code : Code} {k : Known} {e f : KnownEnding} → KnownTurn code k e
     → KnownTurn code k f → e ≡ f
-KnownTurn-determined {k = k} (decided {o = o} {t = t} i at sure turn) (decided {o = p} {t = u} j at' sure' turn') =
+KnownTurn-determined (decided i at sure turn) (decided j at' sure' turn') =
     let is = one_instruction at at' in
-    let end = Turn-determined turn turn' in
-    let seen : o ≡ p = cc in
-    let next : t ≡ u = cc in
-    ap (λ x. leads_on x (known_after i k t)) seen ∙ ap (λ x. leads_on p (known_after i k x)) next
-    ∙ ap (λ x. leads_on p (known_after x k u)) is
+    let same = goes_on-determined turn turn' in
+    let seen = same.0 in
+    let next = same.1 in
+    cc
 KnownTurn-determined (decided i at sure turn) (stopped known turn') = absurd (goes_on≢stops turn turn')
 KnownTurn-determined {code} {k} (decided i at sure turn) (undecided j at' unknown) =
     absurd (unsure code k i j at at' sure unknown)
@@ -58,13 +54,12 @@ one_end (cut turn) (cut turn') = (refl, refl)
 one_end (cut turn) (turns turn' rest) = let e = KnownTurn-determined turn turn' in cc
 one_end (turns turn rest) (halts turn') = let e = KnownTurn-determined turn turn' in cc
 one_end (turns turn rest) (cut turn') = let e = KnownTurn-determined turn turn' in cc
-one_end {code} (turns {n = n} {next = next} {o = o} {seen = seen} turn rest)
-    (turns {next = next'} {o = o'} {seen = shown} {ending = other} turn' rest') =
+one_end (turns {next = next} {o = o} turn rest) (turns {next = next'} {o = o'} turn' rest') =
     let e = KnownTurn-determined turn turn' in
     let first : o ≡ o' = cc in
     let then : next' ≡ next = cc in
-    let both = one_end rest (subst (λ l. CertifiedRun code n l shown other) then rest') in
-    (ap (λ x. x ∷ seen) first ∙ ap (λ xs. o' ∷ xs) both.0, both.1)
+    let both = one_end rest (rw then at rest') in
+    (rw (first, both.0), both.1)
 
 -- Every certified run has an end.
 
@@ -72,11 +67,8 @@ module _ (code : Code) (k : Known) where
   turn_made : (i : Instr) → IsAt code k.state.pc i → decides code.profile k.shifts i k.registers ≡ true
       → (ending : Ending) → Turn code k.state ending → (e : KnownEnding) × KnownTurn code k e
   turn_made i at sure (goes_on o t) turn = (leads_on o (known_after i k t), decided i at sure turn)
-  turn_made i at sure (stops seen stop) turn = (
-    ends seen stop,
-    stopped (λ j there. subst (λ x. decides code.profile k.shifts x k.registers ≡ true)
-        (one_instruction at there) sure) turn,
-  )
+  turn_made i at sure (stops seen stop) turn =
+      (ends seen stop, stopped (λ j there. rw (one_instruction there at) sure) turn)
 
   turn_asked : (i : Instr) → IsAt code k.state.pc i → (b : Bool) → decides code.profile k.shifts i k.registers ≡ b
       → (ending : Ending) → Turn code k.state ending → (e : KnownEnding) × KnownTurn code k e
@@ -86,7 +78,7 @@ module _ (code : Code) (k : Known) where
   turn_from : {ending : Ending} → Turn code k.state ending → (e : KnownEnding) × KnownTurn code k e
   turn_from (pc_misaligned odd) = (_, stopped (λ i at. absurd (odd at.aligned)) (pc_misaligned odd))
   turn_from (not_code even none) =
-      (_, stopped (λ i at. absurd (none-some (word_of i) (sym none ∙ at.word))) (not_code even none))
+      (_, stopped (λ i at. let word = at.word in cc) (not_code even none))
   turn_from (no_instruction {word = word} even is misfit) = (
     _,
     stopped (λ i at. absurd (misfit i at.in_range (same_Some (word_of i) word (sym at.word ∙ is))))
@@ -99,7 +91,7 @@ module _ (code : Code) (k : Known) where
   pub some_turn : (e : KnownEnding) × KnownTurn code k e
   some_turn = turn_from (turn_of_state code k.state).1
 
-abbrev HasEnd : Code → ℕ → Known → Type 0
+abbrev pub HasEnd : Code → ℕ → Known → Type 0
 HasEnd code n k = (seen : List Observation) × (ending : RunEnding) × CertifiedRun code n k seen ending
 
 end_after : (code : Code) (n : ℕ) (k : Known) → ((next : Known) → HasEnd code n next) → (e : KnownEnding)
@@ -110,8 +102,7 @@ end_after code n k runs (leads_on o next) turn =
 end_after code n k runs (ends seen stop) turn = (seen, same stop, halts turn)
 end_after code n k runs depends turn = ([], may_differ k.state.pc, cut turn)
 
-pub some_end : (code : Code) (n : ℕ) (k : Known) → (seen : List Observation) × (ending : RunEnding)
-    × CertifiedRun code n k seen ending
+pub some_end : (code : Code) (n : ℕ) (k : Known) → HasEnd code n k
 some_end code zero k = ([], same Budget, spent)
 some_end code (suc n) k =
     let turn = some_turn code k in

@@ -1,19 +1,19 @@
 -- Turns and runs of covered states.
-use Rattle.std.proofs.Common.{◌≡◌, ◌≢◌, ℕ, suc, ◌%◌, ◌<◌, List, refl, sym, ap, ◌∙◌, subst, arith}
+use Rattle.std.proofs.Common.{◌≡◌, ◌≢◌, ℕ, suc, ◌<◌, List, refl, sym, arith}
 use Rattle.rv_code.specs.declared.instructions.Instr.{Instr}
 use Rattle.rv_machine.specs.declared.observation.Observation.{Observation}
 use Rattle.rv_machine.specs.declared.stops.Stop.{Stop}
-use Rattle.rv_machine.specs.declared.stops.Stop.TheVariants.{Illegal, RecorderRefused}
+use Rattle.rv_machine.specs.declared.stops.Stop.TheVariants.{RecorderRefused}
 use Rattle.rv_machine.specs.Effects.{effect_of}
-use Rattle.rv_machine.specs.Leakage.{Leads, stays, turns, halts, Runs, halted, spent}
-use Rattle.rv_machine.specs.Machine.{State, Code, IsAt, Ending, goes_on, stops, here, word_at, ending_of, Turn}
-use Rattle.rv_machine.specs.Machine.{pc_misaligned, not_code, no_instruction, executes}
-use Rattle.certified_runs.proofs.Below.{Turn-determined, Runs-determined, turn_stops, Runs-more}
+use Rattle.rv_machine.specs.Leakage.{Leads, stays, turns, Runs, spent}
+use Rattle.rv_machine.specs.Machine.{State, Code, IsAt, Ending, goes_on, stops, ending_of, Turn, pc_misaligned}
+use Rattle.rv_machine.specs.Machine.{not_code, no_instruction, executes}
+use Rattle.certified_runs.proofs.Below.{Turn-determined, Runs-determined, turn_stops, Runs-more, Runs-stop}
 use Rattle.certified_runs.specs.Known.{Known, Covers}
 use Rattle.certified_runs.specs.Certified as certified
-use Rattle.certified_runs.specs.Certified.{decides, known_after, KnownTurn, CertifiedRun, decided, leads_on, ends}
-use Rattle.certified_runs.specs.Certified.{depends, same, may_differ}
-use Rattle.certified_runs.proofs.Covering.{at_place, IsKept, turn_kept}
+use Rattle.certified_runs.specs.Certified.{known_after, KnownTurn, CertifiedRun, decided, leads_on, ends, same}
+use Rattle.certified_runs.specs.Certified.{may_differ}
+use Rattle.certified_runs.proofs.Covering.{IsKept, goes_alike, stops_alike, turn_kept}
 
 -- the state itself is covered
 pub itself : (k : Known) → Covers k k.state
@@ -24,49 +24,46 @@ module _ (code : Code) (k : Known) (s : State) (covers : Covers k s) where
   pub turn_at : (i : Instr) → IsAt code k.state.pc i
       → Turn code s (ending_of code.profile (effect_of i s.pc s.regs) s)
   turn_at i at =
-      let there : IsAt code s.pc i = subst (λ pc. IsAt code pc i) (sym covers.pc) at in
+      let there : IsAt code s.pc i = rw covers.pc at in
       executes i there.aligned there.word there.in_range refl
 
   is_turn : (i : Instr) → IsAt code k.state.pc i
       → Turn code k.state (ending_of code.profile (effect_of i k.state.pc k.state.regs) k.state)
   is_turn i at = executes i at.aligned at.word at.in_range refl
 
-  goes_on_kept : (i : Instr) (o : Observation) (t : State) (e' : Ending) → Turn code s e'
+  goes_on_kept : {i : Instr} {o : Observation} {t : State} {e' : Ending} → Turn code s e'
       → IsKept i k (goes_on o t) e' → (t' : State) × Turn code s (goes_on o t') × Covers (known_after i k t) t'
-  goes_on_kept i o t (goes_on o' t') turn kept = (t', subst (λ x. Turn code s (goes_on x t')) kept.0 turn, kept.1)
-  goes_on_kept i o t (stops seen stop) turn kept = absurd kept
+  goes_on_kept turn (goes_alike covered) = (_, turn, covered)
+
+  stops_kept : {i : Instr} {seen : List Observation} {stop : Stop} {e' : Ending} → Turn code s e'
+      → IsKept i k (stops seen stop) e' → Turn code s (stops seen stop)
+  stops_kept turn stops_alike = turn
 
   pub leads_kept : (o : Observation) (next : Known) → KnownTurn code k (leads_on o next)
       → (t : State) × Turn code s (goes_on o t) × Covers next t
-  leads_kept o next (decided {t = t} i at known turn) =
-      let is = Turn-determined (is_turn i at) turn in
-      goes_on_kept i o t _ (turn_at i at)
-      (subst (λ e. IsKept i k e (ending_of code.profile (effect_of i s.pc s.regs) s)) is
-      (turn_kept k s covers code.profile i known))
+  leads_kept o next (decided i at known turn) =
+      goes_on_kept (turn_at i at)
+      (rw (Turn-determined (is_turn i at) turn) at (turn_kept k s covers code.profile i known))
 
   pub stop_kept : (seen : List Observation) (stop : Stop) → KnownTurn code k (ends seen stop)
       → Turn code s (stops seen stop)
   stop_kept seen stop (certified.stopped known (executes i even word ok is)) =
       let at : IsAt code k.state.pc i = record { aligned = even; word = word; in_range = ok } in
-      let kept = turn_kept k s covers code.profile i (known i at) in
-      let same : ending_of code.profile (effect_of i s.pc s.regs) s ≡ stops seen stop =
-      subst (λ e. IsKept i k e (ending_of code.profile (effect_of i s.pc s.regs) s)) (sym is) kept in
-      subst (Turn code s) same (turn_at i at)
+      stops_kept (turn_at i at) (rw (sym is) at (turn_kept k s covers code.profile i (known i at)))
   stop_kept seen stop (certified.stopped known (pc_misaligned odd)) =
-      pc_misaligned (λ even. odd (ap (λ x. x % 4) (sym covers.pc) ∙ even))
+      pc_misaligned (λ even. odd (rw covers.pc at even))
   stop_kept seen stop (certified.stopped known (not_code even none)) =
-      not_code (ap (λ x. x % 4) covers.pc ∙ even) (ap (word_at code) covers.pc ∙ none)
+      not_code (rw covers.pc even) (rw covers.pc none)
   stop_kept seen stop (certified.stopped known (no_instruction {word = word} even is misfit)) =
-      subst (λ (pc : ℕ). Turn code s (stops (here (at_place pc s.regs s.bytes)) Illegal)) covers.pc
-      (no_instruction (ap (λ x. x % 4) covers.pc ∙ even) (ap (word_at code) covers.pc ∙ is) misfit)
+      rw (sym covers.pc) (no_instruction {word = word} (rw covers.pc even) (rw covers.pc is) misfit)
 
 -- a run that is the same is a run of each covered state
 pub same_run : {code : Code} {budget : ℕ} {k : Known} {s : State} {seen : List Observation} {stop : Stop}
     → CertifiedRun code budget k seen (same stop) → Covers k s → (t : State) × Runs code budget s seen stop t
 same_run {s = s} certified.spent covers = (s, spent stays)
-same_run {code} {s = s} (certified.halts {n = n} {k = k} {seen = seen} {stop = stop} turn) covers =
-    (s, halted (omega arith) (halts stays (stop_kept code k s covers seen stop turn) refl))
-same_run {code} {s = s} (certified.turns {n = n} {k = k} {next = next} {o = o} {seen = seen} turn rest) covers =
+same_run {code} {s = s} (certified.halts {k = k} {seen = seen} {stop = stop} turn) covers =
+    (s, Runs-stop (stop_kept code k s covers seen stop turn))
+same_run {code} {s = s} (certified.turns {k = k} {next = next} {o = o} turn rest) covers =
     let first = leads_kept code k s covers o next turn in
     let then = same_run rest first.2 in
     (then.0, Runs-more first.1 then.1)
@@ -91,8 +88,8 @@ every_run run covers ran quiet =
 pub turns_before : {code : Code} {budget : ℕ} {k : Known} {s : State} {seen : List Observation} {pc : ℕ}
     → CertifiedRun code budget k seen (may_differ pc) → Covers k s
     → (n : ℕ) × (t : State) × (n < budget) × Leads code n s seen t × (t.pc ≡ pc)
-turns_before {s = s} (certified.cut {n = n} turn) covers = (0, s, omega arith, stays, covers.pc)
-turns_before {code} {s = s} (certified.turns {n = n} {k = k} {next = next} {o = o} turn rest) covers =
+turns_before {s = s} (certified.cut turn) covers = (0, s, omega arith, stays, covers.pc)
+turns_before {code} {s = s} (certified.turns {k = k} {next = next} {o = o} turn rest) covers =
     let first = leads_kept code k s covers o next turn in
     let then = turns_before rest first.2 in
     (suc then.0, then.1, omega (arith, then.2), turns first.1 then.3, then.4)

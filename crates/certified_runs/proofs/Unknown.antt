@@ -1,17 +1,14 @@
 -- How a certified run ends depends on what is known alone.
-use Rattle.std.proofs.Common.{◌≡◌, ℕ, suc, Bool, true, List, [], refl, sym, ap, ◌∙◌, subst}
+use Rattle.std.proofs.Common.{◌≡◌, ℕ, true, List, refl, sym, subst}
 use Rattle.rv_code.specs.declared.instructions.Instr.{Instr}
-use Rattle.rv_code.specs.declared.instructions.Instr.TheVariants.{Upper, Jump, JumpRegister, Branch, Load, Store}
-use Rattle.rv_code.specs.declared.instructions.Instr.TheVariants.{Immediate, Shift, Register, Multiply, Divide, Fence}
-use Rattle.rv_code.specs.declared.instructions.Instr.TheVariants.{Ecall, Ebreak}
+use Rattle.rv_code.specs.declared.instructions.Instr.TheVariants.{Load, Store}
 use Rattle.rv_machine.specs.declared.observation.Observation.{Observation}
 use Rattle.rv_machine.specs.Machine.{State, Code, IsAt}
 use Rattle.word.specs.declared.profile.Profile.{Profile}
 use Rattle.certified_runs.specs.Known.{Known, Covers}
-use Rattle.certified_runs.specs.declared.shifts.Shifts.{Shifts}
 use Rattle.certified_runs.specs.Certified.{decides, registers_after, bytes_after, known_after, KnownTurn, leads_on}
-use Rattle.certified_runs.specs.Certified.{decided, stopped, undecided, RunEnding, may_differ, CertifiedRun, spent}
-use Rattle.certified_runs.specs.Certified.{halts, cut, turns}
+use Rattle.certified_runs.specs.Certified.{decided, stopped, undecided, RunEnding, CertifiedRun, spent, halts, cut}
+use Rattle.certified_runs.specs.Certified.{turns}
 use Rattle.certified_runs.proofs.Runs.{leads_kept, stop_kept}
 
 -- as much is known, of another state
@@ -21,37 +18,13 @@ of_state s k = record { state = s; registers = k.registers; bytes = k.bytes; shi
 module _ (k : Known) (s : State) (covers : Covers k s) where
   registers_same : (profile : Profile) (i : Instr) → decides profile k.shifts i k.registers ≡ true
       → registers_after i (of_state s k) ≡ registers_after i k
-  registers_same profile (Upper operation rd immediate) sure = refl
-  registers_same profile (Jump rd offset) sure = refl
-  registers_same profile (JumpRegister rd rs1 offset) sure = refl
-  registers_same profile (Branch test rs1 rs2 offset) sure = refl
-  registers_same profile (Load operation rd rs1 offset) sure = rw (covers.registers rs1 sure) refl
-  registers_same profile (Store operation rs2 rs1 offset) sure = refl
-  registers_same profile (Immediate operation rd rs1 immediate) sure = refl
-  registers_same profile (Shift operation rd rs1 amount) sure = refl
-  registers_same profile (Register operation rd rs1 rs2) sure = refl
-  registers_same profile (Multiply operation rd rs1 rs2) sure = refl
-  registers_same profile (Divide operation rd rs1 rs2) sure = refl
-  registers_same profile (Fence mode before after rs1 rd) sure = refl
-  registers_same profile Ecall sure = refl
-  registers_same profile Ebreak sure = refl
+  registers_same profile (Load operation rd rs1 offset) sure = rw (covers.registers rs1 sure)
+  registers_same profile _ sure = refl
 
   bytes_same : (profile : Profile) (i : Instr) → decides profile k.shifts i k.registers ≡ true
       → bytes_after i (of_state s k) ≡ bytes_after i k
-  bytes_same profile (Upper operation rd immediate) sure = refl
-  bytes_same profile (Jump rd offset) sure = refl
-  bytes_same profile (JumpRegister rd rs1 offset) sure = refl
-  bytes_same profile (Branch test rs1 rs2 offset) sure = refl
-  bytes_same profile (Load operation rd rs1 offset) sure = refl
-  bytes_same profile (Store operation rs2 rs1 offset) sure = rw (covers.registers rs1 sure) refl
-  bytes_same profile (Immediate operation rd rs1 immediate) sure = refl
-  bytes_same profile (Shift operation rd rs1 amount) sure = refl
-  bytes_same profile (Register operation rd rs1 rs2) sure = refl
-  bytes_same profile (Multiply operation rd rs1 rs2) sure = refl
-  bytes_same profile (Divide operation rd rs1 rs2) sure = refl
-  bytes_same profile (Fence mode before after rs1 rd) sure = refl
-  bytes_same profile Ecall sure = refl
-  bytes_same profile Ebreak sure = refl
+  bytes_same profile (Store operation rs2 rs1 offset) sure = rw (covers.registers rs1 sure)
+  bytes_same profile _ sure = refl
 
   after_same : (profile : Profile) (i : Instr) (t u : State) → decides profile k.shifts i k.registers ≡ true
       → of_state u (known_after i k t) ≡ known_after i (of_state s k) u
@@ -68,11 +41,10 @@ module _ (k : Known) (s : State) (covers : Covers k s) where
 
   leads_alike : {code : Code} {o : Observation} {next : Known} → KnownTurn code k (leads_on o next)
       → (u : State) × KnownTurn code (of_state s k) (leads_on o (of_state u next)) × Covers next u
-  leads_alike {code} {o} {next} (decided {t = t} i at sure turn) =
+  leads_alike {code} {o} (decided {t = t} i at sure turn) =
       let there = leads_kept code k s covers o (known_after i k t) (decided i at sure turn) in (
         there.0,
-        subst (λ n. KnownTurn code (of_state s k) (leads_on o n))
-            (sym (after_same code.profile i t there.0 sure)) (decided i (moved code i at) sure there.1),
+        rw (after_same code.profile i t there.0 sure) (decided i (moved code i at) sure there.1),
         there.2,
       )
 
@@ -82,9 +54,8 @@ run_alike spent covers = spent
 run_alike {code} {s = s} (halts {k = k} {seen = seen} {stop = stop} (stopped known turn)) covers =
     halts (stopped (λ i at. known i (moved_back k s covers code i at))
     (stop_kept code k s covers seen stop (stopped known turn)))
-run_alike {code} {s = s} (cut {n = n} {k = k} (undecided i at unknown)) covers =
-    subst (λ pc. CertifiedRun code (suc n) (of_state s k) [] (may_differ pc)) covers.pc
-    (cut (undecided i (moved k s covers code i at) unknown))
+run_alike {code} {s = s} (cut {k = k} (undecided i at unknown)) covers =
+    rw (sym covers.pc) (cut (undecided i (moved k s covers code i at) unknown))
 run_alike {s = s} (turns {k = k} turn rest) covers =
     let first = leads_alike k s covers turn in
     turns first.1 (run_alike rest first.2)
@@ -93,10 +64,6 @@ run_alike {s = s} (turns {k = k} turn rest) covers =
 pub known_alone : {code : Code} {budget : ℕ} {k other : Known} {seen : List Observation} {ending : RunEnding}
     → CertifiedRun code budget k seen ending → Covers k other.state → other.registers ≡ k.registers
     → other.bytes ≡ k.bytes → other.shifts ≡ k.shifts → CertifiedRun code budget other seen ending
-known_alone {code} {budget} {k} {other} {seen} {ending} run covers registers bytes shifts =
-    let at : (ℕ → Bool) → (ℕ → Bool) → Shifts → Known =
-    λ r b w. record { state = other.state; registers = r; bytes = b; shifts = w } in
-    let is : of_state other.state k ≡ other = ap (λ r. at r k.bytes k.shifts) (sym registers)
-    ∙ ap (λ b. at other.registers b k.shifts) (sym bytes)
-    ∙ ap (λ w. at other.registers other.bytes w) (sym shifts) in
-    subst (λ x. CertifiedRun code budget x seen ending) is (run_alike run covers)
+known_alone {k = k} {other = other} run covers registers bytes shifts =
+    let is : of_state other.state k ≡ other = rw (sym registers, sym bytes, sym shifts) in
+    rw is at (run_alike run covers)

@@ -1,7 +1,7 @@
 -- Harts whose data lie apart: each among others is what it is alone.
 use Rattle.std.specs.Prelude.{nat_eq, is_some, slice_get}
-use Rattle.std.proofs.Common.{◌≡◌, ◌≢◌, ℕ, zero, suc, cond, List, [], ◌∷◌, ◌++◌, Some, None, eq-eqb, ne_eqb, refl}
-use Rattle.std.proofs.Common.{sym, ap, ◌∙◌, subst, ⊎_elim, append-nil}
+use Rattle.std.proofs.Common.{◌≡◌, ◌≢◌, ℕ, zero, suc, cond, List, [], ◌∷◌, ◌++◌, Some, None, eq-eqb, ne_eqb, refl, sym}
+use Rattle.std.proofs.Common.{ap, ◌∙◌, subst, inl, inr, append-nil}
 use Rattle.std.proofs.lemmas.Bool.{cases_eq}
 use Rattle.std.proofs.lemmas.List.{append_cancel_left}
 use Rattle.std.proofs.lemmas.Option.{none-some, same_Some}
@@ -11,10 +11,10 @@ use Rattle.rv_machine.specs.declared.stops.Stop.{Stop}
 use Rattle.rv_machine.specs.declared.stops.Stop.TheVariants.{AccessFault}
 use Rattle.rv_machine.specs.Apart.{Covers, Changes, KeepsInside, AreApart, IsAsAlone, ShowTheSame}
 use Rattle.rv_machine.specs.Bytes.{ByteMap}
-use Rattle.rv_machine.specs.Machine.{State, Code, Ending, goes_on, stops, Turn}
+use Rattle.rv_machine.specs.Machine.{Ending, goes_on, stops, Turn}
 use Rattle.rv_machine.specs.System.{Member, System, state_in, gone_on, stopped, MemberTurn, rests, moves, ends}
 use Rattle.rv_machine.specs.System.{with_member, shown_by, Follows, done, turns, none, one_more, of_hart, turns_of}
-use Rattle.rv_machine.proofs.Locality.{changes_nothing, IsSameTurn, turn_same}
+use Rattle.rv_machine.proofs.Locality.{changes_nothing, IsSameTurn, both_go, both_stop, reaches_out, turn_same}
 use Rattle.rv_machine.proofs.RunLaws.{Turn-determined}
 use Rattle.rv_machine.proofs.TotalLaws.{turn_of_state}
 
@@ -34,54 +34,30 @@ module _ (own bytes : ByteMap) (covers : Covers own bytes) (m : Member) (inside 
   calm {seen} {stop} going turn e =
       inside 1 (seen ++ []) own (stopped m stop) (one_more (ends going turn) none refl) (ap Some e)
 
-  goes_alone : {o : Observation} {t : State} → m.stop ≡ None → Turn m.code (state_in bytes m) (goes_on o t)
-      → (e : Ending) → Turn m.code (state_in own m) e → TurnAlone own bytes m (o ∷ []) t.bytes (gone_on m t)
-  goes_alone {o} {t} going turn (goes_on p u) alone =
-      let all = turn_same (state_in own m) bytes covers m.code (goes_on p u) alone in
-      let is = Turn-determined all.1 turn in
-      let same : IsSameTurn (state_in own m) bytes (goes_on p u) (goes_on o t) =
-      subst (IsSameTurn (state_in own m) bytes (goes_on p u)) is all.2 in
-      let after : gone_on m t ≡ gone_on m u = same_member m.code same.1 same.2 in
-      subst (λ (it : Member). TurnAlone own bytes m (o ∷ []) t.bytes it) (sym after)
-      (subst (λ (it : Observation). TurnAlone own bytes m (it ∷ []) t.bytes (gone_on m u)) (sym same.0)
-      (record { own' = u.bytes; turn = moves going alone; changes = same.3 }))
-    where
-      same_member : (code : Code) {pc pc' : ℕ} {regs regs' : ℕ → ℕ} → pc ≡ pc' → regs ≡ regs'
-          → ◌≡◌ {A = Member} (record { code = code; pc = pc; regs = regs; stop = None })
-          (record { code = code; pc = pc'; regs = regs'; stop = None })
-      same_member code one other = cc
-  goes_alone {o} {t} going turn (stops seen stop) alone =
-      let all = turn_same (state_in own m) bytes covers m.code (stops seen stop) alone in
-      let is = Turn-determined all.1 turn in
-      let e : goes_on o t ≡ stops seen stop = sym is ∙ all.2 (calm going alone) in
-      absurd cc
+  -- what a turn that ends so is alone
+  abbrev ends_alone : Ending → Type 0
+  ends_alone (goes_on o t) = TurnAlone own bytes m (o ∷ []) t.bytes (gone_on m t)
+  ends_alone (stops seen stop) = TurnAlone own bytes m seen bytes (stopped m stop)
 
-  stops_alone : {seen : List Observation} {stop : Stop} → m.stop ≡ None
-      → Turn m.code (state_in bytes m) (stops seen stop) → (e : Ending) → Turn m.code (state_in own m) e
-      → TurnAlone own bytes m seen bytes (stopped m stop)
-  stops_alone {seen} {stop} going turn (goes_on p u) alone =
-      let all = turn_same (state_in own m) bytes covers m.code (goes_on p u) alone in
-      let is = Turn-determined all.1 turn in
-      absurd (subst (IsSameTurn (state_in own m) bytes (goes_on p u)) is all.2)
-  stops_alone {seen} {stop} going turn (stops seen' stop') alone =
-      let all = turn_same (state_in own m) bytes covers m.code (stops seen' stop') alone in
-      let is = Turn-determined all.1 turn in
-      let e : stops seen' stop' ≡ stops seen stop = sym (all.2 (calm going alone)) ∙ is in
-      record {
-        own' = own;
-        turn = ends going (subst (Turn m.code (state_in own m)) e alone);
-        changes = changes_nothing own bytes covers;
-      }
+  alone_by : {e f : Ending} → m.stop ≡ None → Turn m.code (state_in own m) e
+      → IsSameTurn (state_in own m) bytes e f → ends_alone f
+  alone_by going turn (both_go {t = t} pcs registers changes) =
+      rw (pcs, registers) (record { own' = t.bytes; turn = moves going turn; changes = changes })
+  alone_by going turn both_stop =
+      record { own' = own; turn = ends going turn; changes = changes_nothing own bytes covers }
+  alone_by going turn reaches_out = absurd (calm going turn refl)
+
+  alone_of_turn : {f : Ending} → m.stop ≡ None → Turn m.code (state_in bytes m) f → ends_alone f
+  alone_of_turn going turn =
+      let alone = turn_of_state m.code (state_in own m) in
+      let same = turn_same (state_in own m) bytes covers m.code alone.0 alone.1 in
+      subst ends_alone (Turn-determined same.1 turn) (alone_by going alone.1 same.2)
 
   pub turn_alone : {seen : List Observation} {bytes' : ByteMap} {after : Member}
       → MemberTurn bytes m seen bytes' after → TurnAlone own bytes m seen bytes' after
   turn_alone (rests is) = record { own' = own; turn = rests is; changes = changes_nothing own bytes covers }
-  turn_alone (moves going turn) =
-      let alone = turn_of_state m.code (state_in own m) in
-      goes_alone going turn alone.0 alone.1
-  turn_alone (ends going turn) =
-      let alone = turn_of_state m.code (state_in own m) in
-      stops_alone going turn alone.0 alone.1
+  turn_alone (moves going turn) = alone_of_turn going turn
+  turn_alone (ends going turn) = alone_of_turn going turn
 
 -- Members by their numbers.
 
@@ -106,16 +82,17 @@ with_own own j bytes k = cond (nat_eq k j) bytes (own k)
 
 module _ (own : ℕ → ByteMap) (j : ℕ) (bytes : ByteMap) where
   with_own_same : (k : ℕ) → k ≡ j → with_own own j bytes k ≡ bytes
-  with_own_same k e = ap (λ b. cond b bytes (own k)) (eq-eqb k j e)
+  with_own_same k e = rw (eq-eqb k j e)
 
   with_own_other : (k : ℕ) → k ≢ j → with_own own j bytes k ≡ own k
-  with_own_other k apart = ap (λ b. cond b bytes (own k)) (ne_eqb k j apart)
+  with_own_other k apart = rw (ne_eqb k j apart)
 
   -- what holds of those that became others, and of the rest
   with_own_each : (P : ByteMap → Type 0) (k : ℕ) → (k ≡ j → P bytes) → (k ≢ j → P (own k)) → P (with_own own j bytes k)
-  with_own_each P k changed kept =
-      ⊎_elim (λ (e : k ≡ j). subst P (sym (with_own_same k e)) (changed e))
-      (λ (e : k ≢ j). subst P (sym (with_own_other k e)) (kept e)) (cases_eq k j)
+  with_own_each P k changed kept = elim (cases_eq k j) [
+    | inl e ↦ rw (with_own_same k e) (changed e)
+    | inr e ↦ rw (with_own_other k e) (kept e)
+  ]
 
 -- One turn of a system.
 
@@ -149,10 +126,9 @@ module _ (own : ℕ → ByteMap) (s : System) (apart : AreApart own s) (j : ℕ)
     inside_kept k it at' =
         with_own_each own j alone.own' (λ b. KeepsInside b it) k
         (λ e.
-        let is : slice_get (with_member s.members j after) k ≡ Some after =
-        ap (slice_get (with_member s.members j after)) e ∙ with_member_same s.members j m after at in
-        let same : after ≡ it = same_Some after it (sym is ∙ at') in
-        subst (KeepsInside alone.own') same inside_after)
+        let is = sym (with_member_same s.members j m after at)
+        ∙ ap (slice_get (with_member s.members j after)) (sym e) ∙ at' in
+        subst (KeepsInside alone.own') (same_Some after it is) inside_after)
         (λ e. apart.inside k it (sym (with_member_other s.members j k after e) ∙ at'))
 
     -- and the members' own bytes are apart as before
@@ -165,60 +141,17 @@ module _ (own : ℕ → ByteMap) (s : System) (apart : AreApart own s) (j : ℕ)
 
 -- What one of them showed.
 
-of_hart_own : (k : ℕ) (seen : List Observation) (rest : List HartObservation)
-    → of_hart k (shown_by k seen ++ rest) ≡ seen ++ of_hart k rest
-of_hart_own k [] rest = refl
-of_hart_own k (o ∷ seen) rest =
-    ap (λ b. cond b (o ∷ of_hart k (shown_by k seen ++ rest)) (of_hart k (shown_by k seen ++ rest))) (eq-eqb k k refl)
-    ∙ ap (λ xs. o ∷ xs) (of_hart_own k seen rest)
+of_hart_own : (j k : ℕ) → j ≡ k → (seen : List Observation) (rest : List HartObservation)
+    → of_hart k (shown_by j seen ++ rest) ≡ seen ++ of_hart k rest
+of_hart_own j k same [] rest = refl
+of_hart_own j k same (o ∷ seen) rest = rw (eq-eqb j k same, of_hart_own j k same seen rest)
 
 of_hart_other : (j k : ℕ) → j ≢ k → (seen : List Observation) (rest : List HartObservation)
     → of_hart k (shown_by j seen ++ rest) ≡ of_hart k rest
 of_hart_other j k other [] rest = refl
-of_hart_other j k other (o ∷ seen) rest =
-    ap (λ b. cond b (o ∷ of_hart k (shown_by j seen ++ rest)) (of_hart k (shown_by j seen ++ rest)))
-    (ne_eqb j k other) ∙ of_hart_other j k other seen rest
+of_hart_other j k other (o ∷ seen) rest = rw (ne_eqb j k other) (of_hart_other j k other seen rest)
 
 -- Every schedule.
-
-module _ (k j : ℕ) (schedule : List ℕ) (own own' : ByteMap) (m : Member) (end : System) (seen : List Observation)
-    (rest list : List HartObservation) (is : list ≡ shown_by j seen ++ rest) where
-  -- after a turn of its own
-  own_turn : j ≡ k → {after : Member} → MemberTurn own m seen own' after
-      → ((a : ℕ) → is_some (own' a) ≡ is_some (own a)) → IsAsAlone k (turns_of k schedule) own' after rest end
-      → IsAsAlone k (turns_of k (j ∷ schedule)) own m list end
-  own_turn e turn extent then =
-      let count : turns_of k (j ∷ schedule) ≡ suc (turns_of k schedule) =
-      ap (λ b. cond b (suc (turns_of k schedule)) (turns_of k schedule)) (eq-eqb j k e) in
-      let list_is : of_hart k list ≡ seen ++ of_hart k rest = ap (of_hart k) is
-      ∙ ap (λ i. of_hart k (shown_by i seen ++ rest)) e ∙ of_hart_own k seen rest in
-      subst (λ n. IsAsAlone k n own m list end) (sym count) (record {
-        seen = seen ++ then.seen;
-        bytes = then.bytes;
-        member = then.member;
-        makes = one_more turn then.makes refl;
-        there = then.there;
-        bytes_there = then.bytes_there;
-        extent = λ a. then.extent a ∙ extent a;
-        shown = list_is ∙ ap (λ xs. seen ++ xs) then.shown;
-      })
-
-  -- after a turn of another one
-  other_turn : j ≢ k → IsAsAlone k (turns_of k schedule) own m rest end
-      → IsAsAlone k (turns_of k (j ∷ schedule)) own m list end
-  other_turn other then =
-      let count : turns_of k (j ∷ schedule) ≡ turns_of k schedule =
-      ap (λ b. cond b (suc (turns_of k schedule)) (turns_of k schedule)) (ne_eqb j k other) in
-      subst (λ n. IsAsAlone k n own m list end) (sym count) (record {
-        seen = then.seen;
-        bytes = then.bytes;
-        member = then.member;
-        makes = then.makes;
-        there = then.there;
-        bytes_there = then.bytes_there;
-        extent = then.extent;
-        shown = ap (of_hart k) is ∙ of_hart_other j k other seen rest ∙ then.shown;
-      })
 
 -- each is what it is alone
 pub alone : (own : ℕ → ByteMap) (schedule : List ℕ) (s end : System) (list : List HartObservation) (k : ℕ)
@@ -238,32 +171,42 @@ alone own [] s end list k m apart done at =
 alone own (j ∷ schedule) s end list k m apart
     (turns {m = mover} {after = after} {bytes = bytes} {seen = seen} {rest = rest} at_j turn follows is) at =
     let one = alone_of own s apart j mover at_j turn in
-    let next = still_apart own s apart j mover at_j one in
     let own' = with_own own j one.own' in
-    ⊎_elim
-    (λ (e : j ≡ k).
-    let same : mover ≡ m = same_Some mover m (sym at_j ∙ ap (slice_get s.members) e ∙ at) in
-    let at' : slice_get (with_member s.members j after) k ≡ Some after =
-    ap (slice_get (with_member s.members j after)) (sym e) ∙ with_member_same s.members j mover after at_j in
-    let then : IsAsAlone k (turns_of k schedule) (own' k) after rest end =
-    alone own' schedule (after_turn s j after bytes) end rest k after next follows at' in
-    let then' : IsAsAlone k (turns_of k schedule) one.own' after rest end =
-    subst (λ (b : ByteMap). IsAsAlone k (turns_of k schedule) b after rest end)
-    (with_own_same own j one.own' k (sym e)) then in
-    let turn' : MemberTurn (own k) m seen one.own' after =
-    subst (λ i. MemberTurn (own i) m seen one.own' after) e
-    (subst (λ (it : Member). MemberTurn (own j) it seen one.own' after) same one.turn) in
-    own_turn k j schedule (own k) one.own' m end seen rest list is e turn' (λ a. one.changes.extent a
-    ∙ ap (λ i. is_some (own i a)) e) then')
-    (λ (e : j ≢ k).
-    let far : k ≢ j = λ h. e (sym h) in
-    let then : IsAsAlone k (turns_of k schedule) (own' k) m rest end =
-    alone own' schedule (after_turn s j after bytes) end rest k m next follows
-    (with_member_other s.members j k after far ∙ at) in
-    other_turn k j schedule (own k) (own k) m end seen rest list is e
-    (subst (λ (b : ByteMap). IsAsAlone k (turns_of k schedule) b m rest end)
-    (with_own_other own j one.own' k far) then))
-    (cases_eq j k)
+    let then = λ (it : Member) (there : slice_get (with_member s.members j after) k ≡ Some it).
+    alone own' schedule (after_turn s j after bytes) end rest k it (still_apart own s apart j mover at_j one) follows
+    there in
+    elim (cases_eq j k) [
+      | inl e ↦
+          let same : mover ≡ m = same_Some mover m (sym at_j ∙ ap (slice_get s.members) e ∙ at) in
+          let later = rw (with_own_same own j one.own' k (sym e)) at then after
+          (ap (slice_get (with_member s.members j after)) (sym e) ∙ with_member_same s.members j mover after at_j) in
+          let turn' = subst (λ i. MemberTurn (own i) m seen one.own' after) e
+          (subst (λ (it : Member). MemberTurn (own j) it seen one.own' after) same one.turn) in
+          rw (eq-eqb j k e) (record {
+            seen = seen ++ later.seen;
+            bytes = later.bytes;
+            member = later.member;
+            makes = one_more {m' = later.member} turn' later.makes refl;
+            there = later.there;
+            bytes_there = later.bytes_there;
+            extent = λ a. later.extent a ∙ one.changes.extent a ∙ ap (λ i. is_some (own i a)) e;
+            shown = rw is (of_hart_own j k e seen rest ∙ ap (λ xs. seen ++ xs) later.shown);
+          })
+      | inr other ↦
+          let far : k ≢ j = λ h. other (sym h) in
+          let later = rw (with_own_other own j one.own' k far) at then m
+          (with_member_other s.members j k after far ∙ at) in
+          rw (ne_eqb j k other) (record {
+            seen = later.seen;
+            bytes = later.bytes;
+            member = later.member;
+            makes = later.makes;
+            there = later.there;
+            bytes_there = later.bytes_there;
+            extent = later.extent;
+            shown = rw is (of_hart_other j k other seen rest ∙ later.shown);
+          })
+    ]
 
 -- Two systems.
 
@@ -293,24 +236,18 @@ module _ (own own' : ℕ → ByteMap) (s s' : System) (alike : AreAlike own s ow
   still_alike : (bytes bytes' : ByteMap) {b b' : ByteMap} {after after' : Member} → ShowTheSame b after b' after'
       → AreAlike (with_own own j b) (after_turn s j after bytes) (with_own own' j b') (after_turn s' j after' bytes')
   still_alike bytes bytes' {b = b} {b' = b'} {after = after} {after' = after'} same k it it' is is' =
-      ⊎_elim
-      (λ (e : k ≡ j).
-      let one : after ≡ it =
-      same_Some after it (sym (ap (slice_get (with_member s.members j after)) e
-      ∙ with_member_same s.members j m after at) ∙ is) in
-      let other : after' ≡ it' =
-      same_Some after' it' (sym (ap (slice_get (with_member s'.members j after')) e
-      ∙ with_member_same s'.members j m' after' at') ∙ is') in
-      subst (λ (x : ByteMap). ShowTheSame x it (with_own own' j b' k) it') (sym (with_own_same own j b k e))
-      (subst (λ (x : ByteMap). ShowTheSame b it x it') (sym (with_own_same own' j b' k e))
-      (subst (λ (x : Member). ShowTheSame b x b' it') one
-      (subst (λ (x : Member). ShowTheSame b after b' x) other same))))
-      (λ (e : k ≢ j).
-      subst (λ (x : ByteMap). ShowTheSame x it (with_own own' j b' k) it') (sym (with_own_other own j b k e))
-      (subst (λ (x : ByteMap). ShowTheSame (own k) it x it') (sym (with_own_other own' j b' k e))
-      (alike k it it' (sym (with_member_other s.members j k after e)
-      ∙ is) (sym (with_member_other s'.members j k after' e) ∙ is'))))
-      (cases_eq k j)
+      elim (cases_eq k j) [
+        | inl e ↦
+            let one = same_Some after it (sym (with_member_same s.members j m after at)
+            ∙ ap (slice_get (with_member s.members j after)) (sym e) ∙ is) in
+            let other = same_Some after' it' (sym (with_member_same s'.members j m' after' at')
+            ∙ ap (slice_get (with_member s'.members j after')) (sym e) ∙ is') in
+            rw (with_own_same own j b k e, with_own_same own' j b' k e, ← one, ← other) same
+        | inr e ↦
+            rw (with_own_other own j b k e, with_own_other own' j b' k e)
+            (alike k it it' (sym (with_member_other s.members j k after e) ∙ is)
+            (sym (with_member_other s'.members j k after' e) ∙ is'))
+      ]
 
 -- of two systems whose harts alone show the same
 pub shown_the_same : (own own' : ℕ → ByteMap) (schedule : List ℕ) (s s' end end' : System)

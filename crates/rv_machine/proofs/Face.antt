@@ -1,22 +1,27 @@
 -- What the crates above take from these proofs, in one place.
 pub use Rattle.rv_machine.proofs.Alone.{alone, shown_the_same}
 pub use Rattle.rv_machine.proofs.ByteLaws.{
+  is_inside,
+  is_outside,
   is_some-with_number,
   number_at-suc,
   number_at-with_number,
   number_at-zero,
   number_at_apart,
   number_at_same,
+  place,
   with_byte_other,
   with_byte_same,
   with_number-suc,
   with_number-zero,
   with_number_above,
   with_number_below,
+  with_number_inside,
+  with_number_outside,
 }
 pub use Rattle.rv_machine.proofs.EntryLaws.{differ-apart, first-unique}
 pub use Rattle.rv_machine.proofs.Halting.{keeps_inside, shown_alone, stopped_alone}
-pub use Rattle.rv_machine.proofs.Locality.{IsSameTurn, turn_same}
+pub use Rattle.rv_machine.proofs.Locality.{IsSameTurn, both_go, turn_same}
 pub use Rattle.rv_machine.proofs.Pairs.{count-few, one-ends, other-ends}
 pub use Rattle.rv_machine.proofs.Progressing.{InStep, differ_after, same_after}
 pub use Rattle.rv_machine.proofs.RunLaws.{
@@ -29,16 +34,20 @@ pub use Rattle.rv_machine.proofs.RunLaws.{
   Ran-halts,
   Runs-determined,
   Turn-determined,
+  goes_on-determined,
   goes_on≢stops,
   no_longer,
 }
-pub use Rattle.rv_machine.proofs.Shown.{entries_of-append, nothing_shown, something_shown}
+pub use Rattle.rv_machine.proofs.Shown.{entries_of-append, entry_count-append, nothing_shown, something_shown}
 pub use Rattle.rv_machine.proofs.SystemLaws.{MemberTurn-determined}
 pub use Rattle.rv_machine.proofs.TotalLaws.{
   IsOwn,
   Runs-more,
+  Runs-stop,
   effect_own,
+  goes_own,
   run_of_state,
+  stops_own,
   turn_of_state,
   turn_stops,
   turn_within_budget,

@@ -1,8 +1,8 @@
 -- A hart alone whose run stops, and what it is after any number of turns.
 use Rattle.std.specs.Prelude.{◌⊎◌}
-use Rattle.std.proofs.Common.{◌≡◌, ◌≢◌, ℕ, zero, suc, ◌≤◌, List, [], ◌∷◌, ◌++◌, length, take, Some, None, refl, sym}
-use Rattle.std.proofs.Common.{ap, ◌∙◌, subst, ⊎_elim, inl, inr, arith, append-nil}
-use Rattle.std.proofs.lemmas.Option.{none-some, same_Some}
+use Rattle.std.proofs.Common.{◌≡◌, ◌≢◌, ℕ, zero, suc, ◌≤◌, List, [], ◌∷◌, ◌++◌, length, take, Some, None, refl, sym, ap}
+use Rattle.std.proofs.Common.{◌∙◌, inl, inr, arith, append-nil}
+use Rattle.std.proofs.lemmas.Option.{same_Some}
 use Rattle.rv_machine.specs.declared.observation.Observation.{Observation}
 use Rattle.rv_machine.specs.declared.stops.Stop.{Stop}
 use Rattle.rv_machine.specs.declared.stops.Stop.TheVariants.{AccessFault}
@@ -11,7 +11,7 @@ use Rattle.rv_machine.specs.Bytes.{ByteMap}
 use Rattle.rv_machine.specs.Leakage.{Leads, stays, turns, Halts, halts}
 use Rattle.rv_machine.specs.Machine.{State, stops, Turn}
 use Rattle.rv_machine.specs.System.{Member, state_in, gone_on, MemberTurn, rests, moves, ends, Makes, none, one_more}
-use Rattle.rv_machine.proofs.RunLaws.{Turn-determined, goes_on≢stops}
+use Rattle.rv_machine.proofs.RunLaws.{Turn-determined, goes_on-determined, goes_on≢stops}
 use Rattle.rv_machine.proofs.TotalLaws.{turn_stops}
 
 -- what a hart is after k turns, where its run of n turns shows this and stops there
@@ -29,8 +29,8 @@ stays_stopped is none = (is, refl, refl)
 stays_stopped is (one_more (rests same) more e) =
     let then = stays_stopped is more in
     (then.0, then.1, e ∙ then.2)
-stays_stopped is (one_more (moves going turn) more e) = absurd (none-some _ (sym going ∙ is))
-stays_stopped is (one_more (ends going turn) more e) = absurd (none-some _ (sym going ∙ is))
+stays_stopped is (one_more (moves going turn) more e) = cc
+stays_stopped is (one_more (ends going turn) more e) = cc
 
 take_short : (k : ℕ) (last : List Observation) → length last ≤ 1 → take (suc k) last ≡ last
 take_short k [] short = refl
@@ -43,7 +43,7 @@ last_made : {k : ℕ} {own bytes between : ByteMap} {m after next : Member} {las
     {stop : Stop} → m.stop ≡ None → Turn m.code (state_in own m) (stops last stop)
     → MemberTurn own m seen between next → Makes k between next rest bytes after → list ≡ seen ++ rest
     → Made (suc k) 1 last stop (state_in own m) list bytes after
-last_made going end (rests is) more e = absurd (none-some _ (sym going ∙ is))
+last_made going end (rests is) more e = cc
 last_made going end (moves still turn) more e = absurd (goes_on≢stops turn end)
 last_made {k} {own = own} {m = m} {last = last} {seen = seen} {stop = stop} going end
     (ends {stop = other} still turn) more e =
@@ -79,29 +79,21 @@ made : {k n : ℕ} {own bytes : ByteMap} {m after : Member} {seen last list : Li
     → Makes k own m list bytes after → Made k (suc n) (seen ++ last) stop t list bytes after
 made going first end none = not_yet going
 made going stays end (one_more turn more e) = last_made going end turn more e
-made going (turns first then) end (one_more (rests is) more e) = absurd (none-some _ (sym going ∙ is))
+made going (turns first then) end (one_more (rests is) more e) = cc
 made going (turns first then) end (one_more (ends still turn) more e) = absurd (goes_on≢stops first turn)
-made {m = m} {last = last} {stop = stop} {t = t} going (turns {n = n} {o = o} {seen = seen} {t = u} first then) end
-    (one_more {rest = rest} (moves {o = p} {t = u'} still turn) more e) =
-    let same = Turn-determined first turn in
-    let same_state : u ≡ u' = cc in
-    let same_head : p ≡ o = cc in
-    let then' : Leads m.code n (state_in u'.bytes (gone_on m u')) seen t =
-    subst (λ (x : State). Leads m.code n x seen t) same_state then in
-    more_made (made {m = gone_on m u'} refl then' end more) (e ∙ ap (λ x. x ∷ rest) same_head)
+made {m = m} going (turns first then) end (one_more (moves {t = u} still turn) more e) =
+    let same = goes_on-determined first turn in
+    more_made (made {m = gone_on m u} refl (rw same.1 at then) end more) (rw (e, same.0))
 
 made_of : {k n : ℕ} {own bytes : ByteMap} {m after : Member} {seen list : List Observation} {stop : Stop} {t : State}
     → m.stop ≡ None → Halts m.code n (state_in own m) seen stop t → Makes k own m list bytes after
     → Made k n seen stop t list bytes after
-made_of {k} {n} {bytes = bytes} {after = after} {list = list} {stop = stop} {t = t} going (halts first end is) makes =
-    subst (λ xs. Made k n xs stop t list bytes after) (sym is) (made going first end makes)
+made_of going (halts first end is) makes = rw is (made going first end makes)
 
 pub keeps_inside : (m : Member) (own : ByteMap) (n : ℕ) (seen : List Observation) (stop : Stop) (t : State)
     → m.stop ≡ None → Halts m.code n (state_in own m) seen stop t → stop ≢ AccessFault → KeepsInside own m
 keeps_inside m own n seen stop t going halting calm k list bytes after makes e =
-    ⊎_elim (λ (is : after.stop ≡ None). none-some AccessFault (sym is ∙ e))
-    (λ (is : after.stop ≡ Some stop). calm (same_Some stop AccessFault (sym is ∙ e)))
-    (made_of going halting makes).stands
+    elim (made_of going halting makes).stands [ inl is ↦ cc | inr is ↦ calm (same_Some stop AccessFault (sym is ∙ e)) ]
 
 pub shown_alone : (m after : Member) (own bytes : ByteMap) (n k : ℕ) (seen list : List Observation) (stop : Stop)
     (t : State) → m.stop ≡ None → Halts m.code n (state_in own m) seen stop t → Makes k own m list bytes after

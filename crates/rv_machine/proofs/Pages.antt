@@ -1,10 +1,10 @@
 -- Bytes of pages, and of ranges.
 use Rattle.std.specs.Prelude.{is_some, slice_get}
-use Rattle.std.proofs.Common.{◌≡◌, ◌≢◌, ℕ, zero, suc, ◌+◌, ◌-◌, ◌/◌, ◌%◌, ◌^◌, ◌<◌, ◌≤◌, true, List, [], ◌∷◌, ◌++◌}
-use Rattle.std.proofs.Common.{take, get_or, length, Option, Some, None, refl, sym, ap, ap₂, ◌∙◌, ⊎_elim, arith}
+use Rattle.std.proofs.Common.{◌≡◌, ℕ, zero, suc, ◌+◌, ◌-◌, ◌^◌, ◌<◌, ◌≤◌, true, List, [], ◌∷◌, ◌++◌, take, get_or}
+use Rattle.std.proofs.Common.{length, Option, Some, None, refl, sym, ap, ap₂, ◌∙◌, inl, inr, arith}
 use Rattle.std.proofs.Math.ListN.{set}
 use Rattle.std.proofs.Math.Path.{fun_ext}
-use Rattle.std.proofs.lemmas.Bool.{cases_eq, cases_lt, le-leb, lt-leb, lt-ltb, le-ltb, false≢true}
+use Rattle.std.proofs.lemmas.Bool.{cases_lt, le-leb, lt-leb, lt-ltb, le-ltb}
 use Rattle.std.proofs.lemmas.Option.{get_or_from_slice_get, slice_get_read}
 use Rattle.std.proofs.lemmas.List.{take-set}
 use Rattle.rv_machine.specs.Bytes.{ByteMap, joined, number_at, with_number, zeros}
@@ -13,9 +13,8 @@ use Rattle.rv_machine.specs.Paged.{zeros_in, first_of, bytes_in}
 use Rattle.rv_machine.specs.declared.flat.FlatMemory.{FlatMemory}
 use Rattle.rv_machine.specs.declared.paged.AddressRange.{AddressRange}
 use Rattle.rv_machine.specs.declared.paged.PagedMemory.{PagedMemory}
-use Rattle.rv_machine.proofs.ByteLaws.{number_at-suc, number_at-zero, number_at_same, with_byte_same, with_byte_other}
-use Rattle.rv_machine.proofs.ByteLaws.{with_number-suc, with_number_below, with_number_above, is_some-with_number}
-use Rattle.rv_machine.proofs.ByteLaws.{joined_parts}
+use Rattle.rv_machine.proofs.ByteLaws.{number_at_same, is_inside, is_outside, place, with_number_inside}
+use Rattle.rv_machine.proofs.ByteLaws.{with_number_outside, some_within}
 use Rattle.rv_machine.proofs.Stretch.{above}
 
 -- One byte.
@@ -25,16 +24,16 @@ joined-one (Some b) = ap Some (omega arith)
 joined-one None = refl
 
 pub number_at-one : (bytes : ByteMap) (a : ℕ) → number_at bytes 1 a ≡ bytes a
-number_at-one bytes a = number_at-suc bytes 0 a ∙ ap (joined (bytes a)) (number_at-zero bytes (a + 1))
-    ∙ joined-one (bytes a)
+unfolding number_at
+number_at-one bytes a = joined-one (bytes a)
 
 -- a byte, and so many above it
 pub number_at-parts : (bytes : ByteMap) (count a : ℕ) (low high : Option ℕ) → 1 ≤ count → low ≡ number_at bytes 1 a
     → high ≡ number_at bytes (count - 1) (a + 1) → joined low high ≡ number_at bytes count a
+unfolding number_at
 number_at-parts bytes zero a low high some is above = absurd (omega arith)
 number_at-parts bytes (suc n) a low high some is above =
     ap₂ joined (is ∙ number_at-one bytes a) (above ∙ ap (λ k. number_at bytes k (a + 1)) (omega arith))
-    ∙ sym (number_at-suc bytes n a)
 
 -- The first of two bytes.
 
@@ -61,7 +60,7 @@ none_before None p e = (refl, e)
 
 some_first : (o p : Option ℕ) → is_some o ≡ true → first_of o p ≡ o
 some_first (Some b) p e = refl
-some_first None p e = absurd (false≢true e)
+some_first None p e = cc
 
 -- the first page that has the byte gives it
 pub bytes_in-found : (pages : List FlatMemory) (i : ℕ) (page : FlatMemory) (a : ℕ) → slice_get pages i ≡ Some page
@@ -73,28 +72,6 @@ bytes_in-found (p ∷ pages) zero page a at before there =
 bytes_in-found (p ∷ pages) (suc i) page a at before there =
     let parts = none_before (flat_bytes p a) (bytes_in (take i pages) a) before in
     ap (λ o. first_of o (bytes_in pages a)) parts.0 ∙ bytes_in-found pages i page a at parts.1 there
-
-pub some_within : (bytes : ByteMap) (n a x : ℕ) → is_some (number_at bytes n a) ≡ true → a ≤ x → x < a + n
-    → is_some (bytes x) ≡ true
-some_within bytes zero a x there low high = absurd (omega arith)
-some_within bytes (suc n) a x there low high =
-    let parts = joined_parts (bytes a) (number_at bytes n (a + 1)) (ap is_some (sym (number_at-suc bytes n a))
-    ∙ there) in
-    ⊎_elim (λ (e : x ≡ a). ap (λ y. is_some (bytes y)) e
-    ∙ parts.0) (λ (e : x ≢ a). some_within bytes n (a + 1) x parts.1 (omega arith) (omega arith)) (cases_eq x a)
-
--- the bytes of a number that is put do not depend on those before
-pub with_number_within : (old other : ByteMap) (n a v x : ℕ) → a ≤ x → x < a + n
-    → with_number old n a v x ≡ with_number other n a v x
-with_number_within old other zero a v x low high = absurd (omega arith)
-with_number_within old other (suc n) a v x low high =
-    let one = ap (λ (m : ByteMap). m x) (with_number-suc old n a v) in
-    let two = ap (λ (m : ByteMap). m x) (with_number-suc other n a v) in
-    ⊎_elim (λ (e : x ≡ a). one ∙ with_byte_same (with_number old n (a + 1) (v / 256)) a (v % 256) x e
-    ∙ sym (two ∙ with_byte_same (with_number other n (a + 1) (v / 256)) a (v % 256) x e)) (λ (e : x ≢ a). one
-    ∙ with_byte_other (with_number old n (a + 1) (v / 256)) a (v % 256) x e
-    ∙ with_number_within old other n (a + 1) (v / 256) x (omega arith) (omega arith)
-    ∙ sym (two ∙ with_byte_other (with_number other n (a + 1) (v / 256)) a (v % 256) x e)) (cases_eq x a)
 
 -- the first page, which there is always
 pub first_at : (memory : PagedMemory) (page : FlatMemory) → page ≡ get_or memory.pages.items 0 page
@@ -143,30 +120,21 @@ pub set-same : (pages : List FlatMemory) (i : ℕ) (page new : FlatMemory) → s
     → flat_bytes new ≡ flat_bytes page → bytes_in (set pages i new) ≡ bytes_in pages
 set-same pages i page new at same = fun_ext (λ x. set-apart pages i page new x at (ap (λ (m : ByteMap). m x) same))
 
-module _ (pages : List FlatMemory) (i : ℕ) (page new : FlatMemory) (n a v : ℕ) (at : slice_get pages i ≡ Some page)
-    (first : (x : ℕ) → a ≤ x → x < a + n → bytes_in (take i pages) x ≡ None)
-    (whole : is_some (number_at (flat_bytes page) n a) ≡ true)
-    (stored : flat_bytes new ≡ with_number (flat_bytes page) n a v) where
-  byte_at : (x : ℕ) → flat_bytes new x ≡ with_number (flat_bytes page) n a v x
-  byte_at x = ap (λ (m : ByteMap). m x) stored
-
-  inside : (x : ℕ) → a ≤ x → x < a + n → bytes_in (set pages i new) x ≡ with_number (bytes_in pages) n a v x
-  inside x low high =
-      let there = ap is_some (byte_at x) ∙ is_some-with_number (flat_bytes page) n a v x whole
-      ∙ some_within (flat_bytes page) n a x whole low high in
+pub with_number-page : (pages : List FlatMemory) (i : ℕ) (page new : FlatMemory) (n a v : ℕ)
+    → slice_get pages i ≡ Some page → ((x : ℕ) → a ≤ x → x < a + n → bytes_in (take i pages) x ≡ None)
+    → flat_bytes new ≡ with_number (flat_bytes page) n a v
+    → bytes_in (set pages i new) ≡ with_number (bytes_in pages) n a v
+with_number-page pages i page new n a v at first stored = fun_ext (λ x. elim (place a n x) [
+  | is_inside is from to ↦
+      let put = with_number_inside n a v x from to in
+      let now : flat_bytes new x ≡ Some put.0 = ap (λ (m : ByteMap). m x) stored ∙ put.1 (flat_bytes page) in
       bytes_in-found (set pages i new) i new x (set-at pages i page new at)
-      (ap (λ ps. bytes_in ps x) (take-set pages i new) ∙ first x low high) there
-      ∙ byte_at x ∙ with_number_within (flat_bytes page) (bytes_in pages) n a v x low high
-
-  pub with_number-page : bytes_in (set pages i new) ≡ with_number (bytes_in pages) n a v
-  with_number-page =
-      fun_ext
-      (λ x. ⊎_elim (λ (h : x < a). set-apart pages i page new x at (byte_at x
-      ∙ with_number_below (flat_bytes page) n a v x h) ∙ sym (with_number_below (bytes_in pages) n a v x h))
-      (λ (low : a ≤ x). ⊎_elim (λ (h : x < a + n). inside x low h)
-      (λ (h : a + n ≤ x). set-apart pages i page new x at (byte_at x
-      ∙ with_number_above (flat_bytes page) n a v x h)
-      ∙ sym (with_number_above (bytes_in pages) n a v x h)) (cases_lt x (a + n))) (cases_lt x a))
+      (ap (λ ps. bytes_in ps x) (take-set pages i new) ∙ first x from to) (ap is_some now)
+      ∙ now ∙ sym (put.1 (bytes_in pages))
+  | is_outside is out ↦
+      set-apart pages i page new x at (ap (λ (m : ByteMap). m x) stored
+      ∙ with_number_outside (flat_bytes page) n a v x out) ∙ sym (with_number_outside (bytes_in pages) n a v x out)
+])
 
 -- no byte lies past the greatest address
 pub bytes_in-past : (pages : List FlatMemory) (a : ℕ) → 2 ^ 32 ≤ a → bytes_in pages a ≡ None
@@ -176,10 +144,9 @@ bytes_in-past (p ∷ pages) a past =
     ∙ bytes_in-past pages a past
 
 pub number_at-past : (pages : List FlatMemory) (n a : ℕ) → 0 < n → 2 ^ 32 ≤ a → number_at (bytes_in pages) n a ≡ None
+unfolding number_at
 number_at-past pages zero a some past = absurd (omega arith)
-number_at-past pages (suc n) a some past =
-    number_at-suc (bytes_in pages) n a
-    ∙ ap (λ o. joined o (number_at (bytes_in pages) n (a + 1))) (bytes_in-past pages a past)
+number_at-past pages (suc n) a some past = rw (bytes_in-past pages a past)
 
 -- Ranges.
 
@@ -190,14 +157,16 @@ between low high = record { begin = low; end = high } ∷ []
 -- with a page behind them
 pub zeros_in-grown : (low from n a : ℕ) → low ≤ from
     → first_of (zeros_in (between low from) a) (zeros from n a) ≡ zeros_in (between low (from + n)) a
-zeros_in-grown low from n a le =
-    ⊎_elim (λ (h : a < low). rw (lt-leb low a h, lt-leb from a (omega arith)) refl)
-    (λ (l : low ≤ a).
-    ⊎_elim (λ (h : a < from). rw (le-leb low a l, lt-ltb a from h, lt-ltb a (from + n) (omega arith)) refl)
-    (λ (m : from ≤ a). ⊎_elim (λ (h : a < from + n).
-    rw (le-leb low a l, le-ltb a from m, le-leb from a m, lt-ltb a (from + n) h) refl)
-    (λ (h : from + n ≤ a). rw (le-leb low a l, le-ltb a from m, le-leb from a m, le-ltb a (from + n) h)
-    refl) (cases_lt a (from + n))) (cases_lt a from)) (cases_lt a low)
+zeros_in-grown low from n a le = elim (cases_lt a low) [
+  | inl h ↦ rw (lt-leb low a h, lt-leb from a (omega arith))
+  | inr l ↦ elim (cases_lt a from) [
+    | inl h ↦ rw (le-leb low a l, lt-ltb a from h, lt-ltb a (from + n) (omega arith))
+    | inr m ↦ elim (cases_lt a (from + n)) [
+      | inl h ↦ rw (le-leb low a l, le-ltb a from m, le-leb from a m, lt-ltb a (from + n) h)
+      | inr h ↦ rw (le-leb low a l, le-ltb a from m, le-leb from a m, le-ltb a (from + n) h)
+    ]
+  ]
+]
 
 -- a page without a byte
 pub nothing_more : (bytes : ByteMap) (a : ℕ) → first_of (bytes a) (zeros 0 0 a) ≡ bytes a

@@ -1,11 +1,10 @@
 -- Numbers in one stretch of bytes.
 use Rattle.std.specs.Prelude.{is_some}
 use Rattle.std.proofs.Common.{◌≡◌, ℕ, zero, suc, ◌+◌, ◌-◌, ◌<◌, ◌≤◌, List, length, get_or, Option, Some, None, true}
-use Rattle.std.proofs.Common.{refl, ap, ◌∙◌, ⊎_elim, arith}
+use Rattle.std.proofs.Common.{refl, ◌∙◌, inl, inr, arith}
 use Rattle.std.proofs.lemmas.Bool.{cases_lt, le-leb, lt-leb}
 use Rattle.std.proofs.lemmas.Option.{slice_get-get_or, slice_get_past}
 use Rattle.rv_machine.specs.Bytes.{joined, number_at, bytes_from}
-use Rattle.rv_machine.proofs.ByteLaws.{number_at-suc, number_at-zero, joined-none}
 use Rattle.rv_machine.specs.Sizes.{byte_count}
 use Rattle.rv_machine.specs.declared.memory.Size.{Size}
 use Rattle.rv_machine.specs.declared.memory.Size.TheVariants.{Byte, Half, Word}
@@ -15,6 +14,10 @@ pub some_bytes : (n : Size) → 0 < byte_count n
 some_bytes Byte = omega arith
 some_bytes Half = omega arith
 some_bytes Word = omega arith
+
+joined-none : (o : Option ℕ) → joined o None ≡ None
+joined-none (Some b) = refl
+joined-none None = refl
 
 some-joined : (low : ℕ) (o : Option ℕ) → is_some (joined (Some low) o) ≡ is_some o
 some-joined low (Some high) = refl
@@ -35,25 +38,23 @@ module _ (base : ℕ) (items : List ℕ) where
   -- where a byte lies outside, there is no number
   pub number_outside : (n a : ℕ) → 0 < n → (base ≤ a × (a + n ≤ base + length items) → ⊥)
       → number_at (bytes_from base items) n a ≡ None
+  unfolding number_at
   number_outside zero a some out = absurd (omega arith)
-  number_outside (suc n) a some out =
-      let bytes = bytes_from base items in
-      let rest = number_at bytes n (a + 1) in
-      ⊎_elim (λ (low : a < base). number_at-suc bytes n a ∙ ap (λ o. joined o rest) (below a low))
-      (λ (low : base ≤ a). ⊎_elim (λ (high : a < base + length items). let more : 0 < n =
-      ⊎_elim (λ (h : 0 < n). h) (λ (h : n ≤ 0). absurd (out (low, omega arith))) (cases_lt 0 n) in
-      number_at-suc bytes n a
-      ∙ ap (joined (bytes a)) (number_outside n (a + 1) more (λ within. out (low, omega (arith, within.1))))
-      ∙ joined-none (bytes a)) (λ (high : base + length items ≤ a). number_at-suc bytes n a
-      ∙ ap (λ o. joined o rest) (above a high)) (cases_lt a (base + length items))) (cases_lt a base)
+  number_outside (suc n) a some out = elim (cases_lt a base) [
+    | inl low ↦ rw (below a low)
+    | inr from ↦ elim (cases_lt a (base + length items)) [
+      | inl high ↦
+          let more : 0 < n = elim (cases_lt 0 n) [ inl h ↦ h | inr h ↦ absurd (out (from, omega arith)) ] in
+          rw (number_outside n (a + 1) more (λ within. out (from, omega (arith, within.1)))) (joined-none _)
+      | inr high ↦ rw (above a high)
+    ]
+  ]
 
   -- where all lie inside, there is one
   pub number_within : (n a : ℕ) → base ≤ a → a + n ≤ base + length items
       → is_some (number_at (bytes_from base items) n a) ≡ true
-  number_within zero a low high = ap is_some (number_at-zero (bytes_from base items) a)
+  unfolding number_at
+  number_within zero a low high = refl
   number_within (suc n) a low high =
-      let bytes = bytes_from base items in
-      let here = byte_within a (a - base) (omega arith) (omega arith) in
-      ap is_some (number_at-suc bytes n a ∙ ap (λ o. joined o (number_at bytes n (a + 1))) here)
-      ∙ some-joined (get_or items (a - base) 0) (number_at bytes n (a + 1))
-      ∙ number_within n (a + 1) (omega arith) (omega arith)
+      rw (byte_within a (a - base) (omega arith) (omega arith))
+      (some-joined _ _ ∙ number_within n (a + 1) (omega arith) (omega arith))

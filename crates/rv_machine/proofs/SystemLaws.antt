@@ -1,13 +1,12 @@
 -- Laws of harts over one memory: the turns of a schedule follow one another, and what they show and where they end
 -- are one.
-use Rattle.std.proofs.Common.{◌≡◌, ◌≢◌, ℕ, zero, suc, ◌<◌, ◌+◌, Bool, true, false, is_some, List, [], ◌∷◌, ◌++◌}
-use Rattle.std.proofs.Common.{length, map, set, take, drop, get_or, Option, Some, None, Result, Ok, Err, OnErr, refl}
-use Rattle.std.proofs.Common.{sym, ap, ◌∙◌, subst, arith, append_assoc, append-nil, All}
+use Rattle.std.proofs.Common.{◌≡◌, ◌≢◌, ℕ, zero, suc, ◌<◌, ◌+◌, Bool, true, false, is_some, List, [], ◌∷◌, ◌++◌, length}
+use Rattle.std.proofs.Common.{map, set, take, drop, get_or, Option, Some, None, Result, Ok, Err, OnErr, refl, sym, ap}
+use Rattle.std.proofs.Common.{◌∙◌, arith, append_assoc, append-nil, All}
 use Rattle.std.specs.Prelude.{slice_get}
-use Rattle.std.proofs.lemmas.Bool.{false≢true}
 use Rattle.std.proofs.lemmas.List.{take_more, drop_more, take-append-drop}
 use Rattle.std.proofs.lemmas.List.Elements.{All-drop, All-head, All-tail}
-use Rattle.std.proofs.lemmas.Option.{none-some, same_Some}
+use Rattle.std.proofs.lemmas.Option.{same_Some}
 use Rattle.rv_machine.specs.declared.observation.Observation.{Observation}
 use Rattle.rv_machine.specs.declared.hart_recording.HartObservation.{HartObservation}
 use Rattle.rv_machine.specs.declared.stops.Stop.{Stop}
@@ -18,18 +17,19 @@ use Rattle.rv_machine.specs.RunningHarts.{Followed, CutShort}
 use Rattle.rv_machine.specs.Leakage.{Done, went_on, stopped, refused, followed_by}
 use Rattle.rv_machine.specs.Machine.{State, Ending, goes_on, stops, Turn}
 use Rattle.rv_machine.specs.System.{Member, System, MemberTurn, rests, moves, ends, state_in, with_member, shown_by}
-use Rattle.rv_machine.specs.System.{Follows, done, turns}
-use Rattle.rv_machine.proofs.RunLaws.{Turn-determined}
+use Rattle.rv_machine.specs.System.{Follows, done, turns, gone_on}
+use Rattle.rv_machine.proofs.RunLaws.{Turn-determined, goes_on-determined, goes_on≢stops}
+use Rattle.rv_machine.proofs.Calls.{kept-append}
 use Rattle.rv_machine.proofs.Shown.{first_alone}
 use Rattle.rv_machine.proofs.TotalLaws.{turn_of_state, turn_stops}
 
 -- whether it has stopped
 pub has_stopped : (stop : Option Stop) → is_some stop ≡ true → (why : Stop) × (stop ≡ Some why)
 has_stopped (Some why) is = (why, refl)
-has_stopped None is = absurd (false≢true is)
+has_stopped None is = cc
 
 pub goes_still : (stop : Option Stop) → is_some stop ≡ false → stop ≡ None
-goes_still (Some why) is = absurd (false≢true (sym is))
+goes_still (Some why) is = cc
 goes_still None is = refl
 
 -- A turn.
@@ -43,49 +43,39 @@ pub member_turn_made : (bytes : ByteMap) (m : Member) (t : State) (ending : Endi
 member_turn_made bytes m t ending answer seen running turn went_on calm = moves running turn
 member_turn_made bytes m t ending answer seen running turn (stopped {stop = stop}) calm =
     let brief = turn_stops m.code (state_in bytes m) seen stop turn in
-    let same = first_alone seen [] brief.1 refl in
-    subst (λ xs. MemberTurn bytes m xs bytes (record { code = m.code; pc = m.pc; regs = m.regs; stop = Some stop }))
-    (sym same) (ends running turn)
+    rw (first_alone seen [] brief.1 refl) (ends running turn)
 member_turn_made bytes m t ending answer seen running turn (refused shows) calm = absurd (calm refl)
 
 -- every hart has a turn
+abbrev pub HasTurn : ByteMap → Member → Type 0
+HasTurn bytes m =
+    (seen : List Observation) × (bytes' : ByteMap) × (after : Member) × MemberTurn bytes m seen bytes' after
+
 member_turn_of_ending : (bytes : ByteMap) (m : Member) (ending : Ending) → m.stop ≡ None
-    → Turn m.code (state_in bytes m) ending → (seen : List Observation) × (bytes' : ByteMap) × (after : Member)
-    × MemberTurn bytes m seen bytes' after
+    → Turn m.code (state_in bytes m) ending → HasTurn bytes m
 member_turn_of_ending bytes m (goes_on o t) running turn = (_, _, _, moves running turn)
 member_turn_of_ending bytes m (stops seen stop) running turn = (_, _, _, ends running turn)
 
-member_turn_by : (bytes : ByteMap) (m : Member) (stop : Option Stop) → m.stop ≡ stop
-    → (seen : List Observation) × (bytes' : ByteMap) × (after : Member) × MemberTurn bytes m seen bytes' after
+member_turn_by : (bytes : ByteMap) (m : Member) (stop : Option Stop) → m.stop ≡ stop → HasTurn bytes m
 member_turn_by bytes m (Some stop) is = ([], bytes, m, rests is)
 member_turn_by bytes m None is =
     let turn = turn_of_state m.code (state_in bytes m) in
     member_turn_of_ending bytes m turn.0 is turn.1
 
-pub member_turn_of : (bytes : ByteMap) (m : Member) → (seen : List Observation) × (bytes' : ByteMap)
-    × (after : Member) × MemberTurn bytes m seen bytes' after
-member_turn_of bytes m = member_turn_by bytes m m.stop refl
-
 -- and one
 pub MemberTurn-determined : {bytes b b' : ByteMap} {m n n' : Member} {seen seen' : List Observation}
     → MemberTurn bytes m seen b n → MemberTurn bytes m seen' b' n' → (seen ≡ seen') × (b ≡ b') × (n ≡ n')
 MemberTurn-determined (rests is) (rests js) = (refl, refl, refl)
-MemberTurn-determined (rests is) (moves none turn) = absurd (none-some _ (sym none ∙ is))
-MemberTurn-determined (rests is) (ends none turn) = absurd (none-some _ (sym none ∙ is))
-MemberTurn-determined (moves none turn) (rests is) = absurd (none-some _ (sym none ∙ is))
-MemberTurn-determined (ends none turn) (rests is) = absurd (none-some _ (sym none ∙ is))
-MemberTurn-determined (moves {o = o} {t = t} none turn) (moves {o = p} {t = u} nine other) =
-    let e = Turn-determined turn other in
-    let same : t ≡ u = cc in
-    let shown : o ≡ p = cc in
-    (ap (λ x. x ∷ []) shown, ap (λ (x : State). x.bytes) same, cc)
-MemberTurn-determined (moves none turn) (ends nine other) = let e = Turn-determined turn other in cc
-MemberTurn-determined (ends none turn) (moves nine other) = let e = Turn-determined turn other in cc
-MemberTurn-determined (ends {seen = a} {stop = stop} none turn) (ends {seen = b} {stop = other_stop} nine other) =
-    let e = Turn-determined turn other in
-    let shown : a ≡ b = cc in
-    let same : stop ≡ other_stop = cc in
-    (shown, refl, cc)
+MemberTurn-determined (rests is) (moves none turn) = cc
+MemberTurn-determined (rests is) (ends none turn) = cc
+MemberTurn-determined (moves none turn) (rests is) = cc
+MemberTurn-determined (ends none turn) (rests is) = cc
+MemberTurn-determined {m = m} (moves none turn) (moves nine other) =
+    let same = goes_on-determined turn other in
+    (ap (λ x. x ∷ []) same.0, ap (λ (x : State). x.bytes) same.1, ap (gone_on m) same.1)
+MemberTurn-determined (moves none turn) (ends nine other) = absurd (goes_on≢stops turn other)
+MemberTurn-determined (ends none turn) (moves nine other) = absurd (goes_on≢stops other turn)
+MemberTurn-determined (ends none turn) (ends nine other) = let e = Turn-determined turn other in (cc, refl, cc)
 
 -- Members.
 
@@ -120,7 +110,7 @@ pub Follows-append : {a b : List ℕ} {s t u : System} {x y : List HartObservati
     → Follows (a ++ b) s (x ++ y) u
 Follows-append done then = then
 Follows-append {y = y} (turns {k = k} {seen = seen} {rest = rest} there turn later is) then =
-    turns there turn (Follows-append later then) (ap (λ xs. xs ++ y) is ∙ append_assoc (shown_by k seen) rest y)
+    turns there turn (Follows-append later then) (rw (is, append_assoc (shown_by k seen) rest y))
 
 -- harts neither come nor go
 pub Follows-count : {schedule : List ℕ} {s t : System} {seen : List HartObservation} → Follows schedule s seen t
@@ -132,19 +122,11 @@ Follows-count {s = s} (turns {k = k} {after = after} there turn later is) = Foll
 pub Follows-determined : {schedule : List ℕ} {s t u : System} {a b : List HartObservation} → Follows schedule s a t
     → Follows schedule s b u → (a ≡ b) × (t ≡ u)
 Follows-determined done done = (refl, refl)
-Follows-determined {u = u} (turns {k = k} {schedule = schedule} {s = s} {m = m} {after = n} {bytes = bytes} {seen =
-    seen} {rest = rest} there turn later is)
-    (turns {m = m'} {after = n'} {bytes = bytes'} {seen = seen'} {rest = rest'} here other then js) =
-    let same : m' ≡ m = same_Some m' m (sym here ∙ there) in
-    let one = MemberTurn-determined turn (subst (λ x. MemberTurn s.bytes x seen' bytes' n') same other) in
-    let shown = one.0 in
-    let written = one.1 in
-    let hart = one.2 in
-    let P : ByteMap → Member → Type 0 =
-    λ b x. Follows schedule (record { members = with_member s.members k x; bytes = b }) rest' u in
-    let both =
-    Follows-determined later (subst (λ b. P b n) (sym written) (subst (λ x. P bytes' x) (sym hart) then)) in
-    (is ∙ ap (λ xs. shown_by k xs ++ rest) shown ∙ ap (λ xs. shown_by k seen' ++ xs) both.0 ∙ sym js, both.1)
+Follows-determined (turns {m = m} there turn later is) (turns {m = m'} here other then js) =
+    let same = same_Some m' m (sym here ∙ there) in
+    let one = MemberTurn-determined turn (rw same at other) in
+    let both = Follows-determined later (rw (sym one.1, sym one.2) at then) in
+    (rw (is, js, one.0, both.0), both.1)
 
 -- a schedule of numbers that harts have has an end
 pub every_schedule_has_an_end : (schedule : List ℕ) (s : System) → All (λ number. number < length s.members) schedule
@@ -153,11 +135,9 @@ every_schedule_has_an_end [] s within = ([], s, done)
 every_schedule_has_an_end (k ∷ schedule) s within =
     let inside : k < length s.members = All-head (λ number. number < length s.members) k schedule within in
     let found = member_at s.members k inside in
-    let turn = member_turn_of s.bytes found.0 in
+    let turn = member_turn_by s.bytes found.0 found.0.stop refl in
     let next : System = record { members = with_member s.members k turn.2; bytes = turn.1 } in
-    let count : length s.members ≡ length next.members = sym (length-with_member s.members k turn.2) in
-    let later = every_schedule_has_an_end schedule next
-    (subst (λ n. All (λ number. number < n) schedule) count
+    let later = every_schedule_has_an_end schedule next (rw (length-with_member s.members k turn.2)
     (All-tail (λ number. number < length s.members) k schedule within)) in
     (shown_by k turn.0 ++ later.0, later.1, turns found.1 turn.3 later.2 refl)
 
@@ -167,15 +147,6 @@ pub on_err : {A E P : Type 0} → (r : Result A E) → P → OnErr r P
 on_err (Ok x) p = tt
 on_err (Err e) p = p
 
-pub kept_of-nothing : (keeps : Bool) (list : List HartObservation) → kept_of keeps list [] ≡ list
-kept_of-nothing true list = append-nil list
-kept_of-nothing false list = refl
-
-kept_of-append : (keeps : Bool) (list a b : List HartObservation)
-    → kept_of keeps (kept_of keeps list a) b ≡ kept_of keeps list (a ++ b)
-kept_of-append true list a b = append_assoc list a b
-kept_of-append false list a b = refl
-
 module _ (keeps : Bool) (schedule : List ℕ) (i : ℕ) (inside : i < length schedule) (s t u : System)
     (list between : List HartObservation) (shown : List HartObservation)
     (so_far : Followed keeps (take i schedule) s list t between)
@@ -183,30 +154,22 @@ module _ (keeps : Bool) (schedule : List ℕ) (i : ℕ) (inside : i < length sch
   -- one entry more was followed
   pub Followed-more : (list' : List HartObservation) → list' ≡ kept_of keeps between shown
       → Followed keeps (take (i + 1) schedule) s list u list'
-  Followed-more list' is =
-      let before = so_far.0 in
-      let all = Follows-append so_far.1 turn in (
-        before ++ shown,
-        subst (λ xs. Follows xs s (before ++ shown) u) (sym (take_more schedule i 0 inside)) all,
-        is
-            ∙ ap (λ xs. kept_of keeps xs shown) so_far.2 ∙ kept_of-append keeps list before shown,
-      )
+  Followed-more list' is = (
+    so_far.0 ++ shown,
+    rw (take_more schedule i 0 inside) (Follows-append so_far.1 turn),
+    rw (is, so_far.2) (kept-append keeps list so_far.0 shown),
+  )
 
   -- what one entry more shows was refused
   pub Followed-short : (n : ℕ) → n ≡ length u.members → All (λ number. number < n) schedule
       → CutShort keeps schedule s list between
   Followed-short n count within =
-      let before = so_far.0 in
-      let rest : All (λ number. number < n) (drop (i + 1) schedule) =
-      All-drop (λ number. number < n) (i + 1) schedule within in
-      let later = every_schedule_has_an_end (drop (i + 1) schedule) u
-      (subst (λ m. All (λ number. number < m) (drop (i + 1) schedule)) count rest) in
-      let all = Follows-append so_far.1 (Follows-append turn later.2) in
-      let whole : take i schedule ++ (get_or schedule i 0 ∷ drop (i + 1) schedule) ≡ schedule =
-      ap (λ xs. take i schedule ++ xs) (sym (drop_more schedule i 0 inside)) ∙ take-append-drop i schedule in (
-        before,
+      let rest = All-drop (λ number. number < n) (i + 1) schedule within in
+      let later = every_schedule_has_an_end (drop (i + 1) schedule) u (rw count at rest) in
+      let all = Follows-append so_far.1 (Follows-append turn later.2) in (
+        so_far.0,
         shown ++ later.0,
         later.1,
-        subst (λ xs. Follows xs s (before ++ (shown ++ later.0)) later.1) whole all,
+        rw (sym (drop_more schedule i 0 inside), take-append-drop i schedule) at all,
         so_far.2,
       )

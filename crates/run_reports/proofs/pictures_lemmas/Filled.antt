@@ -1,6 +1,6 @@
 -- Cells with one mark more.
 use Rattle.std.proofs.Common.{◌≡◌, ℕ, ◌<◌, ◌==◌, ◌&&◌, ◌||◌, Bool, true, false, List, [], ◌∷◌, ◌++◌, length, get_or}
-use Rattle.std.proofs.Common.{set, replicate, append_assoc, refl, sym, ap, ◌∙◌, subst, arith, ⊎_elim}
+use Rattle.std.proofs.Common.{set, replicate, append_assoc, refl, sym, ap, ◌∙◌, arith, inl, inr}
 use Rattle.std.proofs.lemmas.Bool.{eq-eqb, ne_eqb, cases_eq}
 use Rattle.std.proofs.lemmas.List.{length-set, length-replicate, get_or-set_same, get_or-set_other, get_or-replicate}
 use Rattle.std.proofs.lemmas.List.{get_or_read}
@@ -23,10 +23,8 @@ empty_grid axes cells is = record {
 -- marks and more marks
 pub adds_then : {axes axes' : Axes} {first second : List Mark} {old mid new : List Cell} → axes' ≡ axes
     → Adds axes first old mid → Adds axes' second mid new → Adds axes (first ++ second) old new
-adds_then {axes} {axes'} {first} {second} {mid = mid} {new = new} same one two before grid =
-    let after = two (before ++ first) (subst (λ a. IsGrid a (before ++ first) mid) (sym same) (one before grid)) in
-    subst (λ a. IsGrid a (before ++ (first ++ second)) new) same
-    (subst (λ marks. IsGrid axes' marks new) (append_assoc before first second) after)
+adds_then {first = first} same one two before grid =
+    rw (append_assoc, same) at (two (before ++ first) (rw same (one before grid)))
 
 or_last : (x here y : Bool) → here ≡ true → (x || (here && y || false)) ≡ (x || y)
 or_last true here y is = refl
@@ -89,11 +87,10 @@ adds_mark axes mark cells at held now is within read put before grid =
     ∙ cell_here axes before mark at (sym is) in
     record {
       all = length-set cells at now ∙ grid.all;
-      each = λ number small. ⊎_elim
-          (λ (equal : number ≡ at). subst (λ n. get_or (set cells at now) n blank
-          ≡ cell_of axes (before ++ mark ∷ []) n) (sym equal)
-          (get_or-set_same cells at now blank inside ∙ same))
-          (λ (other : number ≡ at → ⊥). get_or-set_other cells at number now blank other ∙ grid.each number small
-          ∙ cell_there axes before mark number (λ e. other (sym e ∙ sym is)))
-          (cases_eq number at);
+      each = λ number small. elim (cases_eq number at) [
+        | inl equal ↦ rw equal (get_or-set_same cells at now blank inside ∙ same)
+        | inr other ↦
+            get_or-set_other cells at number now blank other ∙ grid.each number small
+            ∙ cell_there axes before mark number (λ e. other (sym e ∙ sym is))
+      ];
     }

@@ -1,10 +1,10 @@
 -- What runs show from a later state on, and what they show from the first on.
-use Rattle.std.proofs.Common.{◌≡◌, ◌≢◌, ℕ, zero, ◌+◌, ◌≤◌, ◌<◌, List, [], ◌∷◌, ◌++◌, true, false, Option, Some, None}
-use Rattle.std.proofs.Common.{is_some, length, append_assoc, append-nil, refl, sym, ap, ◌∙◌, subst, arith}
+use Rattle.std.proofs.Common.{◌≡◌, ℕ, zero, ◌+◌, ◌≤◌, ◌<◌, List, [], ◌∷◌, ◌++◌, true, false, Option, Some, None}
+use Rattle.std.proofs.Common.{is_some, length, append_assoc, append-nil, refl, sym, ap, ◌∙◌, arith}
 use Rattle.std.proofs.lemmas.Option.{none-some}
 use Rattle.rv_machine.specs.declared.observation.Observation.{Observation}
 use Rattle.rv_machine.specs.declared.stops.Stop.{Stop}
-use Rattle.rv_machine.specs.declared.stops.Stop.TheVariants.{Budget, RecorderRefused}
+use Rattle.rv_machine.specs.declared.stops.Stop.TheVariants.{Budget}
 use Rattle.rv_machine.specs.Leakage.{stays, halts, Runs, halted, cut_short, spent, IsShown, followed_by}
 use Rattle.rv_machine.specs.Machine.{State, Code}
 use Rattle.rv_machine.proofs.RunLaws.{Runs-determined}
@@ -40,15 +40,11 @@ no_steps (halted within (halts first end is)) = absurd (omega arith)
 no_steps (cut_short within first end shows) = absurd (omega arith)
 no_steps (spent stays) = refl
 
-pub ended_shows : {code : Code} {n : ℕ} {s : State} {seen : List Observation} → n ≡ 0 → IsShown code n s seen
-    → seen ≡ []
-ended_shows {code} {s = s} {seen = seen} none shown = no_steps (subst (λ k. IsShown code k s seen) none shown).2
+ended_shows : {code : Code} {n : ℕ} {s : State} {seen : List Observation} → n ≡ 0 → IsShown code n s seen → seen ≡ []
+ended_shows none shown = no_steps (rw none at shown.2)
 
-uncut : Budget ≢ RecorderRefused
-uncut h = cc
-
-pub ended : {code : Code} {n : ℕ} {s : State} → n ≡ 0 → IsShown code n s []
-ended {code} {s = s} none = subst (λ k. IsShown code k s []) (sym none) (Budget, s, spent stays, uncut)
+ended : {code : Code} {n : ℕ} {s : State} → n ≡ 0 → IsShown code n s []
+ended {s = s} none = rw none (Budget, s, spent stays, λ e. cc)
 
 -- what a later state shows follows, in an earlier one, what this step shows
 abbrev pub StepShows : Code → ℕ → State → ℕ → State → Option Observation → Type 0
@@ -65,18 +61,17 @@ count_begins = record { before = λ rest shown. (rest, shown, omega arith) }
 
 pub count_on : {code : Code} {m n k count : ℕ} {s t u : State} {seen : Option Observation} {o : Observation}
     → Counted code m s n t count → seen ≡ Some o → StepShows code n t k u seen → Counted code m s k u (count + 1)
-count_on {code} {n = n} {count = count} {t = t} {o = o} counted is step = record {
+count_on {o = o} counted is step = record {
   before = λ rest shown.
-      let now =
-      counted.before (o ∷ rest) (subst (λ last. IsShown code n t (followed_by last rest)) is (step rest shown)) in
+      let now = counted.before (o ∷ rest) (rw is at (step rest shown)) in
       (now.0, now.1, omega (arith, now.2));
 }
 
 pub count_ends : {code : Code} {m n k count : ℕ} {s t u : State} {seen : Option Observation}
     → Counted code m s n t count → seen ≡ None → k ≡ 0 → StepShows code n t k u seen
     → (all : List Observation) × IsShown code m s all × (count ≡ length all)
-count_ends {code} {n = n} {count = count} {t = t} counted is none step =
-    let now = counted.before [] (subst (λ last. IsShown code n t (followed_by last [])) is (step [] (ended none))) in
+count_ends counted is none step =
+    let now = counted.before [] (rw is at (step [] (ended none))) in
     (now.0, now.1, omega (arith, now.2))
 
 -- the cells have some marks, and with those of what two later states show they are the marks of what two earlier ones
@@ -140,16 +135,8 @@ module _ {axes : Axes} {code : Code} {m n k m' n' k' at : ℕ} {s t u s' t' u' :
       → (seen seen' : List Observation) × IsShown code m s seen × IsShown code m' s' seen'
       × IsGrid axes (marks_from 0 seen seen') cells
   paint_ends painted is is' none none' step step' =
-      let shown = subst (λ last. IsShown code n t (followed_by last [])) is (step [] (ended none)) in
-      let shown' = subst (λ last. IsShown code n' t' (followed_by last [])) is' (step' [] (ended none')) in
-      let now = painted.before [] [] shown shown' in
-      let all : marks_from 0 now.0 now.1 ≡ painted.marks = now.4 ∙ append-nil painted.marks in
-      (now.0, now.1, now.2, now.3, subst (λ marks. IsGrid axes marks cells) (sym all) painted.filled)
-
--- two runs from one state show one list
-pub shown_once : {code : Code} {n : ℕ} {s : State} {seen other : List Observation} → IsShown code n s seen
-    → IsShown code n s other → seen ≡ other
-shown_once one other = (Runs-determined one.2 other.2 one.3 other.3).0
+      let now = painted.before [] [] (rw is at (step [] (ended none))) (rw is' at (step' [] (ended none'))) in
+      (now.0, now.1, now.2, now.3, rw (now.4, append-nil) painted.filled)
 
 -- as many steps as another run of the same counts from the same state on
 pub counted_again : {code : Code} {n n' count : ℕ} {s s' : State} {seen : List Observation} → n ≡ n' → s ≡ s'
@@ -157,4 +144,4 @@ pub counted_again : {code : Code} {n n' count : ℕ} {s s' : State} {seen : List
     → count ≡ length seen
 counted_again {code} {n} {s = s} {seen = seen} same_steps same_state counted shown =
     let again : IsShown code n s seen = rw (same_steps, same_state) shown in
-    counted.2 ∙ ap length (shown_once counted.1 again)
+    counted.2 ∙ ap length (Runs-determined counted.1.2 again.2 counted.1.3 again.3).0

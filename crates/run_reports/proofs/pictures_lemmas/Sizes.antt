@@ -1,7 +1,7 @@
 -- How long a page is at most.
-use Rattle.std.proofs.Common.{◌≡◌, ℕ, zero, suc, ◌+◌, ◌*◌, ◌/◌, ◌%◌, ◌-◌, ◌==◌, ◌≤◌, ◌<◌, ◌^◌, ◌&&◌, Bool, true}
-use Rattle.std.proofs.Common.{false, not, cond, take, drop, List, [], ◌∷◌, ◌++◌, length, length-append, replicate}
-use Rattle.std.proofs.Common.{codes, refl, ap, arith}
+use Rattle.std.proofs.Common.{◌≡◌, ℕ, zero, suc, ◌+◌, ◌*◌, ◌/◌, ◌%◌, ◌-◌, ◌==◌, ◌≤◌, ◌<◌, ◌^◌, ◌&&◌, Bool, true, false}
+use Rattle.std.proofs.Common.{not, cond, take, drop, List, [], ◌∷◌, ◌++◌, length, length-append, replicate, codes, refl}
+use Rattle.std.proofs.Common.{ap, arith}
 use Rattle.std.proofs.lemmas.List.{length-replicate, length-take, length-drop}
 use Rattle.std.proofs.lemmas.Fmt.{length-decimal-le}
 use Rattle.std.specs.Fmt.{decimal, digits, format_spec}
@@ -11,17 +11,14 @@ use Rattle.run_reports.specs.pictures.Constants.{front, legend, legend_of_two}
 use Rattle.run_reports.specs.pictures.Grid.{most_columns, most_rows, places_used}
 use Rattle.run_reports.specs.pictures.Page.{cell_text, holds, class_of, all_layers, cells_text, layer_text, layers_text}
 use Rattle.run_reports.specs.pictures.Page.{eight_digits, drawing_text, axis_text, area_text, elsewhere_text}
-use Rattle.run_reports.specs.pictures.Page.{code_cells}
-use Rattle.run_reports.specs.pictures.Page.{frame_cells, other_cells, drawings_text, steps_text, scale_text}
-use Rattle.run_reports.specs.pictures.Page.{legend_text}
-use Rattle.run_reports.specs.pictures.Page.{rest_text, page_text}
+use Rattle.run_reports.specs.pictures.Page.{code_cells, frame_cells, other_cells, drawings_text, steps_text, scale_text}
+use Rattle.run_reports.specs.pictures.Page.{legend_text, rest_text, page_text}
 use Rattle.run_reports.specs.declared.pictures.cells.Area.{Area}
 use Rattle.run_reports.specs.declared.pictures.cells.Axes.{Axes}
 use Rattle.run_reports.specs.declared.pictures.cells.Cell.{Cell}
 use Rattle.run_reports.specs.declared.pictures.layers.Layer.{Layer}
 use Rattle.run_reports.specs.declared.pictures.layers.Layer.TheVariants.{Fetched, Loaded, Stored, LoadedAndStored}
-use Rattle.run_reports.specs.declared.pictures.layers.Layer.TheVariants.{OneDiffers}
-use Rattle.run_reports.specs.declared.pictures.layers.Layer.TheVariants.{OtherDiffers}
+use Rattle.run_reports.specs.declared.pictures.layers.Layer.TheVariants.{OneDiffers, OtherDiffers}
 
 either : (b : Bool) (x y : List ℕ) (n : ℕ) → length x ≤ n → length y ≤ n → length (cond b x y) ≤ n
 either true x y n one other = one
@@ -128,11 +125,7 @@ layer_size layer number (c ∷ cells) few =
 
 class_size : (layer : Layer) → length (class_of layer) ≤ 5
 class_size Fetched = omega arith
-class_size Loaded = omega arith
-class_size Stored = omega arith
-class_size LoadedAndStored = omega arith
-class_size OneDiffers = omega arith
-class_size OtherDiffers = omega arith
+class_size _ = omega arith
 
 line_size : (cells : List Cell) (layer : Layer)
     → length (layer_text cells layer) ≤ length (cells_text layer 0 cells) + 30
@@ -143,29 +136,13 @@ layers_size : (cells : List Cell) → length cells ≤ 33024
 unfolding layers_text
 layers_size cells few =
     let small : 0 + length cells ≤ 33024 = omega (arith, few) in
-    let rest : List ℕ = [] in
-    let l6 = layer_text cells OtherDiffers ++ rest in
-    let l5 = layer_text cells OneDiffers ++ l6 in
-    let l4 = layer_text cells LoadedAndStored ++ l5 in
-    let l3 = layer_text cells Stored ++ l4 in
-    let l2 = layer_text cells Loaded ++ l3 in
-    omega (
+    grind (
       arith,
+      length-append,
       accesses_size 0 cells small,
       layer_size OneDiffers 0 cells small,
       layer_size OtherDiffers 0 cells small,
-      line_size cells Fetched,
-      line_size cells Loaded,
-      line_size cells Stored,
-      line_size cells LoadedAndStored,
-      line_size cells OneDiffers,
-      line_size cells OtherDiffers,
-      length-append (layer_text cells Fetched) l2,
-      length-append (layer_text cells Loaded) l3,
-      length-append (layer_text cells Stored) l4,
-      length-append (layer_text cells LoadedAndStored) l5,
-      length-append (layer_text cells OneDiffers) l6,
-      length-append (layer_text cells OtherDiffers) rest,
+      line_size cells,
     )
 
 drawing_size : (name : List ℕ) (columns rows : ℕ) (cells : List Cell) → length cells ≤ 33024
@@ -251,11 +228,4 @@ pub page_size : (axes : Axes) (cells : List Cell) (said : List ℕ) (are_two : B
     → length cells ≡ 33024
     → length (page_text axes cells said are_two one other) ≤ 1_000_000 + length said
 page_size axes cells said are_two one other all =
-    let rest = rest_text axes cells are_two one other in
-    omega (
-      arith,
-      length-append front (said ++ rest),
-      length-append said rest,
-      front_size,
-      rest_size axes cells are_two one other all,
-    )
+    grind (arith, length-append, front_size, rest_size axes cells are_two one other all)

@@ -1,5 +1,5 @@
 -- A run in pieces: turns that go on, and then a run.
-use Rattle.std.proofs.Common.{◌≡◌, ◌≢◌, ℕ, ◌+◌, ◌≤◌, List, ◌++◌, refl, subst, arith}
+use Rattle.std.proofs.Common.{◌≡◌, ◌≢◌, ℕ, ◌+◌, ◌≤◌, List, ◌++◌, refl, arith, sym}
 use Rattle.rv_machine.proofs.Face.{Leads-append, Halts-after, no_longer, turn_within_budget}
 use Rattle.rv_machine.specs.Leakage.{Leads, halts, Runs, halted, cut_short, spent}
 use Rattle.rv_machine.specs.Machine.{State, Code}
@@ -20,8 +20,7 @@ pub run_after : {code : Code} {m n budget : ℕ} {s t u : State} {seen more : Li
     → Runs code budget s (seen ++ more) stop u
 run_after first (halted le end) all calm = halted (omega (arith, le, all)) (Halts-after first end)
 run_after first (cut_short lt then end shows) all calm = absurd (calm refl)
-run_after {code} {s = s} {u = u} {seen = seen} {more = more} first (spent then) all calm =
-    subst (λ k. Runs code k s (seen ++ more) Budget u) all (spent (Leads-append first then))
+run_after first (spent then) all calm = rw (sym all) (spent (Leads-append first then))
 
 -- one that stops within fewer turns
 pub stop_after : {code : Code} {m n budget : ℕ} {s t u : State} {seen more : List Observation} {stop : Stop}

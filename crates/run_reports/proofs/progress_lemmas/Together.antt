@@ -1,12 +1,12 @@
 -- Two runs in step: what they have shown together, and how far both go on.
 use Rattle.std.proofs.Common.{◌≡◌, ℕ, suc, ◌+◌, ◌*◌, ◌≤◌, ◌<◌, Bool, List, [], ◌∷◌, ◌++◌, length, length-append, Option}
-use Rattle.std.proofs.Common.{Some, None, append_assoc, refl, sym, ap, ◌∙◌, subst, arith}
+use Rattle.std.proofs.Common.{Some, None, append_assoc, refl, sym, ap, ◌∙◌, arith}
 use Rattle.std.specs.Prelude.{slice_get}
 use Rattle.std.proofs.lemmas.List.{append_cancel_left}
 use Rattle.run_reports.proofs.progress_lemmas.Told.{all_told}
 use Rattle.run_reports.specs.progress.GoingOn.{BothGoOn, Reaches, HasLines, IsTold}
 use Rattle.run_reports.specs.progress.Lines.{turns_a_line, WentOut}
-use Rattle.rv_machine.proofs.Face.{Leads-append, Turn-determined, goes_on≢stops}
+use Rattle.rv_machine.proofs.Face.{Leads-append, goes_on-determined, goes_on≢stops}
 use Rattle.rv_machine.specs.Entries.{entries_of, IsFirstDifference}
 use Rattle.rv_machine.specs.Leakage.{Leads, stays, turns}
 use Rattle.rv_machine.specs.Machine.{State, Code}
@@ -19,21 +19,17 @@ use Rattle.rv_machine.specs.declared.observation.Observation.{Observation}
 leads_one : {code : Code} {m n : ℕ} {s t : State} {last : Option Observation} {o : Observation}
     → Makes code m s last n t → last ≡ Some o → 0 < n → Leads code 1 s (o ∷ []) t × (n + 1 ≡ m)
 leads_one rests is more = absurd (omega (arith, more))
-leads_one {code} {s = s} {t = t} {o = o} (advances {n = n} {o = p} turn) is more =
-    let same : p ≡ o = cc in
-    (subst (λ x. Leads code 1 s (x ∷ []) t) same (turns turn stays), omega arith)
+leads_one {o = o} (advances {o = p} turn) is more = let same : o ≡ p = cc in (rw same (turns turn stays), omega arith)
 leads_one (finishes end) is more = absurd (omega (arith, more))
 
 pub leads_all : {code : Code} {m n : ℕ} {s t : State} {seen : List Observation} → MakesAll code m s seen n t → 0 < n
     → Leads code (length seen) s seen t × (n + length seen ≡ m)
 leads_all begins more = (stays, omega arith)
-leads_all {code} {s = s} {t = t} (further {seen = seen} {o = o} all turn) more =
+leads_all (further {seen = seen} {o = o} all turn) more =
     let one = leads_one turn refl more in
-    let before = leads_all all (omega (arith, one.1, more)) in
-    let longer = length-append seen (o ∷ []) in
-    let count : length seen + 1 ≡ length (seen ++ o ∷ []) = omega (arith, longer) in (
-      subst (λ k. Leads code k s (seen ++ o ∷ []) t) count (Leads-append before.0 one.0),
-      omega (arith, longer, one.1, before.1),
+    let before = leads_all all (omega (arith, one.1, more)) in (
+      rw (length-append seen (o ∷ [])) (Leads-append before.0 one.0),
+      omega (arith, length-append seen (o ∷ []), one.1, before.1),
     )
 
 -- On the way of a run that goes on, each turn is one of its own.
@@ -45,12 +41,9 @@ step_along : {code : Code} {m n j : ℕ} {s t u : State} {last : Option Observat
     × Leads code i t more u × (n + 1 ≡ m)
 step_along rests lead some later = absurd (omega (arith, some))
 step_along turn stays some later = absurd (omega (arith, later))
-step_along {code} {t = t} {u = u} (advances {n = n} {o = o} turn)
-    (turns {n = i} {o = p} {seen = more} {t = t'} other then) some later =
-    let e = Turn-determined turn other in
-    let same : t' ≡ t = cc in
-    let shown : Some o ≡ Some p = cc in
-    (p, more, i, shown, refl, refl, subst (λ x. Leads code i x more u) same then, omega arith)
+step_along (advances {o = o} turn) (turns {n = i} {o = p} {seen = more} other then) some later =
+    let same = goes_on-determined other turn in
+    (p, more, i, ap Some (sym same.0), refl, refl, rw same.1 at then, omega arith)
 step_along (finishes end) (turns other then) some later = absurd (goes_on≢stops other end)
 
 -- so are all that were made
@@ -63,7 +56,8 @@ along {whole = whole} (further {seen = seen} {o = o} all turn) lead within far =
     let longer = length-append seen (o ∷ []) in
     let before = along all lead within (omega (arith, longer, far)) in
     let j = before.0 in
-    let step = step_along turn before.4 (omega (arith, before.5, within, far, longer)) (omega (arith, before.2, longer, far)) in
+    let step = step_along turn before.4 (omega (arith, before.5, within, far, longer))
+    (omega (arith, before.2, longer, far)) in
     let p = step.0 in
     let more = step.1 in
     let same : o ≡ p = cc in
@@ -106,24 +100,18 @@ both_show {n = n} {n' = n'} {seen = seen} made turn turn' far near on =
     heads h = cc
 
 -- one more turn of each, which shows the same
-pub step_on : {code : Code} {m n k n' k' : ℕ} {s t u s' t' u' : State} {seen : List Observation}
-    {one other : Option Observation} {o p : Observation} → InStep code m s n t s' n' t' seen → one ≡ Some o
-    → other ≡ Some p → o ≡ p → Makes code n t one k u → Makes code n' t' other k' u'
+pub both_step : {code : Code} {m n k n' k' : ℕ} {s t u s' t' u' : State} {seen : List Observation} {o : Observation}
+    → InStep code m s n t s' n' t' seen → Makes code n t (Some o) k u → Makes code n' t' (Some o) k' u'
     → InStep code m s k u s' k' u' (seen ++ o ∷ [])
-step_on {code} {n = n} {k = k} {n' = n'} {k' = k'} {t = t} {u = u} {t' = t'} {u' = u'} made is is' same turn turn' = (
-  further made.0 (subst (λ last. Makes code n t last k u) is turn),
-  further made.1 (subst (λ last. Makes code n' t' last k' u') (is' ∙ ap Some (sym same)) turn'),
-)
+both_step made turn turn' = (further made.0 turn, further made.1 turn')
 
 -- both go on after all that were made, where more may be
 pub both_go_on : {code : Code} {m n n' due : ℕ} {s t s' t' : State} {seen : List Observation}
     → InStep code m s n t s' n' t' seen → 0 < n → 0 < n' → length seen ≡ due → BothGoOn code m s s' due
-both_go_on {code} {s = s} {t = t} {s' = s'} {t' = t'} {seen = seen} made more more' is =
+both_go_on {t = t} {t' = t'} {seen = seen} made more more' is =
     let one = leads_all made.0 more in
-    let other = leads_all made.1 more' in (
-      omega (arith, one.1, more, is),
-      (seen, t, t', subst (λ k. Leads code k s seen t) is one.0, subst (λ k. Leads code k s' seen t') is other.0),
-    )
+    let other = leads_all made.1 more' in
+    (omega (arith, one.1, more, is), (seen, t, t', rw is at one.0, rw is at other.0))
 
 -- they do not, where one of them has shown nothing, or they differ
 pub one_ended : {one other : Option Observation} → one ≡ None → ShowSame one other → ⊥
@@ -152,7 +140,8 @@ told_at_end {before = before} {after = after} whole count steps is turn turn' du
   record {
     reached = reached;
     no_more = λ on.
-        apart (both_show steps turn turn' (omega (arith, is, due)) (λ some some'. omega (arith, is, next some some')) on);
+        apart (both_show steps turn turn' (omega (arith, is, due))
+        (λ some some'. omega (arith, is, next some some')) on);
   },
   all_told whole count before after went,
 )

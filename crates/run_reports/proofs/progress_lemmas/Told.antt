@@ -1,8 +1,6 @@
 -- Lines that went out, and the next one.
 use Rattle.std.proofs.Common.{◌≡◌, ℕ, ◌+◌, ◌*◌, ◌<◌, ◌⊎◌, zero, suc, Bool, true, false, List, ◌++◌, length, take}
-use Rattle.std.proofs.Common.{IsTrue}
-use Rattle.std.proofs.Common.{length-append, append_assoc, append-nil, ⊎_elim, inl, inr, refl, sym, ap, ◌∙◌, subst}
-use Rattle.std.proofs.Common.{arith}
+use Rattle.std.proofs.Common.{IsTrue, length-append, append_assoc, append-nil, inl, inr, refl, sym, arith}
 use Rattle.run_reports.specs.progress.GoingOn.{GoesOn, Reaches, HasLines, IsTold}
 use Rattle.rv_machine.specs.Leakage.{Leads}
 use Rattle.rv_machine.specs.Machine.{State, Code}
@@ -15,11 +13,10 @@ use Rattle.run_reports.specs.progress.Lines.{turns_a_line, progress_line, progre
 -- a part of some bytes is one of more bytes
 part_of_more : {before after : List ℕ} (piece rest : List ℕ) → GainsPart before after piece
     → GainsPart before after (piece ++ rest)
-part_of_more {before} piece rest part = record {
+part_of_more piece rest part = record {
   count = part.count;
-  some_left = omega (arith, length-append piece rest, part.some_left);
-  added = part.added
-      ∙ ap (λ l. before ++ l) (sym (take-append-le part.count piece rest (omega (arith, part.some_left))));
+  some_left = omega (arith, length-append piece rest);
+  added = rw (take-append-le part.count piece rest (omega arith)) part.added;
 }
 
 -- a part of what comes after these bytes
@@ -27,17 +24,15 @@ part_behind : {before now after : List ℕ} (written piece : List ℕ) → now �
     → GainsPart now after piece → GainsPart before after (written ++ piece)
 part_behind {before} written piece so_far part = record {
   count = length written + part.count;
-  some_left = omega (arith, length-append written piece, part.some_left);
-  added = part.added ∙ ap (λ l. l ++ take part.count piece) so_far
-      ∙ append_assoc before written (take part.count piece)
-      ∙ ap (λ l. before ++ l) (sym (take-append-add written piece part.count));
+  some_left = omega (arith, length-append written piece);
+  added = rw (part.added, so_far, take-append-add) (append_assoc before written (take part.count piece));
 }
 
 -- no line has gone out yet
 pub none_yet : (whole : Bool) (count : ℕ) (now : List ℕ) → IsTrue whole → count ≡ 0 → WentOut whole count now now
 unfolding progress_lines
 none_yet true zero now is none = sym (append-nil now)
-none_yet true (suc count) now is none = absurd (omega (arith, none))
+none_yet true (suc count) now is none = cc
 none_yet false count now is none = cc
 
 -- the next line, where all went out and it does
@@ -45,8 +40,7 @@ pub told_next : (count : ℕ) (before now after : List ℕ) → WentOut true cou
     → after ≡ now ++ progress_line (suc count * turns_a_line) → WentOut true (suc count) before after
 unfolding progress_lines
 told_next count before now after so_far line =
-    line ∙ ap (λ l. l ++ progress_line (suc count * turns_a_line)) so_far
-    ∙ append_assoc before (progress_lines count) (progress_line (suc count * turns_a_line))
+    rw (line, so_far) (append_assoc before (progress_lines count) (progress_line (suc count * turns_a_line)))
 
 -- where it does not
 pub cut_next : (count : ℕ) (before now after : List ℕ) → WentOut true count before now
@@ -72,14 +66,11 @@ pub lines_of_run : {code : Code} {budget left count : ℕ} {s t : State}
     → (count ≡ 0) ⊎ (0 < left)
     → ((seen : List Observation) (u : State) → Leads code (count * turns_a_line + turns_a_line) s seen u → ⊥)
     → HasLines (GoesOn code budget s) count
-lines_of_run {code} {budget} {left} {count} {s} {t} led made more over = record {
-  reached =
-      ⊎_elim (λ (none : count ≡ 0). inl none)
-      (λ (some : 0 < left). inr (omega (arith, made, some), (led.0, t, led.1))) more;
+lines_of_run {count = count} {t = t} led made more over = record {
+  reached = elim more [ inl none ↦ inl none | inr some ↦ inr (omega (arith, made, some), (led.0, t, led.1)) ];
   no_more = λ on.
       let next : suc count * turns_a_line ≡ count * turns_a_line + turns_a_line = omega arith in
-      let all = on.1 in
-      over all.0 all.1 (subst (λ (n : ℕ). Leads code n s all.0 all.1) next all.2);
+      over on.1.0 on.1.1 (rw next at on.1.2);
 }
 
 -- no line at all

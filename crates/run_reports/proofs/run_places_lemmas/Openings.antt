@@ -1,7 +1,7 @@
 -- The first entry of a run, and how far two runs reach that differ.
 use Rattle.std.specs.Prelude.{slice_get}
-use Rattle.std.proofs.Common.{◌≡◌, ◌≢◌, ℕ, zero, suc, ◌%◌, ◌<◌, ◌≤◌, ◌⊎◌, List, [], ◌∷◌}
-use Rattle.std.proofs.Common.{Option, Some, None, length, take, refl, sym, ap, ◌∙◌, subst, inl, inr, arith}
+use Rattle.std.proofs.Common.{◌≡◌, ◌≢◌, ℕ, zero, suc, ◌%◌, ◌<◌, ◌≤◌, ◌⊎◌, List, [], ◌∷◌, Option, Some, None, length}
+use Rattle.std.proofs.Common.{take, refl, sym, ap, ◌∙◌, inl, inr, arith}
 use Rattle.rv_code.specs.Words.{word_of}
 use Rattle.rv_machine.specs.declared.observation.Observation.{Observation}
 use Rattle.rv_machine.specs.declared.stops.Stop.{Stop}
@@ -9,9 +9,9 @@ use Rattle.rv_machine.specs.declared.stops.Stop.TheVariants.{RecorderRefused}
 use Rattle.rv_machine.specs.Effects.{effect_of}
 use Rattle.rv_machine.specs.Entries.{Entry, program_counter, entries_of, IsFirstDifference}
 use Rattle.rv_machine.specs.Leakage.{stays, turns, halts, Runs, halted, cut_short, spent}
-use Rattle.rv_machine.specs.Machine.{State, Code, word_at, Ending, goes_on, stops}
-use Rattle.rv_machine.specs.Machine.{Turn, pc_misaligned, not_code, no_instruction, executes}
-use Rattle.run_reports.proofs.run_places_lemmas.Below.{IsOwn, effect_own, Runs-determined}
+use Rattle.rv_machine.specs.Machine.{State, Code, word_at, Ending, goes_on, stops, Turn, pc_misaligned, not_code}
+use Rattle.rv_machine.specs.Machine.{no_instruction, executes}
+use Rattle.run_reports.proofs.run_places_lemmas.Below.{IsOwn, goes_own, stops_own, effect_own, Runs-determined}
 use Rattle.run_reports.specs.run_places.Places.{Ends, ShowsNext, IsLastBefore, ShowsFewer}
 
 -- A turn shows its program counter first where a word stands there, and nothing where none does.
@@ -33,9 +33,9 @@ Opens code pc first = ((first ≡ None) × (Stands code pc → ⊥)) ⊎ ((first
 stands : (code : Code) (pc word : ℕ) → pc % 4 ≡ 0 → word_at code pc ≡ Some word → Stands code pc
 stands code pc word even is = (even, λ none. cc)
 
-opens_here : (s : State) (e : Ending) → IsOwn s e → first_entry (shown_by e) ≡ Some (program_counter s.pc)
-opens_here s (goes_on o t) own = ap (λ pc. Some (program_counter pc)) own
-opens_here s (stops seen stop) own = ap first_entry own.0
+opens_here : {s : State} {e : Ending} → IsOwn s e → first_entry (shown_by e) ≡ Some (program_counter s.pc)
+opens_here goes_own = refl
+opens_here (stops_own calm more) = refl
 
 turn_opens : {code : Code} {s : State} {e : Ending} → Turn code s e → Opens code s.pc (first_entry (shown_by e))
 turn_opens (pc_misaligned odd) = inl (refl, λ there. odd there.0)
@@ -43,7 +43,7 @@ turn_opens (not_code even none) = inl (refl, λ there. there.1 none)
 turn_opens {code} {s} (no_instruction {word = word} even is misfit) = inr (refl, stands code s.pc word even is)
 turn_opens {code} {s} (executes {ending = e} i even is ok ends) =
     inr (
-      opens_here s e (subst (IsOwn s) (sym ends) (effect_own code.profile (effect_of i s.pc s.regs) s)),
+      opens_here {s = s} {e = e} (rw ends (effect_own code.profile (effect_of i s.pc s.regs) s)),
       stands code s.pc (word_of i) even is,
     )
 
@@ -68,9 +68,9 @@ Begins code budget s whole = ((budget ≡ 0) × (whole ≡ [])) ⊎ ((0 < budget
 begins : (code : Code) (budget : ℕ) (s end : State) (whole : List Observation) (stop : Stop)
     → Runs code budget s whole stop end → stop ≢ RecorderRefused → Begins code budget s whole
 begins code budget s end whole stop (halted within (halts stays turn is)) calm =
-    inr (omega (arith, within), subst (λ l. Opens code s.pc (first_entry l)) (sym is) (turn_opens turn))
+    inr (omega (arith, within), rw is (turn_opens turn))
 begins code budget s end whole stop (halted within (halts (turns first rest) turn is)) calm =
-    inr (omega (arith, within), subst (λ l. Opens code s.pc (first_entry l)) (sym is) (turn_opens first))
+    inr (omega (arith, within), rw is (turn_opens first))
 begins code budget s end whole stop (cut_short within led turn shows) calm = absurd (calm refl)
 begins code budget s end whole stop (spent stays) calm = inl (refl, refl)
 begins code budget s end whole stop (spent (turns first rest)) calm = inr (omega arith, turn_opens first)
@@ -97,8 +97,7 @@ one_beginning code budget s s' whole whole' same (inl (none, is)) (inr (some, op
 one_beginning code budget s s' whole whole' same (inr (some, opens)) (inl (none, is)) =
     absurd (omega (arith, none, some))
 one_beginning code budget s s' whole whole' same (inr (some, opens)) (inr (also, opens')) =
-    one_opening code s.pc (first_entry whole) (first_entry whole') opens
-    (subst (λ pc. Opens code pc (first_entry whole')) (sym same) opens')
+    one_opening code s.pc (first_entry whole) (first_entry whole') opens (rw same opens')
 
 pub difference_within : (one other : List Entry) (place : ℕ) → IsFirstDifference one other place
     → (place ≤ length one) × (place ≤ length other)

@@ -1,6 +1,6 @@
 -- The last turns before the first difference of two runs are one turn.
 use Rattle.std.proofs.Common.{◌≡◌, ℕ, zero, suc, ◌+◌, ◌-◌, ◌<◌, ◌≤◌, List, [], ◌∷◌, ◌++◌, Option, Some, None, length}
-use Rattle.std.proofs.Common.{take, refl, sym, ap, ◌∙◌, subst, inl, inr, arith}
+use Rattle.std.proofs.Common.{take, refl, sym, ap, ◌∙◌, inl, inr, arith}
 use Rattle.std.proofs.Math.Seq.{take-append-add}
 use Rattle.rv_machine.specs.declared.observation.Event.{Event}
 use Rattle.rv_machine.specs.declared.observation.Observation.{Observation}
@@ -9,10 +9,10 @@ use Rattle.rv_machine.specs.Effects.{effect_of}
 use Rattle.rv_machine.specs.Entries.{Entry, program_counter, events_of, entries_of, IsFirstDifference}
 use Rattle.rv_machine.specs.Machine.{State, Code, Ending, goes_on, stops, here, Turn, pc_misaligned, not_code}
 use Rattle.rv_machine.specs.Machine.{no_instruction, executes}
-use Rattle.run_reports.proofs.run_places_lemmas.Below.{IsOwn, effect_own, entries_of-injective, Runs-determined}
-use Rattle.run_reports.proofs.run_places_lemmas.Below.{entries_of-append}
+use Rattle.run_reports.proofs.run_places_lemmas.Below.{IsOwn, goes_own, stops_own, effect_own, entry_count-append}
+use Rattle.run_reports.proofs.run_places_lemmas.Below.{entries_of-injective, Runs-determined, entries_of-append}
 use Rattle.run_reports.specs.run_places.Places.{Ends, ShowsNext, IsLastBefore}
-use Rattle.run_reports.proofs.run_places_lemmas.Runs.{ends_next, entries_more}
+use Rattle.run_reports.proofs.run_places_lemmas.Runs.{ends_next}
 
 -- What a turn shows, it shows of its own program counter.
 
@@ -33,11 +33,11 @@ turn_here (pc_misaligned odd) = λ o same. cc
 turn_here (not_code even none) = λ o same. cc
 turn_here {s = s} (no_instruction even is misfit) = here_alone s
 turn_here {code} {s} (executes {ending = e} i even is ok ends) =
-    from_own e (subst (IsOwn s) (sym ends) (effect_own code.profile (effect_of i s.pc s.regs) s))
+    from_own {e = e} (rw ends (effect_own code.profile (effect_of i s.pc s.regs) s))
   where
-    from_own : (e : Ending) → IsOwn s e → IsHere s.pc e
-    from_own (goes_on o t) own = own
-    from_own (stops seen stop) own = λ o is. here_alone s o (sym own.0 ∙ is)
+    from_own : {e : Ending} → IsOwn s e → IsHere s.pc e
+    from_own goes_own = refl
+    from_own (stops_own calm more) = here_alone s
 
 next_here : (code : Code) (t : State) (o : Observation) → ShowsNext code t o → o.pc ≡ t.pc
 next_here code t o (inl (u, turn)) = turn_here turn
@@ -61,7 +61,7 @@ module _ (code : Code) (budget : ℕ) (s : State) (whole : List Observation) (st
     (last : IsLastBefore code budget s place seen t) where
   whole_is : (more : List Observation) × (whole ≡ seen ++ last.next ∷ more)
   whole_is =
-      let run = ends_next code budget s (length seen) t seen last.leads last.next last.shown last.within in
+      let run = ends_next last.leads last.next last.shown last.within in
       (run.0, (Runs-determined ends.1 run.2.1 ends.2 run.2.2).0)
 
   pub entries_before : (p : Observation) × (p.pc ≡ last.next.pc)
@@ -73,7 +73,7 @@ module _ (code : Code) (budget : ℕ) (s : State) (whole : List Observation) (st
       let at : length (entries_of seen) + k ≡ place = omega (arith, last.before) in
       let some : 0 < k = omega (arith, last.before) in
       let fits : k ≤ length (program_counter o.pc ∷ events_of o.event ++ []) =
-      omega (arith, last.reached, entries_more seen o, last.before) in
+      omega (arith, last.reached, entry_count-append seen (o ∷ []), last.before) in
       let last_one = cut o.pc o.event (entries_of more) k some fits in
       let p : Observation = record { pc = o.pc; event = last_one.0 } in
       let split : entries_of whole ≡ entries_of seen ++ entries_of (o ∷ more) = ap entries_of whole_is.1

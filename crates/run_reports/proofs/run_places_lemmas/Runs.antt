@@ -1,7 +1,7 @@
 -- A run, a turn at a time, and what it shows.
-use Rattle.std.proofs.Common.{◌≡◌, ℕ, zero, suc, true, false, is_some, ◌+◌, ◌-◌, ◌<◌, ◌≤◌, List, [], ◌∷◌, ◌++◌}
-use Rattle.std.proofs.Common.{Option, Some, None, length, refl, sym, ap, ◌∙◌, subst, append_assoc, append-nil}
-use Rattle.std.proofs.Common.{length-append, zero-add, suc-add, inl, inr, arith}
+use Rattle.std.proofs.Common.{◌≡◌, ℕ, zero, suc, true, is_some, ◌+◌, ◌-◌, ◌<◌, ◌≤◌, List, [], ◌∷◌, ◌++◌, Option, Some}
+use Rattle.std.proofs.Common.{None, length, refl, sym, ap, ◌∙◌, append_assoc, append-nil, add-one, zero-add, suc-add}
+use Rattle.std.proofs.Common.{inl, inr, arith}
 use Rattle.std.specs.Option.{option_map}
 use Rattle.std.specs.Prelude.{slice_get}
 use Rattle.std.proofs.lemmas.Option.{same_Some, slice_get_past, slice_get_within}
@@ -11,23 +11,14 @@ use Rattle.rv_machine.specs.declared.stops.Stop.TheVariants.{Budget}
 use Rattle.rv_machine.specs.Entries.{Entry, entries_of}
 use Rattle.rv_machine.specs.Leakage.{Leads, stays, turns, halts, Runs, halted, spent}
 use Rattle.rv_machine.specs.Machine.{State, Code, goes_on, stops, Turn}
-use Rattle.run_reports.proofs.run_places_lemmas.Below.{Leads-more, entries_of-append, Runs-more, turn_stops}
-use Rattle.run_reports.proofs.run_places_lemmas.Below.{run_of_state, stopped_at}
-use Rattle.run_reports.proofs.run_places_lemmas.Below.{went_to}
+use Rattle.run_reports.proofs.run_places_lemmas.Below.{Leads-more, entries_of-append, entry_count-append, Runs-more}
+use Rattle.run_reports.proofs.run_places_lemmas.Below.{turn_stops, has_stopped, run_of_state, stopped_at, went_to}
 use Rattle.run_reports.specs.run_places.Places.{Ends, ShowsNext, IsLastBefore, ShowsFewer}
 use Rattle.run_reports.specs.run_places.Shown.{entry_or_stop, shown_entry, ShowsAt}
 use Rattle.rv_machine.specs.Turned.{listed, Turned}
 use Rattle.rv_machine.specs.Turned as turned
 use Rattle.run_reports.specs.declared.run_places.shown.Shown.{Shown}
 use Rattle.run_reports.specs.declared.run_places.shown.Shown.TheVariants.{Stopped}
-
-pub is_stopped : (answer : Option Stop) → is_some answer ≡ true → (stop : Stop) × (answer ≡ Some stop)
-is_stopped None some = cc
-is_stopped (Some stop) some = (stop, refl)
-
-pub is_going : (answer : Option Stop) → is_some answer ≡ false → answer ≡ None
-is_going None none = refl
-is_going (Some stop) none = cc
 
 shows_next : (code : Code) (t u : State) (o : Observation) (answer : Option Stop) → Turned code t (Some o) answer u
     → ShowsNext code t o
@@ -39,25 +30,16 @@ silent : (code : Code) (t u : State) (answer : Option Stop) → Turned code t No
 silent code t u None turned = elim turned [ ]
 silent code t u (Some stop) (turned.stopped turn) = (stop, turn)
 
-Leads-length : {code : Code} {k : ℕ} {s t : State} {seen : List Observation} → Leads code k s seen t → length seen ≡ k
+pub Leads-length : {code : Code} {k : ℕ} {s t : State} {seen : List Observation} → Leads code k s seen t
+    → length seen ≡ k
 Leads-length stays = refl
 Leads-length (turns first rest) = ap suc (Leads-length rest)
-
-pub entries_more : (seen : List Observation) (o : Observation)
-    → length (entries_of (seen ++ o ∷ [])) ≡ length (entries_of seen) + length (entries_of (o ∷ []))
-entries_more seen o = ap length (entries_of-append seen (o ∷ []))
-    ∙ length-append (entries_of seen) (entries_of (o ∷ []))
 
 -- turns, and then a run
 pub Runs-after : {code : Code} {k n : ℕ} {s t u : State} {seen more : List Observation} {stop : Stop}
     → Leads code k s seen t → Runs code n t more stop u → Runs code (k + n) s (seen ++ more) stop u
-Runs-after {code} {n = n} {u = u} {more = more} {stop = stop} (stays {s = s}) run =
-    let e : n ≡ 0 + n = omega arith in
-    subst (λ k. Runs code k s more stop u) e run
-Runs-after {code} {n = n} {u = u} {more = more} {stop =
-    stop} (turns {n = k} {o = o} {seen = seen} {s = s} first rest) run =
-    let e : suc (k + n) ≡ suc k + n = omega arith in
-    subst (λ k. Runs code k s (o ∷ (seen ++ more)) stop u) e (Runs-more first (Runs-after rest run))
+Runs-after stays run = rw zero-add run
+Runs-after (turns first rest) run = rw suc-add (Runs-more first (Runs-after rest run))
 
 -- an element behind others, and one of the first of them
 get_after : {A : Type 0} (xs ys : List A) (n : ℕ) → slice_get (xs ++ ys) (length xs + n) ≡ slice_get ys n
@@ -70,65 +52,59 @@ get_within (y ∷ xs) ys zero x is = is
 get_within (y ∷ xs) ys (suc n) x is = get_within xs ys n x is
 
 -- so many turns were made from a state, which showed this
-module _ (code : Code) (budget : ℕ) (s : State) (k : ℕ) (t : State) (seen : List Observation)
-    (led : Leads code k s seen t) where
+module _ {code : Code} {s : State} {k : ℕ} {t : State} {seen : List Observation} (led : Leads code k s seen t) where
   -- the next one goes on
-  pub leads_on : (o : Observation) (u : State) → Turn code t (goes_on o u) → Leads code (k + 1) s (seen ++ o ∷ []) u
-  leads_on o u turn =
-      let e : suc k ≡ k + 1 = omega arith in
-      subst (λ n. Leads code n s (seen ++ o ∷ []) u) e (Leads-more led turn)
+  leads_on : {o : Observation} {u : State} → Turn code t (goes_on o u) → Leads code (k + 1) s (seen ++ o ∷ []) u
+  leads_on turn = rw add-one (Leads-more led turn)
 
   -- the next one shows this and goes on
-  pub went_on_by : (u : State) (last : Option Observation) (o : Observation) (answer : Option Stop)
+  pub went_on_by : {u : State} {last : Option Observation} {o : Observation} {answer : Option Stop}
       → Turned code t last answer u → last ≡ Some o → answer ≡ None → Leads code (k + 1) s (seen ++ o ∷ []) u
-  went_on_by u last o answer turned is none =
+  went_on_by {u} {last} {o} {answer} turned is none =
       let went = went_to code t u last answer turned none in
-      let same : went.0 ≡ o = same_Some went.0 o (sym went.1 ∙ is) in
-      subst (λ x. Leads code (k + 1) s (seen ++ x ∷ []) u) same (leads_on went.0 u went.2)
+      rw (same_Some went.0 o (sym went.1 ∙ is)) at (leads_on went.2)
 
+module _ {code : Code} {budget : ℕ} {s : State} {k : ℕ} {t : State} {seen : List Observation}
+    (led : Leads code k s seen t) where
   -- the next one stops
-  pub ends_here : (last : List Observation) (stop : Stop) → k < budget → Turn code t (stops last stop)
+  pub ends_here : {last : List Observation} {stop : Stop} → k < budget → Turn code t (stops last stop)
       → Ends code budget s (seen ++ last) stop
-  ends_here last stop within turn =
+  ends_here {last} {stop} within turn =
       (t, halted (omega arith) (halts led turn refl), (turn_stops code t last stop turn).0)
 
   -- no more are allowed
   pub ends_spent : k ≡ budget → Ends code budget s seen Budget
-  ends_spent all = (t, spent (subst (λ n. Leads code n s seen t) all led), λ e. cc)
+  ends_spent all = (t, spent (rw all at led), λ e. cc)
 
   -- the next one shows nothing and stops
-  pub ends_silently : (u : State) (last : Option Observation) (answer : Option Stop) → k < budget
+  pub ends_silently : {u : State} {last : Option Observation} {answer : Option Stop} → k < budget
       → Turned code t last answer u → last ≡ None → (stop : Stop) × Ends code budget s seen stop
-  ends_silently u last answer within turned is =
-      let end = silent code t u answer (subst (λ l. Turned code t l answer u) is turned) in
-      (end.0, subst (λ list. Ends code budget s list end.0) (append-nil seen) (ends_here [] end.0 within end.1))
+  ends_silently {u} {answer = answer} within turned is =
+      let end = silent code t u answer (rw is at turned) in
+      (end.0, rw append-nil at (ends_here within end.1))
 
   -- the next one is the last whose program counter comes before a place
-  pub is_last : (u : State) (last : Option Observation) (o : Observation) (answer : Option Stop) (place : ℕ)
+  pub is_last : {u : State} {last : Option Observation} {o : Observation} {answer : Option Stop} {place : ℕ}
       → k < budget → Turned code t last answer u → last ≡ Some o
       → length (entries_of seen) < place → place ≤ length (entries_of seen) + length (entries_of (o ∷ []))
       → IsLastBefore code budget s place seen t
-  is_last u last o answer place within turned is before reached = record {
-    leads = subst (λ n. Leads code n s seen t) (sym (Leads-length led)) led;
+  is_last {u} {o = o} {answer = answer} within turned is before reached = record {
+    leads = rw (Leads-length led) led;
     within = omega (arith, Leads-length led, within);
     next = o;
-    shown = shows_next code t u o answer (subst (λ l. Turned code t l answer u) is turned);
+    shown = shows_next code t u o answer (rw is at turned);
     before = before;
-    reached = omega (arith, entries_more seen o, reached);
+    reached = omega (arith, entry_count-append seen (o ∷ []), reached);
   }
 
-  pub made : length seen ≡ k
-  made = Leads-length led
-
   -- and stops: then the run shows no more
-  pub fewer_here : (u : State) (last : Option Observation) (o : Observation) (answer : Option Stop) (place : ℕ)
+  pub fewer_here : {u : State} {last : Option Observation} {o : Observation} {answer : Option Stop} {place : ℕ}
       → k < budget → Turned code t last answer u → last ≡ Some o → is_some answer ≡ true
       → length (entries_of seen) + length (entries_of (o ∷ [])) < place → ShowsFewer code budget s place
-  fewer_here u last o answer place within turned is ended few =
-      let stop = is_stopped answer ended in
-      let turn = stopped_at code t u (Some o) answer stop.0
-      (subst (λ l. Turned code t l answer u) is turned) stop.1 in
-      (seen ++ o ∷ [], stop.0, ends_here (o ∷ []) stop.0 within turn, omega (arith, entries_more seen o, few))
+  fewer_here {u} {o = o} {answer = answer} within turned is ended few =
+      let stop = has_stopped answer ended in
+      let turn = stopped_at code t u (Some o) answer stop.0 (rw is at turned) stop.1 in
+      (seen ++ o ∷ [], stop.0, ends_here within turn, omega (arith, entry_count-append seen (o ∷ []), few))
 
   -- it shows something, and the run goes on to its end
   pub ends_next : (o : Observation) → ShowsNext code t o → k < budget
@@ -136,13 +112,8 @@ module _ (code : Code) (budget : ℕ) (s : State) (k : ℕ) (t : State) (seen : 
   ends_next o (inl (u, turn)) within =
       let run = run_of_state code (budget - (k + 1)) u in
       let e : (k + 1) + (budget - (k + 1)) ≡ budget = omega (arith, within) in
-      let all = subst (λ n. Runs code n s ((seen ++ o ∷ []) ++ run.0) run.1 run.2) e
-      (Runs-after (leads_on o u turn) run.3) in (
-        run.0,
-        run.1,
-        (run.2, subst (λ l. Runs code budget s l run.1 run.2) (append_assoc seen (o ∷ []) run.0) all, run.4),
-      )
-  ends_next o (inr (stop, turn)) within = ([], stop, ends_here (o ∷ []) stop within turn)
+      (run.0, run.1, (run.2, rw (e, append_assoc) at (Runs-after (leads_on led turn) run.3), run.4))
+  ends_next o (inr (stop, turn)) within = ([], stop, ends_here within turn)
 
   -- it shows an entry at a place
   shows_entry : (o : Observation) (place left : ℕ) (entry : Entry) → ShowsNext code t o → k < budget
@@ -153,26 +124,24 @@ module _ (code : Code) (budget : ℕ) (s : State) (k : ℕ) (t : State) (seen : 
       let more = ends.0 in
       let whole : entries_of (seen ++ o ∷ more) ≡ entries_of seen ++ (entries_of (o ∷ []) ++ entries_of more) =
       entries_of-append seen (o ∷ more) ∙ ap (λ l. entries_of seen ++ l) (entries_of-append (o ∷ []) more) in
-      let at_place : slice_get (entries_of (seen ++ o ∷ more)) place ≡ Some entry =
-      ap (λ l. slice_get l place) whole
-      ∙ (ap (λ n. slice_get (entries_of seen ++ (entries_of (o ∷ []) ++ entries_of more)) n) (sym there)
-      ∙ (get_after (entries_of seen) (entries_of (o ∷ []) ++ entries_of more) left
-      ∙ get_within (entries_of (o ∷ [])) (entries_of more) left entry is)) in
+      let at_place : slice_get (entries_of (seen ++ o ∷ more)) place ≡ Some entry = rw (whole, sym there)
+      (get_after (entries_of seen) (entries_of (o ∷ []) ++ entries_of more) left
+      ∙ get_within (entries_of (o ∷ [])) (entries_of more) left entry is) in
       (seen ++ o ∷ more, ends.1, ends.2, ap (λ e. entry_or_stop e ends.1) (sym at_place))
 
-  pub shows_shown : (u : State) (last : Option Observation) (answer : Option Stop) (place left : ℕ) (shown : Shown)
-      → k < budget → Turned code t last answer u
-      → length (entries_of seen) + left ≡ place → option_map shown_entry (slice_get (entries_of (listed last)) left)
-      ≡ Some shown → ShowsAt code budget s place shown
-  shows_shown u None answer place left shown within turned there is = cc
-  shows_shown u (Some o) answer place left shown within turned there is =
+  pub shows_shown : {u : State} {last : Option Observation} {answer : Option Stop} {place : ℕ} {shown : Shown} (left : ℕ)
+      → k < budget → Turned code t last answer u → length (entries_of seen) + left ≡ place
+      → option_map shown_entry (slice_get (entries_of (listed last)) left) ≡ Some shown
+      → ShowsAt code budget s place shown
+  shows_shown {last = None} left within turned there is = cc
+  shows_shown {u = u} {last = Some o} {answer = answer} {place = place} {shown = shown} left within turned there is =
       from_entry (slice_get (entries_of (o ∷ [])) left) refl is
     where
       from_entry : (e : Option Entry) → slice_get (entries_of (o ∷ [])) left ≡ e
           → option_map shown_entry e ≡ Some shown → ShowsAt code budget s place shown
       from_entry None at none = cc
       from_entry (Some entry) at some =
-          subst (λ x. ShowsAt code budget s place x) (same_Some (shown_entry entry) shown some)
+          rw (same_Some (shown_entry entry) shown some) at
           (shows_entry o place left entry (shows_next code t u o answer turned) within there at)
 
 -- behind all entries of a run there is its stop
@@ -189,23 +158,15 @@ pub later_place : (code : Code) (budget : ℕ) (s t : State) (seen : List Observ
 later_place code budget s t seen place shown led within shows =
     let more = shows.0 in
     let stop = shows.1 in
-    let e : length seen + (budget - length seen) ≡ budget = omega (arith, within) in
-    let whole : slice_get (entries_of (seen ++ more)) (length (entries_of seen) + place)
-    ≡ slice_get (entries_of more) place =
-    ap (λ l. slice_get l (length (entries_of seen) + place)) (entries_of-append seen more)
-    ∙ get_after (entries_of seen) (entries_of more) place in (
+    let e : length seen + (budget - length seen) ≡ budget = omega (arith, within) in (
       seen ++ more,
       stop,
-      (shows.2.0, subst (λ n. Runs code n s (seen ++ more) stop shows.2.0) e (Runs-after led shows.2.1), shows.2.2),
-      shows.3 ∙ ap (λ entry. entry_or_stop entry stop) (sym whole),
+      (shows.2.0, rw e at (Runs-after led shows.2.1), shows.2.2),
+      rw (entries_of-append seen more, get_after (entries_of seen) (entries_of more) place) shows.3,
     )
 
 -- what is left of the entries before a place, once a turn has shown some
 pub left_after : (seen : List Observation) (last : Option Observation) (left left' place : ℕ)
     → length (entries_of seen) + left ≡ place → length (entries_of (listed last)) + left' ≡ left
     → length (entries_of (seen ++ listed last)) + left' ≡ place
-left_after seen last left left' place before is =
-    let all : length (entries_of (seen ++ listed last))
-    ≡ length (entries_of seen) + length (entries_of (listed last)) =
-    ap length (entries_of-append seen (listed last)) ∙ length-append (entries_of seen) (entries_of (listed last)) in
-    omega (arith, all, before, is)
+left_after seen last left left' place before is = omega (arith, entry_count-append seen (listed last), before, is)

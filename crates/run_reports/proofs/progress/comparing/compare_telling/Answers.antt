@@ -1,17 +1,15 @@
 -- Another turn of each, or the comparison's end.
 use Rattle.std.proofs.Common.{◌≡◌, ℕ, List, [], ◌∷◌, ◌++◌, length, length-append, is_some, inl, inr, refl, sym, ap}
-use Rattle.std.proofs.Common.{◌∙◌, subst, add-zero, arith}
-use Rattle.run_reports.proofs.progress_lemmas.Together.{InStep, step_on, both_go_on, told_at_end, one_ended}
+use Rattle.std.proofs.Common.{add-zero, arith}
+use Rattle.run_reports.proofs.progress_lemmas.Together.{InStep, both_step, both_go_on, told_at_end, one_ended}
 use Rattle.run_reports.proofs.progress_lemmas.Together.{other_ended, they_differ}
 use Rattle.run_reports.proofs.progress_lemmas.Told.{none_yet}
-use Rattle.rv_machine.proofs.Face.{entries_of-append, count-few, differ_after, same_after, something_shown}
+use Rattle.rv_machine.proofs.Face.{entry_count-append, count-few, differ_after, same_after, something_shown}
 use Rattle.rv_machine.proofs.Face.{nothing_shown, one-ends, other-ends}
 use Rattle.rv_machine.proofs.Face as machine
 use Rattle.rv_machine.specs.Entries.{entries_of}
-use Rattle.rv_machine.specs.Harts.{state_of}
 use Rattle.rv_machine.specs.Machine.{State, Code}
-use Rattle.rv_machine.specs.Progress.{MakesAll, begins}
-use Rattle.rv_machine.specs.Regions.{code_of}
+use Rattle.rv_machine.specs.Progress.{begins}
 use Rattle.rv_machine.specs.declared.observation.Observation.{Observation}
 use Rattle.run_reports.proofs.progress.comparing.compare_telling.Goals.{else-is_due-via-then-is_due+then-one-gt0+else-other-gt0}
 use Rattle.run_reports.proofs.progress.comparing.compare_telling.Goals.{else-is_due-via-then-is_due+else-one-gt0}
@@ -22,94 +20,83 @@ use Rattle.run_reports.proofs.progress.comparing.compare_telling.Goals as goal
 in_step : {code : Code} {m m' n n' place : ℕ} {s t s' t' : State} {seen : List Observation}
     → length (entries_of seen) ≡ place → InStep code m s n t s' n' t' seen → m' ≡ m
     → machine.InStep code m s n t m' s' n' t' place
-in_step {code} {n' = n'} {s' = s'} {t' = t'} {seen = seen} is made equal =
-    (seen, is, made.0, subst (λ k. MakesAll code k s' seen n' t') (sym equal) made.1)
+in_step {seen = seen} is made equal = (seen, is, made.0, rw equal made.1)
 
 pub turns-init : goal.turns-init
-turns-init g c =
-    let bytes = g.M.Memory.bytes in
-    let one = c.args.one.now in
-    let other = c.args.other.now in
-    let code = code_of c.args.code.now in
-    let t' = state_of other.hart (bytes other.memory) in
-    let none = c.new-lines.ensures.none in
+turns-init g c = record {
+  shown = ([], refl, refl, (begins, rw c.requires.equal begins));
+  few = omega arith;
+  few_entries = omega arith;
+  last = omega (arith, c.new-lines.ensures.none);
+  due = omega arith;
+  next = λ some some'. omega arith;
+  reached = inl c.new-lines.ensures.none;
+  told = λ tells. none_yet c.new-lines.result.whole c.new-lines.result.count (g.E.Sink.taken c.args.err.now)
+      c.new-lines.ensures.whole c.new-lines.ensures.none;
+}
+
+pub returns-in_default-seen_other : goal.returns-in_default-seen_other
+returns-in_default-seen_other g c =
+    let all = c.turns.invariant in
+    let one = c.turn-seen.ensures in
+    let other = c.turn-seen_other.ensures in
+    let none = c.in_default-seen_other.is in
+    let last = other.ended none in
+    let shown = something_shown (rw c.in-Some.is at one.made) in
     record {
-      shown = (
-        [],
-        refl,
-        refl,
-        (begins, subst (λ (m : ℕ). MakesAll code m t' [] other.turns_left t') c.requires.equal begins),
-      );
-      few = omega arith;
-      few_entries = omega arith;
-      last = omega (arith, none);
-      due = omega arith;
-      next = λ some some'. omega arith;
-      reached = inl none;
-      told = λ tells.
-          none_yet c.new-lines.result.whole c.new-lines.result.count (g.E.Sink.taken c.args.err.now)
-          c.new-lines.ensures.whole none;
+      compared = rw (sym (add-zero c.turns.place))
+          (differ_after (in_step all.shown.2 all.shown.3 c.requires.equal) shown.1
+          (nothing_shown (rw (none, last) at other.made)) (other-ends c.in-Some.seen shown.0));
+      told = λ tells. told_at_end c.turns.lines.whole c.turns.lines.count all.shown.3 all.shown.1 one.made other.made
+          all.due all.next (other_ended none) all.reached (all.told tells);
     }
 
-pub returns-in_default-seen_other-clause-compared : goal.returns-in_default-seen_other-clause-compared
-returns-in_default-seen_other-clause-compared g c =
-    let shown = c.turns.invariant.shown in
-    let one = something_shown c.in-Some.is c.turn-seen.ensures.made in
-    let none = c.in_default-seen_other.is in
-    let ended = nothing_shown none (c.turn-seen_other.ensures.ended none) c.turn-seen_other.ensures.made in
-    rw (sym (add-zero c.turns.place))
-    (differ_after (in_step shown.2 shown.3 c.requires.equal) one.1 ended (other-ends c.in-Some.seen one.0))
-
-pub returns-in_default-seen_other-clause-told : goal.returns-in_default-seen_other-clause-told
-returns-in_default-seen_other-clause-told g c = λ tells.
+pub returns-in-Some-first_difference : goal.returns-in-Some-first_difference
+returns-in-Some-first_difference g c =
     let all = c.turns.invariant in
-    told_at_end c.turns.lines.whole c.turns.lines.count all.shown.3 all.shown.1 c.turn-seen.ensures.made
-    c.turn-seen_other.ensures.made all.due all.next (other_ended c.in_default-seen_other.is) all.reached (all.told tells)
+    let one = c.turn-seen.ensures in
+    let other = c.turn-seen_other.ensures in
+    let differ = c.in-Some-first_difference.ensures.differ in
+    let shown = something_shown (rw c.in-Some.is at one.made) in
+    let shown' = something_shown (rw c.in-Some-seen_other-2.is at other.made) in
+    record {
+      compared = differ_after (in_step all.shown.2 all.shown.3 c.requires.equal) shown.1 shown'.1
+          (differ shown.0 shown'.0);
+      told = λ tells. told_at_end c.turns.lines.whole c.turns.lines.count all.shown.3 all.shown.1 one.made other.made
+          all.due all.next (they_differ c.in-Some.is c.in-Some-seen_other-2.is (differ [] [])) all.reached
+          (all.told tells);
+    }
 
-pub returns-in-Some-first_difference-clause-compared : goal.returns-in-Some-first_difference-clause-compared
-returns-in-Some-first_difference-clause-compared g c =
-    let shown = c.turns.invariant.shown in
-    let one = something_shown c.in-Some.is c.turn-seen.ensures.made in
-    let other = something_shown c.in-Some-seen_other-2.is c.turn-seen_other.ensures.made in
-    differ_after (in_step shown.2 shown.3 c.requires.equal) one.1 other.1 (c.in-Some-first_difference.ensures.differ one.0 other.0)
-
-pub returns-in-Some-first_difference-clause-told : goal.returns-in-Some-first_difference-clause-told
-returns-in-Some-first_difference-clause-told g c = λ tells.
+pub returns-in-Some-seen_other : goal.returns-in-Some-seen_other
+returns-in-Some-seen_other g c =
     let all = c.turns.invariant in
-    told_at_end c.turns.lines.whole c.turns.lines.count all.shown.3 all.shown.1 c.turn-seen.ensures.made
-    c.turn-seen_other.ensures.made all.due all.next
-    (they_differ c.in-Some.is c.in-Some-seen_other-2.is (c.in-Some-first_difference.ensures.differ [] []))
-    all.reached (all.told tells)
+    let one = c.turn-seen.ensures in
+    let other = c.turn-seen_other.ensures in
+    let last = one.ended c.in_default.is in
+    let shown = something_shown (rw c.in-Some-seen_other.is at other.made) in
+    record {
+      compared = rw (sym (add-zero c.turns.place))
+          (differ_after (in_step all.shown.2 all.shown.3 c.requires.equal)
+          (nothing_shown (rw (c.in_default.is, last) at one.made)) shown.1
+          (one-ends c.in-Some-seen_other.field-0 shown.0));
+      told = λ tells. told_at_end c.turns.lines.whole c.turns.lines.count all.shown.3 all.shown.1 one.made other.made
+          all.due all.next (one_ended c.in_default.is) all.reached (all.told tells);
+    }
 
-pub returns-in-Some-seen_other-clause-compared : goal.returns-in-Some-seen_other-clause-compared
-returns-in-Some-seen_other-clause-compared g c =
-    let shown = c.turns.invariant.shown in
-    let none = c.in_default.is in
-    let ended = nothing_shown none (c.turn-seen.ensures.ended none) c.turn-seen.ensures.made in
-    let other = something_shown c.in-Some-seen_other.is c.turn-seen_other.ensures.made in
-    rw (sym (add-zero c.turns.place))
-    (differ_after (in_step shown.2 shown.3 c.requires.equal) ended other.1 (one-ends c.in-Some-seen_other.field-0 other.0))
-
-pub returns-in-Some-seen_other-clause-told : goal.returns-in-Some-seen_other-clause-told
-returns-in-Some-seen_other-clause-told g c = λ tells.
+pub returns-in-None : goal.returns-in-None
+returns-in-None g c =
     let all = c.turns.invariant in
-    told_at_end c.turns.lines.whole c.turns.lines.count all.shown.3 all.shown.1 c.turn-seen.ensures.made
-    c.turn-seen_other.ensures.made all.due all.next (one_ended c.in_default.is) all.reached (all.told tells)
-
-pub returns-in-None-clause-compared : goal.returns-in-None-clause-compared
-returns-in-None-clause-compared g c =
-    let shown = c.turns.invariant.shown in
-    let none = c.in_default.is in
-    let none' = c.in-None.is in
-    let ended = nothing_shown none (c.turn-seen.ensures.ended none) c.turn-seen.ensures.made in
-    let ended' = nothing_shown none' (c.turn-seen_other.ensures.ended none') c.turn-seen_other.ensures.made in
-    same_after (in_step shown.2 shown.3 c.requires.equal) ended ended'
-
-pub returns-in-None-clause-told : goal.returns-in-None-clause-told
-returns-in-None-clause-told g c = λ tells.
-    let all = c.turns.invariant in
-    told_at_end c.turns.lines.whole c.turns.lines.count all.shown.3 all.shown.1 c.turn-seen.ensures.made
-    c.turn-seen_other.ensures.made all.due all.next (one_ended c.in_default.is) all.reached (all.told tells)
+    let one = c.turn-seen.ensures in
+    let other = c.turn-seen_other.ensures in
+    let last = one.ended c.in_default.is in
+    let last' = other.ended c.in-None.is in
+    record {
+      compared = same_after (in_step all.shown.2 all.shown.3 c.requires.equal)
+          (nothing_shown (rw (c.in_default.is, last) at one.made))
+          (nothing_shown (rw (c.in-None.is, last') at other.made));
+      told = λ tells. told_at_end c.turns.lines.whole c.turns.lines.count all.shown.3 all.shown.1 one.made other.made
+          all.due all.next (one_ended c.in_default.is) all.reached (all.told tells);
+    }
 
 pub turns-preserved-then-other-gt0 : goal.turns-preserved-then-other-gt0
 turns-preserved-then-other-gt0 g c =
@@ -120,16 +107,17 @@ turns-preserved-then-other-gt0 g c =
     let seen = c.in-Some.seen in
     let same = c.in_default-first_difference.ensures.equal refl in
     let longer = length-append shown.0 (seen ∷ []) in
-    let entries = ap length (entries_of-append shown.0 (seen ∷ [])) ∙ length-append (entries_of shown.0) (entries_of (seen ∷ [])) in
     let many = c.entry_count-place.ensures in
     let fewer = one.fewer (ap is_some c.in-Some.is) in
-    let steps = step_on shown.3 c.in-Some.is c.in-Some-seen_other-2.is same one.made other.made in
+    let before = all.next (omega (arith, fewer)) (omega (arith, other.fewer (ap is_some c.in-Some-seen_other-2.is))) in
+    let steps = both_step shown.3 (rw c.in-Some.is at one.made)
+    (rw (c.in-Some-seen_other-2.is, sym same) at other.made) in
     let next = c.tell.ensures.next in
     record {
       shown = (
         shown.0 ++ seen ∷ [],
         omega (arith, longer, shown.1),
-        omega (arith, entries, many, shown.2),
+        omega (arith, entry_count-append shown.0 (seen ∷ []), many, shown.2),
         steps,
       );
       few = omega (arith, all.few, fewer);
@@ -138,16 +126,7 @@ turns-preserved-then-other-gt0 g c =
       due = omega (arith, next, all.due);
       next = λ some some'. omega (arith, next, all.due);
       reached = inr (both_go_on steps c.if-one-gt0.true c.if-other-gt0.true
-          (omega (
-            arith,
-            longer,
-            shown.1,
-            next,
-            all.due,
-            c.if-is_due.true,
-            all.next (omega (arith, fewer))
-                (omega (arith, other.fewer (ap is_some c.in-Some-seen_other-2.is))),
-          )));
+          (omega (arith, longer, shown.1, next, all.due, c.if-is_due.true, before)));
       told = λ tells. c.tell.ensures.told (g.E.Sink.taken c.args.err.now) tells (all.told tells);
     }
 
@@ -159,17 +138,15 @@ turns-preserved g c =
     let other = c.turn-seen_other.ensures in
     let seen = c.in-Some.seen in
     let same = c.in_default-first_difference.ensures.equal refl in
-    let longer = length-append shown.0 (seen ∷ []) in
-    let entries = ap length (entries_of-append shown.0 (seen ∷ [])) ∙ length-append (entries_of shown.0) (entries_of (seen ∷ [])) in
     let many = c.entry_count-place.ensures in
     let fewer = one.fewer (ap is_some c.in-Some.is) in
     let before = all.next (omega (arith, fewer)) (omega (arith, other.fewer (ap is_some c.in-Some-seen_other-2.is))) in
     record {
       shown = (
         shown.0 ++ seen ∷ [],
-        omega (arith, longer, shown.1),
-        omega (arith, entries, many, shown.2),
-        step_on shown.3 c.in-Some.is c.in-Some-seen_other-2.is same one.made other.made,
+        omega (arith, length-append shown.0 (seen ∷ []), shown.1),
+        omega (arith, entry_count-append shown.0 (seen ∷ []), many, shown.2),
+        both_step shown.3 (rw c.in-Some.is at one.made) (rw (c.in-Some-seen_other-2.is, sym same) at other.made),
       );
       few = omega (arith, all.few, fewer);
       few_entries = omega (arith, all.few_entries, many, count-few seen);

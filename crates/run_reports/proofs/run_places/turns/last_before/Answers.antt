@@ -1,11 +1,10 @@
 -- Turn by turn, up to the one at whose entries the place is.
 use Rattle.std.proofs.Common.{[], ◌∷◌, ◌++◌, sym, ◌∙◌, arith}
 use Rattle.rv_machine.specs.declared.stops.Stop.TheVariants.{Budget}
-use Rattle.rv_machine.specs.Harts.{state_of}
 use Rattle.rv_machine.specs.Leakage.{stays}
-use Rattle.run_reports.proofs.run_places_lemmas.Runs.{is_last, made, fewer_here, ends_silently, ends_spent, is_going}
+use Rattle.run_reports.proofs.run_places_lemmas.Below.{entry_count-append, goes_still}
+use Rattle.run_reports.proofs.run_places_lemmas.Runs.{is_last, Leads-length, fewer_here, ends_silently, ends_spent}
 use Rattle.run_reports.proofs.run_places_lemmas.Runs.{went_on_by}
-use Rattle.run_reports.proofs.run_places_lemmas.Runs.{entries_more}
 use Rattle.run_reports.proofs.run_places.turns.last_before.Goals as goal
 
 pub loop-turns-init : goal.loop-turns-init
@@ -13,62 +12,38 @@ loop-turns-init g c = record { led = ([], stays, omega arith); before = c.requir
 
 pub returns-in_default-clause-none : goal.returns-in_default-clause-none
 returns-in_default-clause-none g c = λ none.
-    let s = state_of c.args.run.now.hart (g.M.Memory.bytes c.args.run.now.memory) in
-    let t = state_of c.loop-turns.run.hart (g.M.Memory.bytes c.loop-turns.run.memory) in
-    let u = state_of c.turn-seen.new.run.hart (g.M.Memory.bytes c.turn-seen.new.run.memory) in
     let led = c.loop-turns.invariant.led in
-    let end = ends_silently c.args.code.now c.args.run.now.turns_left s c.loop-turns.turns t led.0 led.1 u
-    c.turn-seen.result.0 c.turn-seen.result.1 c.loop-turns-test.true c.turn-seen.ensures c.in_default.is in
+    let end = ends_silently led.1 c.loop-turns-test.true c.turn-seen.ensures c.in_default.is in
     (led.0, end.0, end.1, omega (arith, led.2, c.loop-turns.invariant.before))
 
 pub returns-then-left-shown-clause-found : goal.returns-then-left-shown-clause-found
 returns-then-left-shown-clause-found g c =
-    let s = state_of c.args.run.now.hart (g.M.Memory.bytes c.args.run.now.memory) in
-    let t = state_of c.loop-turns.run.hart (g.M.Memory.bytes c.loop-turns.run.memory) in
-    let u = state_of c.turn-seen.new.run.hart (g.M.Memory.bytes c.turn-seen.new.run.memory) in
     let led = c.loop-turns.invariant.led in
-    let last = is_last c.args.code.now c.args.run.now.turns_left s c.loop-turns.turns t led.0 led.1 u
-    c.turn-seen.result.0 c.in-Some.seen c.turn-seen.result.1 c.args.place c.loop-turns-test.true
-    c.turn-seen.ensures c.in-Some.is
+    let last = is_last led.1 {place = c.args.place} c.loop-turns-test.true c.turn-seen.ensures c.in-Some.is
     (omega (arith, led.2, c.loop-turns.invariant.before))
-    (omega (arith, led.2, c.entry_count-shown.ensures, c.if-left-shown.true)) in (
-      led.0,
-      t,
-      last,
-      sym (made c.args.code.now c.args.run.now.turns_left s c.loop-turns.turns t led.0 led.1),
-      omega (arith, led.2),
-    )
+    (omega (arith, led.2, c.entry_count-shown.ensures, c.if-left-shown.true)) in
+    (led.0, _, last, sym (Leads-length led.1), omega (arith, led.2))
 
 pub returns-then-is_some-clause-none : goal.returns-then-is_some-clause-none
 returns-then-is_some-clause-none g c = λ none.
-    let s = state_of c.args.run.now.hart (g.M.Memory.bytes c.args.run.now.memory) in
-    let t = state_of c.loop-turns.run.hart (g.M.Memory.bytes c.loop-turns.run.memory) in
-    let u = state_of c.turn-seen.new.run.hart (g.M.Memory.bytes c.turn-seen.new.run.memory) in
     let led = c.loop-turns.invariant.led in
-    fewer_here c.args.code.now c.args.run.now.turns_left s c.loop-turns.turns t led.0 led.1 u c.turn-seen.result.0
-    c.in-Some.seen c.turn-seen.result.1 c.args.place c.loop-turns-test.true c.turn-seen.ensures c.in-Some.is
-    (sym c.is_some.ensures ∙ c.if-is_some.true)
+    fewer_here led.1 c.loop-turns-test.true c.turn-seen.ensures c.in-Some.is (sym c.is_some.ensures ∙ c.if-is_some.true)
     (omega (arith, led.2, c.entry_count-shown.ensures, c.if-left-shown.false))
 
 pub loop-turns-preserved : goal.loop-turns-preserved
 loop-turns-preserved g c =
-    let s = state_of c.args.run.now.hart (g.M.Memory.bytes c.args.run.now.memory) in
-    let t = state_of c.loop-turns.run.hart (g.M.Memory.bytes c.loop-turns.run.memory) in
-    let u = state_of c.turn-seen.new.run.hart (g.M.Memory.bytes c.turn-seen.new.run.memory) in
     let led = c.loop-turns.invariant.led in
     let o = c.in-Some.seen in
-    let on = went_on_by c.args.code.now c.args.run.now.turns_left s c.loop-turns.turns t led.0 led.1 u
-    c.turn-seen.result.0 o c.turn-seen.result.1 c.turn-seen.ensures c.in-Some.is
-    (is_going c.turn-seen.result.1 (sym c.is_some.ensures ∙ c.if-is_some.false)) in
+    let going = goes_still c.turn-seen.result.1 (sym c.is_some.ensures ∙ c.if-is_some.false) in
     record {
       led = (
         led.0 ++ o ∷ [],
-        on,
+        went_on_by led.1 c.turn-seen.ensures c.in-Some.is going,
         omega (
           arith,
           led.2,
           c.entry_count-shown.ensures,
-          entries_more led.0 o,
+          entry_count-append led.0 (o ∷ []),
           c.if-left-shown.false,
         ),
       );
@@ -77,12 +52,9 @@ loop-turns-preserved g c =
 
 pub returns-clause-none : goal.returns-clause-none
 returns-clause-none g c = λ none.
-    let s = state_of c.args.run.now.hart (g.M.Memory.bytes c.args.run.now.memory) in
-    let t = state_of c.loop-turns.run.hart (g.M.Memory.bytes c.loop-turns.run.memory) in
     let led = c.loop-turns.invariant.led in (
       led.0,
       Budget,
-      ends_spent c.args.code.now c.args.run.now.turns_left s c.loop-turns.turns t led.0 led.1
-          (omega (arith, c.loop-turns-test.false, c.loop-turns.auto.turns-end)),
+      ends_spent led.1 (omega (arith, c.loop-turns-test.false, c.loop-turns.auto.turns-end)),
       omega (arith, led.2, c.loop-turns.invariant.before),
     )

@@ -1,6 +1,5 @@
 -- A byte, and those above it.
-use Rattle.std.proofs.Common.{◌≡◌, ℕ, zero, suc, ◌+◌, ◌-◌, ◌^◌, ◌<◌, ◌≤◌, Some, None, refl, sym, ap, ◌∙◌, ⊎_elim, arith}
-use Rattle.std.proofs.lemmas.Bool.{cases_lt}
+use Rattle.std.proofs.Common.{◌≡◌, ℕ, zero, suc, ◌+◌, ◌-◌, ◌^◌, ◌<◌, ◌≤◌, Some, None, refl, sym, ap, ◌∙◌, arith}
 use Rattle.rv_machine.specs.Bytes.{number_at}
 use Rattle.rv_machine.specs.Paged.{paged_bytes}
 use Rattle.rv_machine.proofs.Pages.{number_at-parts, number_at-past}
@@ -21,9 +20,7 @@ returns-in_err-low-clause-number t c =
 
 pub returns-in_err-checked_add-clause-number : goal.returns-in_err-checked_add-clause-number
 returns-in_err-checked_add-clause-number t c =
-    let past : 2 ^ 32 ≤ c.args.a + 1 =
-    ⊎_elim (λ (h : c.args.a + 1 < 2 ^ 32). absurd (c.in_err-checked_add.ensures h))
-    (λ (h : 2 ^ 32 ≤ c.args.a + 1). h) (cases_lt (c.args.a + 1) (2 ^ 32)) in
+    let past : 2 ^ 32 ≤ c.args.a + 1 = omega (arith, c.in_err-checked_add.ensures) in
     c.from_residual-in_err-checked_add.ensures
     ∙ number_at-parts (paged_bytes c.args.self.now) c.args.count c.args.a (Some c.in_ok-low.low) None c.requires.some
     c.in_ok-low.ensures.number

@@ -3,17 +3,17 @@ use Rattle.std.specs.Prelude.{is_some}
 use Rattle.std.proofs.Common.{◌≡◌, ℕ, zero, suc, ◌+◌, ◌-◌, ◌/◌, ◌≤◌, true, refl, sym, ap, ◌∙◌, arith}
 use Rattle.rv_machine.specs.Bytes.{ByteMap, number_at, with_number}
 use Rattle.rv_machine.specs.Paged.{paged_bytes}
-use Rattle.rv_machine.proofs.ByteLaws.{joined_parts, number_at-suc, with_number_below}
+use Rattle.rv_machine.proofs.ByteLaws.{joined_parts, with_number_below}
 use Rattle.rv_machine.proofs.SizedNumbers.{put_below}
 use Rattle.rv_machine.proofs.paged.PagedMemory.+put_byte_by_byte.Goals as goal
 
 there : (bytes : ByteMap) (count a : ℕ) → 1 ≤ count → is_some (number_at bytes count a) ≡ true
     → (is_some (bytes a) ≡ true) × (is_some (number_at bytes (count - 1) (a + 1)) ≡ true)
+unfolding number_at
 there bytes zero a some whole = absurd (omega arith)
 there bytes (suc n) a some whole =
-    let parts = joined_parts (bytes a) (number_at bytes n (a + 1)) (ap is_some (sym (number_at-suc bytes n a)) ∙ whole) in
     let rest : suc n - 1 ≡ n = omega arith in
-    (parts.0, ap (λ k. is_some (number_at bytes k (a + 1))) rest ∙ parts.1)
+    rw rest (joined_parts (bytes a) (number_at bytes n (a + 1)) whole)
 
 pub returns-then-count-eq1 : goal.returns-then-count-eq1
 returns-then-count-eq1 t c =

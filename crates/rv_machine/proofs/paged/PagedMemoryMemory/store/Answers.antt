@@ -6,45 +6,30 @@ use Rattle.rv_machine.specs.Sizes.{byte_count}
 use Rattle.rv_machine.proofs.Pages.{first_at, number_at-page, with_number-page, set-same}
 use Rattle.rv_machine.proofs.paged.PagedMemoryMemory.store.Goals as goal
 
-pub returns-then-store-clause-answer : goal.returns-then-store-clause-answer
-returns-then-store-clause-answer c =
+pub returns-then-store : goal.returns-then-store
+returns-then-store c =
     let items = c.args.self.now.pages.items in
     let page = c.index_mut-page.result.now in
+    let n = byte_count c.args.n in
     let at = first_at c.args.self.now page c.index_mut-page.ensures.value in
     let whole = sym c.store.ensures.answer ∙ c.if-store.true in
-    sym (ap is_some (number_at-page items 0 page (byte_count c.args.n) c.args.a at (λ x low high. refl) whole)
-    ∙ whole)
+    record {
+      answer = sym (ap is_some (number_at-page items 0 page n c.args.a at (λ x low high. refl) whole) ∙ whole);
+      stored = λ _. with_number-page items 0 page c.store.new.self n c.args.a c.args.v at (λ x low high. refl)
+          (c.store.ensures.stored c.if-store.true);
+      unchanged = λ nowhere. cc;
+    }
 
-pub returns-then-store-clause-stored : goal.returns-then-store-clause-stored
-returns-then-store-clause-stored c = λ _.
+pub returns : goal.returns
+returns c =
     let items = c.args.self.now.pages.items in
     let page = c.index_mut-page.result.now in
-    let at = first_at c.args.self.now page c.index_mut-page.ensures.value in
-    let whole = sym c.store.ensures.answer ∙ c.if-store.true in
-    with_number-page items 0 page c.store.new.self (byte_count c.args.n) c.args.a c.args.v at (λ x low high. refl)
-    whole (c.store.ensures.stored c.if-store.true)
-
-pub returns-clause-answer : goal.returns-clause-answer
-returns-clause-answer c =
-    let items = c.args.self.now.pages.items in
-    let page = c.index_mut-page.result.now in
+    let n = byte_count c.args.n in
     let at = first_at c.args.self.now page c.index_mut-page.ensures.value in
     let same = set-same items 0 page c.store.new.self at (c.store.ensures.unchanged c.if-store.false) in
-    c.store_anywhere.ensures.answer ∙ ap (λ (m : ByteMap). is_some (number_at m (byte_count c.args.n) c.args.a)) same
-
-pub returns-clause-stored : goal.returns-clause-stored
-returns-clause-stored c = λ there.
-    let items = c.args.self.now.pages.items in
-    let page = c.index_mut-page.result.now in
-    let at = first_at c.args.self.now page c.index_mut-page.ensures.value in
-    let same = set-same items 0 page c.store.new.self at (c.store.ensures.unchanged c.if-store.false) in
-    c.store_anywhere.ensures.stored there
-    ∙ ap (λ (m : ByteMap). with_number m (byte_count c.args.n) c.args.a c.args.v) same
-
-pub returns-clause-unchanged : goal.returns-clause-unchanged
-returns-clause-unchanged c = λ nowhere.
-    let items = c.args.self.now.pages.items in
-    let page = c.index_mut-page.result.now in
-    let at = first_at c.args.self.now page c.index_mut-page.ensures.value in
-    let same = set-same items 0 page c.store.new.self at (c.store.ensures.unchanged c.if-store.false) in
-    c.store_anywhere.ensures.unchanged nowhere ∙ same
+    record {
+      answer = c.store_anywhere.ensures.answer ∙ ap (λ (m : ByteMap). is_some (number_at m n c.args.a)) same;
+      stored = λ there. c.store_anywhere.ensures.stored there
+          ∙ ap (λ (m : ByteMap). with_number m n c.args.a c.args.v) same;
+      unchanged = λ nowhere. c.store_anywhere.ensures.unchanged nowhere ∙ same;
+    }

@@ -1,9 +1,8 @@
 -- The plan of a turn is one more turn of the run.
-use Rattle.std.proofs.Common.{◌≡◌, ◌-◌, suc, [], ◌∷◌, Some, is_some, cond, sym, ap, subst, ◌∙◌, arith}
+use Rattle.std.proofs.Common.{◌≡◌, ◌-◌, suc, [], ◌∷◌, Some, is_some, cond, sym, ap, ◌∙◌, arith}
 use Rattle.rv_machine.specs.declared.stops.Stop.TheVariants.{RecorderRefused}
 use Rattle.rv_machine.specs.Harts.{state_of}
 use Rattle.rv_machine.specs.Machine.{observed}
-use Rattle.rv_machine.specs.Progress.{Makes}
 use Rattle.rv_machine.proofs.Progressing.{turn_makes}
 use Rattle.rv_machine.proofs.running.Running.make.Goals.{then-is_some, else-is_some}
 use Rattle.rv_machine.proofs.running.Running.make.Goals as goal
@@ -24,7 +23,6 @@ returns-clause-made g c = λ code turn.
       | then-is_some w ↦ w.self-is ∙ sym (ap (λ b. cond b 0 left) (sym c.is_some.ensures ∙ w.if-is_some.true))
       | else-is_some w ↦ w.self-is ∙ sym (ap (λ b. cond b 0 left) (sym c.is_some.ensures ∙ w.if-is_some.false))
     ] in
-    subst (λ n. Makes code n s (Some (record { pc = c.pc.result; event = event })) left' t) more
-    (subst (λ p. Makes code (suc left) s (Some (record { pc = p; event = event })) left' t) (sym c.pc.ensures)
+    rw (sym more, c.pc.ensures)
     (turn_makes code left left' s t _ c.apply-stop.result (observed s event ∷ []) turn
-    (c.apply-stop.ensures.done event) calm is))
+    (c.apply-stop.ensures.done event) calm is)

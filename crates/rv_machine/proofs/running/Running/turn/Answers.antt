@@ -1,18 +1,17 @@
 -- What is shown after a turn follows what the turn shows.
-use Rattle.std.proofs.Common.{◌≡◌, ◌-◌, suc, None, subst, arith}
+use Rattle.std.proofs.Common.{◌≡◌, ◌-◌, suc, arith}
 use Rattle.rv_machine.specs.Harts.{state_of}
 use Rattle.rv_machine.specs.Regions.{code_of}
-use Rattle.rv_machine.specs.Progress.{Makes, finishes}
+use Rattle.rv_machine.specs.Progress.{finishes}
 use Rattle.rv_machine.proofs.Progressing.{no_turn_makes}
 use Rattle.rv_machine.proofs.Shown.{makes_shows}
 use Rattle.rv_machine.proofs.running.Running.turn.Goals as goal
 
 pub returns-in_default-clause-made : goal.returns-in_default-clause-made
 returns-in_default-clause-made g c =
-    let begun = c.args.self.now in
-    let s = state_of begun.hart (g.M.Memory.bytes begun.memory) in
-    let more : suc (begun.turns_left - 1) ≡ begun.turns_left = omega arith in
-    subst (λ n. Makes (code_of c.args.code.now) n s None 0 s) more (finishes c.in_default.ensures.nowhere)
+    let left = c.args.self.now.turns_left in
+    let more : left ≡ suc (left - 1) = omega arith in
+    rw more (finishes c.in_default.ensures.nowhere)
 
 pub returns-clause-made : goal.returns-clause-made
 returns-clause-made g c = c.make.ensures.made (code_of c.args.code.now) c.in-Ok.ensures.turn

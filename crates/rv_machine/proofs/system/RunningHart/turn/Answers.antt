@@ -1,12 +1,11 @@
 -- A turn of one hart is what one call of the machine makes of it.
-use Rattle.std.proofs.Common.{true, List, [], sym, ap, ◌∙◌, subst}
+use Rattle.std.proofs.Common.{true, List, sym, ap, ◌∙◌}
 use Rattle.std.specs.Prelude.{slice_get}
 use Rattle.rv_machine.specs.declared.observation.Observation.{Observation}
 use Rattle.rv_machine.specs.Harts.{state_of}
-use Rattle.rv_machine.specs.Leakage.{followed_by}
 use Rattle.rv_machine.specs.Recording.{kept}
 use Rattle.rv_machine.specs.RunningHarts.{member_now}
-use Rattle.rv_machine.specs.System.{MemberTurn, rests}
+use Rattle.rv_machine.specs.System.{rests}
 use Rattle.rv_machine.proofs.SystemLaws.{has_stopped, goes_still, member_turn_made}
 use Rattle.rv_machine.proofs.system.RunningHart.turn.Goals as goal
 
@@ -24,8 +23,5 @@ returns g c =
     let list = turn.2.2 ∙ ap (λ (xs : List Observation). kept true xs seen) c.new-recorder.ensures.empty in
     let first = c.first.ensures ∙ ap (λ (xs : List Observation). slice_get xs 0) list in
     let running = goes_still begun.stop (sym c.is_some.ensures ∙ c.if-is_some.false) in
-    subst (λ o. MemberTurn bytes (member_now begun) (followed_by o []) t.bytes
-    (member_now (record { hart = c.step-self.new.hart; code = begun.code; stop = c.step-self.result })))
-    (sym first)
-    (member_turn_made bytes (member_now begun) t turn.0 c.step-self.result seen running turn.1 turn.2.1
+    rw first (member_turn_made bytes (member_now begun) t turn.0 c.step-self.result seen running turn.1 turn.2.1
     (c.step-self.ensures.ready 0 c.new-recorder.ensures.ready))

@@ -1,17 +1,17 @@
 -- A schedule, an entry at a time.
-use Rattle.std.proofs.Common.{◌≡◌, ◌<◌, List, [], get_or, length, map, refl, sym, ap, ◌∙◌, subst}
+use Rattle.std.proofs.Common.{◌≡◌, ◌<◌, [], length, map, refl, sym, ap, ◌∙◌}
 use Rattle.std.proofs.lemmas.List.{length-map}
 use Rattle.std.proofs.lemmas.List.Elements.{All-get_or}
-use Rattle.rv_machine.specs.RunningHarts.{member_now, system_now, CutShort}
+use Rattle.rv_machine.specs.RunningHarts.{member_now}
 use Rattle.rv_machine.specs.System.{done}
-use Rattle.rv_machine.specs.declared.hart_recording.HartObservation.{HartObservation}
-use Rattle.rv_machine.proofs.SystemLaws.{kept_of-nothing, Followed-more, Followed-short, on_err}
+use Rattle.rv_machine.proofs.Calls.{kept-nothing}
+use Rattle.rv_machine.proofs.SystemLaws.{Followed-more, Followed-short, on_err}
 use Rattle.rv_machine.proofs.system.RunningHarts.follow.Goals.{in-Some+in_ok-note, in_default}
 use Rattle.rv_machine.proofs.system.RunningHarts.follow.Goals as goal
 
 pub loop-number-init : goal.loop-number-init
 loop-number-init g c = record {
-  followed = ([], done, sym (kept_of-nothing g.R.HartRecorder.KEEPS (g.R.HartRecorder.list c.args.recorder.now)));
+  followed = ([], done, sym (kept-nothing g.R.HartRecorder.KEEPS (g.R.HartRecorder.list c.args.recorder.now)));
   calm = refl;
   count = refl;
 }
@@ -19,26 +19,18 @@ loop-number-init g c = record {
 pub turn-requires : goal.turn-requires
 turn-requires g c =
     let n = length c.args.self.now.harts.items in
-    let inside : get_or c.args.schedule.now c.loop-number.number-index 0 < n =
-    All-get_or (λ number. number < n) c.args.schedule.now c.loop-number.number-index 0 c.loop-number-test.true
-    c.requires in
-    subst (λ m. get_or c.args.schedule.now c.loop-number.number-index 0 < m)
-    (sym c.loop-number.invariant.count) inside
+    rw c.loop-number.invariant.count
+    (All-get_or (λ number. number < n) c.args.schedule.now c.loop-number.number-index 0 c.loop-number-test.true c.requires)
 
 pub returns-in_err-note-clause-cut_short : goal.returns-in_err-note-clause-cut_short
 returns-in_err-note-clause-cut_short g c =
     let items = c.args.self.now.harts.items in
     let now = c.turn.new.self.harts.items in
-    let P : List HartObservation → Type 0 =
-    λ list. CutShort g.R.HartRecorder.KEEPS c.args.schedule.now
-    (system_now items (g.M.Memory.bytes c.args.self.now.memory))
-    (g.R.HartRecorder.list c.args.recorder.now) list in
     let count : length items ≡ length (map member_now now) = sym c.loop-number.invariant.count
     ∙ sym c.turn.ensures.count ∙ sym (length-map now member_now) in
-    let short = Followed-short g.R.HartRecorder.KEEPS c.args.schedule.now c.loop-number.number-index
-    c.loop-number-test.true _ _ _ _ _ _ c.loop-number.invariant.followed c.turn.ensures.turn (length items)
-    count c.requires in
-    on_err c.from_residual.result (subst P (sym c.in_err-note.ensures.refused) short)
+    on_err c.from_residual.result (rw c.in_err-note.ensures.refused
+    (Followed-short g.R.HartRecorder.KEEPS c.args.schedule.now c.loop-number.number-index c.loop-number-test.true
+    _ _ _ _ _ _ c.loop-number.invariant.followed c.turn.ensures.turn (length items) count c.requires))
 
 pub loop-number-preserved : goal.loop-number-preserved
 loop-number-preserved g c =
@@ -59,7 +51,7 @@ loop-number-preserved g c =
       | in_default w ↦ record {
         followed = Followed-more keeps schedule i c.loop-number-test.true _ _ _ _ _ _ before.followed
             w.in_default.ensures.turn _ (ap list w.recorder-is
-            ∙ sym (kept_of-nothing keeps (list c.loop-number.recorder)));
+            ∙ sym (kept-nothing keeps (list c.loop-number.recorder)));
         calm = ap refusals w.recorder-is ∙ before.calm;
         count = count;
       }
