@@ -23,14 +23,14 @@ use Rattle.rv_machine.proofs.Calls.{kept-append}
 use Rattle.rv_machine.proofs.Shown.{first_alone}
 use Rattle.rv_machine.proofs.TotalLaws.{turn_of_state, turn_stops}
 
--- whether it has stopped
-pub has_stopped : (stop : Option Stop) → is_some stop ≡ true → (why : Stop) × (stop ≡ Some why)
-has_stopped (Some why) is = (why, refl)
-has_stopped None is = cc
+-- what is there, and what is not
+pub some_of : {A : Type 0} (o : Option A) → is_some o ≡ true → (x : A) × (o ≡ Some x)
+some_of (Some x) is = (x, refl)
+some_of None is = cc
 
-pub goes_still : (stop : Option Stop) → is_some stop ≡ false → stop ≡ None
-goes_still (Some why) is = cc
-goes_still None is = refl
+pub none_of : {A : Type 0} (o : Option A) → is_some o ≡ false → o ≡ None
+none_of (Some x) is = cc
+none_of None is = refl
 
 -- A turn.
 

@@ -1,7 +1,8 @@
 -- Cells with one mark more.
-use Rattle.std.proofs.Common.{◌≡◌, ℕ, ◌<◌, ◌==◌, ◌&&◌, ◌||◌, Bool, true, false, List, [], ◌∷◌, ◌++◌, length, get_or}
-use Rattle.std.proofs.Common.{set, replicate, append_assoc, refl, sym, ap, ◌∙◌, arith, inl, inr}
+use Rattle.std.proofs.Common.{◌≡◌, ℕ, ◌<◌, ◌==◌, ◌&&◌, ◌||◌, Bool, false, List, [], ◌∷◌, ◌++◌, length, get_or, set}
+use Rattle.std.proofs.Common.{replicate, append_assoc, sym, ap, ◌∙◌, arith, inl, inr}
 use Rattle.std.proofs.lemmas.Bool.{eq-eqb, ne_eqb, cases_eq}
+use Rattle.std.proofs.Math.Bool.{or-false}
 use Rattle.std.proofs.lemmas.List.{length-set, length-replicate, get_or-set_same, get_or-set_other, get_or-replicate}
 use Rattle.std.proofs.lemmas.List.{get_or_read}
 use Rattle.std.proofs.lemmas.List.Folds.{list_any-append}
@@ -26,17 +27,6 @@ pub adds_then : {axes axes' : Axes} {first second : List Mark} {old mid new : Li
 adds_then {first = first} same one two before grid =
     rw (append_assoc, same) at (two (before ++ first) (rw same (one before grid)))
 
-or_last : (x here y : Bool) → here ≡ true → (x || (here && y || false)) ≡ (x || y)
-or_last true here y is = refl
-or_last false true true is = refl
-or_last false true false is = refl
-or_last false false y is = cc
-
-or_nothing : (x here y : Bool) → here ≡ false → (x || (here && y || false)) ≡ x
-or_nothing true here y is = refl
-or_nothing false false y is = refl
-or_nothing false true y is = cc
-
 module _ (axes : Axes) (before : List Mark) (mark : Mark) where
   more : (number : ℕ) (this : Cell → Bool) → has axes (before ++ mark ∷ []) number this
       ≡ (has axes before number this || (cell_number axes mark == number && this mark.cell || false))
@@ -45,16 +35,12 @@ module _ (axes : Axes) (before : List Mark) (mark : Mark) where
   -- in its own cell
   here : (number : ℕ) → cell_number axes mark ≡ number → (this : Cell → Bool)
       → (has axes before number this || this mark.cell) ≡ has axes (before ++ mark ∷ []) number this
-  here number is this =
-      sym (more number this ∙ or_last (has axes before number this) (cell_number axes mark == number) (this mark.cell)
-      (eq-eqb (cell_number axes mark) number is))
+  here number is this = rw (more number this, eq-eqb (cell_number axes mark) number is, or-false)
 
   -- in another
   there : (number : ℕ) → (cell_number axes mark ≡ number → ⊥) → (this : Cell → Bool)
       → has axes before number this ≡ has axes (before ++ mark ∷ []) number this
-  there number is this =
-      sym (more number this ∙ or_nothing (has axes before number this) (cell_number axes mark == number)
-      (this mark.cell) (ne_eqb (cell_number axes mark) number is))
+  there number is this = rw (more number this, ne_eqb (cell_number axes mark) number is, or-false)
 
   cell_here : (number : ℕ) → cell_number axes mark ≡ number
       → joined (cell_of axes before number) mark.cell ≡ cell_of axes (before ++ mark ∷ []) number

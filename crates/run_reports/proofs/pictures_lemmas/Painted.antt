@@ -1,13 +1,13 @@
 -- What runs show from a later state on, and what they show from the first on.
-use Rattle.std.proofs.Common.{◌≡◌, ℕ, zero, ◌+◌, ◌≤◌, ◌<◌, List, [], ◌∷◌, ◌++◌, true, false, Option, Some, None}
-use Rattle.std.proofs.Common.{is_some, length, append_assoc, append-nil, refl, sym, ap, ◌∙◌, arith}
+use Rattle.std.proofs.Common.{◌≡◌, ℕ, ◌+◌, ◌≤◌, ◌<◌, List, [], ◌∷◌, ◌++◌, true, Option, Some, None, is_some, length}
+use Rattle.std.proofs.Common.{append_assoc, append-nil, refl, sym, ap, ◌∙◌, arith}
 use Rattle.std.proofs.lemmas.Option.{none-some}
 use Rattle.rv_machine.specs.declared.observation.Observation.{Observation}
-use Rattle.rv_machine.specs.declared.stops.Stop.{Stop}
 use Rattle.rv_machine.specs.declared.stops.Stop.TheVariants.{Budget}
-use Rattle.rv_machine.specs.Leakage.{stays, halts, Runs, halted, cut_short, spent, IsShown, followed_by}
+use Rattle.rv_machine.specs.Leakage.{stays, spent, IsShown, followed_by}
 use Rattle.rv_machine.specs.Machine.{State, Code}
 use Rattle.rv_machine.proofs.RunLaws.{Runs-determined}
+use Rattle.rv_machine.proofs.Shown.{runs_no_turns}
 use Rattle.run_reports.specs.pictures.Grid.{IsGrid}
 use Rattle.run_reports.specs.pictures.Marks.{marks_of_both, marks_from}
 use Rattle.run_reports.specs.pictures.private.Added.{Adds}
@@ -16,10 +16,6 @@ use Rattle.run_reports.specs.declared.pictures.cells.Cell.{Cell}
 use Rattle.run_reports.specs.declared.pictures.cells.Mark.{Mark}
 
 -- whether something is shown
-pub none_shown : (o : Option Observation) → is_some o ≡ false → o ≡ None
-none_shown None is = refl
-none_shown (Some o) is = cc
-
 pub some_shown : (o : Option Observation) → is_some o ≡ true → o ≡ None → ⊥
 some_shown None is none = cc
 some_shown (Some o) is none = none-some o (sym none)
@@ -33,15 +29,9 @@ fewer_left (Some o) None fewer fewer' none none' some = omega (arith, fewer refl
 fewer_left None (Some p) fewer fewer' none none' some = omega (arith, none refl, fewer' refl)
 fewer_left None None fewer fewer' none none' some = absurd (some (refl, refl))
 
--- no steps show nothing
-no_steps : {code : Code} {s t : State} {seen : List Observation} {stop : Stop} → Runs code zero s seen stop t
-    → seen ≡ []
-no_steps (halted within (halts first end is)) = absurd (omega arith)
-no_steps (cut_short within first end shows) = absurd (omega arith)
-no_steps (spent stays) = refl
-
+-- where no steps are left, nothing is shown
 ended_shows : {code : Code} {n : ℕ} {s : State} {seen : List Observation} → n ≡ 0 → IsShown code n s seen → seen ≡ []
-ended_shows none shown = no_steps (rw none at shown.2)
+ended_shows none shown = runs_no_turns (rw none at shown.2)
 
 ended : {code : Code} {n : ℕ} {s : State} → n ≡ 0 → IsShown code n s []
 ended {s = s} none = rw none (Budget, s, spent stays, λ e. cc)

@@ -12,7 +12,7 @@ use Rattle.rv_machine.specs.Entries.{Entry, entries_of}
 use Rattle.rv_machine.specs.Leakage.{Leads, stays, turns, halts, Runs, halted, spent}
 use Rattle.rv_machine.specs.Machine.{State, Code, goes_on, stops, Turn}
 use Rattle.run_reports.proofs.run_places_lemmas.Below.{Leads-more, entries_of-append, entry_count-append, Runs-more}
-use Rattle.run_reports.proofs.run_places_lemmas.Below.{turn_stops, has_stopped, run_of_state, stopped_at, went_to}
+use Rattle.run_reports.proofs.run_places_lemmas.Below.{turn_stops, some_of, run_of_state, stopped_at, went_to}
 use Rattle.run_reports.specs.run_places.Places.{Ends, ShowsNext, IsLastBefore, ShowsFewer}
 use Rattle.run_reports.specs.run_places.Shown.{entry_or_stop, shown_entry, ShowsAt}
 use Rattle.rv_machine.specs.Turned.{listed, Turned}
@@ -102,7 +102,7 @@ module _ {code : Code} {budget : ℕ} {s : State} {k : ℕ} {t : State} {seen : 
       → k < budget → Turned code t last answer u → last ≡ Some o → is_some answer ≡ true
       → length (entries_of seen) + length (entries_of (o ∷ [])) < place → ShowsFewer code budget s place
   fewer_here {u} {o = o} {answer = answer} within turned is ended few =
-      let stop = has_stopped answer ended in
+      let stop = some_of answer ended in
       let turn = stopped_at code t u (Some o) answer stop.0 (rw is at turned) stop.1 in
       (seen ++ o ∷ [], stop.0, ends_here within turn, omega (arith, entry_count-append seen (o ∷ []), few))
 

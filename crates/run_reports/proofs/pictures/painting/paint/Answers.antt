@@ -1,6 +1,6 @@
 use Rattle.std.proofs.Common.{◌≡◌, None, refl, arith, ◌∙◌}
-use Rattle.run_reports.proofs.pictures_lemmas.Painted.{none_shown, some_shown, fewer_left, paint_begins, paint_on}
-use Rattle.run_reports.proofs.pictures_lemmas.Painted.{paint_ends}
+use Rattle.rv_machine.proofs.SystemLaws.{none_of}
+use Rattle.run_reports.proofs.pictures_lemmas.Painted.{some_shown, fewer_left, paint_begins, paint_on, paint_ends}
 use Rattle.run_reports.proofs.pictures.painting.paint.Goals.{else-is_none-via-then-is_none+else-is_none-2}
 use Rattle.run_reports.proofs.pictures.painting.paint.Goals.{else-is_none-via-else-is_none}
 use Rattle.run_reports.proofs.pictures.painting.paint.Goals as goal
@@ -10,8 +10,8 @@ steps-init g c = record { painted = paint_begins c.requires.empty; few = omega a
 
 pub returns-then-is_none-2-clause-painted : goal.returns-then-is_none-2-clause-painted
 returns-then-is_none-2-clause-painted g c =
-    let one : c.turn-seen.result ≡ None = none_shown c.turn-seen.result c.if-is_none.ensures in
-    let other : c.turn-seen_other.result ≡ None = none_shown c.turn-seen_other.result c.if-is_none-2.ensures in
+    let one : c.turn-seen.result ≡ None = none_of c.turn-seen.result c.if-is_none.ensures in
+    let other : c.turn-seen_other.result ≡ None = none_of c.turn-seen_other.result c.if-is_none-2.ensures in
     paint_ends c.steps.invariant.painted one other (c.turn-seen.ensures.ended one)
     (c.turn-seen_other.ensures.ended other) c.turn-seen.ensures.shown c.turn-seen_other.ensures.shown
 

@@ -2,7 +2,7 @@
 use Rattle.std.proofs.Common.{[], ◌∷◌, ◌++◌, sym, ◌∙◌, arith}
 use Rattle.rv_machine.specs.declared.stops.Stop.TheVariants.{Budget}
 use Rattle.rv_machine.specs.Leakage.{stays}
-use Rattle.run_reports.proofs.run_places_lemmas.Below.{entry_count-append, goes_still}
+use Rattle.run_reports.proofs.run_places_lemmas.Below.{entry_count-append, none_of}
 use Rattle.run_reports.proofs.run_places_lemmas.Runs.{is_last, Leads-length, fewer_here, ends_silently, ends_spent}
 use Rattle.run_reports.proofs.run_places_lemmas.Runs.{went_on_by}
 use Rattle.run_reports.proofs.run_places.turns.last_before.Goals as goal
@@ -34,7 +34,7 @@ pub loop-turns-preserved : goal.loop-turns-preserved
 loop-turns-preserved g c =
     let led = c.loop-turns.invariant.led in
     let o = c.in-Some.seen in
-    let going = goes_still c.turn-seen.result.1 (sym c.is_some.ensures ∙ c.if-is_some.false) in
+    let going = none_of c.turn-seen.result.1 (sym c.is_some.ensures ∙ c.if-is_some.false) in
     record {
       led = (
         led.0 ++ o ∷ [],

@@ -1,6 +1,5 @@
 -- Bytes are data exactly where all of them lie in the stretch.
-use Rattle.std.proofs.Common.{◌≤◌, ◌<◌, arith, sym, ap, is_some, ⊎_elim}
-use Rattle.std.proofs.lemmas.Bool.{cases_lt}
+use Rattle.std.proofs.Common.{◌≤◌, arith, sym, ap, is_some}
 use Rattle.rv_machine.specs.Sizes.{byte_count}
 use Rattle.rv_machine.proofs.Stretch.{some_bytes, number_outside, number_within}
 use Rattle.rv_machine.proofs.flat.FlatMemory.place.Goals as goal
@@ -8,12 +7,14 @@ use Rattle.rv_machine.proofs.flat.FlatMemory.place.Goals as goal
 -- an address below the base is too far from it
 from_base : (c : goal.Then-start-bytes) → c.args.self.now.base ≤ c.args.a
 from_base c =
-    let m = c.args.self.now in
-    let some = some_bytes c.args.n in
-    let ends = m.ends in
-    ⊎_elim (λ (low : c.args.a < m.base).
-    absurd (omega (arith, low, some, ends, c.if-start-bytes.true, c.bytes.ensures, c.len.ensures)))
-    (λ (le : m.base ≤ c.args.a). le) (cases_lt c.args.a m.base)
+    omega (
+      arith,
+      some_bytes c.args.n,
+      c.args.self.now.ends,
+      c.if-start-bytes.true,
+      c.bytes.ensures,
+      c.len.ensures,
+    )
 
 pub returns-then-start-bytes-clause-found : goal.returns-then-start-bytes-clause-found
 returns-then-start-bytes-clause-found c =

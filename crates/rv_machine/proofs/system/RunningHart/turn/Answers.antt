@@ -6,12 +6,12 @@ use Rattle.rv_machine.specs.Harts.{state_of}
 use Rattle.rv_machine.specs.Recording.{kept}
 use Rattle.rv_machine.specs.RunningHarts.{member_now}
 use Rattle.rv_machine.specs.System.{rests}
-use Rattle.rv_machine.proofs.SystemLaws.{has_stopped, goes_still, member_turn_made}
+use Rattle.rv_machine.proofs.SystemLaws.{some_of, none_of, member_turn_made}
 use Rattle.rv_machine.proofs.system.RunningHart.turn.Goals as goal
 
 pub returns-then-is_some : goal.returns-then-is_some
 returns-then-is_some g c =
-    rests (has_stopped c.args.self.now.stop (sym c.is_some.ensures ∙ c.if-is_some.true)).1
+    rests (some_of c.args.self.now.stop (sym c.is_some.ensures ∙ c.if-is_some.true)).1
 
 pub returns : goal.returns
 returns g c =
@@ -22,6 +22,6 @@ returns g c =
     let seen = turn.2.0 in
     let list = turn.2.2 ∙ ap (λ (xs : List Observation). kept true xs seen) c.new-recorder.ensures.empty in
     let first = c.first.ensures ∙ ap (λ (xs : List Observation). slice_get xs 0) list in
-    let running = goes_still begun.stop (sym c.is_some.ensures ∙ c.if-is_some.false) in
+    let running = none_of begun.stop (sym c.is_some.ensures ∙ c.if-is_some.false) in
     rw first (member_turn_made bytes (member_now begun) t turn.0 c.step-self.result seen running turn.1 turn.2.1
     (c.step-self.ensures.ready 0 c.new-recorder.ensures.ready))
