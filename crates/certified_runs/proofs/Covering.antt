@@ -1,7 +1,7 @@
 -- What is known keeps covering: registers, bytes, and the turn of each kind of instruction.
 use Rattle.std.specs.Prelude.{nat_eq, is_some, ◌&&◌}
 use Rattle.std.proofs.Common.{◌≡◌, ℕ, zero, suc, ◌+◌, ◌%◌, Bool, true, false, cond, List, Option, Some, None, refl, sym}
-use Rattle.std.proofs.Common.{ap, ◌∙◌, subst}
+use Rattle.std.proofs.Common.{ap, ◌∙◌}
 use Rattle.std.proofs.lemmas.Bool.{and_parts}
 use Rattle.std.proofs.lemmas.Option.{same_Some}
 use Rattle.rv_code.specs.declared.instructions.Instr.{Instr}
@@ -91,12 +91,9 @@ either_kept false one other = other
 abbrev changed : Known → State → (ℕ → Bool) → (ℕ → Bool) → Known
 changed k t registers bytes = record { state = t; registers = registers; bytes = bytes; shifts = k.shifts }
 
--- a state at a program counter, and at the same one
-abbrev pub at_place : ℕ → (ℕ → ℕ) → ByteMap → State
-at_place pc regs bytes = record { pc = pc; regs = regs; bytes = bytes }
-
-abbrev pub at_same_place : Known → (ℕ → ℕ) → ByteMap → State
-at_same_place k regs bytes = at_place k.state.pc regs bytes
+-- a state at the same program counter
+abbrev at_same_place : Known → (ℕ → ℕ) → ByteMap → State
+at_same_place k regs bytes = record { pc = k.state.pc; regs = regs; bytes = bytes }
 
 module _ (k : Known) (regs : ℕ → ℕ) (bytes : ByteMap) (covers : Covers k (at_same_place k regs bytes)) where
   value_covered : (rd v v' : ℕ) (now : Bool) → (now ≡ true → v' ≡ v)
@@ -236,9 +233,7 @@ pub turn_kept : (k : Known) (s : State) → Covers k s → (profile : Profile) (
     → IsKept i k (ending_of profile (effect_of i k.state.pc k.state.regs) k.state)
     (ending_of profile (effect_of i s.pc s.regs) s)
 turn_kept k s covers profile i h =
-    let same : s ≡ at_same_place k s.regs s.bytes = ap (λ (pc : ℕ). at_place pc s.regs s.bytes) covers.pc in
+    let same : s ≡ at_same_place k s.regs s.bytes = rw (sym covers.pc) in
     let there : Covers k (at_same_place k s.regs s.bytes) =
     record { pc = refl; registers = covers.registers; extent = covers.extent; bytes = covers.bytes } in
-    subst (λ (t : State). IsKept i k (ending_of profile (effect_of i k.state.pc k.state.regs) k.state)
-    (ending_of profile (effect_of i t.pc t.regs) t)) (sym same)
-    (effect_kept k s.regs s.bytes there profile i h)
+    rw same (effect_kept k s.regs s.bytes there profile i h)

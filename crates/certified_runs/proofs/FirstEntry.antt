@@ -1,5 +1,5 @@
 -- The turn that may differ shows its program counter first, whatever is unknown.
-use Rattle.std.proofs.Common.{◌≡◌, ◌≢◌, ℕ, suc, List, [], ◌∷◌, ◌++◌, None, refl, sym, ap, ◌∙◌, subst}
+use Rattle.std.proofs.Common.{◌≡◌, ◌≢◌, ℕ, suc, List, [], ◌∷◌, ◌++◌, None, refl, ap, ◌∙◌, subst}
 use Rattle.rv_machine.specs.declared.observation.Observation.{Observation}
 use Rattle.rv_machine.specs.declared.stops.Stop.{Stop}
 use Rattle.rv_machine.specs.declared.stops.Stop.TheVariants.{RecorderRefused}
@@ -10,7 +10,7 @@ use Rattle.rv_machine.specs.Machine.{State, Code, Ending, observed, Turn}
 use Rattle.certified_runs.proofs.Below.{IsOwn, goes_own, stops_own, effect_own, Runs-determined, entries_of-append}
 use Rattle.certified_runs.proofs.Below.{Runs-more, Runs-stop, run_of_state}
 use Rattle.certified_runs.specs.Known.{Known, Covers}
-use Rattle.certified_runs.specs.Certified.{KnownTurn, undecided, depends, may_differ, CertifiedRun, cut, turns}
+use Rattle.certified_runs.specs.Certified.{undecided, may_differ, CertifiedRun, cut, turns}
 use Rattle.certified_runs.proofs.Runs.{turn_at, leads_kept}
 
 -- a run that shows this list, and then an observation with this program counter
@@ -27,15 +27,11 @@ begins_run {code} {s} n turn (goes_own {shown = shown} {t = t}) =
 begins_run {s = s} n turn (stops_own {stop = stop} calm more) =
     (observed s None, [], stop, s, refl, Runs-stop turn, calm)
 
-at_program_counter : (code : Code) (n : ℕ) (k : Known) (s : State) → Covers k s → KnownTurn code k depends
-    → RunsPast code (suc n) s [] k.state.pc
-at_program_counter code n k s covers (undecided i at unknown) =
-    subst (RunsPast code (suc n) s []) covers.pc
-    (begins_run n (turn_at code k s covers i at) (effect_own code.profile (effect_of i s.pc s.regs) s))
-
 pub runs_past : {code : Code} {budget : ℕ} {k : Known} {s : State} {seen : List Observation} {pc : ℕ}
     → CertifiedRun code budget k seen (may_differ pc) → Covers k s → RunsPast code budget s seen pc
-runs_past {code} {s = s} (cut {n = n} {k = k} turn) covers = at_program_counter code n k s covers turn
+runs_past {code} {s = s} (cut {n = n} {k = k} (undecided i at unknown)) covers =
+    subst (RunsPast code (suc n) s []) covers.pc
+    (begins_run n (turn_at code k s covers i at) (effect_own code.profile (effect_of i s.pc s.regs) s))
 runs_past {code} {s = s} (turns {k = k} {next = next} {o = o} turn rest) covers =
     let first = leads_kept code k s covers o next turn in
     let then = runs_past rest first.2 in

@@ -16,9 +16,9 @@ use Rattle.certified_runs.specs.Certified.{spent, halts, cut, turns}
 use Rattle.certified_runs.proofs.KnownTurns.{one_instruction}
 
 -- what decides an instruction at the program counter is known or not
-unsure : (code : Code) (k : Known) (i j : Instr) → IsAt code k.state.pc i → IsAt code k.state.pc j
+unsure : {code : Code} (k : Known) {i j : Instr} → IsAt code k.state.pc i → IsAt code k.state.pc j
     → decides code.profile k.shifts i k.registers ≡ true → decides code.profile k.shifts j k.registers ≡ false → ⊥
-unsure code k i j at at' sure unknown = both_ways _ (rw (sym (one_instruction at at')) at unknown) sure
+unsure k at at' sure unknown = both_ways _ (rw (sym (one_instruction at at')) at unknown) sure
 
 -- what is known has one turn
 pub KnownTurn-determined : {code : Code} {k : Known} {e f : KnownEnding} → KnownTurn code k e
@@ -30,16 +30,14 @@ KnownTurn-determined (decided i at sure turn) (decided j at' sure' turn') =
     let next = same.1 in
     cc
 KnownTurn-determined (decided i at sure turn) (stopped known turn') = absurd (goes_on≢stops turn turn')
-KnownTurn-determined {code} {k} (decided i at sure turn) (undecided j at' unknown) =
-    absurd (unsure code k i j at at' sure unknown)
+KnownTurn-determined {k = k} (decided i at sure turn) (undecided j at' unknown) = absurd (unsure k at at' sure unknown)
 KnownTurn-determined (stopped known turn) (decided i at sure turn') = absurd (goes_on≢stops turn' turn)
 KnownTurn-determined (stopped known turn) (stopped known' turn') = let end = Turn-determined turn turn' in cc
-KnownTurn-determined {code} {k} (stopped known turn) (undecided j at unknown) =
-    absurd (unsure code k j j at at (known j at) unknown)
-KnownTurn-determined {code} {k} (undecided i at unknown) (decided j at' sure turn) =
-    absurd (unsure code k j i at' at sure unknown)
-KnownTurn-determined {code} {k} (undecided i at unknown) (stopped known turn) =
-    absurd (unsure code k i i at at (known i at) unknown)
+KnownTurn-determined {k = k} (stopped known turn) (undecided j at unknown) =
+    absurd (unsure k at at (known j at) unknown)
+KnownTurn-determined {k = k} (undecided i at unknown) (decided j at' sure turn) = absurd (unsure k at' at sure unknown)
+KnownTurn-determined {k = k} (undecided i at unknown) (stopped known turn) =
+    absurd (unsure k at at (known i at) unknown)
 KnownTurn-determined (undecided i at unknown) (undecided j at' unknown') = refl
 
 pub one_end : {code : Code} {budget : ℕ} {k : Known} {seen shown : List Observation} {ending other : RunEnding}

@@ -7,13 +7,12 @@ use Rattle.std.proofs.lemmas.Option.{slice_get-get_or, slice_get_past}
 use Rattle.rv_machine.specs.Bytes.{joined, number_at, bytes_from}
 use Rattle.rv_machine.specs.Sizes.{byte_count}
 use Rattle.rv_machine.specs.declared.memory.Size.{Size}
-use Rattle.rv_machine.specs.declared.memory.Size.TheVariants.{Byte, Half, Word}
+use Rattle.rv_machine.specs.declared.memory.Size.TheVariants.{Byte}
 
 -- a load or a store takes a byte at least
 pub some_bytes : (n : Size) → 0 < byte_count n
 some_bytes Byte = omega arith
-some_bytes Half = omega arith
-some_bytes Word = omega arith
+some_bytes _ = omega arith
 
 joined-none : (o : Option ℕ) → joined o None ≡ None
 joined-none (Some b) = refl

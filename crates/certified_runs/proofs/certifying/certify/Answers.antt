@@ -8,7 +8,7 @@ use Rattle.certified_runs.proofs.certifying.certify.Goals as goal
 pub overflow_add-result : goal.overflow_add-result
 overflow_add-result g c =
     let turned = c.in-Ends.ensures.turned in
-    omega (arith, turned.2, few_entries turned.1, c.loop-run.invariant.few, c.loop-run-test.true, c.requires.few)
+    omega (arith, turned.2, few_entries turned.1)
 
 pub returns-in-Ends-clause-certified : goal.returns-in-Ends-clause-certified
 returns-in-Ends-clause-certified g c =
@@ -29,7 +29,7 @@ loop-run-preserved g c =
     record {
       made = one_more_made c.in-LeadsOn.more c.loop-run.invariant.made (omega arith) turned.1 turned.2;
       extent = c.in-LeadsOn.ensures.extent;
-      few = omega (arith, turned.2, count-few turned.0, c.loop-run.invariant.few, c.loop-run-test.true);
+      few = omega (arith, turned.2, count-few turned.0);
     }
 
 pub returns-clause-certified : goal.returns-clause-certified

@@ -50,7 +50,7 @@ turns-preserved g c =
     record {
       steps = step_on c.entry_count-place.result c.turns.invariant.steps many (rw c.in-Some.is at turns.made)
           (rw (c.in-Some-seen_other-2.is, sym same) at turns.other_made);
-      few = omega (arith, count-few c.in-Some.seen, many, turns.fewer (ap is_some c.in-Some.is));
+      few = omega (arith, count-few c.in-Some.seen, turns.fewer (ap is_some c.in-Some.is));
     }
 
 pub returns-in-Some-seen_other : goal.returns-in-Some-seen_other

@@ -10,7 +10,7 @@ pub returns-clause-small : goal.returns-clause-small
 returns-clause-small c =
     let grid = c.args.grid.now in
     let steps = c.args.steps in
-    let all : length grid.cells.items ≡ 33024 = omega (arith, grid.full, grid.cells.ok) in
+    let all : length grid.cells.items ≡ 33024 = omega arith in
     omega (
       arith,
       ap length (returns-clause-exact c),

@@ -8,14 +8,14 @@ steps-init g c = record { counted = count_begins; few = omega arith }
 pub overflow_add-steps : goal.overflow_add-steps
 overflow_add-steps g c =
     let fewer = c.turn.ensures.fewer (ap is_some c.in-Some.is) in
-    omega (arith, fewer, c.steps.invariant.few)
+    omega arith
 
 pub steps-preserved : goal.steps-preserved
 steps-preserved g c =
     let fewer = c.turn.ensures.fewer (ap is_some c.in-Some.is) in
     record {
       counted = count_on c.steps.invariant.counted c.in-Some.is c.turn.ensures.shown;
-      few = omega (arith, fewer, c.steps.invariant.few);
+      few = omega arith;
     }
 
 pub returns-in_default-clause-counted : goal.returns-in_default-clause-counted

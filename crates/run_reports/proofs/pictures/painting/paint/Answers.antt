@@ -32,6 +32,6 @@ steps-preserved g c =
           fewer_left c.turn-seen.result c.turn-seen_other.result c.turn-seen.ensures.fewer
           c.turn-seen_other.ensures.fewer
           c.turn-seen.ensures.ended c.turn-seen_other.ensures.ended some in
-          omega (arith, left, c.steps.invariant.few);
+          omega arith;
       axes = c.put_step.ensures.axes ∙ c.steps.invariant.axes;
     }

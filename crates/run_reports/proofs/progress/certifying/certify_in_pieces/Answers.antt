@@ -13,9 +13,9 @@ use Rattle.run_reports.proofs.progress.certifying.certify_in_pieces.Goals as goa
 
 pub loop-left-init : goal.loop-left-init
 loop-left-init g c =
-    let none : 0 ≡ c.new-lines.result.count * turns_a_line = omega (arith, c.new-lines.ensures.none) in
+    let none : 0 ≡ c.new-lines.result.count * turns_a_line = omega arith in
     record {
-      made = omega (arith, none);
+      made = omega arith;
       more = inl c.new-lines.ensures.none;
       led = ([], rw (sym none) stays, refl);
       extent = c.requires.extent;
@@ -27,15 +27,7 @@ pub end_behind-requires : goal.end_behind-requires
 end_behind-requires g c =
     let led = c.loop-left.invariant.led in
     let run = c.certify-end.ensures.certified in
-    omega (
-      arith,
-      led.2,
-      few_of_leads led.1,
-      few_at_end c.certify-end.result run.2 run.3,
-      c.loop-left.invariant.made,
-      c.loop-left-test.true,
-      c.requires.few,
-    )
+    omega (arith, led.2, few_of_leads led.1, few_at_end c.certify-end.result run.2 run.3)
 
 pub returns-then-run-gt0 : goal.returns-then-run-gt0
 returns-then-run-gt0 g c =
@@ -48,7 +40,7 @@ returns-then-run-gt0 g c =
         led.0 ++ run.0,
         run.1,
         run_after led.1 (stretched run.2 (λ others later. c.certify-end.ensures.ended others later some)
-            (omega (arith, c.loop-left-test.true))) c.loop-left.invariant.made,
+            (omega arith)) c.loop-left.invariant.made,
         c.end_behind.ensures ∙ ap (end_behind c.loop-left.entries) run.3
             ∙ end_of_both led.0 run.0 run.1 c.loop-left.entries led.2,
       );
@@ -64,34 +56,23 @@ pub overflow_add-entries : goal.overflow_add-entries
 overflow_add-entries g c =
     let led = c.loop-left.invariant.led in
     let run = c.certify-end.ensures.certified in
-    omega (
-      arith,
-      led.2,
-      few_of_leads led.1,
-      few_at_end c.certify-end.result run.2 run.3,
-      c.entries_at-entries.ensures,
-      c.loop-left.invariant.made,
-      c.loop-left-test.true,
-      c.requires.few,
-    )
+    omega (arith, led.2, few_of_leads led.1, few_at_end c.certify-end.result run.2 run.3)
 
 pub loop-left-preserved : goal.loop-left-preserved
 loop-left-preserved g c =
     let led = c.loop-left.invariant.led in
-    let left = c.loop-left-test.true in
-    let none = c.if-run-gt0.false in
-    let spent = c.certify-end.ensures.spent (omega (arith, none)) in
+    let spent = c.certify-end.ensures.spent (omega arith) in
     let next : c.loop-left.lines.count * turns_a_line + turns_a_line ≡ c.tell.new.self.count * turns_a_line =
-    omega (arith, c.tell.ensures.next) in
+    omega arith in
     let more : c.entries_at-entries.result ≡ length (entries_of spent.0) =
     c.entries_at-entries.ensures ∙ ap entries_at spent.2 in
     record {
-      made = omega (arith, c.loop-left.invariant.made, c.tell.ensures.next, left);
-      more = inr (omega (arith, left));
+      made = omega arith;
+      more = inr (omega arith);
       led = (
         led.0 ++ spent.0,
         rw (sym next) (leads_append led.1 spent.1),
-        omega (arith, entry_count-append led.0 spent.0, more, led.2),
+        omega (arith, entry_count-append led.0 spent.0, led.2),
       );
       extent = c.certify-end.ensures.extent;
       told = λ tells. c.tell.ensures.told (g.E.Sink.taken c.args.err.now) tells (c.loop-left.invariant.told tells);
@@ -101,14 +82,7 @@ pub end_behind-requires-2 : goal.end_behind-requires-2
 end_behind-requires-2 g c =
     let led = c.loop-left.invariant.led in
     let run = c.certify-end-2.ensures.certified in
-    omega (
-      arith,
-      led.2,
-      few_of_leads led.1,
-      few_at_end c.certify-end-2.result run.2 run.3,
-      c.loop-left.invariant.made,
-      c.requires.few,
-    )
+    omega (arith, led.2, few_of_leads led.1, few_at_end c.certify-end-2.result run.2 run.3)
 
 pub returns-clause-certified : goal.returns-clause-certified
 returns-clause-certified g c =

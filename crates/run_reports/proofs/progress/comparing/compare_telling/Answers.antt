@@ -27,7 +27,7 @@ turns-init g c = record {
   shown = ([], refl, refl, (begins, rw c.requires.equal begins));
   few = omega arith;
   few_entries = omega arith;
-  last = omega (arith, c.new-lines.ensures.none);
+  last = omega arith;
   due = omega arith;
   next = λ some some'. omega arith;
   reached = inl c.new-lines.ensures.none;
@@ -107,26 +107,25 @@ turns-preserved-then-other-gt0 g c =
     let seen = c.in-Some.seen in
     let same = c.in_default-first_difference.ensures.equal refl in
     let longer = length-append shown.0 (seen ∷ []) in
-    let many = c.entry_count-place.ensures in
     let fewer = one.fewer (ap is_some c.in-Some.is) in
-    let before = all.next (omega (arith, fewer)) (omega (arith, other.fewer (ap is_some c.in-Some-seen_other-2.is))) in
+    let before = all.next (omega arith) (omega (arith, other.fewer (ap is_some c.in-Some-seen_other-2.is))) in
     let steps = both_step shown.3 (rw c.in-Some.is at one.made)
     (rw (c.in-Some-seen_other-2.is, sym same) at other.made) in
     let next = c.tell.ensures.next in
     record {
       shown = (
         shown.0 ++ seen ∷ [],
-        omega (arith, longer, shown.1),
-        omega (arith, entry_count-append shown.0 (seen ∷ []), many, shown.2),
+        omega (arith, shown.1),
+        omega (arith, entry_count-append shown.0 (seen ∷ []), shown.2),
         steps,
       );
-      few = omega (arith, all.few, fewer);
-      few_entries = omega (arith, all.few_entries, many, count-few seen);
-      last = omega (arith, next, c.if-is_due.true);
-      due = omega (arith, next, all.due);
-      next = λ some some'. omega (arith, next, all.due);
+      few = omega arith;
+      few_entries = omega (arith, count-few seen);
+      last = omega arith;
+      due = omega arith;
+      next = λ some some'. omega arith;
       reached = inr (both_go_on steps c.if-one-gt0.true c.if-other-gt0.true
-          (omega (arith, longer, shown.1, next, all.due, c.if-is_due.true, before)));
+          (omega (arith, shown.1)));
       told = λ tells. c.tell.ensures.told (g.E.Sink.taken c.args.err.now) tells (all.told tells);
     }
 
@@ -138,24 +137,23 @@ turns-preserved g c =
     let other = c.turn-seen_other.ensures in
     let seen = c.in-Some.seen in
     let same = c.in_default-first_difference.ensures.equal refl in
-    let many = c.entry_count-place.ensures in
     let fewer = one.fewer (ap is_some c.in-Some.is) in
-    let before = all.next (omega (arith, fewer)) (omega (arith, other.fewer (ap is_some c.in-Some-seen_other-2.is))) in
+    let before = all.next (omega arith) (omega (arith, other.fewer (ap is_some c.in-Some-seen_other-2.is))) in
     record {
       shown = (
         shown.0 ++ seen ∷ [],
         omega (arith, length-append shown.0 (seen ∷ []), shown.1),
-        omega (arith, entry_count-append shown.0 (seen ∷ []), many, shown.2),
+        omega (arith, entry_count-append shown.0 (seen ∷ []), shown.2),
         both_step shown.3 (rw c.in-Some.is at one.made) (rw (c.in-Some-seen_other-2.is, sym same) at other.made),
       );
-      few = omega (arith, all.few, fewer);
-      few_entries = omega (arith, all.few_entries, many, count-few seen);
-      last = omega (arith, all.last);
-      due = omega (arith, before);
+      few = omega arith;
+      few_entries = omega (arith, count-few seen);
+      last = omega arith;
+      due = omega arith;
       next = λ some some'. elim c.else-is_due.branch [
-        | else-is_due-via-then-is_due+then-one-gt0+else-other-gt0 w ↦ omega (arith, some', w.if-other-gt0.false)
-        | else-is_due-via-then-is_due+else-one-gt0 w ↦ omega (arith, some, w.if-one-gt0.false)
-        | else-is_due-via-else-is_due w ↦ omega (arith, w.if-is_due.false)
+        | else-is_due-via-then-is_due+then-one-gt0+else-other-gt0 w ↦ omega arith
+        | else-is_due-via-then-is_due+else-one-gt0 w ↦ omega arith
+        | else-is_due-via-else-is_due w ↦ omega arith
       ];
       reached = all.reached;
       told = all.told;

@@ -9,9 +9,9 @@ use Rattle.run_reports.proofs.progress.running.run_in_pieces.Goals as goal
 
 pub pieces-init : goal.pieces-init
 pieces-init g c =
-    let none : 0 ≡ c.new-lines.result.count * turns_a_line = omega (arith, c.new-lines.ensures.none) in
+    let none : 0 ≡ c.new-lines.result.count * turns_a_line = omega arith in
     record {
-      made = omega (arith, none);
+      made = omega arith;
       more = inl c.new-lines.ensures.none;
       led = ([], rw (sym none) stays);
       told = λ tells. none_yet c.new-lines.result.whole c.new-lines.result.count (g.E.Sink.taken c.args.err.now)
@@ -23,7 +23,7 @@ returns-then-running-le-TURNS_A_LINE-clause-ran g c =
     let led = c.pieces.invariant.led in
     let run = c.run-stop.ensures.turns in
     let last = c.piece_of.ensures.last c.if-running-le-TURNS_A_LINE.true in
-    (led.0 ++ run.0, run_after led.1 run.1 (omega (arith, c.pieces.invariant.made, last)) (c.run-stop.ensures.ready tt))
+    (led.0 ++ run.0, run_after led.1 run.1 (omega arith) (c.run-stop.ensures.ready tt))
 
 pub returns-then-not-is_spent : goal.returns-then-not-is_spent
 returns-then-not-is_spent g c =
@@ -34,12 +34,12 @@ returns-then-not-is_spent g c =
     let whole = c.piece_of.ensures.whole left in
     let calm = c.run-stop.ensures.ready tt in
     let piece : lines.count * turns_a_line + turns_a_line ≡ lines.count * turns_a_line + c.piece_of.result =
-    omega (arith, whole) in
+    omega arith in
     let other = c.is_spent.ensures.stopped c.if-not-is_spent.true in
     record {
       ran = (
         led.0 ++ run.0,
-        stop_after led.1 run.1 (omega (arith, c.pieces.invariant.made, whole, left)) calm other,
+        stop_after led.1 run.1 (omega arith) calm other,
       );
       calm = calm;
       told = λ tells. (
@@ -58,10 +58,10 @@ pieces-preserved g c =
     let whole = c.piece_of.ensures.whole left in
     let spent = c.is_spent.ensures.spent c.if-not-is_spent.false in
     let next : c.pieces.lines.count * turns_a_line + c.piece_of.result ≡ c.tell.new.self.count * turns_a_line =
-    omega (arith, c.tell.ensures.next, whole) in
+    omega arith in
     record {
-      made = omega (arith, c.pieces.invariant.made, c.tell.ensures.next, left);
-      more = inr (omega (arith, left));
+      made = omega arith;
+      more = inr (omega arith);
       led = (led.0 ++ run.0, rw (sym next) (Leads-append led.1 (all_made run.1 spent)));
       told = λ tells. c.tell.ensures.told (g.E.Sink.taken c.args.err.now) tells (c.pieces.invariant.told tells);
     }

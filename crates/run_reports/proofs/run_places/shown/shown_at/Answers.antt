@@ -38,4 +38,4 @@ pub returns : goal.returns
 returns g c =
     let led = c.loop-turn.invariant in
     shows_stop _ _ _ led.0 Budget c.args.place
-    (ends_spent led.1 (omega (arith, c.loop-turn-test.false, c.loop-turn.auto._turn-end))) (omega (arith, led.2))
+    (ends_spent led.1 (omega arith)) (omega (arith, led.2))

@@ -14,21 +14,21 @@ pub returns-in_default-clause-none : goal.returns-in_default-clause-none
 returns-in_default-clause-none g c = λ none.
     let led = c.loop-turns.invariant.led in
     let end = ends_silently led.1 c.loop-turns-test.true c.turn-seen.ensures c.in_default.is in
-    (led.0, end.0, end.1, omega (arith, led.2, c.loop-turns.invariant.before))
+    (led.0, end.0, end.1, omega (arith, led.2))
 
 pub returns-then-left-shown-clause-found : goal.returns-then-left-shown-clause-found
 returns-then-left-shown-clause-found g c =
     let led = c.loop-turns.invariant.led in
     let last = is_last led.1 {place = c.args.place} c.loop-turns-test.true c.turn-seen.ensures c.in-Some.is
-    (omega (arith, led.2, c.loop-turns.invariant.before))
-    (omega (arith, led.2, c.entry_count-shown.ensures, c.if-left-shown.true)) in
+    (omega (arith, led.2))
+    (omega (arith, led.2)) in
     (led.0, _, last, sym (Leads-length led.1), omega (arith, led.2))
 
 pub returns-then-is_some-clause-none : goal.returns-then-is_some-clause-none
 returns-then-is_some-clause-none g c = λ none.
     let led = c.loop-turns.invariant.led in
     fewer_here led.1 c.loop-turns-test.true c.turn-seen.ensures c.in-Some.is (sym c.is_some.ensures ∙ c.if-is_some.true)
-    (omega (arith, led.2, c.entry_count-shown.ensures, c.if-left-shown.false))
+    (omega (arith, led.2))
 
 pub loop-turns-preserved : goal.loop-turns-preserved
 loop-turns-preserved g c =
@@ -39,15 +39,9 @@ loop-turns-preserved g c =
       led = (
         led.0 ++ o ∷ [],
         went_on_by led.1 c.turn-seen.ensures c.in-Some.is going,
-        omega (
-          arith,
-          led.2,
-          c.entry_count-shown.ensures,
-          entry_count-append led.0 (o ∷ []),
-          c.if-left-shown.false,
-        ),
+        omega (arith, led.2, entry_count-append led.0 (o ∷ [])),
       );
-      before = omega (arith, c.if-left-shown.false);
+      before = omega arith;
     }
 
 pub returns-clause-none : goal.returns-clause-none
@@ -55,6 +49,6 @@ returns-clause-none g c = λ none.
     let led = c.loop-turns.invariant.led in (
       led.0,
       Budget,
-      ends_spent led.1 (omega (arith, c.loop-turns-test.false, c.loop-turns.auto.turns-end)),
-      omega (arith, led.2, c.loop-turns.invariant.before),
+      ends_spent led.1 (omega arith),
+      omega (arith, led.2),
     )

@@ -6,41 +6,24 @@ use Rattle.rv_machine.proofs.flat.FlatMemory.place.Goals as goal
 
 -- an address below the base is too far from it
 from_base : (c : goal.Then-start-bytes) → c.args.self.now.base ≤ c.args.a
-from_base c =
-    omega (
-      arith,
-      some_bytes c.args.n,
-      c.args.self.now.ends,
-      c.if-start-bytes.true,
-      c.bytes.ensures,
-      c.len.ensures,
-    )
+from_base c = omega (arith, some_bytes c.args.n)
 
 pub returns-then-start-bytes-clause-found : goal.returns-then-start-bytes-clause-found
 returns-then-start-bytes-clause-found c =
     let m = c.args.self.now in
     let from = from_base c in
     sym (number_within m.base m.bytes.items (byte_count c.args.n) c.args.a from
-    (omega (arith, m.ends, m.bytes.ok.0, from, c.if-start-bytes.true, c.bytes.ensures, c.len.ensures)))
+    (omega (arith, from)))
 
 pub returns-then-start-bytes-clause-within : goal.returns-then-start-bytes-clause-within
 returns-then-start-bytes-clause-within c =
     let m = c.args.self.now in
     let from = from_base c in
-    (omega (arith, m.ends, from), omega (arith, c.if-start-bytes.true, c.bytes.ensures, c.len.ensures))
+    (omega (arith, from), omega arith)
 
 pub returns-else-start-bytes-clause-found : goal.returns-else-start-bytes-clause-found
 returns-else-start-bytes-clause-found c =
     let m = c.args.self.now in
     sym
     (ap is_some (number_outside m.base m.bytes.items (byte_count c.args.n) c.args.a (some_bytes c.args.n)
-    (λ within. omega (
-      arith,
-      m.ends,
-      m.bytes.ok.0,
-      within.0,
-      within.1,
-      c.if-start-bytes.false,
-      c.bytes.ensures,
-      c.len.ensures,
-    ))))
+    (λ within. omega (arith, within.0, within.1))))

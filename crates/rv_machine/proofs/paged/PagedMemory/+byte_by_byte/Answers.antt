@@ -20,7 +20,7 @@ returns-in_err-low-clause-number t c =
 
 pub returns-in_err-checked_add-clause-number : goal.returns-in_err-checked_add-clause-number
 returns-in_err-checked_add-clause-number t c =
-    let past : 2 ^ 32 ≤ c.args.a + 1 = omega (arith, c.in_err-checked_add.ensures) in
+    let past : 2 ^ 32 ≤ c.args.a + 1 = omega arith in
     c.from_residual-in_err-checked_add.ensures
     ∙ number_at-parts (paged_bytes c.args.self.now) c.args.count c.args.a (Some c.in_ok-low.low) None c.requires.some
     c.in_ok-low.ensures.number
@@ -29,7 +29,7 @@ returns-in_err-checked_add-clause-number t c =
 pub returns-in_err-high-clause-number : goal.returns-in_err-high-clause-number
 returns-in_err-high-clause-number t c =
     let bytes = paged_bytes c.args.self.now in
-    let next : c.in_ok-checked_add.field-0 ≡ c.args.a + 1 = omega (arith, c.in_ok-checked_add.ensures) in
+    let next : c.in_ok-checked_add.field-0 ≡ c.args.a + 1 = omega arith in
     c.from_residual-in_err-high.ensures
     ∙ number_at-parts bytes c.args.count c.args.a (Some c.in_ok-low.low) None c.requires.some
     c.in_ok-low.ensures.number (c.in_err-high.ensures.number ∙ ap (number_at bytes (c.args.count - 1)) next)
@@ -37,16 +37,16 @@ returns-in_err-high-clause-number t c =
 pub overflow_mul-result : goal.overflow_mul-result
 overflow_mul-result t c =
     let high = three_bytes (c.args.count - 1) c.in_ok-high.high (omega arith) c.in_ok-high.ensures.fits in
-    omega (arith, high)
+    omega arith
 
 pub overflow_add-result : goal.overflow_add-result
 overflow_add-result t c =
     let high = three_bytes (c.args.count - 1) c.in_ok-high.high (omega arith) c.in_ok-high.ensures.fits in
-    omega (arith, high, c.in_ok-low.ensures.fits)
+    omega (arith, c.in_ok-low.ensures.fits)
 
 pub returns-clause-number : goal.returns-clause-number
 returns-clause-number t c =
     let bytes = paged_bytes c.args.self.now in
-    let next : c.in_ok-checked_add.field-0 ≡ c.args.a + 1 = omega (arith, c.in_ok-checked_add.ensures) in
+    let next : c.in_ok-checked_add.field-0 ≡ c.args.a + 1 = omega arith in
     number_at-parts bytes c.args.count c.args.a (Some c.in_ok-low.low) (Some c.in_ok-high.high) c.requires.some
     c.in_ok-low.ensures.number (c.in_ok-high.ensures.number ∙ ap (number_at bytes (c.args.count - 1)) next)

@@ -22,6 +22,6 @@ pages-preserved c =
           ∙ ap (λ (m : ByteMap). first_of (first_of old so_far) (m a)) c.in_ok-new.ensures
           ∙ sym (first_of-assoc old so_far (zeros from n a))
           ∙ ap (first_of old) (zeros_in-grown low from n a c.pages.invariant.from);
-      from = omega (arith, c.pages.invariant.from);
-      to = omega (arith, c.pages.invariant.to, c.min-bytes.ensures);
+      from = omega arith;
+      to = omega arith;
     }
