@@ -2,12 +2,12 @@
 
 ghost use Rattle.std.specs.Prelude.{Some, IfSome};
 ghost use Rattle.std.specs.Fmt.{WritesOnOk};
-ghost use Rattle.rv_code.specs.FieldText.{reg_text, upper_text};
+ghost use Rattle.rv_code.specs.FieldText.{reg_text};
 ghost use Rattle.rv_code.specs.Text.{address_text, text_of, three_operands, two_operands};
-ghost use Rattle.rv_code.specs.declared.instructions.Instr.TheVariants.{Fence, Jump};
+ghost use Rattle.rv_code.specs.declared.instructions.Instr.TheVariants.{Fence};
 
 use crate::instructions::Instr;
-use crate::{FenceBits, Immediate12, JumpOffset, Reg, UpperImmediate};
+use crate::{FenceBits, Immediate12, Reg};
 use std::fmt;
 
 impl fmt::Display for Instr {
@@ -15,8 +15,8 @@ impl fmt::Display for Instr {
 
     fn fmt<W: fmt::Write>(&self, f: &mut fmt::Formatter<W>) -> fmt::Result {
         match *self {
-            Instr::Upper(operation, rd, value) => upper(f, operation.row().mnemonic, rd, value),
-            Instr::Jump(rd, offset) => jump(f, rd, offset),
+            Instr::Upper(operation, rd, value) => two(f, operation.row().mnemonic, rd, value),
+            Instr::Jump(rd, offset) => two(f, "jal", rd, offset),
             Instr::JumpRegister(rd, rs1, offset) => at_address(f, "jalr", rd, offset, rs1),
             Instr::Branch(test, rs1, rs2, offset) => {
                 three(f, test.row().mnemonic, rs1, rs2, offset)
@@ -49,6 +49,18 @@ impl fmt::Display for Instr {
     }
 }
 
+/// A mnemonic, a register, and another operand.
+fn two<W: fmt::Write, T: fmt::Display + Drop>(
+    f: &mut fmt::Formatter<W>,
+    mnemonic: &str,
+    register: Reg,
+    operand: T,
+) -> fmt::Result
+    ensures { IfSome (T.output operand) (λ text. WritesOnOk W.write_str_gives f.old result (two_operands mnemonic.now (reg_text register) text) f.new) }
+{
+    write!(f, "{mnemonic} {register}, {operand}")
+}
+
 /// A mnemonic, two registers, and a third operand.
 fn three<W: fmt::Write, T: fmt::Display + Drop>(
     f: &mut fmt::Formatter<W>,
@@ -73,23 +85,6 @@ fn at_address<W: fmt::Write>(
     ensures { WritesOnOk W.write_str_gives f.old result (two_operands mnemonic.now (reg_text register) (address_text offset base)) f.new }
 {
     write!(f, "{mnemonic} {register}, {offset}({base})")
-}
-
-fn upper<W: fmt::Write>(
-    f: &mut fmt::Formatter<W>,
-    mnemonic: &str,
-    rd: Reg,
-    value: UpperImmediate,
-) -> fmt::Result
-    ensures { WritesOnOk W.write_str_gives f.old result (two_operands mnemonic.now (reg_text rd) (upper_text value)) f.new }
-{
-    write!(f, "{mnemonic} {rd}, {value}")
-}
-
-fn jump<W: fmt::Write>(f: &mut fmt::Formatter<W>, rd: Reg, offset: JumpOffset) -> fmt::Result
-    ensures { WritesOnOk W.write_str_gives f.old result (text_of (Jump rd offset)) f.new }
-{
-    write!(f, "jal {rd}, {offset}")
 }
 
 /// A fence: its mode, and the kinds of accesses before and after it.
