@@ -129,8 +129,8 @@ module _ {code : Code} {budget : ℕ} {s : State} {k : ℕ} {t : State} {seen : 
       ∙ get_within (entries_of (o ∷ [])) (entries_of more) left entry is) in
       (seen ++ o ∷ more, ends.1, ends.2, ap (λ e. entry_or_stop e ends.1) (sym at_place))
 
-  pub shows_shown : {u : State} {last : Option Observation} {answer : Option Stop} {place : ℕ} {shown : Shown} (left : ℕ)
-      → k < budget → Turned code t last answer u → length (entries_of seen) + left ≡ place
+  pub shows_shown : {u : State} {last : Option Observation} {answer : Option Stop} {place : ℕ} {shown : Shown}
+      (left : ℕ) → k < budget → Turned code t last answer u → length (entries_of seen) + left ≡ place
       → option_map shown_entry (slice_get (entries_of (listed last)) left) ≡ Some shown
       → ShowsAt code budget s place shown
   shows_shown {last = None} left within turned there is = cc

@@ -20,7 +20,8 @@ pub turn-requires : goal.turn-requires
 turn-requires g c =
     let n = length c.args.self.now.harts.items in
     rw c.loop-number.invariant.count
-    (All-get_or (λ number. number < n) c.args.schedule.now c.loop-number.number-index 0 c.loop-number-test.true c.requires)
+    (All-get_or (λ number. number < n) c.args.schedule.now c.loop-number.number-index 0 c.loop-number-test.true
+    c.requires)
 
 pub returns-in_err-note-clause-cut_short : goal.returns-in_err-note-clause-cut_short
 returns-in_err-note-clause-cut_short g c =
