@@ -1,42 +1,47 @@
 -- Where no rule is violated.
-use Rattle.std.proofs.Common.{◌≡◌, Bool, true, false, not, List, [], ◌∷◌, ◌++◌, Some, refl, ap, ap₂}
-use Rattle.std.proofs.lemmas.Option.{none-some, same_Some}
+use Rattle.std.proofs.Common.{◌≡◌, Bool, true, false, not, List, [], ◌∷◌, ◌++◌, Option, Some, refl}
 use Rattle.word.specs.declared.place.Place.{Place}
 use Rattle.language.specs.declared.rule.Rule.{Rule}
 use Rattle.language.specs.declared.typing.ValueType.{ValueType}
-use Rattle.language.specs.Types.{at, when, unless}
+use Rattle.language.specs.Types.{at, when, of_two, of_three}
 
-pub none_left : {A : Type 0} (xs ys : List A) → xs ++ ys ≡ [] → xs ≡ []
-none_left [] ys h = refl
-none_left (x ∷ xs) ys h = cc
+-- each of several lists
 
-pub none_right : {A : Type 0} (xs ys : List A) → xs ++ ys ≡ [] → ys ≡ []
-none_right [] ys h = h
-none_right (x ∷ xs) ys h = cc
+pub none_of_two : {A : Type 0} {us vs : List A} → us ++ vs ≡ [] → (us ≡ []) × (vs ≡ [])
+none_of_two {us = []} h = (refl, h)
+none_of_two {us = u ∷ us} h = cc
 
-pub no_rules : (place : Place) (rules : List Rule) → at place rules ≡ [] → rules ≡ []
-no_rules place [] h = refl
-no_rules place (rule ∷ rules) h = cc
+pub none_of_three : {A : Type 0} {us vs ws : List A} → us ++ vs ++ ws ≡ [] → (us ≡ []) × (vs ≡ []) × (ws ≡ [])
+none_of_three h = let x = none_of_two h in let y = none_of_two x.0 in (y.0, y.1, x.1)
+
+pub none_of_four : {A : Type 0} {us vs ws xs : List A} → us ++ vs ++ ws ++ xs ≡ []
+    → (us ≡ []) × (vs ≡ []) × (ws ≡ []) × (xs ≡ [])
+none_of_four h = let x = none_of_two h in let y = none_of_three x.0 in (y.0, y.1, y.2, x.1)
+
+pub none_of_five : {A : Type 0} {us vs ws xs ys : List A} → us ++ vs ++ ws ++ xs ++ ys ≡ []
+    → (us ≡ []) × (vs ≡ []) × (ws ≡ []) × (xs ≡ []) × (ys ≡ [])
+none_of_five h = let x = none_of_two h in let y = none_of_four x.0 in (y.0, y.1, y.2, y.3, x.1)
+
+pub no_rules : (place : Place) {rules : List Rule} → at place rules ≡ [] → rules ≡ []
+no_rules place {rules = []} h = refl
+no_rules place {rules = rule ∷ rules} h = cc
+
+-- and where the parts have types
+pub no_rules_of_two : (place : Place) (rules : ValueType → ValueType → List Rule) {o p : Option ValueType}
+    {s t : ValueType} → o ≡ Some s → p ≡ Some t → at place (of_two [] rules o p) ≡ [] → rules s t ≡ []
+no_rules_of_two place rules one other h = no_rules place (rw (one, other) at h)
+
+pub no_rules_of_three : (place : Place) (rules : ValueType → ValueType → ValueType → List Rule)
+    {o p q : Option ValueType} {s t u : ValueType} → o ≡ Some s → p ≡ Some t → q ≡ Some u
+    → at place (of_three [] rules o p q) ≡ [] → rules s t u ≡ []
+no_rules_of_three place rules one other third h = no_rules place (rw (one, other, third) at h)
 
 -- a rule that holds where this does
-pub not_when : (holds : Bool) (rule : Rule) → when holds rule ≡ [] → holds ≡ false
-not_when true rule h = cc
-not_when false rule h = refl
+pub not_when : {holds : Bool} (rule : Rule) → when holds rule ≡ [] → holds ≡ false
+not_when {holds = true} rule h = cc
+not_when {holds = false} rule h = refl
 
 -- a rule that asks for this
-pub is_met : (holds : Bool) (rule : Rule) → when (not holds) rule ≡ [] → holds ≡ true
-is_met true rule h = refl
-is_met false rule h = cc
-
--- a node with a type violates no rule, and has the type that its rules give
-pub met : (rules : List Rule) (type whole : ValueType) → unless rules type ≡ Some whole
-    → (rules ≡ []) × (type ≡ whole)
-met [] type whole h = (refl, same_Some type whole h)
-met (rule ∷ rules) type whole h = absurd (none-some whole h)
-
--- the other way round
-pub has_met : (rules : List Rule) (type : ValueType) → rules ≡ [] → unless rules type ≡ Some type
-has_met rules type none = ap (λ r. unless r type) none
-
-pub nothing_more : {A : Type 0} (xs ys : List A) → xs ≡ [] → ys ≡ [] → xs ++ ys ≡ []
-nothing_more xs ys none more = ap₂ ◌++◌ none more
+pub is_met : {holds : Bool} (rule : Rule) → when (not holds) rule ≡ [] → holds ≡ true
+is_met {holds = true} rule h = refl
+is_met {holds = false} rule h = cc
