@@ -1,10 +1,10 @@
 -- The first fault, one argument at a time, and where there is none.
 use Rattle.std.proofs.Common.{◌≡◌, ℕ, ◌+◌, ◌<◌, ◌≤◌, ◌↔◌, Bool, true, false, nat_le, if◌then◌else◌, ◌==◌, List, []}
-use Rattle.std.proofs.Common.{◌∷◌, ◌^◌, cond, length, map, get_or, drop, All, Decides, Option, Some, None, refl, sym, ap}
-use Rattle.std.proofs.Common.{◌∙◌, arith}
+use Rattle.std.proofs.Common.{◌∷◌, ◌^◌, cond, length, map, get_or, drop, All, Decides, Option, Some, None, inl, inr}
+use Rattle.std.proofs.Common.{refl, sym, ap, ◌∙◌, arith}
 use Rattle.std.specs.List.{list_all}
 use Rattle.std.specs.Option.{IfSome}
-use Rattle.std.proofs.lemmas.Bool.{false≢true}
+use Rattle.std.proofs.lemmas.Bool.{false≢true, cases_Bool}
 use Rattle.std.proofs.lemmas.Bool.Decides.{Decides-by_and, Decides-eqb, nat_tests}
 use Rattle.std.proofs.lemmas.List.{at_drop_more, at_drop_all, length-map}
 use Rattle.language.specs.declared.signature.Form.{Form}
@@ -21,33 +21,19 @@ use Rattle.language.specs.declared.arguments.fault.ArgumentRule.TheVariants.{Sha
 
 -- ---- one argument after another
 module _ {P A : Type 0} (rule : P → A → Option ArgumentRule) where
-  pub fault_from-turn : (i : ℕ) (params : List P) (args : List A) (p : P) (a : A) → i < length params
-      → i < length args → fault_from rule i (drop i params) (drop i args)
-      ≡ fault_at i (rule (get_or params i p) (get_or args i a))
-      (fault_from rule (i + 1) (drop (i + 1) params) (drop (i + 1) args))
-  fault_from-turn i params args p a h k =
+  -- where the i-th argument breaks a rule, or none
+  pub fault_from-turn : (i : ℕ) (params : List P) (args : List A) (p : P) (a : A) (broken : Option ArgumentRule)
+      → i < length params → i < length args → rule (get_or params i p) (get_or args i a) ≡ broken
+      → fault_from rule i (drop i params) (drop i args)
+      ≡ fault_at i broken (fault_from rule (i + 1) (drop (i + 1) params) (drop (i + 1) args))
+  fault_from-turn i params args p a broken h k e =
       at_drop_more (λ rest. fault_from rule i rest (drop i args)) params i p h
       ∙ at_drop_more (λ rest. fault_from rule i (get_or params i p ∷ drop (i + 1) params) rest) args i a k
+      ∙ ap (λ o. fault_at i o (fault_from rule (i + 1) (drop (i + 1) params) (drop (i + 1) args))) e
 
   pub fault_from-end : (i : ℕ) (params : List P) (args : List A) → length params ≤ i
       → fault_from rule i (drop i params) (drop i args) ≡ None
   fault_from-end i params args h = at_drop_all (λ rest. fault_from rule i rest (drop i args)) params i h
-
-  -- where the i-th argument breaks a rule, and where it breaks none
-  pub fault_from-broken : (i : ℕ) (params : List P) (args : List A) (p : P) (a : A) (broken : ArgumentRule)
-      → i < length params → i < length args → rule (get_or params i p) (get_or args i a) ≡ Some broken
-      → fault_from rule i (drop i params) (drop i args) ≡ Some (record { rule = broken; index = Some i })
-  fault_from-broken i params args p a broken h k e =
-      let later = fault_from rule (i + 1) (drop (i + 1) params) (drop (i + 1) args) in
-      fault_from-turn i params args p a h k ∙ ap (λ o. fault_at i o later) e
-
-  pub fault_from-passed : (i : ℕ) (params : List P) (args : List A) (p : P) (a : A) → i < length params
-      → i < length args → rule (get_or params i p) (get_or args i a) ≡ None
-      → fault_from rule i (drop i params) (drop i args)
-      ≡ fault_from rule (i + 1) (drop (i + 1) params) (drop (i + 1) args)
-  fault_from-passed i params args p a h k e =
-      let later = fault_from rule (i + 1) (drop (i + 1) params) (drop (i + 1) args) in
-      fault_from-turn i params args p a h k ∙ ap (λ o. fault_at i o later) e
 
   -- the number of a faulty argument is below the count of parameters
   numbered : (params : List P) (args : List A) (low : ℕ) (fault : ArgumentFault) (i : ℕ)
@@ -96,11 +82,6 @@ pub fault_at-None : (at : ℕ) (broken : Option ArgumentRule) (later : Option Ar
 fault_at-None at None later e = (refl, e)
 fault_at-None at (Some rule) later e = cc
 
-fault_at-neither : (at : ℕ) (broken : Option ArgumentRule) (later : Option ArgumentFault) → broken ≡ None
-    → later ≡ None → fault_at at broken later ≡ None
-fault_at-neither at None later b e = e
-fault_at-neither at (Some rule) later b e = cc
-
 module _ {P A : Type 0} (rule : P → A → Option ArgumentRule) where
   -- where what is left has no fault, its first has none, and the others have none
   pub fault_from-left : (i : ℕ) (params : List P) (args : List A) (p : P) (a : A) → i < length params
@@ -110,7 +91,7 @@ module _ {P A : Type 0} (rule : P → A → Option ArgumentRule) where
   fault_from-left i params args p a h k e =
       fault_at-None i (rule (get_or params i p) (get_or args i a))
       (fault_from rule (i + 1) (drop (i + 1) params) (drop (i + 1) args))
-      (sym (fault_from-turn rule i params args p a h k) ∙ e)
+      (sym (fault_from-turn rule i params args p a _ h k refl) ∙ e)
 
   pub fault_from-next : (i : ℕ) (params : List P) (args : List A) → i < length params → i < length args
       → fault_from rule i (drop i params) (drop i args) ≡ None
@@ -121,11 +102,9 @@ module _ {P A : Type 0} (rule : P → A → Option ArgumentRule) where
 
 Decides-has_shape : (form : Form) (n : ℕ) (arg : Arg) → Decides (has_shape form n arg) (HasShape form n arg)
 Decides-has_shape SingleWord n (Word word) = (λ _. tt, λ _. refl)
-Decides-has_shape SingleWord n (Array words) = (λ e. absurd (false≢true e), λ h. absurd h)
-Decides-has_shape FixedArray n (Word word) = (λ e. absurd (false≢true e), λ h. absurd h)
 Decides-has_shape FixedArray n (Array words) = Decides-eqb (length words) n
-Decides-has_shape MutableArray n (Word word) = (λ e. absurd (false≢true e), λ h. absurd h)
 Decides-has_shape MutableArray n (Array words) = Decides-eqb (length words) n
+Decides-has_shape _ n _ = (λ e. absurd (false≢true e), λ h. absurd h)
 
 pub Decides-nat_le : (a b : ℕ) → Decides (nat_le a b) (a ≤ b)
 Decides-nat_le a b = (λ e. grind (arith, nat_tests), λ h. grind (arith, nat_tests))
@@ -142,16 +121,9 @@ both_hold true true e = (refl, refl)
 both_hold true false e = cc
 both_hold false values e = cc
 
-none_broken : (shape values : Bool) → shape ≡ true → values ≡ true
-    → (if shape then (if values then None else Some Value) else Some Shape) ≡ None
-none_broken true true s v = refl
-none_broken true false s v = absurd (false≢true v)
-none_broken false values s v = absurd (false≢true s)
-
 pub IsWithin-from_rule_of : (param : Param) (arg : Arg) → rule_of param arg ≡ None → IsWithin param arg
 IsWithin-from_rule_of param arg e =
-    let both = both_hold (has_shape param.form param.length arg)
-    (list_all (λ word. nat_le word (greatest_of param.kind)) (words_of arg)) e in
+    let both = both_hold _ _ e in
     record {
       shape = (Decides-has_shape param.form param.length arg).0 both.0;
       values = (Decides-values param.kind (words_of arg)).0 both.1;
@@ -159,52 +131,43 @@ IsWithin-from_rule_of param arg e =
 
 pub rule_of-None : (param : Param) (arg : Arg) → IsWithin param arg → rule_of param arg ≡ None
 rule_of-None param arg h =
-    none_broken (has_shape param.form param.length arg)
-    (list_all (λ word. nat_le word (greatest_of param.kind)) (words_of arg))
-    ((Decides-has_shape param.form param.length arg).1 h.shape)
-    ((Decides-values param.kind (words_of arg)).1 h.values)
+    rw (
+      (Decides-has_shape param.form param.length arg).1 h.shape,
+      (Decides-values param.kind (words_of arg)).1 h.values,
+    )
 
 AreWithin-from_fault_from : (at : ℕ) (params : List Param) (args : List Arg) → length args ≡ length params
     → fault_from rule_of at params args ≡ None → AreWithin params args
 AreWithin-from_fault_from at [] [] l e = tt
-AreWithin-from_fault_from at [] (arg ∷ args) l e = absurd (omega arith)
-AreWithin-from_fault_from at (param ∷ params) [] l e = absurd (omega arith)
 AreWithin-from_fault_from at (param ∷ params) (arg ∷ args) l e =
     let both = fault_at-None at (rule_of param arg) (fault_from rule_of (at + 1) params args) e in
     (IsWithin-from_rule_of param arg both.0, AreWithin-from_fault_from (at + 1) params args (omega arith) both.1)
+AreWithin-from_fault_from at _ _ l e = absurd (omega arith)
 
 fault_from-None : (at : ℕ) (params : List Param) (args : List Arg) → AreWithin params args
     → fault_from rule_of at params args ≡ None
 fault_from-None at [] [] h = refl
-fault_from-None at [] (arg ∷ args) h = absurd h
-fault_from-None at (param ∷ params) [] h = absurd h
 fault_from-None at (param ∷ params) (arg ∷ args) h =
-    fault_at-neither at (rule_of param arg) (fault_from rule_of (at + 1) params args) (rule_of-None param arg h.0)
-    (fault_from-None (at + 1) params args h.1)
+    rw (rule_of-None param arg h.0) (fault_from-None (at + 1) params args h.1)
+fault_from-None at _ _ h = absurd h
 
 pub length-AreWithin : (params : List Param) (args : List Arg) → AreWithin params args → length args ≡ length params
 length-AreWithin [] [] h = refl
-length-AreWithin [] (arg ∷ args) h = absurd h
-length-AreWithin (param ∷ params) [] h = absurd h
 length-AreWithin (param ∷ params) (arg ∷ args) h = let k = length-AreWithin params args h.1 in omega arith
+length-AreWithin _ _ h = absurd h
 
 module _ {P A : Type 0} (rule : P → A → Option ArgumentRule) where
   -- with the right count the fault is an argument's
   pub fault_by-same : (params : List P) (args : List A) → length args ≡ length params
       → fault_by rule params args ≡ fault_from rule 0 params args
-  fault_by-same params args h =
-      ap (λ b. if b then fault_from rule 0 params args else Some count_fault)
-      ((Decides-eqb (length args) (length params)).1 h)
-
-  fault_by-cases : (b : Bool) (params : List P) (args : List A) → (length args == length params) ≡ b
-      → (if b then fault_from rule 0 params args else Some count_fault) ≡ None
-      → (length args ≡ length params) × (fault_from rule 0 params args ≡ None)
-  fault_by-cases true params args t e = ((Decides-eqb (length args) (length params)).0 t, e)
-  fault_by-cases false params args t e = cc
+  fault_by-same params args h = rw ((Decides-eqb (length args) (length params)).1 h)
 
   pub fault_by-None : (params : List P) (args : List A) → fault_by rule params args ≡ None
       → (length args ≡ length params) × (fault_from rule 0 params args ≡ None)
-  fault_by-None params args e = fault_by-cases (length args == length params) params args refl e
+  fault_by-None params args e = elim (cases_Bool (length args == length params)) [
+    | inl even ↦ ((Decides-eqb (length args) (length params)).0 even, rw even at e)
+    | inr uneven ↦ (let wrong : Some count_fault ≡ None = rw uneven at e in cc)
+  ]
 
 -- what is judged by views of parameters is judged as those views
 module _ {P Q A : Type 0} (shown : P → Q) (rule : Q → A → Option ArgumentRule) where

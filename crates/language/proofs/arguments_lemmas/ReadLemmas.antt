@@ -1,16 +1,16 @@
 -- The arguments that texts without fault spell.
-use Rattle.std.proofs.Common.{◌≡◌, ℕ, ◌+◌, ◌-◌, ◌^◌, ◌<◌, min, Bool, true, false, nat_le, nat_lt, ◌&&◌, if◌then◌else◌}
+use Rattle.std.proofs.Common.{◌≡◌, ℕ, ◌+◌, ◌-◌, ◌^◌, ◌<◌, min, true, false, nat_le, nat_lt, if◌then◌else◌}
 use Rattle.std.proofs.Common.{◌==◌, List, [], ◌∷◌, ◌++◌, length, get_or, take, map, ◌⊎◌, inl, inr, Option, Some, None}
 use Rattle.std.proofs.Common.{Result, Ok, Err, ◌↔◌, refl, sym, ap, subst, ◌∙◌, arith}
 use Rattle.std.specs.List.{list_all, filter_map, cons_option}
 use Rattle.std.specs.Option.{option_map, option_and_then}
 use Rattle.std.proofs.lemmas.List.{length-map, take_more, map-append}
-use Rattle.std.proofs.lemmas.Bool.{and_parts}
-use Rattle.std.proofs.lemmas.Bool.Decides.{Decides-eqb, Decides-ltb, Decides-like, same_from_decides, nat_tests}
+use Rattle.std.proofs.lemmas.Bool.{and_parts, cases_lt}
+use Rattle.std.proofs.lemmas.Bool.Decides.{Decides-eqb, nat_tests}
 use Rattle.language.specs.declared.signature.Form.{Form}
 use Rattle.language.specs.declared.signature.Form.TheVariants.{SingleWord, FixedArray, MutableArray}
 use Rattle.language.specs.declared.signature.Kind.{Kind}
-use Rattle.language.specs.declared.signature.Kind.TheVariants.{Boolean, Uint8, Uint16, Uint32}
+use Rattle.language.specs.declared.signature.Kind.TheVariants.{Boolean}
 use Rattle.language.specs.declared.signature.Param.{Param}
 use Rattle.language.specs.declared.values.Arg.{Arg}
 use Rattle.language.specs.declared.values.Arg.TheVariants.{Word, Array}
@@ -29,23 +29,13 @@ use Rattle.language.proofs.arguments_lemmas.FaultLemmas.{Decides-values, both_ho
 abbrev pub fitting : Option ℕ → Option ℕ
 fitting number = option_and_then (λ n. if nat_lt n (2 ^ 32) then Some n else None) number
 
-nat_lt-capped : (n : ℕ) → nat_lt (min n (2 ^ 64 - 1)) (2 ^ 32) ≡ nat_lt n (2 ^ 32)
-nat_lt-capped n =
-    same_from_decides (nat_lt (min n (2 ^ 64 - 1)) (2 ^ 32)) (nat_lt n (2 ^ 32))
-    (Decides-like (nat_lt (min n (2 ^ 64 - 1)) (2 ^ 32)) (λ h. omega arith) (λ h. omega arith)
-    (Decides-ltb (min n (2 ^ 64 - 1)) (2 ^ 32))) (Decides-ltb n (2 ^ 32))
-
-fitting-below : (n m : ℕ) (b : Bool) → nat_lt n (2 ^ 32) ≡ b → (b ≡ true → m ≡ n)
-    → (if b then Some m else None) ≡ (if b then Some n else None)
-fitting-below n m true e same = ap Some (same refl)
-fitting-below n m false e same = refl
-
-pub fitting-capped : (number : Option ℕ) → fitting (capped number) ≡ fitting number
+fitting-capped : (number : Option ℕ) → fitting (capped number) ≡ fitting number
 fitting-capped None = refl
-fitting-capped (Some n) =
-    ap (λ b. if b then Some (min n (2 ^ 64 - 1)) else None) (nat_lt-capped n)
-    ∙ fitting-below n (min n (2 ^ 64 - 1)) (nat_lt n (2 ^ 32)) refl (λ e. let below = (Decides-ltb n (2 ^ 32)).0 e in
-    omega arith)
+fitting-capped (Some n) = elim (cases_lt n (2 ^ 32)) [
+  | inl below ↦ (let same : min n (2 ^ 64 - 1) ≡ n = omega arith in rw same)
+  | inr over ↦ (let least : nat_lt (min n (2 ^ 64 - 1)) (2 ^ 32) ≡ false = grind (arith, nat_tests) in
+      let all : nat_lt n (2 ^ 32) ≡ false = grind (arith, nat_tests) in rw (least, all))
+]
 
 record Splits (o : Option ℕ) (rest : Option (List ℕ)) (numbers : List ℕ) : Type 0 where
   first : ℕ
@@ -83,21 +73,13 @@ pub Fitting-from_rule : (param : Param) (o : Option (List ℕ)) → rule_of_numb
     → (numbers : List ℕ) × (o ≡ Some numbers) × Fitting param numbers
 Fitting-from_rule param None e = cc
 Fitting-from_rule param (Some numbers) e =
-    let both = both_hold (length numbers == count_of param.form param.length)
-    (list_all (λ word. nat_le word (greatest_of param.kind)) numbers) e in (
-      numbers,
-      refl,
-      record {
-        count = (Decides-eqb (length numbers) (count_of param.form param.length)).0 both.0;
-        within = both.1;
-      },
-    )
+    let both = both_hold _ _ e in
+    let count = (Decides-eqb (length numbers) (count_of param.form param.length)).0 both.0 in
+    (numbers, refl, record { count = count; within = both.1 })
 
 greatest_of-small : (kind : Kind) → greatest_of kind < 2 ^ 32
 greatest_of-small Boolean = omega arith
-greatest_of-small Uint8 = omega arith
-greatest_of-small Uint16 = omega arith
-greatest_of-small Uint32 = omega arith
+greatest_of-small _ = omega arith
 
 -- what is within a kind fits a word
 small_from_within : (most : ℕ) → most < 2 ^ 32 → (numbers : List ℕ)
@@ -106,7 +88,7 @@ small_from_within most fits [] e = refl
 small_from_within most fits (n ∷ numbers) e =
     let both = and_parts (nat_le n most) (list_all (λ word. nat_le word most) numbers) e in
     let first : nat_lt n (2 ^ 32) ≡ true = grind (arith, nat_tests, both.0) in
-    ap (λ b. b && list_all (λ n. nat_lt n (2 ^ 32)) numbers) first ∙ small_from_within most fits numbers both.1
+    rw first (small_from_within most fits numbers both.1)
 
 pub words_are : (param : Param) (parts : List (List ℕ)) (numbers : List ℕ) → each_number parts ≡ Some numbers
     → Fitting param numbers → filter_map word_of parts ≡ numbers
@@ -115,9 +97,8 @@ words_are param parts numbers e h =
     (small_from_within (greatest_of param.kind) (greatest_of-small param.kind) numbers h.within)
 
 pub single : (numbers : List ℕ) (d : ℕ) → length numbers ≡ 1 → get_or numbers 0 d ∷ [] ≡ numbers
-single [] d e = absurd (omega arith)
 single (n ∷ []) d e = refl
-single (n ∷ m ∷ numbers) d e = absurd (omega arith)
+single _ d e = absurd (omega arith)
 
 pub IsWithin-from_words : (param : Param) (form : Form) (arg : Arg) → param.form ≡ form
     → HasShape form param.length arg → list_all (λ word. nat_le word (greatest_of param.kind)) (words_of arg) ≡ true
@@ -131,9 +112,8 @@ IsWithin-from_words param form arg e shape within = record {
 pub AreWithin-push : (params : List Param) (args : List Arg) (param : Param) (arg : Arg) → AreWithin params args
     → IsWithin param arg → AreWithin (params ++ param ∷ []) (args ++ arg ∷ [])
 AreWithin-push [] [] param arg h k = (k, tt)
-AreWithin-push [] (a ∷ args) param arg h k = absurd h
-AreWithin-push (p ∷ params) [] param arg h k = absurd h
 AreWithin-push (p ∷ params) (a ∷ args) param arg h k = (h.0, AreWithin-push params args param arg h.1 k)
+AreWithin-push _ _ param arg h k = absurd h
 
 module _ {A B : Type 0} (rule : Param → B → Option ArgumentRule) (view : A → B) where
   fault_from-map : (at : ℕ) (params : List Param) (args : List A)
