@@ -2,6 +2,7 @@
 use Rattle.std.proofs.Common.{◌≡◌, ℕ, zero, suc, ◌+◌, ◌-◌, ◌<◌, Bool, true, false, if◌then◌else◌, List, [], ◌∷◌, ◌++◌}
 use Rattle.std.proofs.Common.{Option, Some, None, ◌⊎◌, inl, inr, is_some, refl, sym, ap, ◌∙◌, subst, arith}
 use Rattle.std.proofs.Common.{append-nil, append_assoc}
+use Rattle.std.proofs.lemmas.Bool.{cases_Bool}
 use Rattle.std.proofs.lemmas.Option.{none-some, same_Some}
 use Rattle.std.specs.Str.{bytes_eq}
 use Rattle.word.specs.declared.place.Place.{Place}
@@ -164,49 +165,36 @@ module _ (ps : List ProcedureTree) (had : AllHad ps) where
 last-named : (before ps : List ProcedureTree) (p : ProcedureTree) (text : List ℕ) (found : Found)
     → named before (ps ++ p ∷ []) text ≡ Some found → (named before ps text ≡ Some found)
     ⊎ (found ≡ (before ++ ps, p))
-last-named before [] p text found = by_name (bytes_eq text p.name)
-  where
-    by_name : (same : Bool) → (if same then Some (before, p) else None) ≡ Some found
-        → (None ≡ Some found) ⊎ (found ≡ (before ++ [], p))
-    by_name true is = inr (sym (same_Some (before, p) found is) ∙ ap (λ l. (l, p)) (sym (append-nil before)))
-    by_name false is = inl is
-last-named before (q ∷ ps) p text found =
-    by_name (last-named (before ++ q ∷ []) ps p text found) (bytes_eq text q.name)
-  where
-    moved : (named (before ++ q ∷ []) ps text ≡ Some found) ⊎ (found ≡ (before ++ q ∷ [] ++ ps, p))
-        → (named (before ++ q ∷ []) ps text ≡ Some found) ⊎ (found ≡ (before ++ (q ∷ ps), p))
-    moved (inl is) = inl is
-    moved (inr is) = inr (is ∙ ap (λ l. (l, p)) (append_assoc before (q ∷ []) ps))
-
-    by_name : (named (before ++ q ∷ []) (ps ++ p ∷ []) text ≡ Some found
-        → (named (before ++ q ∷ []) ps text ≡ Some found) ⊎ (found ≡ (before ++ q ∷ [] ++ ps, p)))
-        → (same : Bool) → (if same then Some (before, q) else named (before ++ q ∷ []) (ps ++ p ∷ []) text)
-        ≡ Some found
-        → ((if same then Some (before, q) else named (before ++ q ∷ []) ps text) ≡ Some found)
-        ⊎ (found ≡ (before ++ (q ∷ ps), p))
-    by_name later true is = inl is
-    by_name later false is = moved (later is)
+last-named before [] p text found is = elim (cases_Bool (bytes_eq text p.name)) [
+  | inl same ↦ (let here : Some (before, p) ≡ Some found = rw same at is in
+      inr (sym (same_Some (before, p) found here) ∙ ap (λ l. (l, p)) (sym (append-nil before))))
+  | inr other ↦ (let none : None ≡ Some found = rw other at is in cc)
+]
+last-named before (q ∷ ps) p text found is = elim (cases_Bool (bytes_eq text q.name)) [
+  | inl same ↦ inl (rw same (rw same at is))
+  | inr other ↦ elim (last-named (before ++ q ∷ []) ps p text found (rw other at is)) [
+    | inl old ↦ inl (rw other old)
+    | inr new ↦ inr (new ∙ ap (λ l. (l, p)) (append_assoc before (q ∷ []) ps))
+  ]
+]
 
 one-more-had : (before : List ProcedureTree) (p : ProcedureTree) → AllHad before → BodyHad (before, p)
     → AllHad (before ++ p ∷ [])
-one-more-had before p all this text found is = by_place (last-named [] before p text found is)
-  where
-    by_place : (named [] before text ≡ Some found) ⊎ (found ≡ (before, p)) → BodyHad found
-    by_place (inl there) = all text found there
-    by_place (inr here) = subst BodyHad (sym here) this
+one-more-had before p all this text found is = elim (last-named [] before p text found is) [
+  | inl there ↦ all text found there
+  | inr here ↦ subst BodyHad (sym here) this
+]
 
 export-had : (before ps : List ProcedureTree) → AllHad before → CallEarlier before ps → (found : Found)
     → exported before ps ≡ Some found → BodyHad found
 export-had before [] all earlier found is = absurd (none-some found is)
 export-had before (p ∷ ps) all earlier found is =
     let here = body-had before all p earlier.0 in
-    by_export here (export-had (before ++ p ∷ []) ps (one-more-had before p all here) earlier.1 found)
-    (is_some p.export) is
-  where
-    by_export : BodyHad (before, p) → (exported (before ++ p ∷ []) ps ≡ Some found → BodyHad found) → (exports : Bool)
-        → (if exports then Some (before, p) else exported (before ++ p ∷ []) ps) ≡ Some found → BodyHad found
-    by_export here later true this = subst BodyHad (same_Some (before, p) found this) here
-    by_export here later false that = later that
+    elim (cases_Bool (is_some p.export)) [
+      | inl exports ↦ subst BodyHad (same_Some (before, p) found (rw exports at is)) here
+      | inr private ↦ export-had (before ++ p ∷ []) ps (one-more-had before p all here) earlier.1 found
+          (rw private at is)
+    ]
 
 -- what the rules give a program with an export
 pub program-had : (program : ProgramTree) (args : List Arg) (found : Found)

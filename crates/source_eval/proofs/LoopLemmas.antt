@@ -18,7 +18,6 @@ use Rattle.language.specs.declared.signature.Kind.{Kind}
 use Rattle.language.specs.State.{State, array}
 use Rattle.language.specs.State as state
 use Rattle.language.specs.Tree.{ExprTree, ParameterTree, expr_tree, parameter_tree, statement_tree, block_tree}
-use Rattle.language.specs.Tree.{nothing}
 use Rattle.source_eval.specs.Metering.{Ended, Stopped}
 use Rattle.source_eval.specs.Views.{word_of}
 use Rattle.source_eval.specs.declared.fault.EvalFault.{EvalFault}
@@ -51,12 +50,9 @@ module _ (s : State) (whole : Run (List state.Word)) (es : List Expr) (start : �
       → Ended (value s (expr_tree e)) now 0 (word_of v) middle
       → Leads whole start 0 (values s (map expr_tree (drop (i + 1) es))) middle (λ vs. map word_of new ++ vs)
   each_value i e now middle words new v less is more leads h =
-      subst (λ ws. Leads whole start 0 (values s (map expr_tree (drop (i + 1) es))) middle (λ vs. ws ++ vs))
-      (pushed words new v more)
+      rw (← pushed words new v more)
       (values_more s whole (expr_tree e) (map expr_tree (drop (i + 1) es)) start now middle (map word_of words)
-      (word_of v)
-      (subst (λ xs. Leads whole start 0 (values s (map expr_tree xs)) now (λ vs. map word_of words ++ vs))
-      (next_of es i e less is) leads) h)
+      (word_of v) (rw (next_of es i e less is) at leads) h)
 
   pub value_halts : (i : ℕ) (e : Expr) (now : ℕ) (words : List Word) (fault : EvalFault) → i < length es
       → e ≡ get_or es i e
@@ -64,17 +60,13 @@ module _ (s : State) (whole : Run (List state.Word)) (es : List Expr) (start : �
       → Stopped (value s (expr_tree e)) now 0 fault → Stopped whole start 0 fault
   value_halts i e now words fault less is leads h =
       values_stop s whole (expr_tree e) (map expr_tree (drop (i + 1) es)) start now
-      (λ vs. map word_of words ++ vs) fault
-      (subst (λ xs. Leads whole start 0 (values s (map expr_tree xs)) now (λ vs. map word_of words ++ vs))
-      (next_of es i e less is) leads) h
+      (λ vs. map word_of words ++ vs) fault (rw (next_of es i e less is) at leads) h
 
   pub all_values : (i now : ℕ) (words : List Word) → length es ≤ i
       → Leads whole start 0 (values s (map expr_tree (drop i es))) now (λ vs. map word_of words ++ vs)
       → Ended whole start 0 (map word_of words) now
   all_values i now words most leads =
-      all_found whole start now (map word_of words)
-      (subst (λ xs. Leads whole start 0 (values s (map expr_tree xs)) now (λ vs. map word_of words ++ vs))
-      (drop_all i es most) leads)
+      all_found whole start now (map word_of words) (rw (drop_all i es most) at leads)
 
 -- the statements of a block
 module _ (whole : Run State) (known : Runnables) (start room : ℕ) (ss : List Statement) where
@@ -85,8 +77,7 @@ module _ (whole : Run State) (known : Runnables) (start room : ℕ) (ss : List S
       → Leads whole start room (run_all known t (block_tree (drop (i + 1) ss))) middle (λ u. u)
   each_statement s t i statement now middle less is leads h =
       block_more whole known start room s t (statement_tree statement) (block_tree (drop (i + 1) ss)) now middle
-      (subst (λ xs. Leads whole start room (run_all known s (block_tree xs)) now (λ u. u))
-      (next_of ss i statement less is) leads) h
+      (rw (next_of ss i statement less is) at leads) h
 
   pub statement_halts : (s : State) (i : ℕ) (statement : Statement) (now : ℕ) (fault : EvalFault) → i < length ss
       → statement ≡ get_or ss i statement
@@ -95,15 +86,12 @@ module _ (whole : Run State) (known : Runnables) (start room : ℕ) (ss : List S
       → Stopped whole start room fault
   statement_halts s i statement now fault less is leads h =
       block_stop whole known start room s (statement_tree statement) (block_tree (drop (i + 1) ss)) now fault
-      (subst (λ xs. Leads whole start room (run_all known s (block_tree xs)) now (λ u. u))
-      (next_of ss i statement less is) leads) h
+      (rw (next_of ss i statement less is) at leads) h
 
   pub all_statements : (s : State) (i now : ℕ) → length ss ≤ i
       → Leads whole start room (run_all known s (block_tree (drop i ss))) now (λ u. u) → Ended whole start room s now
   all_statements s i now most leads =
-      let l : Leads whole start room (run_all known s nothing) now (λ u. u) =
-      subst (λ xs. Leads whole start room (run_all known s (block_tree xs)) now (λ u. u))
-      (drop_all i ss most) leads in
+      let l = rw (drop_all i ss most) at leads in
       l.ends s now (record { gives_it = refl; spends = omega arith; opens = omega arith })
 
 -- nothing of a list is left
@@ -125,8 +113,8 @@ no_words [] = refl
 no_words (p ∷ ps) = refl
 
 no_word : (form : Form) → (form ≡ FixedArray) ⊎ (form ≡ MutableArray) → is_word form ≡ false
-no_word form (inl is) = ap is_word is
-no_word form (inr is) = ap is_word is
+no_word form (inl is) = rw is
+no_word form (inr is) = rw is
 
 -- the values of a call's word arguments
 module _ (s : State) (whole : Run (List state.Word)) (ps : List Parameter) (es : List Expr) (start : ℕ) where
@@ -151,40 +139,32 @@ module _ (s : State) (whole : Run (List state.Word)) (ps : List Parameter) (es :
         → new ≡ words ++ v ∷ [] → LeadsFrom i before words → before ≡ now + 1
         → Ended (value s (expr_tree e)) now 0 (word_of v) middle → LeadsFrom (i + 1) middle new
     pass_more before now middle words new v is more leads one h =
-        subst (λ ws. Leads whole start 0 (passed s (words_from (i + 1))) middle (λ vs. ws ++ vs))
-        (pushed words new v more)
+        rw (← pushed words new v more)
         (passed_more s whole (expr_tree e) (words_from (i + 1)) start before now middle (map word_of words)
-        (word_of v)
-        (subst (λ xs. Leads whole start 0 (passed s xs) before (λ vs. map word_of words ++ vs)) (next_word is) leads)
-        one h)
+        (word_of v) (rw (next_word is) at leads) one h)
 
     pub pass_stops : (before now : ℕ) (words : List Word) (fault : EvalFault) → (get_or ps i d).form ≡ SingleWord
         → LeadsFrom i before words → before ≡ now + 1
         → Stopped (value s (expr_tree e)) now 0 fault → Stopped whole start 0 fault
     pass_stops before now words fault is leads one h =
         passed_stop s whole (expr_tree e) (words_from (i + 1)) start before now (λ vs. map word_of words ++ vs) fault
-        (subst (λ xs. Leads whole start 0 (passed s xs) before (λ vs. map word_of words ++ vs)) (next_word is) leads)
-        one h
+        (rw (next_word is) at leads) one h
 
     pub pass_lacks : (before : ℕ) (words : List Word) (fault : EvalFault) → (get_or ps i d).form ≡ SingleWord
         → LeadsFrom i before words → before ≡ 0 → fault ≡ Budget → Stopped whole start 0 fault
     pass_lacks before words fault is leads none budget =
         passed_lacks s whole (expr_tree e) (words_from (i + 1)) start before (λ vs. map word_of words ++ vs) fault
-        (subst (λ xs. Leads whole start 0 (passed s xs) before (λ vs. map word_of words ++ vs)) (next_word is) leads)
-        none budget
+        (rw (next_word is) at leads) none budget
 
     pub pass_over : (now : ℕ) (words : List Word) → ((get_or ps i d).form ≡ FixedArray)
         ⊎ ((get_or ps i d).form ≡ MutableArray) → LeadsFrom i now words → LeadsFrom (i + 1) now words
     pass_over now words is leads =
-        subst (λ xs. Leads whole start 0 (passed s xs) now (λ vs. map word_of words ++ vs))
-        (both_next ∙ ap (λ b. cond b (expr_tree e ∷ words_from (i + 1)) (words_from (i + 1)))
-        (no_word (get_or ps i d).form is)) leads
+        rw (both_next, no_word (get_or ps i d).form is) at leads
 
   pub pass_ends : (i now : ℕ) (words : List Word) → words_from i ≡ [] → LeadsFrom i now words
       → Ended whole start 0 (map word_of words) now
   pass_ends i now words none leads =
-      all_found whole start now (map word_of words)
-      (subst (λ xs. Leads whole start 0 (passed s xs) now (λ vs. map word_of words ++ vs)) none leads)
+      all_found whole start now (map word_of words) (rw none at leads)
 
   pub no_parameters : (i : ℕ) → length ps ≤ i → words_from i ≡ []
   no_parameters i most = ap (λ xs. word_arguments (map parameter_tree xs) (map expr_tree (drop i es)))

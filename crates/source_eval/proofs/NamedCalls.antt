@@ -1,20 +1,19 @@
 -- In a program that violates no rule each call is of an earlier procedure, and one procedure is exported.
-use Rattle.std.proofs.Common.{◌≡◌, ℕ, Bool, true, false, cond, if◌then◌else◌, List, [], ◌∷◌, ◌++◌, length, slice_get}
-use Rattle.std.proofs.Common.{Option, Some, None, is_some, ◌⊎◌, inl, inr, refl, ap, arith}
-use Rattle.std.proofs.lemmas.Option.{none-some, same_Some, slice_get_within}
-use Rattle.std.specs.Map.{lookup}
+use Rattle.std.proofs.Common.{◌≡◌, ℕ, true, if◌then◌else◌, List, [], ◌∷◌, ◌++◌, length, slice_get}
+use Rattle.std.proofs.Common.{Option, Some, None, is_some, inl, inr, refl, ap, arith}
+use Rattle.std.proofs.lemmas.Bool.{cases_Bool}
+use Rattle.std.proofs.lemmas.Option.{none-some, slice_get_within}
 use Rattle.std.specs.Str.{bytes_eq}
 use Rattle.word.specs.declared.place.Place.{Place}
 use Rattle.word.specs.declared.profile.Profile.{Profile}
 use Rattle.language.specs.declared.signature.Label.{Label}
 use Rattle.language.specs.declared.typing.Callee.{Callee}
-use Rattle.language.specs.declared.typing.Declared.{Declared}
 use Rattle.language.specs.declared.typing.Declared.TheVariants.{Procedure, Variable}
 use Rattle.language.specs.declared.typing.ValueType.{ValueType}
 use Rattle.language.specs.declared.typing.VariableType.{VariableType}
 use Rattle.language.specs.Meaning.{named, exported}
-use Rattle.language.specs.Tree.{CallTree, RightTree, StatementTree, declaration, array, assignment}
-use Rattle.language.specs.Tree.{element_assignment, call, conditional, loop, BlockTree, ParameterTree, ProcedureTree}
+use Rattle.language.specs.Tree.{CallTree, RightTree, StatementTree, declaration, array}
+use Rattle.language.specs.Tree.{BlockTree, ParameterTree, ProcedureTree}
 use Rattle.language.specs.Tree.{ProgramTree}
 use Rattle.language.specs.Types.{Scope, found, declared, callee}
 use Rattle.language.specs.Typing.{assigns_public, scope_after, parameter_as, with_parameters, with_procedure}
@@ -23,43 +22,12 @@ use Rattle.language.specs.WellTyped.{IsCall, of_procedure, Gives, of_call, of_va
 use Rattle.language.specs.WellTyped.{declares_array, assigns, assigns_element, calls, chooses, repeats, AreWellTyped}
 use Rattle.language.specs.WellTyped.{no_statement, one_more, AreProcedures, no_procedure, one_procedure}
 use Rattle.language.specs.WellTyped.{IsTypedProgram}
-use Rattle.source_eval.proofs.Below.{Found}
+use Rattle.source_eval.proofs.Below.{Found, found-split}
 use Rattle.source_eval.proofs.EarlierCalls.{IsNamed, RightKnown, StatementKnown, BlockKnown, CallEarlier}
 
 -- there is a value
 abbrev pub IsThere : {A : Type 0} → Option A → Type 0
 IsThere {A} o = (a : A) × (o ≡ Some a)
-
--- What a name stands for after a declaration.
-
-lookup-last : (test : List ℕ → Bool) (names : List (List ℕ × Declared)) (name : List ℕ) (what d : Declared)
-    → lookup test (names ++ (name, what) ∷ []) ≡ Some d
-    → (lookup test names ≡ Some d) ⊎ ((test name ≡ true) × (what ≡ d))
-lookup-last test [] name what d = by_test (test name) refl
-  where
-    by_test : (b : Bool) → test name ≡ b → cond b (Some what) None ≡ Some d
-        → (None ≡ Some d) ⊎ ((test name ≡ true) × (what ≡ d))
-    by_test true e is = inr (e, same_Some what d is)
-    by_test false e is = inl is
-lookup-last test (x ∷ names) name what d = by_test (lookup-last test names name what d) (test x.0)
-  where
-    by_test : (lookup test (names ++ (name, what) ∷ []) ≡ Some d
-        → (lookup test names ≡ Some d) ⊎ ((test name ≡ true) × (what ≡ d))) → (b : Bool)
-        → cond b (Some x.1) (lookup test (names ++ (name, what) ∷ [])) ≡ Some d
-        → (cond b (Some x.1) (lookup test names) ≡ Some d) ⊎ ((test name ≡ true) × (what ≡ d))
-    by_test later true is = inl is
-    by_test later false is = later is
-
-found-after : (scope : Scope) (name : List ℕ) (what : Declared) (text : List ℕ) (d : Declared)
-    → found (declared scope name what) text ≡ Some d
-    → (found scope text ≡ Some d) ⊎ ((bytes_eq text name ≡ true) × (what ≡ d))
-found-after scope name what text d = by_scope (is_some (found scope name))
-  where
-    by_scope : (taken : Bool)
-        → lookup (bytes_eq text) (if taken then scope.names else scope.names ++ (name, what) ∷ []) ≡ Some d
-        → (found scope text ≡ Some d) ⊎ ((bytes_eq text name ≡ true) × (what ≡ d))
-    by_scope true is = inl is
-    by_scope false is = lookup-last (bytes_eq text) scope.names name what d is
 
 -- Procedures and their names.
 
@@ -72,21 +40,13 @@ abbrev AreCallable : List ProcedureTree → Scope → Type 0
 AreCallable earlier scope = (text : List ℕ) (c : Callee) (p : ProcedureTree) → found scope text ≡ Some (Procedure c)
     → slice_get earlier c.number ≡ Some p → IsNamed earlier text
 
-no-procedure : (v : VariableType) (c : Callee) → Variable v ≡ Procedure c → ⊥
-no-procedure v c h = cc
-
-same-procedure : (a b : Callee) → Procedure a ≡ Procedure b → a ≡ b
-same-procedure a b h = cc
-
 callable-after : (earlier : List ProcedureTree) (scope : Scope) (name : List ℕ) (v : VariableType)
     → AreCallable earlier scope → AreCallable earlier (declared scope name (Variable v))
 callable-after earlier scope name v are text c p is there =
-    by_name (found-after scope name (Variable v) text (Procedure c) is)
-  where
-    by_name : (found scope text ≡ Some (Procedure c)) ⊎ ((bytes_eq text name ≡ true) × (Variable v ≡ Procedure c))
-        → IsNamed earlier text
-    by_name (inl old) = are text c p old there
-    by_name (inr new) = absurd (no-procedure v c new.1)
+    elim (found-split scope.names name (Variable v) text (Procedure c) is) [
+      | inl old ↦ are text c p old there
+      | inr new ↦ (let wrong : Variable v ≡ Procedure c = new.1 in cc)
+    ]
 
 -- what stands in scope for a procedure
 abbrev as_callee : Scope → ℕ → ProcedureTree → Callee
@@ -96,53 +56,39 @@ as_callee scope number p = record { number = number; assigns_public = assigns_pu
 callable-within : (earlier : List ProcedureTree) (scope : Scope) (q : ProcedureTree) → AreNamed earlier scope
     → AreCallable earlier (with_procedure scope (length earlier) q)
 callable-within earlier scope q are text c p is there =
-    by_name (found-after scope q.name (Procedure (as_callee scope (length earlier) q)) text (Procedure c) is)
-  where
-    by_name : (found scope text ≡ Some (Procedure c))
-        ⊎ ((bytes_eq text q.name ≡ true) × (Procedure (as_callee scope (length earlier) q) ≡ Procedure c))
-        → IsNamed earlier text
-    by_name (inl old) = are text c old
-    by_name (inr new) =
-        let low = slice_get_within earlier c.number p there in
-        let here = ap (λ (d : Callee). d.number) (same-procedure (as_callee scope (length earlier) q) c new.1) in
-        absurd (omega (arith, low, here))
+    let this = as_callee scope (length earlier) q in
+    elim (found-split scope.names q.name (Procedure this) text (Procedure c) is) [
+      | inl old ↦ are text c old
+      | inr new ↦ (let low = slice_get_within earlier c.number p there in
+          let declared_is : Procedure this ≡ Procedure c = new.1 in
+          let same : this ≡ c = cc in
+          absurd (omega (arith, low, ap (λ (d : Callee). d.number) same)))
+    ]
 
 -- one more procedure
 named-kept : (before ps : List ProcedureTree) (p : ProcedureTree) (text : List ℕ) (old : Found)
     → named before ps text ≡ Some old → (new : Found) × (named before (ps ++ p ∷ []) text ≡ Some new)
 named-kept before [] p text old is = absurd (none-some old is)
-named-kept before (q ∷ ps) p text old is =
-    by_name (named-kept (before ++ q ∷ []) ps p text old) (bytes_eq text q.name) is
-  where
-    by_name : (named (before ++ q ∷ []) ps text ≡ Some old
-        → (new : Found) × (named (before ++ q ∷ []) (ps ++ p ∷ []) text ≡ Some new)) → (same : Bool)
-        → (if same then Some (before, q) else named (before ++ q ∷ []) ps text) ≡ Some old
-        → (new : Found) × ((if same then Some (before, q) else named (before ++ q ∷ []) (ps ++ p ∷ []) text)
-        ≡ Some new)
-    by_name later true here = ((before, q), refl)
-    by_name later false there = later there
+named-kept before (q ∷ ps) p text old is = elim (cases_Bool (bytes_eq text q.name)) [
+  | inl here ↦ ((before, q), rw here)
+  | inr other ↦ rw other (named-kept (before ++ q ∷ []) ps p text old (rw other at is))
+]
 
 named-last : (before ps : List ProcedureTree) (p : ProcedureTree) (text : List ℕ) → bytes_eq text p.name ≡ true
     → (new : Found) × (named before (ps ++ p ∷ []) text ≡ Some new)
-named-last before [] p text same = ((before, p), ap (λ b. if b then Some (before, p) else None) same)
-named-last before (q ∷ ps) p text same = by_name (named-last (before ++ q ∷ []) ps p text same) (bytes_eq text q.name)
-  where
-    by_name : (new : Found) × (named (before ++ q ∷ []) (ps ++ p ∷ []) text ≡ Some new) → (here : Bool)
-        → (new : Found) × ((if here then Some (before, q) else named (before ++ q ∷ []) (ps ++ p ∷ []) text)
-        ≡ Some new)
-    by_name later true = ((before, q), refl)
-    by_name later false = later
+named-last before [] p text same = ((before, p), rw same)
+named-last before (q ∷ ps) p text same = elim (cases_Bool (bytes_eq text q.name)) [
+  | inl here ↦ ((before, q), rw here)
+  | inr other ↦ rw other (named-last (before ++ q ∷ []) ps p text same)
+]
 
 named-after : (earlier : List ProcedureTree) (scope : Scope) (number : ℕ) (p : ProcedureTree) → AreNamed earlier scope
     → AreNamed (earlier ++ p ∷ []) (with_procedure scope number p)
 named-after earlier scope number p are text c is =
-    by_name (found-after scope p.name (Procedure (as_callee scope number p)) text (Procedure c) is)
-  where
-    by_name : (found scope text ≡ Some (Procedure c))
-        ⊎ ((bytes_eq text p.name ≡ true) × (Procedure (as_callee scope number p) ≡ Procedure c))
-        → IsNamed (earlier ++ p ∷ []) text
-    by_name (inl old) = let there = are text c old in named-kept [] earlier p text there.0 there.1
-    by_name (inr new) = named-last [] earlier p text new.0
+    elim (found-split scope.names p.name (Procedure (as_callee scope number p)) text (Procedure c) is) [
+      | inl old ↦ (let there = are text c old in named-kept [] earlier p text there.0 there.1)
+      | inr new ↦ named-last [] earlier p text new.0
+    ]
 
 -- Calls, statements and procedures.
 
@@ -160,11 +106,7 @@ module _ (earlier : List ProcedureTree) where
       → AreCallable earlier (scope_after scope statement)
   scope-callable scope (declaration place label mutable kind text right) are = callable-after earlier scope text _ are
   scope-callable scope (array place label mutable kind size text values) are = callable-after earlier scope text _ are
-  scope-callable scope (assignment place target text right) are = are
-  scope-callable scope (element_assignment place bracket target text index right) are = are
-  scope-callable scope (call c) are = are
-  scope-callable scope (conditional place condition accepted otherwise) are = are
-  scope-callable scope (loop place counter text low high body) are = are
+  scope-callable scope _ are = are
 
 mutual
   statement-named : {earlier : List ProcedureTree} {scope : Scope} {control : Label} {statement : StatementTree}
@@ -204,10 +146,7 @@ calls-earlier are (one_procedure {earlier = earlier} {scope = scope} {p = p} thi
 
 first-exported : (before ps : List ProcedureTree) (place : Place) (places : List Place) → exports ps ≡ place ∷ places
     → IsThere (exported before ps)
-first-exported before [] place places is = absurd (nothing-first place places is)
-  where
-    nothing-first : (place : Place) (places : List Place) → [] ≡ place ∷ places → ⊥
-    nothing-first place places h = cc
+first-exported before [] place places is = cc
 first-exported before (p ∷ ps) place places is =
     by_export p.export is (first-exported (before ++ p ∷ []) ps place places)
   where

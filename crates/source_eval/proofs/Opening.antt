@@ -67,10 +67,8 @@ call_open None (Some extent) opened s c = absurd opened
 call_open (Some known) None opened s c = absurd opened
 call_open (Some known) (Some extent) opened s c =
     let words = word_arguments known.procedure.parameters c.arguments in
-    then_open extent.bodies (passed s words) _ (none_open extent.bodies (passed s words).bodies (passed_open s words))
-    (λ vs.
-    then_open extent.bodies (inside (known.body (begun s known.procedure.parameters c.arguments vs))) _
-    (opened (begun s known.procedure.parameters c.arguments vs)) (λ r. omega arith))
+    then_open _ _ _ (none_open extent.bodies (passed s words).bodies (passed_open s words)) (λ vs.
+    then_open _ _ _ (opened (begun s known.procedure.parameters c.arguments vs)) (λ r. omega arith))
 
 module _ (known : Runnables) (extents : Extents) (opened : AreOpened known extents) where
   value_open : (most : ℕ) (s : State) (e : ExprTree) → (value s e).bodies ≤ most
@@ -86,30 +84,22 @@ module _ (known : Runnables) (extents : Extents) (opened : AreOpened known exten
     statement_open : (statement : StatementTree) (s : State)
         → (run known s statement).bodies ≤ statement_bodies extents statement
     statement_open (declaration place label mutable kind text right) s =
-        then_open (right_bodies extents right) (right_run known s right) _ (right_open s right) (λ r. omega arith)
+        then_open _ _ _ (right_open s right) (λ r. omega arith)
     statement_open (array place label mutable kind size text initial) s =
         none_open 0 _ (array_opens s text kind size initial)
     statement_open (assignment place target text right) s =
-        then_open (right_bodies extents right) (right_run known s right) _ (right_open s right) (λ r. omega arith)
+        then_open _ _ _ (right_open s right) (λ r. omega arith)
     statement_open (element_assignment place bracket target text index right) s =
-        let most = right_bodies extents right in
-        then_open most (value s index) _ (value_open most s index) (λ i.
-        then_open most _ _ (omega arith)
-        (λ old. then_open most (right_run known s right) _ (right_open s right) (λ r. omega arith)))
+        then_open _ _ _ (value_open _ s index) (λ i. then_open _ _ _ (omega arith) (λ old.
+        then_open _ _ _ (right_open s right) (λ r. omega arith)))
     statement_open (call c) s =
-        then_open (bodies_of_called (extents c.name)) (call_run (known c.name) s c) _
-        (call_open (known c.name) (extents c.name) (opened c.name) s c) (λ r. omega arith)
+        then_open _ _ _ (call_open (known c.name) (extents c.name) (opened c.name) s c) (λ r. omega arith)
     statement_open (conditional place condition accepted otherwise) s =
-        let most = max (block_bodies extents accepted) (block_bodies extents otherwise) in
-        then_open most (value s condition) _ (value_open most s condition) (λ c.
-        one_open (block_bodies extents accepted) (block_bodies extents otherwise) (run_all known s accepted)
-        (run_all known s otherwise) (block_open accepted s) (block_open otherwise s) (truth_of c.value))
+        then_open _ _ _ (value_open _ s condition) (λ c.
+        one_open _ _ _ _ (block_open accepted s) (block_open otherwise s) (truth_of c.value))
     statement_open (loop place counter text low high body) s =
-        let most = block_bodies extents body in
-        then_open most (value s low) _ (value_open most s low) (λ a.
-        then_open most (value s high) _ (value_open most s high) (λ b.
-        turns_open most (λ i t. run_all known (counting t text i) body) (λ i t. block_open body (counting t text i))
-        (b.value - a.value) a.value s))
+        then_open _ _ _ (value_open _ s low) (λ a. then_open _ _ _ (value_open _ s high) (λ b.
+        turns_open _ _ (λ i t. block_open body (counting t text i)) (b.value - a.value) a.value s))
 
     block_open : (block : BlockTree) (s : State) → (run_all known s block).bodies ≤ block_bodies extents block
     block_open nothing s = omega arith

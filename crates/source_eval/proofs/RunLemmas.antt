@@ -1,6 +1,6 @@
 -- How runs spend a budget, part by part.
 use Rattle.std.proofs.Common.{◌≡◌, ℕ, suc, ◌+◌, ◌-◌, ◌<◌, ◌≤◌, inl, inr, List, [], ◌∷◌, ◌++◌, Option, Some, None}
-use Rattle.std.proofs.Common.{append_assoc, append-nil, refl, sym, subst, arith}
+use Rattle.std.proofs.Common.{append_assoc, append-nil, refl, arith}
 use Rattle.language.specs.declared.signature.Kind.{Kind}
 use Rattle.language.specs.Evaluation.{Run, given, tick, andthen, later, continued, value, values, passed, turns}
 use Rattle.language.specs.Evaluation.{array_run, loop_run, return_run, run, run_all, Runnables}
@@ -45,14 +45,7 @@ passed_open s (e ∷ es) = then-none _ _ _ _ (value_opens s e) (λ _. then-none 
 pub value_counts : (s : State) (e : ExprTree) → 0 < (value s e).nodes
 unfolding tick
 value_counts s (number place v kind) = omega arith
-value_counts s (truth place v) = omega arith
-value_counts s (name place text) = omega arith
-value_counts s (prefix place operator a) = omega arith
-value_counts s (binary place operator a b) = omega arith
-value_counts s (rotate place a amount) = omega arith
-value_counts s (convert place kind a) = omega arith
-value_counts s (select place a b c) = omega arith
-value_counts s (element place target text a) = omega arith
+value_counts s _ = omega arith
 
 pub return_opens : (s : State) (r : Option ReturnTree) → (return_run s r).bodies ≡ 0
 unfolding tick andthen
@@ -69,9 +62,8 @@ array_opens s text kind size initial = then-none _ _ _ _ (values_open s (written
 pub then_ends : {A B : Type 0} (r : Run A) (next : A → Run B) (left middle after room : ℕ) (a : A) (b : B)
     → Ended r left room a middle → Ended (next a) middle room b after → Ended (andthen r next) left room b after
 unfolding andthen
-then_ends {A} {B} r next left middle after room a b h k =
-    subst (λ (ending : Ending A). Ended (continued r.nodes r.bodies ending next) left room b after) (sym h.gives_it)
-    (record { gives_it = k.gives_it; spends = omega arith; opens = omega arith })
+then_ends r next left middle after room a b h k =
+    rw h.gives_it (record { gives_it = k.gives_it; spends = omega arith; opens = omega arith })
 
 later_stops : {B : Type 0} (r : Run B) (nodes bodies left middle room : ℕ) (fault : EvalFault)
     → left ≡ nodes + middle → bodies ≤ room → Stopped r middle room fault
@@ -85,9 +77,8 @@ later_stops r nodes bodies left middle room (Argument fault) spent opened h = h
 pub then_stops : {A B : Type 0} (r : Run A) (next : A → Run B) (left middle room : ℕ) (a : A) (fault : EvalFault)
     → Ended r left room a middle → Stopped (next a) middle room fault → Stopped (andthen r next) left room fault
 unfolding andthen
-then_stops {A} {B} r next left middle room a fault h k =
-    subst (λ (ending : Ending A). Stopped (continued r.nodes r.bodies ending next) left room fault) (sym h.gives_it)
-    (later_stops (next a) r.nodes r.bodies left middle room fault h.spends h.opens k)
+then_stops r next left middle room a fault h k =
+    rw h.gives_it (later_stops (next a) r.nodes r.bodies left middle room fault h.spends h.opens k)
 
 at_least : {A B : Type 0} (nodes bodies : ℕ) (ending : Ending A) (next : A → Run B)
     → (nodes ≤ (continued nodes bodies ending next).nodes) × (bodies ≤ (continued nodes bodies ending next).bodies)
@@ -97,9 +88,7 @@ at_least nodes bodies (faults place) next = (omega arith, omega arith)
 pub stops_then : {A B : Type 0} (r : Run A) (next : A → Run B) (left room : ℕ) (fault : EvalFault)
     → Stopped r left room fault → Stopped (andthen r next) left room fault
 unfolding andthen
-stops_then {A} {B} r next left room (NoMeaning place) h =
-    subst (λ (ending : Ending A). Stopped (continued r.nodes r.bodies ending next) left room (NoMeaning place))
-    (sym h.0) (refl, h.1, h.2)
+stops_then r next left room (NoMeaning place) h = rw h.0 (refl, h.1, h.2)
 stops_then r next left room Budget (inl h) = let more = at_least r.nodes r.bodies r.ends next in inl (omega arith)
 stops_then r next left room Budget (inr h) = let more = at_least r.nodes r.bodies r.ends next in inr (omega arith)
 stops_then r next left room Memory h = h
@@ -124,11 +113,11 @@ tick_stops r before left room (Argument fault) one h = h
 pub tick_lacks : {A : Type 0} (r : Run A) (left room : ℕ) (fault : EvalFault) → left ≡ 0 → fault ≡ Budget
     → Stopped (tick r) left room fault
 unfolding tick
-tick_lacks r left room fault none is = subst (Stopped (tick r) left room) (sym is) (inl (omega arith))
+tick_lacks r left room fault none is = rw is (inl (omega arith))
 
 pub memory_stops : {A : Type 0} (r : Run A) (left room : ℕ) (fault : EvalFault) → fault ≡ Memory
     → Stopped r left room fault
-memory_stops r left room fault is = subst (Stopped r left room) (sym is) tt
+memory_stops r left room fault is = rw is tt
 
 -- A run that goes on with what is left of it.
 
@@ -149,7 +138,7 @@ pub values_more : (s : State) (whole : Run (List Word)) (e : ExprTree) (es : Lis
     → Leads whole start 0 (values s (e ∷ es)) now (λ vs. front ++ vs) → Ended (value s e) now 0 v middle
     → Leads whole start 0 (values s es) middle (λ vs. (front ++ v ∷ []) ++ vs)
 values_more s whole e es start now middle front v leads h = record {
-  ends = λ vs after k. subst (λ ws. Ended whole start 0 ws after) (sym (append_assoc front (v ∷ []) vs))
+  ends = λ vs after k. rw (append_assoc front (v ∷ []) vs)
       (leads.ends (v ∷ vs) after
       (then_ends (value s e) _ now middle after 0 v (v ∷ vs) h (cons_ends v middle 0 vs after k)));
   stops =
@@ -169,7 +158,7 @@ pub passed_more : (s : State) (whole : Run (List Word)) (e : ExprTree) (es : Lis
     → Ended (value s e) now 0 v middle
     → Leads whole start 0 (passed s es) middle (λ vs. (front ++ v ∷ []) ++ vs)
 passed_more s whole e es start before now middle front v leads one h = record {
-  ends = λ vs after k. subst (λ ws. Ended whole start 0 ws after) (sym (append_assoc front (v ∷ []) vs))
+  ends = λ vs after k. rw (append_assoc front (v ∷ []) vs)
       (leads.ends (v ∷ vs) after
       (tick_ends _ before now 0 (v ∷ vs) after one
       (then_ends (value s e) _ now middle after 0 v (v ∷ vs) h (cons_ends v middle 0 vs after k))));
@@ -196,8 +185,7 @@ passed_lacks s whole e es start before join fault leads none is =
 pub all_found : (whole : Run (List Word)) (start now : ℕ) (front : List Word)
     → Leads whole start 0 (given []) now (λ vs. front ++ vs) → Ended whole start 0 front now
 all_found whole start now front leads =
-    subst (λ ws. Ended whole start 0 ws now) (append-nil front)
-    (leads.ends [] now (record { gives_it = refl; spends = omega arith; opens = omega arith }))
+    rw append-nil at (leads.ends [] now (record { gives_it = refl; spends = omega arith; opens = omega arith }))
 
 -- the turns of a loop
 step_of : (i n : ℕ) → i < n → n - i ≡ suc (n - (i + 1))
@@ -209,8 +197,7 @@ module _ (whole : Run State) (turn : ℕ → State → Run State) (start room : 
       → Ended (turn i s) now room t middle
       → Leads whole start room (turns (n - (i + 1)) (i + 1) turn t) middle (λ u. u)
   turns_more s t i n before now middle less leads one h =
-      let l : Leads whole start room (turns (suc (n - (i + 1))) i turn s) before (λ u. u) =
-      subst (λ m. Leads whole start room (turns m i turn s) before (λ u. u)) (step_of i n less) leads in
+      let l = rw (step_of i n less) at leads in
       record {
         ends =
             λ u after k. l.ends u after
@@ -226,24 +213,21 @@ module _ (whole : Run State) (turn : ℕ → State → Run State) (start room : 
       → Stopped (turn i s) now room fault
       → Stopped whole start room fault
   turns_stop s i n before now fault less leads one h =
-      let l : Leads whole start room (turns (suc (n - (i + 1))) i turn s) before (λ u. u) =
-      subst (λ m. Leads whole start room (turns m i turn s) before (λ u. u)) (step_of i n less) leads in
+      let l = rw (step_of i n less) at leads in
       l.stops fault (tick_stops _ before now room fault one (stops_then (turn i s) _ now room fault h))
 
   pub turns_lack : (s : State) (i n before : ℕ) (fault : EvalFault) → i < n
       → Leads whole start room (turns (n - i) i turn s) before (λ u. u) → before ≡ 0 → fault ≡ Budget
       → Stopped whole start room fault
   turns_lack s i n before fault less leads none is =
-      let l : Leads whole start room (turns (suc (n - (i + 1))) i turn s) before (λ u. u) =
-      subst (λ m. Leads whole start room (turns m i turn s) before (λ u. u)) (step_of i n less) leads in
+      let l = rw (step_of i n less) at leads in
       l.stops fault (tick_lacks _ before room fault none is)
 
   pub turns_end : (s : State) (i n now : ℕ) → n ≤ i → Leads whole start room (turns (n - i) i turn s) now (λ u. u)
       → Ended whole start room s now
   turns_end s i n now least leads =
       let none : n - i ≡ 0 = omega arith in
-      let l : Leads whole start room (turns 0 i turn s) now (λ u. u) =
-      subst (λ m. Leads whole start room (turns m i turn s) now (λ u. u)) none leads in
+      let l = rw none at leads in
       l.ends s now (record { gives_it = refl; spends = omega arith; opens = omega arith })
 
 -- what opens no body does so in any room

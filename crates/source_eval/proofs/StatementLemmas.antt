@@ -1,6 +1,6 @@
 -- How the running of a call, of a loop and of a conditional spends a budget.
 use Rattle.std.proofs.Common.{◌≡◌, ℕ, ◌+◌, ◌-◌, ◌<◌, List, [], Option, Some, None, Result, map, Vec, Global, inl, inr}
-use Rattle.std.proofs.Common.{refl, sym, ap, ap₂, subst, ◌∙◌, arith}
+use Rattle.std.proofs.Common.{refl, sym, ap, ap₂, ◌∙◌, arith}
 use Rattle.std.proofs.lemmas.Result.{on_ok_weaker}
 use Rattle.std.specs.Option.{option_map}
 use Rattle.std.specs.Result.{OnOk}
@@ -54,15 +54,13 @@ given_ends a left room = record { gives_it = refl; spends = omega arith; opens =
 pub call_none : (o : Option Runnable) (s : State) (c : CallTree) (before left room : ℕ) → o ≡ None → before ≡ left + 1
     → Ended (call_run o s c) before room (record { word = None; state = s }) left
 call_none o s c before left room is one =
-    subst (λ x. Ended (call_run x s c) before room (record { word = None; state = s }) left) (sym is)
-    (tick_ends _ before left room _ left one (given_ends _ left room))
+    rw is (tick_ends _ before left room _ left one (given_ends _ left room))
 
 module _ (o : Option Runnable) (k : Runnable) (s : State) (c : CallTree) (before left room : ℕ) (is : o ≡ Some k)
     (one : before ≡ left + 1) where
   stops_so : (fault : EvalFault) → Stopped (called_run (Some k) s c) left room fault
       → Stopped (call_run o s c) before room fault
-  stops_so fault h = subst (λ x. Stopped (call_run x s c) before room fault) (sym is)
-      (tick_stops _ before left room fault one h)
+  stops_so fault h = rw is (tick_stops _ before left room fault one h)
 
   pub call_argument_stops : (fault : EvalFault)
       → Stopped (passed s (word_arguments k.procedure.parameters c.arguments)) left 0 fault
@@ -85,8 +83,7 @@ module _ (o : Option Runnable) (k : Runnable) (s : State) (c : CallTree) (before
       call_body_stops fault h =
           stops_so fault (then_stops _ _ left middle room vs fault (roomy_ends _ left room vs middle arguments)
           (stops_then _ _ middle room fault
-          (inside_stops _ middle inner room fault more
-          (subst (λ u. Stopped (k.body u) middle inner fault) begins h))))
+          (inside_stops _ middle inner room fault more (rw begins at h))))
 
       pub call_ends : (word : Option Word) (t caller : State) (after : ℕ)
           → Ended (k.body state) middle inner (record { word = word; state = t }) after
@@ -95,15 +92,11 @@ module _ (o : Option Runnable) (k : Runnable) (s : State) (c : CallTree) (before
       call_ends word t caller after h out =
           let r : Returned = record { word = word; state = t } in
           let result : Returned = record { word = word; state = copied_out s t k.procedure.parameters c.arguments } in
-          let whole : Ended (call_run o s c) before room result after =
-          subst (λ x. Ended (call_run x s c) before room result after) (sym is)
+          rw (out, is)
           (tick_ends _ before left room result after one
           (then_ends _ _ left middle after room vs result (roomy_ends _ left room vs middle arguments)
           (then_ends _ _ middle after after room r result
-          (inside_ends _ middle inner room r after more
-          (subst (λ u. Ended (k.body u) middle inner r after) begins h))
-          (given_ends result after room)))) in
-          subst (λ u. Ended (call_run o s c) before room (record { word = word; state = u }) after) (sym out) whole
+          (inside_ends _ middle inner room r after more (rw begins at h)) (given_ends result after room))))
 
 -- the bounds of a loop
 module _ (s : State) (low high : ExprTree) (turn : ℕ → State
@@ -131,16 +124,14 @@ module _ (whole : Run State) (known : Runnables) (text : List ℕ) (body : Block
       → Ended (run_all known counted body) now room t middle
       → Leads whole start room (turns (n - (i + 1)) (i + 1) turn t) middle (λ u. u)
   each_turn s counted t i n before now middle less leads one is h =
-      turns_more whole turn start room s t i n before now middle less leads one
-      (subst (λ u. Ended (run_all known u body) now room t middle) is h)
+      turns_more whole turn start room s t i n before now middle less leads one (rw is at h)
 
   pub turn_stops : (s counted : State) (i n before now : ℕ) (fault : EvalFault) → i < n
       → Leads whole start room (turns (n - i) i turn s) before (λ u. u) → before ≡ now + 1
       → counted ≡ counting s text i
       → Stopped (run_all known counted body) now room fault → Stopped whole start room fault
   turn_stops s counted i n before now fault less leads one is h =
-      turns_stop whole turn start room s i n before now fault less leads one
-      (subst (λ u. Stopped (run_all known u body) now room fault) is h)
+      turns_stop whole turn start room s i n before now fault less leads one (rw is at h)
 
 -- a call, over the lists that the code goes through
 module _ (earlier front : List Procedure) (callee : Procedure) (s : State) (c : Call) (ps : List Parameter)
@@ -169,12 +160,11 @@ module _ (earlier front : List Procedure) (callee : Procedure) (s : State) (c : 
 
   pub argument_stops : (fault : EvalFault) → Stopped (passed s (words_of ps es)) left 0 fault
       → Stopped (call_run o s (call_tree c)) before room fault
-  argument_stops fault h = call_argument_stops o k s (call_tree c) before left room is one fault
-      (subst (λ ws. Stopped (passed s ws) left 0 fault) same_words h)
+  argument_stops fault h = call_argument_stops o k s (call_tree c) before left room is one fault (rw same_words at h)
 
   module _ (vs : List Word) (middle : ℕ) (ended_words : Ended (passed s (words_of ps es)) left 0 vs middle) where
     abbrev ended_so : Ended (passed s (words_of callee.parameters.items c.arguments.items)) left 0 vs middle
-    ended_so = subst (λ ws. Ended (passed s ws) left 0 vs middle) same_words ended_words
+    ended_so = rw same_words at ended_words
 
     pub room_lacks : room ≡ 0 → Stopped (call_run o s (call_tree c)) before room Budget
     room_lacks none = call_lacks_room o k s (call_tree c) before left room is one vs middle ended_so none
@@ -224,11 +214,11 @@ for_run known s statement place counter low high body b is one =
 
 pub ends_along : {A : Type 0} (r q : Run A) (left room : ℕ) (a : A) (after : ℕ) → r ≡ q → Ended r left room a after
     → Ended q left room a after
-ends_along r q left room a after is h = subst (λ x. Ended x left room a after) is h
+ends_along r q left room a after is h = rw is at h
 
 pub stops_along : {A : Type 0} (r q : Run A) (left room : ℕ) (fault : EvalFault) → r ≡ q → Stopped r left room fault
     → Stopped q left room fault
-stops_along r q left room fault is h = subst (λ x. Stopped x left room fault) is h
+stops_along r q left room fault is h = rw is at h
 
 pub ok_along : {T : Type 0} (result : Result T EvalFault) (r q : Run State) (left room : ℕ) (t : State) (after : ℕ)
     → r ≡ q → OnOk result (Ended r left room t after) → OnOk result (Ended q left room t after)
@@ -246,8 +236,7 @@ module _ (before : List Procedure) (export : Procedure) (args : List Arg) (left 
       → Stopped (export_run (map procedure_tree before) (procedure_tree export) args) left most_bodies fault
   export_stops fault h =
       stops_then _ _ left 64 fault
-      (inside_stops _ left 63 64 fault (omega arith)
-      (subst (λ u. Stopped (body_run (known_of before) (procedure_tree export) u) left 63 fault) holds_so h))
+      (inside_stops _ left 63 64 fault (omega arith) (rw holds_so at h))
 
   pub export_ends : (word : Option Word) (t : State) (after : ℕ) (outcome : Results)
       → Ended (body_run (known_of before) (procedure_tree export) state) left 63
@@ -260,9 +249,6 @@ module _ (before : List Procedure) (export : Procedure) (args : List Arg) (left 
       let out : Results = results (procedure_tree export) r in
       let arrays : outcome.arrays ≡ out.arrays = other ∙ ap (λ xs. final_arrays t (map parameter_tree xs)) parameters in
       let same : out ≡ outcome = ap₂ (λ a b. record { returned = a; arrays = b }) (sym one) (sym arrays) in
-      subst (λ x. Ended (export_run (map procedure_tree before) (procedure_tree export) args) left most_bodies x
-      after) same
+      rw (← same)
       (then_ends _ _ left after after 64 r out
-      (inside_ends _ left 63 64 r after (omega arith)
-      (subst (λ u. Ended (body_run (known_of before) (procedure_tree export) u) left 63 r after) holds_so
-      h)) (given_ends out after 64))
+      (inside_ends _ left 63 64 r after (omega arith) (rw holds_so at h)) (given_ends out after 64))
