@@ -1,7 +1,8 @@
 -- The first violation kept as they come is the first of all.
-use Rattle.std.proofs.Common.{◌≡◌, ◌≢◌, ◌<◌, ◌≤◌, ◌⊎◌, inl, inr, ℕ, suc, zero, Bool, true, false, ◌==◌, ◌&&◌, ◌||◌}
-use Rattle.std.proofs.Common.{nat_lt, List, [], ◌∷◌, ◌++◌, length, Option, None, Some, cond, fold, Contains, refl, ap}
+use Rattle.std.proofs.Common.{◌≡◌, ◌≢◌, ◌<◌, ◌≤◌, ◌⊎◌, inl, inr, ℕ, suc, zero, true, false, ◌==◌, ◌&&◌, ◌||◌}
+use Rattle.std.proofs.Common.{nat_lt, List, [], ◌∷◌, ◌++◌, length, Option, None, Some, fold, Contains, refl, ap}
 use Rattle.std.proofs.Common.{sym, ◌∙◌, subst, arith}
+use Rattle.std.proofs.lemmas.Bool.{cases_Bool}
 use Rattle.std.proofs.lemmas.Bool.Decides.{nat_tests}
 use Rattle.std.proofs.lemmas.List.Sums.{fold-append}
 use Rattle.std.proofs.lemmas.List.Elements.{All-cons, All-nil, All-head, All-tail, Contains-append_right}
@@ -58,15 +59,12 @@ kept_first w [] u h =
       there = (0, omega arith, refl);
       least = All-cons (IsNoLaterThan w) w [] (itself w) (All-nil (IsNoLaterThan w));
     })
-kept_first w (v ∷ vs) u h = by (comes_before v w) refl h (kept_first v vs u) (kept_first w vs u)
-  where
-    by : (b : Bool) → comes_before v w ≡ b → fold sooner (cond b (Some v) (Some w)) vs ≡ Some u
-        → (fold sooner (Some v) vs ≡ Some u → IsFirst (v ∷ vs) u)
-        → (fold sooner (Some w) vs ≡ Some u → IsFirst (w ∷ vs) u) → IsFirst (w ∷ v ∷ vs) u
-    by true p k new old =
-        behind w v u vs (new k) (earlier v.place.offset w.place.offset (rank_of v.rule) (rank_of w.rule) p)
-    by false p k new old =
-        after w v u vs (old k) (not_earlier v.place.offset w.place.offset (rank_of v.rule) (rank_of w.rule) p)
+kept_first w (v ∷ vs) u h = elim (cases_Bool (comes_before v w)) [
+  | inl sooner_one ↦ behind w v u vs (kept_first v vs u (rw sooner_one at h))
+      (earlier v.place.offset w.place.offset (rank_of v.rule) (rank_of w.rule) sooner_one)
+  | inr later_one ↦ after w v u vs (kept_first w vs u (rw later_one at h))
+      (not_earlier v.place.offset w.place.offset (rank_of v.rule) (rank_of w.rule) later_one)
+]
 
 -- the first violation that was found is the first
 pub found_first : (vs : List Violation) (u : Violation) → fold sooner None vs ≡ Some u → IsFirst vs u
@@ -76,12 +74,10 @@ found_first (v ∷ vs) u h = kept_first v vs u h
 -- one that was kept stays or gives way to another
 kept_some : (w : Violation) (vs : List Violation) → fold sooner (Some w) vs ≢ None
 kept_some w [] h = cc
-kept_some w (v ∷ vs) h = by (comes_before v w) h (kept_some v vs) (kept_some w vs)
-  where
-    by : (b : Bool) → fold sooner (cond b (Some v) (Some w)) vs ≡ None → fold sooner (Some v) vs ≢ None
-        → fold sooner (Some w) vs ≢ None → ⊥
-    by true k new old = new k
-    by false k new old = old k
+kept_some w (v ∷ vs) h = elim (cases_Bool (comes_before v w)) [
+  | inl sooner_one ↦ kept_some v vs (rw sooner_one at h)
+  | inr later_one ↦ kept_some w vs (rw later_one at h)
+]
 
 -- where none was found there is none
 pub found_none : (vs : List Violation) → fold sooner None vs ≡ None → length vs ≡ 0

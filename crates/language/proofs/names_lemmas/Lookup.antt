@@ -1,6 +1,7 @@
 -- What a name stands for after a declaration.
 use Rattle.std.proofs.Common.{◌≡◌, ℕ, Bool, true, false, cond, List, [], ◌∷◌, ◌++◌, Option, Some, None, is_some, ◌⊎◌}
 use Rattle.std.proofs.Common.{inl, inr, refl, sym, ap, ◌∙◌, true≢false}
+use Rattle.std.proofs.lemmas.Bool.{cases_Bool}
 use Rattle.std.proofs.lemmas.Option.{same_Some}
 use Rattle.std.specs.Map.{lookup}
 use Rattle.std.specs.Str.{bytes_eq}
@@ -32,27 +33,25 @@ lookup_append test (x ∷ xs) ys = by_test (test x.0) (lookup_append test xs ys)
     by_test false rest = rest
 
 module _ {V : Type 0} (scope : List (List ℕ × V)) (name : List ℕ) (what : V) (text : List ℕ) where
-  hidden : (b : Bool) → bytes_eq text name ≡ b → is_some (found scope name) ≡ true
-      → found scope text ≡ first_of_two (found scope text) (cond b (Some what) None)
-  hidden true e there =
-      let same = (bytes_decides text name).0 e in
-      sym (first-some (found scope text) (Some what) (ap (λ x. is_some (found scope x)) same ∙ there))
-  hidden false e there = sym (first-none (found scope text))
-
-  after : (b : Bool) → is_some (found scope name) ≡ b → found (cond b scope (scope ++ (name, what) ∷ [])) text
-      ≡ first_of_two (found scope text) (cond (bytes_eq text name) (Some what) None)
-  after true e = hidden (bytes_eq text name) refl e
-  after false e = lookup_append (bytes_eq text) scope ((name, what) ∷ [])
+  hidden : is_some (found scope name) ≡ true
+      → found scope text ≡ first_of_two (found scope text) (cond (bytes_eq text name) (Some what) None)
+  hidden there = elim (cases_Bool (bytes_eq text name)) [
+    | inl same ↦ (let is : text ≡ name = (bytes_decides text name).0 same in
+        rw same (sym (first-some (found scope text) (Some what) (ap (λ x. is_some (found scope x)) is ∙ there))))
+    | inr other ↦ rw other (sym (first-none (found scope text)))
+  ]
 
   -- a declaration is found where nothing was found before
   pub found_declared : found (declared scope name what) text
       ≡ first_of_two (found scope text) (cond (bytes_eq text name) (Some what) None)
-  found_declared = after (is_some (found scope name)) refl
+  found_declared = elim (cases_Bool (is_some (found scope name))) [
+    | inl there ↦ rw there (hidden there)
+    | inr absent ↦ rw absent (lookup_append (bytes_eq text) scope ((name, what) ∷ []))
+  ]
 
   -- another name stands for what it stood for
   pub found-other : bytes_eq text name ≡ false → found (declared scope name what) text ≡ found scope text
-  found-other e = found_declared
-      ∙ (ap (λ b. first_of_two (found scope text) (cond b (Some what) None)) e ∙ first-none (found scope text))
+  found-other e = found_declared ∙ rw e (first-none (found scope text))
 
   -- a new name stands for what was declared
   pub found-new : bytes_eq text name ≡ true → found scope name ≡ None
