@@ -65,13 +65,7 @@ module _ (s whole : State) (ps : List Parameter) (es : List Expr) (i : ℕ) (d :
   others = begun s (map parameter_tree (drop (i + 1) ps)) (map expr_tree (drop (i + 1) es)) rest
 
   at_next : over before (with_some others p.name.now (argument_held s p.form (expr_tree e) vs)) ≡ whole
-  at_next =
-      sym
-      (ap (over before) (ap₂ (λ xs ys. begun s (map parameter_tree xs) (map expr_tree ys) vs)
-      (drop_more ps i d inside_ps) (next_of es i e inside_es is_e)
-      ∙ ap (λ ws. with_some (begun s (map parameter_tree (drop (i + 1) ps)) (map expr_tree (drop (i + 1) es)) ws)
-      p.name.now (argument_held s p.form (expr_tree e) vs)) (sym left)))
-      ∙ so_far
+  at_next = rw (drop_more ps i d inside_ps, next_of es i e inside_es is_e, ← left) at so_far
 
   pub begun_more : (v : Value) (after : State) → Some v ≡ argument_held s p.form (expr_tree e) vs
       → after ≡ with_first before p.name.now v → over after others ≡ whole
@@ -93,18 +87,14 @@ pub begun_all : (s whole before : State) (ps : List Parameter) (es : List Expr) 
     → length ps ≤ i
     → over before (begun s (map parameter_tree (drop i ps)) (map expr_tree (drop i es)) vs) ≡ whole → before ≡ whole
 begun_all s whole before ps es i vs most so_far =
-    sym (over_empty before)
-    ∙ sym (ap (λ xs. over before (begun s (map parameter_tree xs) (map expr_tree (drop i es)) vs))
-    (drop_all i ps most)) ∙ so_far
+    sym (over_empty before) ∙ (rw (drop_all i ps most) at so_far)
 
 pub begun_early : (s whole before : State) (ps : List Parameter) (es : List Expr) (i : ℕ) (vs : List Word)
     → false ≡ nat_lt i (length es)
     → over before (begun s (map parameter_tree (drop i ps)) (map expr_tree (drop i es)) vs) ≡ whole → before ≡ whole
 begun_early s whole before ps es i vs past so_far =
     sym (over_empty before)
-    ∙ sym
-    (ap (over before) (ap (λ xs. begun s (map parameter_tree (drop i ps)) (map expr_tree xs) vs)
-    (none_after es i past) ∙ no_begun s (map parameter_tree (drop i ps)) vs)) ∙ so_far
+    ∙ (rw (none_after es i past, no_begun s (map parameter_tree (drop i ps)) vs) at so_far)
 
 -- the names of the export
 pub holding_more : (whole : State) (ps : List Parameter) (args : List Arg) (i : ℕ) (d : Parameter) (a : Arg)
@@ -129,13 +119,11 @@ no_holding (p ∷ ps) = refl
 pub holding_all : (whole before : State) (ps : List Parameter) (args : List Arg) (i : ℕ) → length ps ≤ i
     → over before (holding (map parameter_tree (drop i ps)) (drop i args)) ≡ whole → before ≡ whole
 holding_all whole before ps args i most so_far =
-    sym (over_empty before)
-    ∙ sym (ap (λ xs. over before (holding (map parameter_tree xs) (drop i args))) (drop_all i ps most)) ∙ so_far
+    sym (over_empty before) ∙ (rw (drop_all i ps most) at so_far)
 
 pub holding_early : (whole before : State) (ps : List Parameter) (args : List Arg) (i : ℕ)
     → false ≡ nat_lt i (length args) → over before (holding (map parameter_tree (drop i ps)) (drop i args)) ≡ whole
     → before ≡ whole
 holding_early whole before ps args i past so_far =
     sym (over_empty before)
-    ∙ sym (ap (over before) (ap (holding (map parameter_tree (drop i ps))) (none_after args i past)
-    ∙ no_holding (map parameter_tree (drop i ps)))) ∙ so_far
+    ∙ (rw (none_after args i past, no_holding (map parameter_tree (drop i ps))) at so_far)

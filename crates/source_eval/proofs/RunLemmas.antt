@@ -59,10 +59,10 @@ array_opens s text kind size initial = then-none _ _ _ _ (values_open s (written
 
 -- One part, and then another.
 
-pub then_ends : {A B : Type 0} (r : Run A) (next : A → Run B) (left middle after room : ℕ) (a : A) (b : B)
+pub then_ends : {A B : Type 0} {r : Run A} (next : A → Run B) {left middle after room : ℕ} {a : A} {b : B}
     → Ended r left room a middle → Ended (next a) middle room b after → Ended (andthen r next) left room b after
 unfolding andthen
-then_ends r next left middle after room a b h k =
+then_ends next h k =
     rw h.gives_it (record { gives_it = k.gives_it; spends = omega arith; opens = omega arith })
 
 later_stops : {B : Type 0} (r : Run B) (nodes bodies left middle room : ℕ) (fault : EvalFault)
@@ -74,10 +74,10 @@ later_stops r nodes bodies left middle room Budget spent opened (inr h) = inr (o
 later_stops r nodes bodies left middle room Memory spent opened h = h
 later_stops r nodes bodies left middle room (Argument fault) spent opened h = h
 
-pub then_stops : {A B : Type 0} (r : Run A) (next : A → Run B) (left middle room : ℕ) (a : A) (fault : EvalFault)
+pub then_stops : {A B : Type 0} {r : Run A} (next : A → Run B) {left middle room : ℕ} {a : A} (fault : EvalFault)
     → Ended r left room a middle → Stopped (next a) middle room fault → Stopped (andthen r next) left room fault
 unfolding andthen
-then_stops r next left middle room a fault h k =
+then_stops {r = r} next {left = left} {middle = middle} {room = room} {a = a} fault h k =
     rw h.gives_it (later_stops (next a) r.nodes r.bodies left middle room fault h.spends h.opens k)
 
 at_least : {A B : Type 0} (nodes bodies : ℕ) (ending : Ending A) (next : A → Run B)
@@ -96,10 +96,10 @@ stops_then r next left room (Argument fault) h = h
 
 -- One node.
 
-pub tick_ends : {A : Type 0} (r : Run A) (before left room : ℕ) (a : A) (after : ℕ) → before ≡ left + 1
+pub tick_ends : {A : Type 0} {r : Run A} {before left room : ℕ} {a : A} {after : ℕ} → before ≡ left + 1
     → Ended r left room a after → Ended (tick r) before room a after
 unfolding tick
-tick_ends r before left room a after one h = record { gives_it = h.gives_it; spends = omega arith; opens = h.opens }
+tick_ends one h = record { gives_it = h.gives_it; spends = omega arith; opens = h.opens }
 
 pub tick_stops : {A : Type 0} (r : Run A) (before left room : ℕ) (fault : EvalFault) → before ≡ left + 1
     → Stopped r left room fault → Stopped (tick r) before room fault
@@ -127,11 +127,9 @@ pub record Leads {A B : Type 0} (whole : Run A) (start room : ℕ) (rest : Run B
   pub ends : (b : B) (after : ℕ) → Ended rest now room b after → Ended whole start room (join b) after
   pub stops : (fault : EvalFault) → Stopped rest now room fault → Stopped whole start room fault
 
-cons_ends : {r : Run (List Word)} (v : Word) (left room : ℕ) (vs : List Word) (after : ℕ) → Ended r left room vs after
+cons_ends : {r : Run (List Word)} (v : Word) {left room : ℕ} {vs : List Word} {after : ℕ} → Ended r left room vs after
     → Ended (andthen r (λ ws. given (v ∷ ws))) left room (v ∷ vs) after
-cons_ends {r} v left room vs after h =
-    then_ends r _ left after after room vs (v ∷ vs) h
-    (record { gives_it = refl; spends = omega arith; opens = omega arith })
+cons_ends v h = then_ends _ h (record { gives_it = refl; spends = omega arith; opens = omega arith })
 
 pub values_more : (s : State) (whole : Run (List Word)) (e : ExprTree) (es : List ExprTree) (start now middle : ℕ)
     (front : List Word) (v : Word)
@@ -139,11 +137,9 @@ pub values_more : (s : State) (whole : Run (List Word)) (e : ExprTree) (es : Lis
     → Leads whole start 0 (values s es) middle (λ vs. (front ++ v ∷ []) ++ vs)
 values_more s whole e es start now middle front v leads h = record {
   ends = λ vs after k. rw (append_assoc front (v ∷ []) vs)
-      (leads.ends (v ∷ vs) after
-      (then_ends (value s e) _ now middle after 0 v (v ∷ vs) h (cons_ends v middle 0 vs after k)));
+      (leads.ends (v ∷ vs) after (then_ends _ h (cons_ends v k)));
   stops =
-      λ fault k. leads.stops fault
-      (then_stops (value s e) _ now middle 0 v fault h (stops_then (values s es) _ middle 0 fault k));
+      λ fault k. leads.stops fault (then_stops _ fault h (stops_then (values s es) _ middle 0 fault k));
 }
 
 pub values_stop : (s : State) (whole : Run (List Word)) (e : ExprTree) (es : List ExprTree) (start now : ℕ)
@@ -159,13 +155,11 @@ pub passed_more : (s : State) (whole : Run (List Word)) (e : ExprTree) (es : Lis
     → Leads whole start 0 (passed s es) middle (λ vs. (front ++ v ∷ []) ++ vs)
 passed_more s whole e es start before now middle front v leads one h = record {
   ends = λ vs after k. rw (append_assoc front (v ∷ []) vs)
-      (leads.ends (v ∷ vs) after
-      (tick_ends _ before now 0 (v ∷ vs) after one
-      (then_ends (value s e) _ now middle after 0 v (v ∷ vs) h (cons_ends v middle 0 vs after k))));
+      (leads.ends (v ∷ vs) after (tick_ends one (then_ends _ h (cons_ends v k))));
   stops =
       λ fault k. leads.stops fault
       (tick_stops _ before now 0 fault one
-      (then_stops (value s e) _ now middle 0 v fault h (stops_then (passed s es) _ middle 0 fault k)));
+      (then_stops _ fault h (stops_then (passed s es) _ middle 0 fault k)));
 }
 
 pub passed_stop : (s : State) (whole : Run (List Word)) (e : ExprTree) (es : List ExprTree) (start before now : ℕ)
@@ -199,13 +193,8 @@ module _ (whole : Run State) (turn : ℕ → State → Run State) (start room : 
   turns_more s t i n before now middle less leads one h =
       let l = rw (step_of i n less) at leads in
       record {
-        ends =
-            λ u after k. l.ends u after
-            (tick_ends _ before now room u after one (then_ends (turn i s) _ now middle after room t u h k));
-        stops =
-            λ fault k.
-            l.stops fault (tick_stops _ before now room fault one
-            (then_stops (turn i s) _ now middle room t fault h k));
+        ends = λ u after k. l.ends u after (tick_ends one (then_ends _ h k));
+        stops = λ fault k. l.stops fault (tick_stops _ before now room fault one (then_stops _ fault h k));
       }
 
   pub turns_stop : (s : State) (i n before now : ℕ) (fault : EvalFault) → i < n
@@ -231,9 +220,9 @@ module _ (whole : Run State) (turn : ℕ → State → Run State) (start room : 
       l.ends s now (record { gives_it = refl; spends = omega arith; opens = omega arith })
 
 -- what opens no body does so in any room
-pub roomy_ends : {A : Type 0} (r : Run A) (left room : ℕ) (a : A) (after : ℕ) → Ended r left 0 a after
+pub roomy_ends : {A : Type 0} {r : Run A} {left room : ℕ} {a : A} {after : ℕ} → Ended r left 0 a after
     → Ended r left room a after
-roomy_ends r left room a after h = record { gives_it = h.gives_it; spends = h.spends; opens = omega arith }
+roomy_ends h = record { gives_it = h.gives_it; spends = h.spends; opens = omega arith }
 
 pub roomy_stops : {A : Type 0} (r : Run A) (left room : ℕ) (fault : EvalFault) → r.bodies ≡ 0 → Stopped r left 0 fault
     → Stopped r left room fault
@@ -249,12 +238,9 @@ pub bounds_end : (s : State) (low high : ExprTree) (turn : ℕ → State
     → start ≡ one + 1 → Ended (value s low) one 0 a two → Ended (value s high) two 0 b three
     → Leads (loop_run s low high turn) start room (turns (b.value - a.value) a.value turn s) three (λ u. u)
 bounds_end s low high turn start one two three room a b counts h k = record {
-  ends = λ u after m. tick_ends _ start one room u after counts
-      (then_ends (value s low) _ one two after room a u (roomy_ends _ one room a two h)
-      (then_ends (value s high) _ two three after room b u (roomy_ends _ two room b three k) m));
+  ends = λ u after m. tick_ends counts (then_ends _ (roomy_ends h) (then_ends _ (roomy_ends k) m));
   stops = λ fault m. tick_stops _ start one room fault counts
-      (then_stops (value s low) _ one two room a fault (roomy_ends _ one room a two h)
-      (then_stops (value s high) _ two three room b fault (roomy_ends _ two room b three k) m));
+      (then_stops _ fault (roomy_ends h) (then_stops _ fault (roomy_ends k) m));
 }
 
 -- statements
@@ -264,8 +250,8 @@ module _ (whole : Run State) (known : Runnables) (start room : ℕ) where
       → Ended (run known s statement) now room t middle
       → Leads whole start room (run_all known t rest) middle (λ u. u)
   block_more s t statement rest now middle leads h = record {
-    ends = λ u after k. leads.ends u after (then_ends (run known s statement) _ now middle after room t u h k);
-    stops = λ fault k. leads.stops fault (then_stops (run known s statement) _ now middle room t fault h k);
+    ends = λ u after k. leads.ends u after (then_ends _ h k);
+    stops = λ fault k. leads.stops fault (then_stops _ fault h k);
   }
 
   pub block_stop : (s : State) (statement : StatementTree) (rest : BlockTree) (now : ℕ) (fault : EvalFault)

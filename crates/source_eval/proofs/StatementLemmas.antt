@@ -29,10 +29,10 @@ use Rattle.source_eval.specs.declared.fault.EvalFault.TheVariants.{Argument, NoM
 use Rattle.source_eval.proofs.RunLemmas.{Leads, then_ends, then_stops, stops_then, tick_ends, tick_stops, roomy_ends}
 use Rattle.source_eval.proofs.RunLemmas.{roomy_stops, passed_open, value_opens, turns_more, turns_stop}
 
-inside_ends : {A : Type 0} (r : Run A) (left room more : ℕ) (a : A) (after : ℕ) → more ≡ room + 1
+inside_ends : {A : Type 0} {r : Run A} {left room more : ℕ} {a : A} {after : ℕ} → more ≡ room + 1
     → Ended r left room a after → Ended (inside r) left more a after
 unfolding inside
-inside_ends r left room more a after one h = record { gives_it = h.gives_it; spends = h.spends; opens = omega arith }
+inside_ends one h = record { gives_it = h.gives_it; spends = h.spends; opens = omega arith }
 
 inside_stops : {A : Type 0} (r : Run A) (left room more : ℕ) (fault : EvalFault) → more ≡ room + 1
     → Stopped r left room fault → Stopped (inside r) left more fault
@@ -47,56 +47,14 @@ inside_lacks : {A : Type 0} (r : Run A) (left room : ℕ) → room ≡ 0 → Sto
 unfolding inside
 inside_lacks r left room none = inr (omega arith)
 
-given_ends : {A : Type 0} (a : A) (left room : ℕ) → Ended (given a) left room a left
-given_ends a left room = record { gives_it = refl; spends = omega arith; opens = omega arith }
+given_ends : {A : Type 0} {a : A} {left room : ℕ} → Ended (given a) left room a left
+given_ends = record { gives_it = refl; spends = omega arith; opens = omega arith }
 
 -- calls
 pub call_none : (o : Option Runnable) (s : State) (c : CallTree) (before left room : ℕ) → o ≡ None → before ≡ left + 1
     → Ended (call_run o s c) before room (record { word = None; state = s }) left
 call_none o s c before left room is one =
-    rw is (tick_ends _ before left room _ left one (given_ends _ left room))
-
-module _ (o : Option Runnable) (k : Runnable) (s : State) (c : CallTree) (before left room : ℕ) (is : o ≡ Some k)
-    (one : before ≡ left + 1) where
-  stops_so : (fault : EvalFault) → Stopped (called_run (Some k) s c) left room fault
-      → Stopped (call_run o s c) before room fault
-  stops_so fault h = rw is (tick_stops _ before left room fault one h)
-
-  pub call_argument_stops : (fault : EvalFault)
-      → Stopped (passed s (word_arguments k.procedure.parameters c.arguments)) left 0 fault
-      → Stopped (call_run o s c) before room fault
-  call_argument_stops fault h =
-      stops_so fault (stops_then _ _ left room fault
-      (roomy_stops _ left room fault (passed_open s (word_arguments k.procedure.parameters c.arguments)) h))
-
-  module _ (vs : List Word) (middle : ℕ)
-      (arguments : Ended (passed s (word_arguments k.procedure.parameters c.arguments)) left 0 vs middle) where
-    pub call_lacks_room : room ≡ 0 → Stopped (call_run o s c) before room Budget
-    call_lacks_room none =
-        stops_so Budget (then_stops _ _ left middle room vs Budget (roomy_ends _ left room vs middle arguments)
-        (stops_then _ _ middle room Budget (inside_lacks _ middle room none)))
-
-    module _ (inner : ℕ) (state : State) (more : room ≡ inner + 1)
-        (begins : state ≡ begun s k.procedure.parameters c.arguments vs) where
-      pub call_body_stops : (fault : EvalFault) → Stopped (k.body state) middle inner fault
-          → Stopped (call_run o s c) before room fault
-      call_body_stops fault h =
-          stops_so fault (then_stops _ _ left middle room vs fault (roomy_ends _ left room vs middle arguments)
-          (stops_then _ _ middle room fault
-          (inside_stops _ middle inner room fault more (rw begins at h))))
-
-      pub call_ends : (word : Option Word) (t caller : State) (after : ℕ)
-          → Ended (k.body state) middle inner (record { word = word; state = t }) after
-          → caller ≡ copied_out s t k.procedure.parameters c.arguments
-          → Ended (call_run o s c) before room (record { word = word; state = caller }) after
-      call_ends word t caller after h out =
-          let r : Returned = record { word = word; state = t } in
-          let result : Returned = record { word = word; state = copied_out s t k.procedure.parameters c.arguments } in
-          rw (out, is)
-          (tick_ends _ before left room result after one
-          (then_ends _ _ left middle after room vs result (roomy_ends _ left room vs middle arguments)
-          (then_ends _ _ middle after after room r result
-          (inside_ends _ middle inner room r after more (rw begins at h)) (given_ends result after room))))
+    rw is (tick_ends one given_ends)
 
 -- the bounds of a loop
 module _ (s : State) (low high : ExprTree) (turn : ℕ → State
@@ -110,7 +68,7 @@ module _ (s : State) (low high : ExprTree) (turn : ℕ → State
       → Stopped (value s high) two 0 fault → Stopped (loop_run s low high turn) start room fault
   high_stops a two fault h k =
       tick_stops _ start one room fault counts
-      (then_stops _ _ one two room a fault (roomy_ends _ one room a two h)
+      (then_stops _ fault (roomy_ends h)
       (stops_then _ _ two room fault (roomy_stops _ two room fault (value_opens s high) k)))
 
 -- its turns, from states in which the counter was set
@@ -158,16 +116,25 @@ module _ (earlier front : List Procedure) (callee : Procedure) (s : State) (c : 
   is = known-named runnable (map procedure_tree earlier) (map procedure_tree front) (procedure_tree callee) c.name.now
       (sym found)
 
+  stops_so : (fault : EvalFault) → Stopped (called_run (Some k) s (call_tree c)) left room fault
+      → Stopped (call_run o s (call_tree c)) before room fault
+  stops_so fault h = rw is (tick_stops _ before left room fault one h)
+
   pub argument_stops : (fault : EvalFault) → Stopped (passed s (words_of ps es)) left 0 fault
       → Stopped (call_run o s (call_tree c)) before room fault
-  argument_stops fault h = call_argument_stops o k s (call_tree c) before left room is one fault (rw same_words at h)
+  argument_stops fault h =
+      stops_so fault (stops_then _ _ left room fault
+      (roomy_stops _ left room fault (passed_open s (words_of callee.parameters.items c.arguments.items))
+      (rw same_words at h)))
 
   module _ (vs : List Word) (middle : ℕ) (ended_words : Ended (passed s (words_of ps es)) left 0 vs middle) where
-    abbrev ended_so : Ended (passed s (words_of callee.parameters.items c.arguments.items)) left 0 vs middle
-    ended_so = rw same_words at ended_words
+    abbrev ended_so : Ended (passed s (words_of callee.parameters.items c.arguments.items)) left room vs middle
+    ended_so = roomy_ends (rw same_words at ended_words)
 
     pub room_lacks : room ≡ 0 → Stopped (call_run o s (call_tree c)) before room Budget
-    room_lacks none = call_lacks_room o k s (call_tree c) before left room is one vs middle ended_so none
+    room_lacks none =
+        stops_so Budget (then_stops _ Budget ended_so
+        (stops_then _ _ middle room Budget (inside_lacks _ middle room none)))
 
     module _ (inner : ℕ) (state : State) (more : room ≡ inner + 1)
         (begins : state ≡ begun s (map parameter_tree ps) (map expr_tree es) vs) where
@@ -177,8 +144,9 @@ module _ (earlier front : List Procedure) (callee : Procedure) (s : State) (c : 
 
       pub body_stops : (fault : EvalFault) → Stopped (body_run known (procedure_tree callee) state) middle inner fault
           → Stopped (call_run o s (call_tree c)) before room fault
-      body_stops fault h = call_body_stops o k s (call_tree c) before left room is one vs middle ended_so inner state
-          more begins_so fault h
+      body_stops fault h =
+          stops_so fault (then_stops _ fault ended_so
+          (stops_then _ _ middle room fault (inside_stops _ middle inner room fault more (rw begins_so at h))))
 
       pub whole_ends : (word : Option Word) (t caller : State) (after : ℕ)
           → Ended (body_run known (procedure_tree callee) state) middle inner
@@ -186,9 +154,8 @@ module _ (earlier front : List Procedure) (callee : Procedure) (s : State) (c : 
           → caller ≡ copied_out s t (map parameter_tree ps) (map expr_tree es)
           → Ended (call_run o s (call_tree c)) before room (record { word = word; state = caller }) after
       whole_ends word t caller after h out =
-          call_ends o k s (call_tree c) before left room is one vs middle ended_so inner state more begins_so word t
-          caller after h
-          (out ∙ ap₂ (λ xs ys. copied_out s t (map parameter_tree xs) (map expr_tree ys)) parameters arguments)
+          rw (out, parameters, arguments, is)
+          (tick_ends one (then_ends _ ended_so (then_ends _ (inside_ends more (rw begins_so at h)) given_ends)))
 
 -- a conditional and a loop of the tree
 pub if_run : (known : Runnables) (s : State) (statement : Statement) (place : Place) (condition : Expr)
@@ -250,5 +217,4 @@ module _ (before : List Procedure) (export : Procedure) (args : List Arg) (left 
       let arrays : outcome.arrays ≡ out.arrays = other ∙ ap (λ xs. final_arrays t (map parameter_tree xs)) parameters in
       let same : out ≡ outcome = ap₂ (λ a b. record { returned = a; arrays = b }) (sym one) (sym arrays) in
       rw (← same)
-      (then_ends _ _ left after after 64 r out
-      (inside_ends _ left 63 64 r after (omega arith) (rw holds_so at h)) (given_ends out after 64))
+      (then_ends _ (inside_ends (omega arith) (rw holds_so at h)) given_ends)

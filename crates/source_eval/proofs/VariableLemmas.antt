@@ -2,6 +2,7 @@
 use Rattle.std.proofs.Common.{◌≡◌, ℕ, Bool, true, false, List, Option, Some, None, cond, refl, sym, ap, ◌∙◌}
 use Rattle.std.proofs.Math.Path.{fun_ext}
 use Rattle.std.proofs.lemmas.Map.Text.{hash_map_updates_str}
+use Rattle.std.proofs.lemmas.Bool.Decides.{Decides-like, same_from_decides}
 use Rattle.std.proofs.lemmas.Slice.Eq.{bytes_eq-Decides}
 use Rattle.std.specs.HashMap.{get_by, UpdatesBy}
 use Rattle.std.specs.Option.{option_map, option_copied}
@@ -13,18 +14,10 @@ use Rattle.source_eval.specs.Views.{held, value_of}
 use Rattle.source_eval.specs.declared.values.Value.{Value}
 use Rattle.source_eval.specs.declared.variables.Variables.{Variables}
 
-symmetric : (b c : Bool) (xs ys : List ℕ) → bytes_eq xs ys ≡ b → bytes_eq ys xs ≡ c → bytes_eq xs ys ≡ bytes_eq ys xs
-symmetric true true xs ys d e = d ∙ sym e
-symmetric false false xs ys d e = d ∙ sym e
-symmetric true false xs ys d e =
-    let same : xs ≡ ys = (bytes_eq-Decides xs ys).0 d in
-    ap (λ zs. bytes_eq xs zs) (sym same) ∙ ap (λ zs. bytes_eq zs xs) same
-symmetric false true xs ys d e =
-    let same : ys ≡ xs = (bytes_eq-Decides ys xs).0 e in
-    ap (λ zs. bytes_eq xs zs) same ∙ ap (λ zs. bytes_eq zs xs) (sym same)
-
 pub bytes_eq-symmetric : (xs ys : List ℕ) → bytes_eq xs ys ≡ bytes_eq ys xs
-bytes_eq-symmetric xs ys = symmetric (bytes_eq xs ys) (bytes_eq ys xs) xs ys refl refl
+bytes_eq-symmetric xs ys =
+    same_from_decides (bytes_eq xs ys) (bytes_eq ys xs)
+    (Decides-like (bytes_eq xs ys) (λ h. sym h) (λ h. sym h) (bytes_eq-Decides xs ys)) (bytes_eq-Decides ys xs)
 
 mapped : (b : Bool) (value : Value) (other : Option Value)
     → option_map value_of (cond b (Some value) other) ≡ cond b (Some (value_of value)) (option_map value_of other)

@@ -19,45 +19,33 @@ returns-then-arguments-index-clause-ok c =
 
 pub loop-index-preserved-in-FixedArray : goal.loop-index-preserved-in-FixedArray
 loop-index-preserved-in-FixedArray c =
-    let s = held c.args.variables.now in
-    let whole =
-    passed s (word_arguments (map parameter_tree c.args.parameters.now) (map expr_tree c.args.arguments.now)) in
     let l = c.loop-index in
-    pass_over s whole c.args.parameters.now c.args.arguments.now c.args.left.now l.index _
+    pass_over (held c.args.variables.now) _ c.args.parameters.now c.args.arguments.now _ l.index _
     c.index-arguments-index.result c.loop-index-test.true c.if-arguments-index.false c.index-arguments-index.is
     l.left l.words.items c.in-FixedArray.is l.invariant
 
 pub returns-in_err-spend-clause-err : goal.returns-in_err-spend-clause-err
 returns-in_err-spend-clause-err c =
-    let s = held c.args.variables.now in
-    let whole =
-    passed s (word_arguments (map parameter_tree c.args.parameters.now) (map expr_tree c.args.arguments.now)) in
     let l = c.loop-index in
     passes _ _ _ c.from_residual.ensures.1
-    (pass_lacks s whole c.args.parameters.now c.args.arguments.now c.args.left.now l.index _
+    (pass_lacks (held c.args.variables.now) _ c.args.parameters.now c.args.arguments.now _ l.index _
     c.index-arguments-index.result c.loop-index-test.true c.if-arguments-index.false
     c.index-arguments-index.is
     l.left l.words.items _ c.in-SingleWord.is l.invariant c.in_err-spend.ensures.err c.in_err-spend.ensures.budget)
 
 pub returns-in_err-value-clause-err : goal.returns-in_err-value-clause-err
 returns-in_err-value-clause-err c =
-    let s = held c.args.variables.now in
-    let whole =
-    passed s (word_arguments (map parameter_tree c.args.parameters.now) (map expr_tree c.args.arguments.now)) in
     let l = c.loop-index in
     passes _ _ _ c.from_residual-in_err-value.ensures.1
-    (pass_stops s whole c.args.parameters.now c.args.arguments.now c.args.left.now l.index _
+    (pass_stops (held c.args.variables.now) _ c.args.parameters.now c.args.arguments.now _ l.index _
     c.index-arguments-index.result c.loop-index-test.true c.if-arguments-index.false
     c.index-arguments-index.is
     l.left _ l.words.items _ c.in-SingleWord.is l.invariant c.in_ok-spend.ensures.ok c.in_err-value.ensures.err)
 
 pub loop-index-preserved : goal.loop-index-preserved
 loop-index-preserved c =
-    let s = held c.args.variables.now in
-    let whole =
-    passed s (word_arguments (map parameter_tree c.args.parameters.now) (map expr_tree c.args.arguments.now)) in
     let l = c.loop-index in
-    pass_more s whole c.args.parameters.now c.args.arguments.now c.args.left.now l.index _
+    pass_more (held c.args.variables.now) _ c.args.parameters.now c.args.arguments.now _ l.index _
     c.index-arguments-index.result c.loop-index-test.true c.if-arguments-index.false c.index-arguments-index.is
     l.left _ c.value.new.left l.words.items c.push.new.self.items c.in_ok-value.field-0 c.in-SingleWord.is
     c.in_ok-push.ensures.items l.invariant c.in_ok-spend.ensures.ok c.in_ok-value.ensures.ok
