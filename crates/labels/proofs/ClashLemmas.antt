@@ -5,16 +5,16 @@ use Rattle.std.proofs.Common.{◌∙◌, arith}
 use Rattle.std.proofs.Math.ListN.{get_or, get_or-map}
 use Rattle.std.proofs.lemmas.List.{drop_all, drop_more, length-map, take_more}
 use Rattle.std.proofs.lemmas.List.Folds.{list_any-append}
-use Rattle.std.proofs.lemmas.Slice.Eq.{bytes_eq-Decides}
 use Rattle.std.specs.List.{list_any}
 use Rattle.std.specs.Str.{bytes_eq}
-use Rattle.std.proofs.Math.Bool.{or-false, and-true, and-false}
+use Rattle.std.proofs.Math.Bool.{or-false, or_assoc, and-true, and-false}
 use Rattle.language.specs.names.Scope.{found, declared}
 use Rattle.language.specs.declared.tree.Expr.{Expr}
 use Rattle.language.specs.declared.tree.Parameter.{Parameter}
 use Rattle.language.specs.declared.typing.ValueType.{ValueType}
 use Rattle.language.specs.Tree.{ExprTree, ParameterTree, expr_tree, parameter_tree}
 use Rattle.language.specs.Typing.{Passed, array_name, clash, clashes, is_mutable, passed, same_name}
+use Rattle.language.proofs.names_lemmas.Lookup.{first_of_two, found_declared}
 use Rattle.labels.specs.private.Arrays.{was_given, with_array, with_changed}
 
 abbrev pub Names : Type 0
@@ -31,45 +31,18 @@ changes text p = gives text p && is_mutable p.parameter.form
 abbrev pub Gathers : Names → (List ℕ → Passed → Bool) → List Passed → Type 0
 Gathers names test before = (text : List ℕ) → is_some (found names text) ≡ list_any (test text) before
 
-found_last : (names : Names) (text one : List ℕ)
-    → is_some (found (names ++ (one, true) ∷ []) text) ≡ (is_some (found names text) || bytes_eq text one)
-found_last [] text one = by (bytes_eq text one)
-  where
-    by : (b : Bool) → is_some (cond b (Some true) None) ≡ b
-    by true = refl
-    by false = refl
-found_last (name ∷ names) text one = by (bytes_eq text name.0) (found_last names text one)
-  where
-    by : (b : Bool) → is_some (found (names ++ (one, true) ∷ []) text)
-        ≡ (is_some (found names text) || bytes_eq text one) →
-        is_some (cond b (Some name.1) (found (names ++ (one, true) ∷ []) text))
-        ≡ (is_some (cond b (Some name.1) (found names text)) || bytes_eq text one)
-    by true h = refl
-    by false h = h
-
-found_taken : (names : Names) (text one : List ℕ) → is_some (found names one) ≡ true
-    → is_some (found names text) ≡ (is_some (found names text) || bytes_eq text one)
-found_taken names text one taken = grind (arith, bytes_eq-Decides text one)
-
-found_declared : (names : Names) (text one : List ℕ)
-    → is_some (found (declared names one true) text) ≡ (is_some (found names text) || bytes_eq text one)
-found_declared names text one = by (is_some (found names one)) refl
-  where
-    by : (b : Bool) → is_some (found names one) ≡ b
-        → is_some (found (declared names one true) text) ≡ (is_some (found names text) || bytes_eq text one)
-    by true is = rw is (found_taken names text one is)
-    by false is = rw is (found_last names text one)
-
-or_assoc : (a b c : Bool) → ((a || b) || c) ≡ (a || (b || c))
-or_assoc true b c = refl
-or_assoc false b c = refl
+declared_there : (o : Option Bool) (b : Bool) → is_some (first_of_two o (cond b (Some true) None)) ≡ (is_some o || b)
+declared_there (Some v) b = refl
+declared_there None true = refl
+declared_there None false = refl
 
 -- one more argument whose array has this name
 gathers_named : (names : Names) (test : List ℕ → Passed → Bool) (before : List Passed) (p : Passed) (one : List ℕ)
     → Gathers names test before →
     ((text : List ℕ) → test text p ≡ bytes_eq text one) → Gathers (declared names one true) test (before ++ p ∷ [])
 gathers_named names test before p one h is text =
-    found_declared names text one ∙ ap₂ ◌||◌ (h text) (sym (or-false (test text p) ∙ is text))
+    ap is_some (found_declared names one true text) ∙ declared_there (found names text) (bytes_eq text one)
+    ∙ ap₂ ◌||◌ (h text) (sym (or-false (test text p) ∙ is text))
     ∙ sym (list_any-append (test text) before (p ∷ []))
 
 -- one more argument that does not pass the test
@@ -103,73 +76,59 @@ clashes_none : (p : Passed) (before : List Passed) → array_name p.given p.argu
 clashes_none p [] is = refl
 clashes_none p (q ∷ before) is = rw (is, clashes_none p before is) refl
 
--- the arguments up to the next one, and from it on
-next_taken : (all : List Passed) (i : ℕ) (q : Passed) → i < length all → get_or all i q ≡ q
-    → take (i + 1) all ≡ take i all ++ q ∷ []
-next_taken all i q h at = take_more all i q h ∙ ap (λ x. take i all ++ x ∷ []) at
+module _ (all : List Passed) (i : ℕ) (q : Passed) (h : i < length all) (at : get_or all i q ≡ q) where
+  -- the arguments up to the next one, and from it on
+  next_taken : take (i + 1) all ≡ take i all ++ q ∷ []
+  next_taken = take_more all i q h ∙ ap (λ x. take i all ++ x ∷ []) at
 
-next_left : (all : List Passed) (i : ℕ) (q : Passed) → i < length all → get_or all i q ≡ q
-    → drop i all ≡ q ∷ drop (i + 1) all
-next_left all i q h at = drop_more all i q h ∙ ap (λ x. x ∷ drop (i + 1) all) at
+  next_left : drop i all ≡ q ∷ drop (i + 1) all
+  next_left = drop_more all i q h ∙ ap (λ x. x ∷ drop (i + 1) all) at
 
-pub named_given : (all : List Passed) (i : ℕ) (q : Passed) (names after : Names) (one : List ℕ) → i < length all
-    → get_or all i q ≡ q →
-    Gathers names gives (take i all) → Some one ≡ array_name q.given q.argument → after ≡ declared names one true
-    → Gathers after gives (take (i + 1) all)
-named_given all i q names after one h at so_far is new =
-    rw (new, next_taken all i q h at) (gathers_named names gives (take i all) q one so_far (λ text. rw (← is) refl))
+  named_given : (names after : Names) (one : List ℕ) → Gathers names gives (take i all)
+      → Some one ≡ array_name q.given q.argument → after ≡ declared names one true
+      → Gathers after gives (take (i + 1) all)
+  named_given names after one so_far is new =
+      rw (new, next_taken) (gathers_named names gives (take i all) q one so_far (λ text. rw (← is) refl))
 
-pub named_changed : (all : List Passed) (i : ℕ) (q : Passed) (names after : Names) (one : List ℕ) (mutable : Bool)
-    → i < length all → get_or all i q ≡ q →
-    Gathers names changes (take i all) → Some one ≡ array_name q.given q.argument
-    → mutable ≡ is_mutable q.parameter.form →
-    after ≡ cond mutable (declared names one true) names → Gathers after changes (take (i + 1) all)
-named_changed all i q names after one true h at so_far is m new =
-    rw (new, next_taken all i q h at)
-    (gathers_named names changes (take i all) q one so_far
-    (λ text. rw (← is, ← m) (and-true (bytes_eq text one))))
-named_changed all i q names after one false h at so_far is m new =
-    rw (new, next_taken all i q h at)
-    (gathers_same names changes (take i all) q so_far (λ text. rw (← is, ← m) (and-false (bytes_eq text one))))
+  named_changed : (names after : Names) (one : List ℕ) (mutable : Bool) → Gathers names changes (take i all)
+      → Some one ≡ array_name q.given q.argument → mutable ≡ is_mutable q.parameter.form
+      → after ≡ cond mutable (declared names one true) names → Gathers after changes (take (i + 1) all)
+  named_changed names after one true so_far is m new =
+      rw (new, next_taken)
+      (gathers_named names changes (take i all) q one so_far
+      (λ text. rw (← is, ← m) (and-true (bytes_eq text one))))
+  named_changed names after one false so_far is m new =
+      rw (new, next_taken)
+      (gathers_same names changes (take i all) q so_far (λ text. rw (← is, ← m) (and-false (bytes_eq text one))))
 
-pub named_clash : (all : List Passed) (i : ℕ) (q : Passed) (given changed : Names) (one : List ℕ)
-    (mutable clashed clash' final : Bool) → i < length all → get_or all i q ≡ q →
-    Gathers given gives (take i all) → Gathers changed changes (take i all) → Some one ≡ array_name q.given q.argument
-    → mutable ≡ is_mutable q.parameter.form →
-    clash' ≡ (is_some (found changed one) || (mutable && is_some (found given one)))
-    → (clashed || clashes (take i all) (drop i all)) ≡ final →
-    ((clashed || clash') || clashes (take (i + 1) all) (drop (i + 1) all)) ≡ final
-named_clash all i q given changed one mutable clashed clash' final h at g k is m new so_far =
-    let one_more : clash' ≡ list_any (clash q) (take i all) =
-    new ∙ ap₂ (λ a b. a || (mutable && b)) (k one) (g one)
-    ∙ ap (λ b. list_any (changes one) (take i all) || (b && list_any (gives one) (take i all))) m
-    ∙ sym (clashes_named q one (take i all) (sym is)) in
-    or_assoc clashed clash' (clashes (take (i + 1) all) (drop (i + 1) all))
-    ∙ ap (λ b. clashed || b) (ap₂ (λ b before. b || clashes before (drop (i + 1) all)) one_more
-    (next_taken all i q h at) ∙ sym (ap (clashes (take i all)) (next_left all i q h at)))
-    ∙ so_far
+  named_clash : (given changed : Names) (one : List ℕ) (mutable clashed clash' final : Bool)
+      → Gathers given gives (take i all) → Gathers changed changes (take i all)
+      → Some one ≡ array_name q.given q.argument → mutable ≡ is_mutable q.parameter.form
+      → clash' ≡ (is_some (found changed one) || (mutable && is_some (found given one)))
+      → (clashed || clashes (take i all) (drop i all)) ≡ final
+      → ((clashed || clash') || clashes (take (i + 1) all) (drop (i + 1) all)) ≡ final
+  named_clash given changed one mutable clashed clash' final g k is m new so_far =
+      let one_more : clash' ≡ list_any (clash q) (take i all) =
+      new ∙ ap₂ (λ a b. a || (mutable && b)) (k one) (g one)
+      ∙ ap (λ b. list_any (changes one) (take i all) || (b && list_any (gives one) (take i all))) m
+      ∙ sym (clashes_named q one (take i all) (sym is)) in
+      or_assoc clashed clash' (clashes (take (i + 1) all) (drop (i + 1) all))
+      ∙ ap (λ b. clashed || b) (ap₂ (λ b before. b || clashes before (drop (i + 1) all)) one_more next_taken
+      ∙ sym (ap (clashes (take i all)) next_left))
+      ∙ so_far
 
--- one that is no array
-pub none_given : (all : List Passed) (i : ℕ) (q : Passed) (names : Names) → i < length all → get_or all i q ≡ q →
-    Gathers names gives (take i all) → None ≡ array_name q.given q.argument → Gathers names gives (take (i + 1) all)
-none_given all i q names h at so_far is =
-    rw (next_taken all i q h at) (gathers_same names gives (take i all) q so_far (λ text. rw (← is) refl))
+  -- one that is no array
+  none_gathered : (names : Names) (test : List ℕ → Passed → Bool) → Gathers names test (take i all)
+      → ((text : List ℕ) → test text q ≡ false) → Gathers names test (take (i + 1) all)
+  none_gathered names test so_far none = rw next_taken (gathers_same names test (take i all) q so_far none)
 
-pub none_changed : (all : List Passed) (i : ℕ) (q : Passed) (names : Names) → i < length all → get_or all i q ≡ q →
-    Gathers names changes (take i all) → None ≡ array_name q.given q.argument
-    → Gathers names changes (take (i + 1) all)
-none_changed all i q names h at so_far is =
-    rw (next_taken all i q h at) (gathers_same names changes (take i all) q so_far (λ text. rw (← is) refl))
-
-pub none_clash : (all : List Passed) (i : ℕ) (q : Passed) (clashed final : Bool) → i < length all
-    → get_or all i q ≡ q →
-    None ≡ array_name q.given q.argument → (clashed || clashes (take i all) (drop i all)) ≡ final →
-    (clashed || clashes (take (i + 1) all) (drop (i + 1) all)) ≡ final
-none_clash all i q clashed final h at is so_far =
-    ap (λ b. clashed || b) (ap₂ (λ b before. b || clashes before (drop (i + 1) all))
-    (sym (clashes_none q (take i all) (sym is))) (next_taken all i q h at)
-    ∙ sym (ap (clashes (take i all)) (next_left all i q h at)))
-    ∙ so_far
+  none_clash : (clashed final : Bool) → None ≡ array_name q.given q.argument
+      → (clashed || clashes (take i all) (drop i all)) ≡ final
+      → (clashed || clashes (take (i + 1) all) (drop (i + 1) all)) ≡ final
+  none_clash clashed final is so_far =
+      ap (λ b. clashed || b) (ap₂ (λ b before. b || clashes before (drop (i + 1) all))
+      (sym (clashes_none q (take i all) (sym is))) next_taken ∙ sym (ap (clashes (take i all)) next_left))
+      ∙ so_far
 
 -- the argument at an index, beside its parameter
 pub passed_at : (ps : List ParameterTree) (ts : List ValueType) (es : List ExprTree) (i : ℕ) (p : ParameterTree)
@@ -180,19 +139,16 @@ pub passed_at : (ps : List ParameterTree) (ts : List ValueType) (es : List ExprT
       given = get_or ts i t;
       argument = get_or es i e;
     }
-passed_at [] ts es i p t e q h same same' = absurd (omega arith)
-passed_at (x ∷ ps) [] es i p t e q h same same' = absurd (omega arith)
-passed_at (x ∷ ps) (y ∷ ts) [] i p t e q h same same' = absurd (omega arith)
 passed_at (x ∷ ps) (y ∷ ts) (z ∷ es) zero p t e q h same same' = refl
 passed_at (x ∷ ps) (y ∷ ts) (z ∷ es) (suc i) p t e q h same same' =
     passed_at ps ts es i p t e q (omega arith) (omega arith) (omega arith)
+passed_at _ _ _ i p t e q h same same' = absurd (omega arith)
 
 pub passed_long : (ps : List ParameterTree) (ts : List ValueType) (es : List ExprTree) → length ts ≡ length ps
     → length es ≡ length ps → length (passed ps ts es) ≡ length ps
 passed_long [] ts es same same' = refl
-passed_long (x ∷ ps) [] es same same' = absurd (omega arith)
-passed_long (x ∷ ps) (y ∷ ts) [] same same' = absurd (omega arith)
 passed_long (x ∷ ps) (y ∷ ts) (z ∷ es) same same' = ap suc (passed_long ps ts es (omega arith) (omega arith))
+passed_long _ _ _ same same' = absurd (omega arith)
 
 -- what the names and the answer say of the arguments up to one
 pub record SoFar (all : List Passed) (i : ℕ) (names changeable : Names) (clashed final : Bool) : Type 0 where
@@ -204,104 +160,55 @@ pub record SoFar (all : List Passed) (i : ℕ) (names changeable : Names) (clash
 abbrev pub all_passed : List Parameter → List ValueType → List Expr → List Passed
 all_passed ps ts es = passed (map parameter_tree ps) ts (map expr_tree es)
 
-item_at : (p : Parameter) (t : ValueType) (ps : List Parameter) (ts : List ValueType) (es : List Expr) (e : Expr)
-    (i : ℕ) (q : Passed) →
-    i < length ps → length ts ≡ length ps → length es ≡ length ps → e ≡ get_or es i e →
-    get_or (all_passed ps ts es) i q ≡ record {
-      parameter = parameter_tree (get_or ps i p);
-      given = get_or ts i t;
-      argument = expr_tree e;
-    }
-item_at p t ps ts es e i q h same same' is =
-    passed_at (map parameter_tree ps) ts (map expr_tree es) i (parameter_tree p) t (expr_tree e) q
-    (omega (arith, length-map ps parameter_tree)) (omega (arith, length-map ps parameter_tree))
+all_long : (ps : List Parameter) (ts : List ValueType) (es : List Expr) → length ts ≡ length ps
+    → length es ≡ length ps → length (all_passed ps ts es) ≡ length ps
+all_long ps ts es same same' =
+    passed_long (map parameter_tree ps) ts (map expr_tree es) (omega (arith, length-map ps parameter_tree))
     (omega (arith, length-map ps parameter_tree, length-map es expr_tree))
-    ∙ ap₂ (λ (x : ParameterTree) (y : ExprTree). record { parameter = x; given = get_or ts i t; argument = y })
-    (get_or-map parameter_tree ps i p) (get_or-map expr_tree es i e ∙ ap expr_tree (sym is))
-
-item_below : (ps : List Parameter) (ts : List ValueType) (es : List Expr) (i : ℕ) → i < length ps
-    → length ts ≡ length ps → length es ≡ length ps → i < length (all_passed ps ts es)
-item_below ps ts es i h same same' =
-    omega (
-      arith,
-      length-map ps parameter_tree,
-      passed_long (map parameter_tree ps) ts (map expr_tree es) (omega (arith, length-map ps parameter_tree))
-          (omega (arith, length-map ps parameter_tree, length-map es expr_tree)),
-    )
-
--- one more argument that is an array
-array_more : (p : Parameter) (t : ValueType) (ps : List Parameter) (ts : List ValueType) (es : List Expr)
-    (e : Expr) (i : ℕ) (given changed given' changed' : Names) (one : List ℕ) (mutable clashed clash' final : Bool)
-    →
-    i < length ps → length ts ≡ length ps → length es ≡ length ps → e ≡ get_or es i e
-    → SoFar (all_passed ps ts es) i given changed clashed final →
-    Some one ≡ array_name (get_or ts i t) (expr_tree e) → mutable ≡ is_mutable (get_or ps i p).form →
-    given' ≡ declared given one true → changed' ≡ cond mutable (declared changed one true) changed →
-    clash' ≡ (is_some (found changed one) || (mutable && is_some (found given one))) →
-    SoFar (all_passed ps ts es) (i + 1) given' changed' (clashed || clash') final
-array_more p t ps ts es e i given changed given' changed' one mutable clashed clash' final h same same' here so_far is
-    m g k new =
-    let q : Passed = record {
-      parameter = parameter_tree (get_or ps i p);
-      given = get_or ts i t;
-      argument = expr_tree e;
-    } in
-    let below = item_below ps ts es i h same same' in
-    let at = item_at p t ps ts es e i q h same same' here in
-    record {
-      given = named_given (all_passed ps ts es) i q given given' one below at so_far.given is g;
-      changed = named_changed (all_passed ps ts es) i q changed changed' one mutable below at so_far.changed is m k;
-      clash = named_clash (all_passed ps ts es) i q given changed one mutable clashed clash' final below at
-          so_far.given so_far.changed is m new so_far.clash;
-    }
-
--- and one that is none
-other_beside : (p : Parameter) (t : ValueType) (ps : List Parameter) (ts : List ValueType) (es : List Expr) (e : Expr)
-    (i : ℕ) (given changed : Names) (clashed final : Bool) →
-    i < length ps → length ts ≡ length ps → length es ≡ length ps → e ≡ get_or es i e
-    → SoFar (all_passed ps ts es) i given changed clashed final →
-    None ≡ array_name (get_or ts i t) (expr_tree e) → SoFar (all_passed ps ts es) (i + 1) given changed clashed final
-other_beside p t ps ts es e i given changed clashed final h same same' here so_far is =
-    let q : Passed = record {
-      parameter = parameter_tree (get_or ps i p);
-      given = get_or ts i t;
-      argument = expr_tree e;
-    } in
-    let below = item_below ps ts es i h same same' in
-    let at = item_at p t ps ts es e i q h same same' here in
-    record {
-      given = none_given (all_passed ps ts es) i q given below at so_far.given is;
-      changed = none_changed (all_passed ps ts es) i q changed below at so_far.changed is;
-      clash = none_clash (all_passed ps ts es) i q clashed final below at is so_far.clash;
-    }
-
-other_more : (t : ValueType) (ps : List Parameter) (ts : List ValueType) (es : List Expr) (e : Expr) (i : ℕ)
-    (given changed : Names) (clashed final : Bool) →
-    i < length ps → length ts ≡ length ps → length es ≡ length ps → e ≡ get_or es i e
-    → SoFar (all_passed ps ts es) i given changed clashed final →
-    None ≡ array_name (get_or ts i t) (expr_tree e) → SoFar (all_passed ps ts es) (i + 1) given changed clashed final
-other_more t [] ts es e i given changed clashed final h same same' here so_far is = absurd (omega arith)
-other_more t (p ∷ ps) ts es e i given changed clashed final h same same' here so_far is =
-    other_beside p t (p ∷ ps) ts es e i given changed clashed final h same same' here so_far is
+    ∙ length-map ps parameter_tree
 
 -- one more argument
-pub argument_more : (p : Parameter) (t : ValueType) (ps : List Parameter) (ts : List ValueType) (es : List Expr)
-    (e : Expr) (i : ℕ) (given changed given' changed' : Names) (one : Option (List ℕ))
-    (mutable clashed clash' final : Bool) →
-    i < length ps → length ts ≡ length ps → length es ≡ length ps → e ≡ get_or es i e
-    → SoFar (all_passed ps ts es) i given changed clashed final →
-    one ≡ array_name (get_or ts i t) (expr_tree e) → mutable ≡ is_mutable (get_or ps i p).form →
-    given' ≡ with_array given one → changed' ≡ with_changed changed mutable one →
-    clash' ≡ was_given given changed mutable one →
-    SoFar (all_passed ps ts es) (i + 1) given' changed' (clashed || clash') final
-argument_more p t ps ts es e i given changed given' changed' (Some one) mutable clashed clash' final h same same' here
-    so_far is m g k new =
-    array_more p t ps ts es e i given changed given' changed' one mutable clashed clash' final h same same' here
-    so_far is m g k new
-argument_more p t ps ts es e i given changed given' changed' None mutable clashed clash' final h same same' here
-    so_far is m g k new =
-    rw (g, k, new, or-false clashed)
-    (other_more t ps ts es e i given changed clashed final h same same' here so_far is)
+module _ (p : Parameter) (t : ValueType) (ps : List Parameter) (ts : List ValueType) (es : List Expr) (e : Expr)
+    (i : ℕ) (h : i < length ps) (same : length ts ≡ length ps) (same' : length es ≡ length ps)
+    (here : e ≡ get_or es i e) where
+  abbrev next : Passed
+  next = record {
+    parameter = parameter_tree (get_or ps i p);
+    given = get_or ts i t;
+    argument = expr_tree e;
+  }
+
+  at : get_or (all_passed ps ts es) i next ≡ next
+  at =
+      passed_at (map parameter_tree ps) ts (map expr_tree es) i (parameter_tree p) t (expr_tree e) next
+      (omega (arith, length-map ps parameter_tree)) (omega (arith, length-map ps parameter_tree))
+      (omega (arith, length-map ps parameter_tree, length-map es expr_tree))
+      ∙ ap₂ (λ (x : ParameterTree) (y : ExprTree). record { parameter = x; given = get_or ts i t; argument = y })
+      (get_or-map parameter_tree ps i p) (get_or-map expr_tree es i e ∙ ap expr_tree (sym here))
+
+  below : i < length (all_passed ps ts es)
+  below = omega (arith, h, all_long ps ts es same same')
+
+  pub argument_more : (given changed given' changed' : Names) (one : Option (List ℕ))
+      (mutable clashed clash' final : Bool)
+      → SoFar (all_passed ps ts es) i given changed clashed final
+      → one ≡ array_name (get_or ts i t) (expr_tree e) → mutable ≡ is_mutable (get_or ps i p).form
+      → given' ≡ with_array given one → changed' ≡ with_changed changed mutable one
+      → clash' ≡ was_given given changed mutable one
+      → SoFar (all_passed ps ts es) (i + 1) given' changed' (clashed || clash') final
+  argument_more given changed given' changed' (Some one) mutable clashed clash' final so_far is m g k new = record {
+    given = named_given (all_passed ps ts es) i next below at given given' one so_far.given is g;
+    changed = named_changed (all_passed ps ts es) i next below at changed changed' one mutable so_far.changed is m k;
+    clash = named_clash (all_passed ps ts es) i next below at given changed one mutable clashed clash' final
+        so_far.given so_far.changed is m new so_far.clash;
+  }
+  argument_more given changed given' changed' None mutable clashed clash' final so_far is m g k new =
+      rw (g, k, new, or-false clashed) (record {
+        given = none_gathered (all_passed ps ts es) i next below at given gives so_far.given (λ text. rw (← is) refl);
+        changed = none_gathered (all_passed ps ts es) i next below at changed changes so_far.changed
+            (λ text. rw (← is) refl);
+        clash = none_clash (all_passed ps ts es) i next below at clashed final is so_far.clash;
+      })
 
 -- no argument is left
 pub clash_last : (ps : List Parameter) (ts : List ValueType) (es : List Expr) (i : ℕ) (clashed final : Bool)
@@ -309,13 +216,7 @@ pub clash_last : (ps : List Parameter) (ts : List ValueType) (es : List Expr) (i
     (clashed || clashes (take i (all_passed ps ts es)) (drop i (all_passed ps ts es))) ≡ final → clashed ≡ final
 clash_last ps ts es i clashed final h same same' is =
     let none : drop i (all_passed ps ts es) ≡ [] =
-    drop_all i (all_passed ps ts es)
-    (omega (
-      arith,
-      length-map ps parameter_tree,
-      passed_long (map parameter_tree ps) ts (map expr_tree es) (omega (arith, length-map ps parameter_tree))
-          (omega (arith, length-map ps parameter_tree, length-map es expr_tree)),
-    )) in
+    drop_all i (all_passed ps ts es) (omega (arith, all_long ps ts es same same')) in
     sym (ap (λ rest. clashed || clashes (take i (all_passed ps ts es)) rest) none ∙ or-false clashed) ∙ is
 
 -- before the first argument

@@ -73,11 +73,10 @@ stands before (p ∷ ps) index h = by (is_some p.export) _ h (stands (before ++ 
         }
     by false rest h after =
         let later = after h in
-        let more = length-append before (p ∷ []) in
         record {
           place = suc later.place;
           export = later.export;
-          is = omega (arith, later.is, more);
+          is = omega (arith, length-append before (p ∷ []));
           there = later.there;
           found_so = later.found_so
               ∙ ap (λ (l : List ProcedureTree). Some (l, later.export))
@@ -89,16 +88,15 @@ pub index_inside : (before ps : List ProcedureTree) (index : ℕ) → export_ind
     → index < length before + length ps
 index_inside before ps index h =
     let it = stands before ps index h in
-    let is = it.is in
     let inside = slice_get_within ps it.place it.export it.there in
-    omega (arith, is, inside)
+    omega arith
 
 -- the procedure at the index is the export
 pub export_at : (ps : List ProcedureTree) (index : ℕ) → export_index (exported [] ps) ≡ Some index
     → (export : ProcedureTree) × (slice_get ps index ≡ Some export) × (exported [] ps ≡ Some (take index ps, export))
 export_at ps index h =
     let it = stands [] ps index h in
-    let same : it.place ≡ index = let is = it.is in omega (arith, is) in (
+    let same : it.place ≡ index = omega arith in (
       it.export,
       ap (slice_get ps) (sym same) ∙ it.there,
       it.found_so
@@ -150,21 +148,17 @@ module _ (profile : Profile) (items slice : List Procedure) (same : slice ≡ it
       → b ≡ fold sooner a (procedures_violations [] (empty profile) (map procedure_tree slice))
       → b ≡ fold sooner None (violations profile (record { procedures = trees }))
   seen_over a b h k =
-      kept_over a b (export_violations (exports (map procedure_tree slice)))
-      (procedures_violations [] (empty profile) (map procedure_tree slice)) h k
-      ∙ ap (λ (l : List Procedure). fold sooner None
-      (violations profile (record { procedures = map procedure_tree l }))) same
+      rw (← same) (kept_over a b (export_violations (exports (map procedure_tree slice)))
+      (procedures_violations [] (empty profile) (map procedure_tree slice)) h k)
 
   pub seen_same : (seen : Option Violation)
       → seen ≡ fold sooner None (violations profile (record { procedures = map procedure_tree slice }))
       → seen ≡ fold sooner None (violations profile (record { procedures = trees }))
-  seen_same seen h =
-      h ∙ ap (λ (l : List Procedure). fold sooner None
-      (violations profile (record { procedures = map procedure_tree l }))) same
+  seen_same seen h = rw (← same) h
 
   indexed : (index : Option ℕ) → index ≡ export_index (exported [] (map procedure_tree slice))
       → export_index (exported [] trees) ≡ index
-  indexed index h = sym (h ∙ ap (λ (l : List Procedure). export_index (exported [] (map procedure_tree l))) same)
+  indexed index h = rw (← same) (sym h)
 
   -- and the export
   pub index_of : (found : Option ℕ) (index : ℕ) → found ≡ export_index (exported [] (map procedure_tree slice))

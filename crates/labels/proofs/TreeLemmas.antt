@@ -1,6 +1,6 @@
 -- The trees of conditionals and loops, by the lists of their statements; and their names are gone after them.
 use Rattle.std.proofs.lemmas.List.Sums.{fold-append}
-use Rattle.std.proofs.Common.{◌≡◌, ℕ, Bool, Option, Result, Ok, Err, OnOk, fold, true, false, List, [], ◌∷◌}
+use Rattle.std.proofs.Common.{◌≡◌, ℕ, Bool, Option, fold, true, false, List, [], ◌∷◌}
 use Rattle.std.proofs.Common.{◌++◌, Vec, Global, length, is_some, cond, refl, sym, ap, ◌∙◌}
 use Rattle.std.proofs.lemmas.List.{append_assoc, append-nil}
 use Rattle.std.proofs.Math.Seq.{take-append_seam}
@@ -11,8 +11,8 @@ use Rattle.language.specs.declared.tree.Expr.{Expr}
 use Rattle.language.specs.declared.tree.Statement.{Statement, If, For}
 use Rattle.language.proofs.BlockLemmas.{conditional_tree, loop_tree}
 use Rattle.language.specs.declared.typing.Declared.{Declared}
-use Rattle.language.specs.Tree.{expr_tree, statement_tree, block_tree, StatementTree, declaration, array, assignment}
-use Rattle.language.specs.Tree.{element_assignment, call, conditional, loop, BlockTree, nothing, first, ParameterTree}
+use Rattle.language.specs.Tree.{expr_tree, statement_tree, block_tree, StatementTree, declaration, array}
+use Rattle.language.specs.Tree.{BlockTree, nothing, first, ParameterTree}
 use Rattle.language.specs.Tree.{ProcedureTree}
 use Rattle.language.specs.declared.signature.Label.{Label}
 use Rattle.language.specs.declared.typing.Violation.{Violation}
@@ -30,89 +30,73 @@ abbrev Names : Type 0
 Names = List (List ℕ × Declared)
 
 -- a scope with other names, and with more
-abbrev pub with_names : Scope → Names → Scope
+abbrev with_names : Scope → Names → Scope
 with_names scope names = record { profile = scope.profile; names = names }
 
-abbrev pub extended : Scope → Names → Scope
+abbrev extended : Scope → Names → Scope
 extended scope more = with_names scope (scope.names ++ more)
 
-extended_none : (scope : Scope) → scope ≡ extended scope []
-extended_none scope = ap (with_names scope) (sym (append-nil scope.names))
+-- the one with more names is the other
+record IsLonger (scope whole : Scope) : Type 0 where
+  more : Names
+  is : whole ≡ extended scope more
 
-extended_twice : (scope : Scope) (one other : Names)
-    → extended (extended scope one) other ≡ extended scope (one ++ other)
-extended_twice scope one other = ap (with_names scope) (append_assoc scope.names one other)
+longer_none : (scope : Scope) → IsLonger scope scope
+longer_none scope = record { more = []; is = ap (with_names scope) (sym (append-nil scope.names)) }
+
+longer_twice : {scope middle whole : Scope} → IsLonger scope middle → IsLonger middle whole → IsLonger scope whole
+longer_twice {scope = scope} one other = record {
+  more = one.more ++ other.more;
+  is = other.is ∙ ap (λ (front : Scope). extended front other.more) one.is
+      ∙ ap (with_names scope) (append_assoc scope.names one.more other.more);
+}
 
 -- its earliest names are those that it had
-shortened_extended : (scope : Scope) (more : Names) → shortened (length scope.names) (extended scope more) ≡ scope
-shortened_extended scope more = ap (with_names scope) (take-append_seam scope.names more)
+shortened_longer : {scope whole : Scope} → IsLonger scope whole → shortened (length scope.names) whole ≡ scope
+shortened_longer {scope = scope} longer =
+    ap (shortened (length scope.names)) longer.is ∙ ap (with_names scope) (take-append_seam scope.names longer.more)
 
 -- a declaration only appends
-pub declared_more : (scope : Scope) (text : List ℕ) (what : Declared)
-    → (more : Names) × (declared scope text what ≡ extended scope more)
+declared_more : (scope : Scope) (text : List ℕ) (what : Declared) → IsLonger scope (declared scope text what)
 declared_more scope text what = by (is_some (found scope text))
   where
-    by : (b : Bool) → (more : Names)
-        × (with_names scope (cond b scope.names (scope.names ++ (text, what) ∷ [])) ≡ extended scope more)
-    by true = ([], extended_none scope)
-    by false = ((text, what) ∷ [], refl)
+    by : (b : Bool) → IsLonger scope (with_names scope (cond b scope.names (scope.names ++ (text, what) ∷ [])))
+    by true = longer_none scope
+    by false = record { more = (text, what) ∷ []; is = refl }
 
-after_more : (scope : Scope) (s : StatementTree) → (more : Names) × (scope_after scope s ≡ extended scope more)
+after_more : (scope : Scope) (s : StatementTree) → IsLonger scope (scope_after scope s)
 after_more scope (declaration place label mutable kind text right) =
     declared_more scope text (declared_as label mutable kind)
 after_more scope (array place label mutable kind size text values) =
     declared_more scope text (declared_array label mutable kind size)
-after_more scope (assignment place target text right) = ([], extended_none scope)
-after_more scope (element_assignment place bracket target text index right) = ([], extended_none scope)
-after_more scope (call c) = ([], extended_none scope)
-after_more scope (conditional place condition accepted otherwise) = ([], extended_none scope)
-after_more scope (loop place counter text low high body) = ([], extended_none scope)
+after_more scope _ = longer_none scope
 
--- more names after more names
-one_after : (scope : Scope) (one other : Names) {middle whole : Scope} → whole ≡ extended middle other
-    → middle ≡ extended scope one → whole ≡ extended scope (one ++ other)
-one_after scope one other later here = later ∙ ap (λ (front : Scope). extended front other) here
-    ∙ extended_twice scope one other
-
-pub all_more : (b : BlockTree) (scope : Scope) → (more : Names) × (scope_after_all scope b ≡ extended scope more)
-all_more nothing scope = ([], extended_none scope)
-all_more (first s rest) scope =
-    let one = after_more scope s in
-    let others = all_more rest (scope_after scope s) in
-    (one.0 ++ others.0, one_after scope one.0 others.0 others.1 one.1)
+all_more : (b : BlockTree) (scope : Scope) → IsLonger scope (scope_after_all scope b)
+all_more nothing scope = longer_none scope
+all_more (first s rest) scope = longer_twice (after_more scope s) (all_more rest (scope_after scope s))
 
 -- the names before a block are the earliest of those after it
 pub scope_before : (scope : Scope) (b : BlockTree) → shortened (length scope.names) (scope_after_all scope b) ≡ scope
-scope_before scope b =
-    let after = all_more b scope in
-    ap (shortened (length scope.names)) after.1 ∙ shortened_extended scope after.0
+scope_before scope b = shortened_longer (all_more b scope)
 
 -- so are those before a loop
 pub scope_before_turns : (scope : Scope) (text : List ℕ) (what : Declared) (b : BlockTree)
     → shortened (length scope.names) (scope_after_all (declared scope text what) b) ≡ scope
 scope_before_turns scope text what b =
-    let one = declared_more scope text what in
-    let others = all_more b (declared scope text what) in
-    ap (shortened (length scope.names)) (one_after scope one.0 others.0 others.1 one.1)
-    ∙ shortened_extended scope (one.0 ++ others.0)
+    shortened_longer (longer_twice (declared_more scope text what) (all_more b (declared scope text what)))
 
 -- parameters only append too
-parameters_more : (ps : List ParameterTree) (scope : Scope)
-    → (more : Names) × (with_parameters scope ps ≡ extended scope more)
-parameters_more [] scope = ([], extended_none scope)
+parameters_more : (ps : List ParameterTree) (scope : Scope) → IsLonger scope (with_parameters scope ps)
+parameters_more [] scope = longer_none scope
 parameters_more (p ∷ ps) scope =
-    let one = declared_more scope p.name (parameter_as p) in
-    let others = parameters_more ps (declared scope p.name (parameter_as p)) in
-    (one.0 ++ others.0, one_after scope one.0 others.0 others.1 one.1)
+    longer_twice (declared_more scope p.name (parameter_as p))
+    (parameters_more ps (declared scope p.name (parameter_as p)))
 
 -- so the names before the parameters are the earliest of those after the body
 pub scope_before_body : (scope : Scope) (ps : List ParameterTree) (b : BlockTree)
     → shortened (length scope.names) (scope_after_all (with_parameters scope ps) b) ≡ scope
 scope_before_body scope ps b =
-    let one = parameters_more ps scope in
-    let others = all_more b (with_parameters scope ps) in
-    ap (shortened (length scope.names)) (one_after scope one.0 others.0 others.1 one.1)
-    ∙ shortened_extended scope (one.0 ++ others.0)
+    shortened_longer (longer_twice (parameters_more ps scope) (all_more b (with_parameters scope ps)))
 
 -- what a conditional violates, by the lists of its arms
 conditional_violations : (seen : Option Violation) (earlier : List ProcedureTree) (scope : Scope) (control : Label)
@@ -126,16 +110,8 @@ conditional_violations : (seen : Option Violation) (earlier : List ProcedureTree
     (block_violations earlier scope (control_under control (type_of scope (expr_tree condition)))
     (block_tree otherwise.items))
 conditional_violations seen earlier scope control statement place condition accepted otherwise is =
-    let e = expr_violations scope (expr_tree condition) in
-    let r = at place (of_one [] condition_rules (type_of scope (expr_tree condition))) in
-    let under = control_under control (type_of scope (expr_tree condition)) in
-    let a = block_violations earlier scope under (block_tree accepted.items) in
-    let o = block_violations earlier scope under (block_tree otherwise.items) in
     ap (λ s. fold sooner seen (statement_violations earlier scope control s)) (ap statement_tree is
-    ∙ conditional_tree place condition accepted otherwise)
-    ∙ (fold-append sooner seen (e ++ r ++ a) o
-    ∙ ap (λ first. fold sooner first o) (fold-append sooner seen (e ++ r) a
-    ∙ ap (λ first. fold sooner first a) (fold-append sooner seen e r)))
+    ∙ conditional_tree place condition accepted otherwise) ∙ simp (fold-append sooner)
 
 -- the same, from what each part has noted: the condition, what is asked of it, and both arms
 pub conditional_seen : (seen of_condition noted of_accepted of_both : Option Violation) (earlier : List ProcedureTree)
@@ -165,20 +141,8 @@ loop_violations : (seen : Option Violation) (earlier : List ProcedureTree) (scop
     (at counter.place (when (is_some (found scope counter.name.now)) NameDeclaredTwice)
     ++ block_violations earlier (declared scope counter.name.now counter_as) control (block_tree body.items))
 loop_violations seen earlier scope control statement place counter low high body is =
-    let l = expr_violations scope (expr_tree low) in
-    let h = expr_violations scope (expr_tree high) in
-    let r = at place (of_two [] bounds_rules (type_of scope (expr_tree low)) (type_of scope (expr_tree high))) in
-    let t = at counter.place (when (is_some (found scope counter.name.now)) NameDeclaredTwice)
-    ++ block_violations earlier (declared scope counter.name.now counter_as) control (block_tree body.items) in
     ap (λ s. fold sooner seen (statement_violations earlier scope control s)) (ap statement_tree is
-    ∙ loop_tree place counter low high body)
-    ∙ ap (fold sooner seen)
-    (append_assoc (l ++ h ++ r)
-    (at counter.place (when (is_some (found scope counter.name.now)) NameDeclaredTwice))
-    (block_violations earlier (declared scope counter.name.now counter_as) control (block_tree body.items)))
-    ∙ (fold-append sooner seen (l ++ h ++ r) t
-    ∙ ap (λ first. fold sooner first t) (fold-append sooner seen (l ++ h) r
-    ∙ ap (λ first. fold sooner first r) (fold-append sooner seen l h)))
+    ∙ loop_tree place counter low high body) ∙ simp (fold-append sooner)
 
 -- the same, from what each part has noted: the bounds, what is asked of them, and the turns
 pub loop_seen : (seen of_low of_high noted of_turns : Option Violation) (earlier : List ProcedureTree) (scope : Scope)
@@ -195,8 +159,3 @@ pub loop_seen : (seen of_low of_high noted of_turns : Option Violation) (earlier
 loop_seen seen of_low of_high noted of_turns earlier scope control lower upper statement place counter low high body
     ones is items typed typed' l h n t =
     let whole = loop_violations seen earlier scope control statement place counter low high body is in cc
-
--- what holds on success follows from what does
-pub on_ok : {T E P Q : Type 0} (result : Result T E) → (P → Q) → OnOk result P → OnOk result Q
-on_ok (Ok value) f p = f p
-on_ok (Err e) f p = tt

@@ -10,11 +10,10 @@ loop-index-init c =
 pub loop-index-preserved : goal.loop-index-preserved
 loop-index-preserved c =
     argument_more _ _ c.args.parameters.now c.args.types.now c.args.arguments.now c.index-arguments-index.result
-    c.loop-index.index c.loop-index.arrays.given c.loop-index.arrays.changed
-    c.take.new.self.given c.take.new.self.changed _ c.is_mutable-mutable.result c.loop-index.clash
-    c.in_ok-clash.field-0 _ c.loop-index-test.true c.requires.types
-    c.requires.arguments c.index-arguments-index.is c.loop-index.invariant refl c.is_mutable-mutable.ensures
-    c.in_ok-clash.ensures.given c.in_ok-clash.ensures.changed c.in_ok-clash.ensures.clash
+    c.loop-index.index c.loop-index-test.true c.requires.types c.requires.arguments c.index-arguments-index.is
+    c.loop-index.arrays.given c.loop-index.arrays.changed c.take.new.self.given c.take.new.self.changed _
+    c.is_mutable-mutable.result c.loop-index.clash c.in_ok-clash.field-0 _ c.loop-index.invariant refl
+    c.is_mutable-mutable.ensures c.in_ok-clash.ensures.given c.in_ok-clash.ensures.changed c.in_ok-clash.ensures.clash
 
 pub returns : goal.returns
 returns c = clash_last c.args.parameters.now c.args.types.now c.args.arguments.now c.loop-index.index

@@ -1,6 +1,7 @@
 use Rattle.std.proofs.Common.{map, false, ◌∙◌, ap, ap₂}
 use Rattle.language.specs.scopes.Shortened.{shortened}
-use Rattle.labels.proofs.TreeLemmas.{conditional_seen, loop_seen, on_ok, scope_before, scope_before_turns}
+use Rattle.std.proofs.lemmas.Result.{on_ok_weaker}
+use Rattle.labels.proofs.TreeLemmas.{conditional_seen, loop_seen, scope_before, scope_before_turns}
 use Rattle.language.specs.Tree.{block_tree, procedure_tree}
 use Rattle.language.specs.Types.{declared}
 use Rattle.language.specs.Typing.{counter_as, scope_after_all}
@@ -24,7 +25,8 @@ turns-returns-clause-names t c =
 pub statement-returns-in_ok-arm-in-If-clause-first :
     goal.statement-returns-in_ok-arm-in-If-clause-first
 statement-returns-in_ok-arm-in-If-clause-first t c =
-    on_ok c.arm-in-If.result (λ last. conditional_seen c.args.first.now.seen c.expression-condition.new.first.seen
+    on_ok_weaker c.arm-in-If.result
+    (λ last. conditional_seen c.args.first.now.seen c.expression-condition.new.first.seen
     c.note_condition.new.first.seen c.arm.new.first.seen c.arm-in-If.new.first.seen
     (map procedure_tree c.args.earlier.now) c.args.names.now c.arm.new.names c.args.control
     c.control_under-control.result c.expression-condition.result
@@ -37,7 +39,7 @@ statement-returns-in_ok-arm-in-If-clause-first t c =
 
 pub statement-returns-in-For-clause-first : goal.statement-returns-in-For-clause-first
 statement-returns-in-For-clause-first t c =
-    on_ok c.turns.result (λ last. loop_seen c.args.first.now.seen c.expression-low.new.first.seen
+    on_ok_weaker c.turns.result (λ last. loop_seen c.args.first.now.seen c.expression-low.new.first.seen
     c.expression-high.new.first.seen c.note_bounds.new.first.seen c.turns.new.first.seen
     (map procedure_tree c.args.earlier.now) c.args.names.now c.args.control c.expression-low.result
     c.expression-high.result
