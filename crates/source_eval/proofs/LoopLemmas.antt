@@ -116,6 +116,15 @@ no_word : (form : Form) → (form ≡ FixedArray) ⊎ (form ≡ MutableArray) �
 no_word form (inl is) = rw is
 no_word form (inr is) = rw is
 
+-- no word argument is left
+pub no_parameters : (ps : List Parameter) (es : List Expr) (i : ℕ) → length ps ≤ i
+    → word_arguments (map parameter_tree (drop i ps)) (map expr_tree (drop i es)) ≡ []
+no_parameters ps es i most = rw (drop_all i ps most)
+
+pub no_arguments : (ps : List Parameter) (es : List Expr) (i : ℕ) → length es ≤ i
+    → word_arguments (map parameter_tree (drop i ps)) (map expr_tree (drop i es)) ≡ []
+no_arguments ps es i most = rw (drop_all i es most) (no_words (map parameter_tree (drop i ps)))
+
 -- the values of a call's word arguments
 module _ (s : State) (whole : Run (List state.Word)) (ps : List Parameter) (es : List Expr) (start : ℕ) where
   abbrev words_from : ℕ → List ExprTree
@@ -165,14 +174,6 @@ module _ (s : State) (whole : Run (List state.Word)) (ps : List Parameter) (es :
       → Ended whole start 0 (map word_of words) now
   pass_ends i now words none leads =
       all_found whole start now (map word_of words) (rw none at leads)
-
-  pub no_parameters : (i : ℕ) → length ps ≤ i → words_from i ≡ []
-  no_parameters i most = ap (λ xs. word_arguments (map parameter_tree xs) (map expr_tree (drop i es)))
-      (drop_all i ps most)
-
-  pub no_arguments : (i : ℕ) → length es ≤ i → words_from i ≡ []
-  no_arguments i most = ap (λ xs. word_arguments (map parameter_tree (drop i ps)) (map expr_tree xs))
-      (drop_all i es most) ∙ no_words (map parameter_tree (drop i ps))
 
 -- a declared array
 values_again : (ws : List Word) → map (λ (w : state.Word). w.value) (map word_of ws) ≡ map (λ (w : Word). w.value) ws

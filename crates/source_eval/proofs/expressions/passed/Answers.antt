@@ -1,7 +1,3 @@
-use Rattle.std.proofs.Common.{map}
-use Rattle.language.specs.Evaluation.{passed}
-use Rattle.language.specs.Meaning.{word_arguments}
-use Rattle.language.specs.Tree.{expr_tree, parameter_tree}
 use Rattle.source_eval.specs.Views.{held}
 use Rattle.source_eval.proofs.LoopLemmas.{no_arguments, no_parameters, pass_ends, pass_lacks, pass_more, pass_over}
 use Rattle.source_eval.proofs.LoopLemmas.{pass_stops, passes}
@@ -9,13 +5,9 @@ use Rattle.source_eval.proofs.expressions.passed.Goals as goal
 
 pub returns-then-arguments-index-clause-ok : goal.returns-then-arguments-index-clause-ok
 returns-then-arguments-index-clause-ok c =
-    let s = held c.args.variables.now in
-    let whole =
-    passed s (word_arguments (map parameter_tree c.args.parameters.now) (map expr_tree c.args.arguments.now)) in
     let l = c.loop-index in
-    pass_ends s whole c.args.parameters.now c.args.arguments.now c.args.left.now l.index l.left l.words.items
-    (no_arguments s whole c.args.parameters.now c.args.arguments.now c.args.left.now l.index
-    c.if-arguments-index.true) l.invariant
+    pass_ends (held c.args.variables.now) _ c.args.parameters.now c.args.arguments.now _ l.index l.left l.words.items
+    (no_arguments c.args.parameters.now c.args.arguments.now l.index c.if-arguments-index.true) l.invariant
 
 pub loop-index-preserved-in-FixedArray : goal.loop-index-preserved-in-FixedArray
 loop-index-preserved-in-FixedArray c =
@@ -52,10 +44,7 @@ loop-index-preserved c =
 
 pub returns-clause-ok : goal.returns-clause-ok
 returns-clause-ok c =
-    let s = held c.args.variables.now in
-    let whole =
-    passed s (word_arguments (map parameter_tree c.args.parameters.now) (map expr_tree c.args.arguments.now)) in
     let l = c.loop-index in
-    pass_ends s whole c.args.parameters.now c.args.arguments.now c.args.left.now l.index l.left l.words.items
-    (no_parameters s whole c.args.parameters.now c.args.arguments.now c.args.left.now l.index c.loop-index-test.false)
+    pass_ends (held c.args.variables.now) _ c.args.parameters.now c.args.arguments.now _ l.index l.left l.words.items
+    (no_parameters c.args.parameters.now c.args.arguments.now l.index c.loop-index-test.false)
     l.invariant
