@@ -1,9 +1,9 @@
 -- The arguments that texts without fault spell.
 use Rattle.std.proofs.Common.{◌≡◌, ℕ, ◌+◌, ◌-◌, ◌^◌, ◌<◌, min, true, false, nat_le, nat_lt, if◌then◌else◌}
 use Rattle.std.proofs.Common.{◌==◌, List, [], ◌∷◌, ◌++◌, length, get_or, take, map, ◌⊎◌, inl, inr, Option, Some, None}
-use Rattle.std.proofs.Common.{Result, Ok, Err, ◌↔◌, refl, sym, ap, subst, ◌∙◌, arith}
-use Rattle.std.specs.List.{list_all, filter_map, cons_option}
-use Rattle.std.specs.Option.{option_map, option_and_then}
+use Rattle.std.proofs.Common.{Result, Ok, Err, ◌↔◌, refl, sym, ap, ◌∙◌, arith}
+use Rattle.std.specs.List.{list_all, filter_map}
+use Rattle.std.specs.Option.{option_and_then}
 use Rattle.std.proofs.lemmas.List.{length-map, take_more, map-append}
 use Rattle.std.proofs.lemmas.Bool.{and_parts, cases_lt}
 use Rattle.std.proofs.lemmas.Bool.Decides.{Decides-eqb, nat_tests}
@@ -22,6 +22,7 @@ use Rattle.language.specs.declared.arguments.fault.ArgumentRule.{ArgumentRule}
 use Rattle.language.specs.declared.arguments.texts.ReadError.{ReadError}
 use Rattle.language.specs.declared.arguments.texts.ReadError.TheVariants.{Argument, Memory}
 use Rattle.language.proofs.arguments_lemmas.NumberLemmas.{capped}
+use Rattle.language.proofs.arguments_lemmas.TextLemmas.{splits}
 use Rattle.language.proofs.arguments_lemmas.FaultLemmas.{Decides-values, both_hold}
 
 -- ---- the words of one text
@@ -37,32 +38,13 @@ fitting-capped (Some n) = elim (cases_lt n (2 ^ 32)) [
       let all : nat_lt n (2 ^ 32) ≡ false = grind (arith, nat_tests) in rw (least, all))
 ]
 
-record Splits (o : Option ℕ) (rest : Option (List ℕ)) (numbers : List ℕ) : Type 0 where
-  first : ℕ
-  others : List ℕ
-  is_first : o ≡ Some first
-  are_others : rest ≡ Some others
-  same : first ∷ others ≡ numbers
-
-splits : (o : Option ℕ) (rest : Option (List ℕ)) (numbers : List ℕ)
-    → option_and_then (λ number. option_map (λ numbers. number ∷ numbers) rest) o ≡ Some numbers
-    → Splits o rest numbers
-splits None rest numbers e = cc
-splits (Some n) None numbers e = cc
-splits (Some n) (Some others) numbers e =
-    record { first = n; others = others; is_first = refl; are_others = refl; same = cc }
-
 pub filter_map-word_of : (parts : List (List ℕ)) (numbers : List ℕ) → each_number parts ≡ Some numbers
     → list_all (λ n. nat_lt n (2 ^ 32)) numbers ≡ true → filter_map word_of parts ≡ numbers
 filter_map-word_of [] numbers e small = cc
 filter_map-word_of (part ∷ parts) numbers e small =
     let s = splits (number_of part) (each_number parts) numbers e in
-    let fit = and_parts (nat_lt s.first (2 ^ 32)) (list_all (λ n. nat_lt n (2 ^ 32)) s.others)
-    (ap (list_all (λ n. nat_lt n (2 ^ 32))) s.same ∙ small) in
-    let word : word_of part ≡ Some s.first = ap fitting s.is_first
-    ∙ ap (λ b. if b then Some s.first else None) fit.0 in
-    ap (λ o. cons_option o (filter_map word_of parts)) word
-    ∙ ap (λ l. s.first ∷ l) (filter_map-word_of parts s.others s.are_others fit.1) ∙ s.same
+    let fit = and_parts (nat_lt s.first (2 ^ 32)) (list_all (λ n. nat_lt n (2 ^ 32)) s.others) (rw (← s.same) at small) in
+    rw (s.is_first, fit.0, filter_map-word_of parts s.others s.are_others fit.1) s.same
 
 -- numbers that break no rule at a parameter
 pub record Fitting (param : Param) (numbers : List ℕ) : Type 0 where
@@ -104,7 +86,7 @@ pub IsWithin-from_words : (param : Param) (form : Form) (arg : Arg) → param.fo
     → HasShape form param.length arg → list_all (λ word. nat_le word (greatest_of param.kind)) (words_of arg) ≡ true
     → IsWithin param arg
 IsWithin-from_words param form arg e shape within = record {
-  shape = subst (λ f. HasShape f param.length arg) (sym e) shape;
+  shape = rw e shape;
   values = (Decides-values param.kind (words_of arg)).0 within;
 }
 
@@ -140,7 +122,7 @@ array_within : (param : Param) (form : Form) (words numbers : List ℕ) → para
 array_within param form words numbers e shape same h =
     IsWithin-from_words param form (Array words) e
     (shape (ap length same ∙ h.count ∙ ap (λ f. count_of f param.length) e))
-    (ap (list_all (λ word. nat_le word (greatest_of param.kind))) same ∙ h.within)
+    (rw same h.within)
 
 pub IsWithin-array : (param : Param) (words numbers : List ℕ)
     → (param.form ≡ FixedArray) ⊎ (param.form ≡ MutableArray) → words ≡ numbers → Fitting param numbers
@@ -165,8 +147,7 @@ pub AreWithin-more : (params : List Param) (args : List Arg) (i : ℕ) (param : 
     → AreWithin (take i params) args → IsWithin (get_or params i param) arg
     → AreWithin (take (i + 1) params) (args ++ arg ∷ [])
 AreWithin-more params args i param arg h k within =
-    subst (λ l. AreWithin l (args ++ arg ∷ [])) (sym (take_more params i param h))
-    (AreWithin-push (take i params) args (get_or params i param) arg k within)
+    rw (take_more params i param h) (AreWithin-push (take i params) args (get_or params i param) arg k within)
 
 -- ---- what an answer says of the first fault
 pub fault_iff-ok : {T : Type 0} (answer : Result T ReadError) (x : T) (found : Option ArgumentFault)

@@ -53,28 +53,30 @@ fold-with_part most all (part ∷ parts) small =
     ]
 
 -- ---- the rule that they break
--- there are as many as parts
-more_numbers : (n : ℕ) (rest : Option (List ℕ)) (part : List ℕ) (parts : List (List ℕ)) (numbers : List ℕ)
-    → ((others : List ℕ) → rest ≡ Some others → length others ≡ length parts)
-    → option_map (λ numbers. n ∷ numbers) rest ≡ Some numbers → length numbers ≡ length (part ∷ parts)
-more_numbers n None part parts numbers k h = cc
-more_numbers n (Some others) part parts numbers k h =
-    let e = k others refl in
-    let same : n ∷ others ≡ numbers = cc in
-    omega (arith, e, ap length same)
+-- where each part spells a number the first does, and the others do
+pub record Splits (o : Option ℕ) (rest : Option (List ℕ)) (numbers : List ℕ) : Type 0 where
+  pub first : ℕ
+  pub others : List ℕ
+  pub is_first : o ≡ Some first
+  pub are_others : rest ≡ Some others
+  pub same : first ∷ others ≡ numbers
 
+pub splits : (o : Option ℕ) (rest : Option (List ℕ)) (numbers : List ℕ)
+    → option_and_then (λ number. option_map (λ numbers. number ∷ numbers) rest) o ≡ Some numbers
+    → Splits o rest numbers
+splits None rest numbers e = cc
+splits (Some n) None numbers e = cc
+splits (Some n) (Some others) numbers e =
+    record { first = n; others = others; is_first = refl; are_others = refl; same = cc }
+
+-- there are as many as parts
 length-each_number : (parts : List (List ℕ)) (numbers : List ℕ) → each_number parts ≡ Some numbers
     → length numbers ≡ length parts
 length-each_number [] numbers e = cc
 length-each_number (part ∷ parts) numbers e =
-    let case = elim (number_of part) as (λ o. option_and_then
-    (λ number. option_map (λ numbers. number ∷ numbers) (each_number parts)) o ≡ Some numbers
-    → length numbers ≡ length (part ∷ parts)) [
-      | None ↦ λ h. cc
-      | Some n ↦ λ h. more_numbers n (each_number parts) part parts numbers
-          (λ others k. length-each_number parts others k) h
-    ] in
-    case e
+    let s = splits (number_of part) (each_number parts) numbers e in
+    let later = length-each_number parts s.others s.are_others in
+    omega (arith, later, ap length s.same)
 
 -- the rule, by whether the numbers that there are are at most the greatest
 abbrev pub rule_of_judged : Option Bool → Option ArgumentRule

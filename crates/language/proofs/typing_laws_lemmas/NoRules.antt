@@ -26,7 +26,7 @@ pub no_rules : (place : Place) {rules : List Rule} → at place rules ≡ [] →
 no_rules place {rules = []} h = refl
 no_rules place {rules = rule ∷ rules} h = cc
 
--- and where the parts have types
+-- of a node whose parts have types
 pub no_rules_of_two : (place : Place) (rules : ValueType → ValueType → List Rule) {o p : Option ValueType}
     {s t : ValueType} → o ≡ Some s → p ≡ Some t → at place (of_two [] rules o p) ≡ [] → rules s t ≡ []
 no_rules_of_two place rules one other h = no_rules place (rw (one, other) at h)
