@@ -109,13 +109,9 @@ module _ (all : List Passed) (i : ℕ) (q : Passed) (h : i < length all) (at : g
       → ((clashed || clash') || clashes (take (i + 1) all) (drop (i + 1) all)) ≡ final
   named_clash given changed one mutable clashed clash' final g k is m new so_far =
       let one_more : clash' ≡ list_any (clash q) (take i all) =
-      new ∙ ap₂ (λ a b. a || (mutable && b)) (k one) (g one)
-      ∙ ap (λ b. list_any (changes one) (take i all) || (b && list_any (gives one) (take i all))) m
-      ∙ sym (clashes_named q one (take i all) (sym is)) in
-      or_assoc clashed clash' (clashes (take (i + 1) all) (drop (i + 1) all))
-      ∙ ap (λ b. clashed || b) (ap₂ (λ b before. b || clashes before (drop (i + 1) all)) one_more next_taken
-      ∙ sym (ap (clashes (take i all)) next_left))
-      ∙ so_far
+      rw (new, k one, g one, m, clashes_named q one (take i all) (sym is)) in
+      rw (or_assoc clashed clash' (clashes (take (i + 1) all) (drop (i + 1) all)), one_more, next_taken)
+      (rw next_left at so_far)
 
   -- one that is no array
   none_gathered : (names : Names) (test : List ℕ → Passed → Bool) → Gathers names test (take i all)
@@ -126,9 +122,7 @@ module _ (all : List Passed) (i : ℕ) (q : Passed) (h : i < length all) (at : g
       → (clashed || clashes (take i all) (drop i all)) ≡ final
       → (clashed || clashes (take (i + 1) all) (drop (i + 1) all)) ≡ final
   none_clash clashed final is so_far =
-      ap (λ b. clashed || b) (ap₂ (λ b before. b || clashes before (drop (i + 1) all))
-      (sym (clashes_none q (take i all) (sym is))) next_taken ∙ sym (ap (clashes (take i all)) next_left))
-      ∙ so_far
+      rw next_taken (rw (next_left, clashes_none q (take i all) (sym is)) at so_far)
 
 -- the argument at an index, beside its parameter
 pub passed_at : (ps : List ParameterTree) (ts : List ValueType) (es : List ExprTree) (i : ℕ) (p : ParameterTree)
@@ -217,7 +211,7 @@ pub clash_last : (ps : List Parameter) (ts : List ValueType) (es : List Expr) (i
 clash_last ps ts es i clashed final h same same' is =
     let none : drop i (all_passed ps ts es) ≡ [] =
     drop_all i (all_passed ps ts es) (omega (arith, all_long ps ts es same same')) in
-    sym (ap (λ rest. clashed || clashes (take i (all_passed ps ts es)) rest) none ∙ or-false clashed) ∙ is
+    rw (none, or-false clashed) at is
 
 -- before the first argument
 pub no_arguments : (all : List Passed) (names changeable : Names) → names ≡ [] → changeable ≡ []

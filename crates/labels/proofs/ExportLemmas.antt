@@ -107,20 +107,14 @@ export_at ps index h =
 pub export_read : (items : List Procedure) (index : ℕ) (p : Procedure) → index < length items
     → p ≡ get_or items index p → export_index (exported [] (map procedure_tree items)) ≡ Some index
     → exported [] (map procedure_tree items) ≡ Some (map procedure_tree (take index items), procedure_tree p)
-export_read items index p inside is h = by (export_at (map procedure_tree items) index h)
-  where
-    there : slice_get (map procedure_tree items) index ≡ Some (procedure_tree p)
-    there = slice_get-map procedure_tree items index
-        ∙ ap (option_map procedure_tree) (slice_get_read items (length items) index p refl inside is)
-
-    by : (export : ProcedureTree) × (slice_get (map procedure_tree items) index ≡ Some export)
-        × (exported [] (map procedure_tree items) ≡ Some (take index (map procedure_tree items), export))
-        → exported [] (map procedure_tree items) ≡ Some (map procedure_tree (take index items), procedure_tree p)
-    by (export, at, found) =
-        let some : Some export ≡ Some (procedure_tree p) = sym at ∙ there in
-        let same : export ≡ procedure_tree p = cc in
-        found ∙ ap₂ (λ (l : List ProcedureTree) (q : ProcedureTree). Some (l, q))
-        (take-map procedure_tree index items) same
+export_read items index p inside is h =
+    let it = export_at (map procedure_tree items) index h in
+    let there : slice_get (map procedure_tree items) index ≡ Some (procedure_tree p) =
+    slice_get-map procedure_tree items index
+    ∙ ap (option_map procedure_tree) (slice_get_read items (length items) index p refl inside is) in
+    let some : Some it.0 ≡ Some (procedure_tree p) = sym it.1 ∙ there in
+    let same : it.0 ≡ procedure_tree p = cc in
+    it.2 ∙ ap₂ (λ (l : List ProcedureTree) (q : ProcedureTree). Some (l, q)) (take-map procedure_tree index items) same
 
 -- what holds of all procedures holds of those before the index, and of the one there
 pub parts_of : (P : ProcedureTree → Type 0) (items : List Procedure) (index : ℕ) (p : Procedure)
