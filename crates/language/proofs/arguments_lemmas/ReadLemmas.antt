@@ -43,7 +43,8 @@ pub filter_map-word_of : (parts : List (List ℕ)) (numbers : List ℕ) → each
 filter_map-word_of [] numbers e small = cc
 filter_map-word_of (part ∷ parts) numbers e small =
     let s = splits (number_of part) (each_number parts) numbers e in
-    let fit = and_parts (nat_lt s.first (2 ^ 32)) (list_all (λ n. nat_lt n (2 ^ 32)) s.others) (rw (← s.same) at small) in
+    let fit = and_parts (nat_lt s.first (2 ^ 32)) (list_all (λ n. nat_lt n (2 ^ 32)) s.others)
+    (rw (← s.same) at small) in
     rw (s.is_first, fit.0, filter_map-word_of parts s.others s.are_others fit.1) s.same
 
 -- numbers that break no rule at a parameter
