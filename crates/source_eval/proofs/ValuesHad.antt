@@ -1,9 +1,9 @@
 -- The end that is worked out for expressions is one that the rules give.
 use Rattle.std.proofs.Common.{List, [], ◌∷◌, sym, subst}
-use Rattle.language.specs.Evaluation.{ended, tick, value, values, passed}
+use Rattle.language.specs.Evaluation.{Run, ended, given, tick, andthen, value, values, passed}
 use Rattle.language.specs.Meaning.{operands, applied, Evaluates, by_operands, operand_faults, EvaluatesAll, none_left}
 use Rattle.language.specs.Meaning.{one_more, this_faults, later_faults}
-use Rattle.language.specs.State.{State}
+use Rattle.language.specs.State.{State, Word}
 use Rattle.language.specs.Tree.{ExprTree, number, truth, name, prefix, binary, rotate, convert, select, element}
 use Rattle.source_eval.proofs.RunEnds.{then-either, value-by-operands}
 
@@ -14,11 +14,13 @@ node-had s e all =
     (then-either (EvaluatesAll s (operands e)) (Evaluates s e) (values s (operands e)) (λ vs. ended (applied s e vs))
     all (λ vs d. by_operands d) (λ place d. operand_faults d))
 
-more-had : (s : State) (e : ExprTree) (es : List ExprTree) → Evaluates s e (value s e).ends
-    → EvaluatesAll s es (values s es).ends → EvaluatesAll s (e ∷ es) (values s (e ∷ es)).ends
-more-had s e es this later =
+-- an expression, and then others by any run of theirs
+more-had : (s : State) (e : ExprTree) (es : List ExprTree) (others : Run (List Word))
+    → Evaluates s e (value s e).ends → EvaluatesAll s es others.ends
+    → EvaluatesAll s (e ∷ es) (andthen (value s e) (λ v. andthen others (λ vs. given (v ∷ vs)))).ends
+more-had s e es others this later =
     then-either (Evaluates s e) (EvaluatesAll s (e ∷ es)) (value s e) _ this
-    (λ v d. then-either (EvaluatesAll s es) (EvaluatesAll s (e ∷ es)) (values s es) _ later (λ vs ds. one_more d ds)
+    (λ v d. then-either (EvaluatesAll s es) (EvaluatesAll s (e ∷ es)) others _ later (λ vs ds. one_more d ds)
     (λ place ds. later_faults d ds))
     (λ place d. this_faults d)
 
@@ -27,28 +29,24 @@ value-had s (number place v kind) = node-had s (number place v kind) none_left
 value-had s (truth place v) = node-had s (truth place v) none_left
 value-had s (name place text) = node-had s (name place text) none_left
 value-had s (prefix place operator a) =
-    node-had s (prefix place operator a) (more-had s a [] (value-had s a) none_left)
+    node-had s (prefix place operator a) (more-had s a [] _ (value-had s a) none_left)
 value-had s (binary place operator a b) =
     node-had s (binary place operator a b)
-    (more-had s a (b ∷ []) (value-had s a) (more-had s b [] (value-had s b) none_left))
-value-had s (rotate place a amount) = node-had s (rotate place a amount) (more-had s a [] (value-had s a) none_left)
-value-had s (convert place kind a) = node-had s (convert place kind a) (more-had s a [] (value-had s a) none_left)
+    (more-had s a (b ∷ []) _ (value-had s a) (more-had s b [] _ (value-had s b) none_left))
+value-had s (rotate place a amount) = node-had s (rotate place a amount) (more-had s a [] _ (value-had s a) none_left)
+value-had s (convert place kind a) = node-had s (convert place kind a) (more-had s a [] _ (value-had s a) none_left)
 value-had s (select place a b c) =
     node-had s (select place a b c)
-    (more-had s a (b ∷ c ∷ []) (value-had s a)
-    (more-had s b (c ∷ []) (value-had s b) (more-had s c [] (value-had s c) none_left)))
+    (more-had s a (b ∷ c ∷ []) _ (value-had s a)
+    (more-had s b (c ∷ []) _ (value-had s b) (more-had s c [] _ (value-had s c) none_left)))
 value-had s (element place target text a) =
-    node-had s (element place target text a) (more-had s a [] (value-had s a) none_left)
+    node-had s (element place target text a) (more-had s a [] _ (value-had s a) none_left)
 
 pub values-had : (s : State) (es : List ExprTree) → EvaluatesAll s es (values s es).ends
 values-had s [] = none_left
-values-had s (e ∷ es) = more-had s e es (value-had s e) (values-had s es)
+values-had s (e ∷ es) = more-had s e es _ (value-had s e) (values-had s es)
 
 pub passed-had : (s : State) (es : List ExprTree) → EvaluatesAll s es (passed s es).ends
 unfolding tick
 passed-had s [] = none_left
-passed-had s (e ∷ es) =
-    then-either (Evaluates s e) (EvaluatesAll s (e ∷ es)) (value s e) _ (value-had s e)
-    (λ v d. then-either (EvaluatesAll s es) (EvaluatesAll s (e ∷ es)) (passed s es) _ (passed-had s es)
-    (λ vs ds. one_more d ds) (λ place ds. later_faults d ds))
-    (λ place d. this_faults d)
+passed-had s (e ∷ es) = more-had s e es (passed s es) (value-had s e) (passed-had s es)
