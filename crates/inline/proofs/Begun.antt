@@ -1,6 +1,6 @@
 -- Where a called body begins: its words have new numbers, and its arrays those of the caller.
-use Rattle.std.proofs.Common.{◌≡◌, ℕ, suc, ◌+◌, ◌<◌, ◌&&◌, ◌||◌, Bool, true, false, List, [], ◌∷◌, length}
-use Rattle.std.proofs.Common.{Some, inl, inr, refl, sym, ap, ap₂, ◌∙◌, arith, true≢false}
+use Rattle.std.proofs.Common.{◌≡◌, ℕ, ◌+◌, ◌<◌, ◌&&◌, ◌||◌, Bool, true, false, List, [], ◌∷◌, length, Some, inl, inr}
+use Rattle.std.proofs.Common.{refl, sym, ap, ap₂, ◌∙◌, subst, arith, true≢false}
 use Rattle.std.proofs.lemmas.Bool.{cases_Bool, or_parts}
 use Rattle.std.proofs.lemmas.Option.{none-some}
 use lib.Pointwise.{bytes_decides}
@@ -8,7 +8,7 @@ use Rattle.inline.specs.declared.flat.FlatVariable.{FlatVariable}
 use Rattle.inline.specs.declared.numbering.Numbered.{Numbered}
 use Rattle.word.specs.declared.place.Place.{Place}
 use Rattle.inline.specs.Flat.{word_as, array_as, elements_by}
-use Rattle.inline.specs.FlatTyping.{Types, with_type, types_after_all}
+use Rattle.inline.specs.FlatTyping.{Types, types_after_all}
 use Rattle.inline.specs.Numbering.{Numbers, naming, begun, passed, passed_variables, number_given, own_variable}
 use Rattle.language.specs.declared.signature.Form.{Form}
 use Rattle.language.specs.declared.signature.Form.TheVariants.{SingleWord, FixedArray, MutableArray}
@@ -16,14 +16,14 @@ use Rattle.language.specs.declared.typing.ValueType.TheVariants.{Word, Array}
 use Rattle.language.specs.declared.typing.WordType.{WordType}
 use Rattle.language.specs.Meaning.{is_word}
 use Rattle.language.specs.Tree.{ExprTree, name, ParameterTree}
-use Rattle.language.specs.Types.{Scope, declared}
-use Rattle.language.specs.Typing.{with_parameters, parameter_as, is_mutable, same_name}
+use Rattle.language.specs.Types.{Scope}
+use Rattle.language.specs.Typing.{with_parameters, is_mutable, same_name}
 use Rattle.language.specs.WellTyped.{labelled, HasType, Suits, IsVariable, IsPassed, as_word, as_array}
 use Rattle.language.specs.WellTyped.{as_mutable_array, array_given, array_of, SharesNone, ArePassed, none_passed}
 use Rattle.language.specs.WellTyped.{one_passed, AreNew, one_is_new}
 use Rattle.language.specs.names.Scope.{found}
 use Rattle.inline.proofs.Below.{found-new, found-kept, found-split}
-use Rattle.inline.proofs.Linked.{Linked, Serves, entry, later, linked_beside, known_array}
+use Rattle.inline.proofs.Linked.{Linked, Serves, entry, later, linked_beside}
 use Rattle.inline.proofs.Parameters.{linked_parameter, linked_own, itself}
 
 -- An argument.
@@ -62,14 +62,15 @@ pub own_word : (p : ParameterTree) (form : Form) → is_word form ≡ true
 own_word p SingleWord is = refl
 own_word p form is = absurd cc
 
-module _ (scope : Scope) (names : Numbers) (types : Types) (n : ℕ) (linked : Linked scope names types n) where
+module _ {scope : Scope} {names : Numbers} {types : Types} {n : ℕ} (linked : Linked scope names types n) where
   -- an array that is given for one of this form
   by_name : (p : ParameterTree) (form : Form) (place : Place) (text : List ℕ) (mutable : Bool) → p.form ≡ form
       → IsVariable scope text (Array (array_of p)) mutable → array_given form (name place text) ≡ Some text
       → (is_mutable form ≡ true → mutable ≡ true)
       → elements_by form p.length ≡ Some p.length → ArrayGiven names types n p (name place text)
   by_name p form place text mutable is known given enough elements =
-      let k = known_array scope names types n linked text (array_of p) mutable known in
+      let k = linked.known text (array_as (labelled p.kind p.label) mutable p.length) known in
+      let may = λ (e : is_mutable p.form ≡ true). enough (sym (ap is_mutable is) ∙ e) in
       let count = ap (λ f. elements_by f p.length) is ∙ elements in
       record {
         text = text;
@@ -79,14 +80,14 @@ module _ (scope : Scope) (names : Numbers) (types : Types) (n : ℕ) (linked : L
         found = k.found;
         low = linked.below text _ k.found;
         given = ap (λ f. array_given f (name place text)) is ∙ given;
-        enough = λ e. enough (sym (ap is_mutable is) ∙ e);
+        enough = may;
         elements = count;
         serves = record {
           free = k.typed.free;
           is = k.typed.is
               ∙ ap (λ o. Some (record { word = labelled p.kind p.label; mutable = k.typed.free; elements = o }))
               (sym count);
-          enough = λ e. k.typed.enough (enough (sym (ap is_mutable is) ∙ e));
+          enough = λ e. k.typed.enough (may e);
         };
       }
 
@@ -110,50 +111,36 @@ Unshared names number free (q ∷ qs) (b ∷ bs) =
 
 -- nor has any of these names
 abbrev pub Distinct : Numbers → Numbers → List ParameterTree → List ExprTree → Type 0
-Distinct names own [] es = Unit {0}
-Distinct names own (q ∷ qs) [] = Unit {0}
-Distinct names own (q ∷ qs) (b ∷ bs) =
-    ((text : List ℕ) (x : Numbered) → found own text ≡ Some x → is_word q.form ≡ false
-    → x.number ≡ number_given names b
-    → (x.declaration.mutable ≡ true → ⊥) × (is_mutable q.form ≡ true → ⊥)) × Distinct names own qs bs
+Distinct names own ps es = (text : List ℕ) (x : Numbered) → found own text ≡ Some x
+    → Unshared names x.number x.declaration.mutable ps es
 
 pub distinct_none : (names : Numbers) (ps : List ParameterTree) (es : List ExprTree) → Distinct names [] ps es
-distinct_none names [] es = tt
-distinct_none names (q ∷ qs) [] = tt
-distinct_none names (q ∷ qs) (b ∷ bs) = ((λ text x is. absurd (none-some x is)), distinct_none names qs bs)
+distinct_none names ps es text x is = absurd (none-some x is)
 
 distinct_more : (names own : Numbers) (text : List ℕ) (number : ℕ) (d : FlatVariable) (ps : List ParameterTree)
     (es : List ExprTree) → Unshared names number d.mutable ps es → Distinct names own ps es
     → Distinct names (naming own text number d) ps es
-distinct_more names own text number d [] es shares others = tt
-distinct_more names own text number d (q ∷ qs) [] shares others = tt
-distinct_more names own text number d (q ∷ qs) (b ∷ bs) shares others = (
-  (λ other x is off at. elim (found-split own text (entry number d) other x is) [
-    | inl old ↦ others.0 other x old off at
-    | inr new ↦ (
-        let apart = shares.0 off (ap (λ (z : Numbered). z.number) new.1 ∙ at) in
-        ((λ free. apart.0 (ap (λ (z : Numbered). z.declaration.mutable) new.1 ∙ free)), apart.1))
-  ]),
-  distinct_more names own text number d qs bs shares.1 others.1,
-)
+distinct_more names own text number d ps es shares others other x is =
+    elim (found-split own text (entry number d) other x is) [
+      | inl old ↦ others other x old
+      | inr new ↦ subst (λ (z : Numbered). Unshared names z.number z.declaration.mutable ps es) new.1 shares
+    ]
 
-module _ (scope : Scope) (names : Numbers) (types : Types) (n : ℕ) (linked : Linked scope names types n) where
+module _ {scope : Scope} {names : Numbers} {types : Types} {n : ℕ} (linked : Linked scope names types n) where
   -- a new number is none of the caller's
   unshared_word : (free : Bool) {ps : List ParameterTree} {es : List ExprTree} → ArePassed scope ps es
       → Unshared names n free ps es
   unshared_word free none_passed = tt
-  unshared_word free (one_passed is shares are) = (
-    (λ off at. let low = (array_passed scope names types n linked is off).low in absurd (omega arith)),
-    unshared_word free are,
-  )
+  unshared_word free (one_passed is shares are) =
+      ((λ off at. absurd (omega (arith, (array_passed linked is off).low))), unshared_word free are)
 
   -- an array that may be changed is given once
-  unshared_array : (p : ParameterTree) (e : ExprTree) → ArrayGiven names types n p e
+  unshared_array : {p : ParameterTree} {e : ExprTree} → ArrayGiven names types n p e
       → {ps : List ParameterTree} {es : List ExprTree} → SharesNone p e ps es → ArePassed scope ps es
       → Unshared names (number_given names e) (is_mutable p.form) ps es
-  unshared_array p e a none none_passed = tt
-  unshared_array p e a none (one_passed {p = q} {argument = f} is shares are) =
-      ((λ off at. apart (array_passed scope names types n linked is off) at), unshared_array p e a none.1 are)
+  unshared_array a none none_passed = tt
+  unshared_array {p = p} {e = e} a none (one_passed {p = q} {argument = f} is shares are) =
+      ((λ off at. apart (array_passed linked is off) at), unshared_array a none.1 are)
     where
       apart : ArrayGiven names types n q f → number_given names e ≡ number_given names f
           → (is_mutable p.form ≡ true → ⊥) × (is_mutable q.form ≡ true → ⊥)
@@ -189,49 +176,41 @@ pub kept_begun : (names : Numbers) (ps : List ParameterTree) (es : List ExprTree
 kept_begun names [] es own n text x is = is
 kept_begun names (p ∷ ps) [] own n text x is = is
 kept_begun names (p ∷ ps) (e ∷ es) own n text x is = elim (cases_Bool (is_word p.form)) [
-  | inl word ↦ rw word (kept_begun names ps es (naming own p.name n (own_variable p)) (n + 1) text x
-      (found-kept own p.name _ text x is))
-  | inr array ↦ rw array (kept_begun names ps es (naming own p.name (number_given names e) (own_variable p)) n text x
-      (found-kept own p.name _ text x is))
+  | inl word ↦ rw word (kept_begun names ps es _ (n + 1) text x (found-kept own p.name _ text x is))
+  | inr array ↦ rw array (kept_begun names ps es _ n text x (found-kept own p.name _ text x is))
 ]
 
-module _ (scope : Scope) (names : Numbers) where
-  pub enters : {ps : List ParameterTree} {es : List ExprTree} → ArePassed scope ps es
-      → (inner : Scope) (own : Numbers) (types : Types) (n : ℕ) → AreNew inner ps → Linked scope names types n
-      → Linked inner own types n → Distinct names own ps es
-      → Enters inner names ps es (begun names own n ps es) (types_after_all types (passed names n ps es))
-      (n + length (passed_variables ps es))
-  enters none_passed inner own types n new linked within apart =
-      record { linked = later inner own types n (n + 0) (omega arith) within; named = tt }
-  enters (one_passed {p = p} {ps = ps} {argument = e} {arguments = es} is shares are) inner own types n
-      (one_is_new here there) linked within apart = elim (cases_Bool (is_word p.form)) [
-        | inl word ↦ (
-            let d = word_as (labelled p.kind p.label) false in
-            let count = length (passed_variables ps es) in
-            let rest = enters are (declared inner p.name (parameter_as p)) (naming own p.name n (own_variable p))
-            (with_type types n d) (n + 1) there (linked_beside scope names types n d linked)
-            (linked_own inner own types n within p here d (own_word p p.form word))
-            (distinct_more names own p.name n (own_variable p) ps es
-            (unshared_word scope names types n linked (is_mutable p.form) are) apart.1) in
-            rw word (record {
-              linked = later _ _ _ ((n + 1) + count) (n + suc count) (omega arith) rest.linked;
-              named = ((λ array. absurd (true≢false (sym word ∙ array))), rest.named);
-            }))
-        | inr array ↦ (
-            let a = array_passed scope names types n linked is array in
-            let number = number_given names e in
-            let more = naming own p.name number (own_variable p) in
-            let rest = enters are (declared inner p.name (parameter_as p)) more types n there linked
-            (linked_parameter inner own types n within p here number a.low a.serves
-            (λ other x known. apart.0 other x known array))
-            (distinct_more names own p.name number (own_variable p) ps es
-            (unshared_array scope names types n linked p e a shares are) apart.1) in
-            rw array (record {
-              linked = rest.linked;
-              named = (
-                (λ _. kept_begun names ps es more n p.name (entry number (own_variable p))
-                    (found-new own p.name _ p.name (itself p.name) (within.none p.name here))),
-                rest.named,
-              );
-            }))
-      ]
+pub enters : {scope : Scope} {names : Numbers} {ps : List ParameterTree} {es : List ExprTree} → ArePassed scope ps es
+    → {inner : Scope} {own : Numbers} {types : Types} {n : ℕ} → AreNew inner ps → Linked scope names types n
+    → Linked inner own types n → Distinct names own ps es
+    → Enters inner names ps es (begun names own n ps es) (types_after_all types (passed names n ps es))
+    (n + length (passed_variables ps es))
+enters none_passed new linked within apart = record { linked = later (omega arith) within; named = tt }
+enters {names = names} (one_passed {p = p} {ps = ps} {argument = e} {arguments = es} is shares are) {own = own} {n = n}
+    (one_is_new here there) linked within apart = elim (cases_Bool (is_word p.form)) [
+      | inl word ↦ (
+          let d = word_as (labelled p.kind p.label) false in
+          let rest = enters are there (linked_beside linked d)
+          (linked_own within p here d (own_word p p.form word))
+          (distinct_more names own p.name n (own_variable p) ps es
+          (unshared_word linked (is_mutable p.form) are) (λ text x known. (apart text x known).1)) in
+          rw word (record {
+            linked = later (omega arith) rest.linked;
+            named = ((λ array. absurd (true≢false (sym word ∙ array))), rest.named);
+          }))
+      | inr array ↦ (
+          let a = array_passed linked is array in
+          let number = number_given names e in
+          let rest = enters are there linked
+          (linked_parameter within p here number a.low a.serves (λ other x known. (apart other x known).0 array))
+          (distinct_more names own p.name number (own_variable p) ps es
+          (unshared_array linked a shares are) (λ text x known. (apart text x known).1)) in
+          rw array (record {
+            linked = rest.linked;
+            named = (
+              (λ _. kept_begun names ps es _ n p.name (entry number (own_variable p))
+                  (found-new own p.name _ p.name (itself p.name) (within.none p.name here))),
+              rest.named,
+            );
+          }))
+    ]

@@ -4,7 +4,7 @@ use Rattle.std.proofs.Common.{◌≡◌, ℕ, ◌+◌, ◌*◌, ◌≤◌, List,
 use Rattle.std.proofs.Common.{map, Option, None, Some, inl, inr, refl, ap, arith}
 use Rattle.std.proofs.lemmas.Bool.{cases_Bool}
 use Rattle.inline.specs.declared.flat.FlatVariable.{FlatVariable}
-use Rattle.inline.specs.Flat.{TermTree, elements_by}
+use Rattle.inline.specs.Flat.{TermTree}
 use Rattle.inline.specs.Flat as flat
 use Rattle.inline.specs.FlatSize.{term_nodes, terms_nodes, body_nodes, value_nodes, declared_words, words_of}
 use Rattle.inline.specs.Numbering.{Numbers, Callable, callable, callables, passed, passed_variables, begun}
@@ -139,21 +139,14 @@ body_sized : (before : List ProcedureTree) (at : Scope) (p : ProcedureTree) → 
     (Some (extent_of (extents_of before) p))
 body_sized before at p body scope names n c are =
     let vars = passed_variables p.parameters c.arguments in
-    let front = passed names n p.parameters c.arguments in
     let own = begun names [] n p.parameters c.arguments in
     let m = n + length vars in
-    let back = block (callables before) own m p.body in
     let end = names_after_all (callables before) own m p.body in
-    let whole = chain-nodes front back in
-    let one = passed_nodes names n p.parameters c.arguments in
-    let other = body.nodes own m in
+    let whole = chain-nodes (passed names n p.parameters c.arguments) (block (callables before) own m p.body) in
     let value = same_result end p.returned in
-    let sum = words-append vars (declared_in_all (callables before) p.body) in
-    let taken = passed_take are in
-    let few = body.words in
     record {
-      nodes = omega (arith, whole, one, other, value);
-      words = omega (arith, sum, taken, few, value);
+      nodes = omega (arith, whole, passed_nodes names n p.parameters c.arguments, body.nodes own m, value);
+      words = omega (arith, words-append vars (declared_in_all (callables before) p.body), passed_take are, value);
       gives = refl;
       returns = value_together end p.result p.returned body.returns;
     }

@@ -1,6 +1,5 @@
 -- What is known of procedures that may be called, and of the names where they are.
-use Rattle.std.proofs.Common.{◌≡◌, ℕ, ◌+◌, ◌<◌, ◌≤◌, true, List, ◌++◌, length, Option, Some, None}
-use Rattle.std.proofs.Common.{arith, length-append}
+use Rattle.std.proofs.Common.{◌≡◌, ℕ, ◌+◌, ◌<◌, ◌≤◌, true, List, Option, Some, None, arith, length-append}
 use Rattle.word.specs.declared.profile.Profile.{Profile}
 use Rattle.inline.specs.declared.flat.FlatVariable.{FlatVariable}
 use Rattle.inline.specs.declared.numbering.Numbered.{Numbered}
@@ -79,41 +78,37 @@ pub record Ready (earlier : List ProcedureTree) (scope : Scope) (names : Numbers
   pub linked : Linked scope names types n
   pub calls : EachCallable earlier (IsCallable IsKept earlier) scope
 
-pub ready_later : {earlier : List ProcedureTree} {scope : Scope} {names : Numbers} (n m : ℕ) → n ≤ m
-    → Ready earlier scope names n → Ready earlier scope names m
-ready_later {scope = scope} {names = names} n m more ready = record
-    { types = ready.types; linked = later scope names ready.types n m more ready.linked; calls = ready.calls }
+module _ {earlier : List ProcedureTree} where
+  pub ready_later : {scope : Scope} {names : Numbers} {n m : ℕ} → n ≤ m → Ready earlier scope names n
+      → Ready earlier scope names m
+  ready_later more ready = record { types = ready.types; linked = later more ready.linked; calls = ready.calls }
 
--- after a declaration
-pub ready_declared : {earlier : List ProcedureTree} {scope : Scope} {names : Numbers} (n : ℕ)
-    → Ready earlier scope names n → (text : List ℕ) (own : FlatVariable) → found scope.names text ≡ None
-    → Ready earlier (declared scope text (Variable (variable_as own))) (naming names text n own) (n + 1)
-ready_declared {earlier = earlier} {scope = scope} {names = names} n ready text own new = record {
-  types = with_type ready.types n own;
-  linked = linked_declared scope names ready.types n ready.linked text own new;
-  calls = callable_declared earlier (IsCallable IsKept earlier) scope text (variable_as own) ready.calls;
-}
+  -- after a declaration
+  pub ready_declared : {scope : Scope} {names : Numbers} {n : ℕ} → Ready earlier scope names n
+      → (text : List ℕ) (own : FlatVariable) → found scope.names text ≡ None
+      → Ready earlier (declared scope text (Variable (variable_as own))) (naming names text n own) (n + 1)
+  ready_declared {scope = scope} {n = n} ready text own new = record {
+    types = with_type ready.types n own;
+    linked = linked_declared ready.linked text own new;
+    calls = callable_declared earlier (IsCallable IsKept earlier) scope text (variable_as own) ready.calls;
+  }
 
-module _ (earlier : List ProcedureTree) where
   pub ready_after : {scope : Scope} {control : Label} {s : StatementTree} → IsWellTyped earlier scope control s
-      → (names : Numbers) (n : ℕ) → Ready earlier scope names n
+      → {names : Numbers} {n : ℕ} → Ready earlier scope names n
       → Ready earlier (scope_after scope s) (names_after (callables earlier) names n s)
       (n + numbers_taken (callables earlier) s)
-  ready_after {s = s} here names n ready = record {
+  ready_after {s = s} here {names = names} {n = n} ready = record {
     types = types_after_all ready.types (statement (callables earlier) names n s);
-    linked = linked_after earlier here names ready.types n ready.linked;
+    linked = linked_after earlier here ready.linked;
     calls = callable_after earlier (IsCallable IsKept earlier) here ready.calls;
   }
 
   pub ready_after_all : {scope : Scope} {control : Label} {b : BlockTree} → AreWellTyped earlier scope control b
-      → (names : Numbers) (n : ℕ) → Ready earlier scope names n
+      → {names : Numbers} {n : ℕ} → Ready earlier scope names n
       → Ready earlier (scope_after_all scope b) (names_after_all (callables earlier) names n b)
       (n + numbers_taken_all (callables earlier) b)
-  ready_after_all no_statement names n ready = ready_later n (n + 0) (omega arith) ready
-  ready_after_all (one_more {statement = s} {rest = rest} here there) names n ready =
-      let k = n + numbers_taken (callables earlier) s in
-      let count = length-append (declared_in (callables earlier) s) (declared_in_all (callables earlier) rest) in
-      ready_later (k + numbers_taken_all (callables earlier) rest)
-      (n + length (declared_in (callables earlier) s ++ declared_in_all (callables earlier) rest))
-      (omega (arith, count))
-      (ready_after_all there (names_after (callables earlier) names n s) k (ready_after here names n ready))
+  ready_after_all no_statement ready = ready_later (omega arith) ready
+  ready_after_all (one_more {statement = s} {rest = rest} here there) ready =
+      ready_later
+      (omega (arith, length-append (declared_in (callables earlier) s) (declared_in_all (callables earlier) rest)))
+      (ready_after_all there (ready_after here ready))

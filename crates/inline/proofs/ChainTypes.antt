@@ -24,7 +24,7 @@ chain-typed all types control (first s rest) b one other =
 pub chain-declarations : (a b : FlatBlock)
     → declarations_in_all (chain a b) ≡ declarations_in_all a + declarations_in_all b
 chain-declarations nothing b = omega arith
-chain-declarations (first s rest) b = let same = chain-declarations rest b in omega (arith, same)
+chain-declarations (first s rest) b = omega (arith, chain-declarations rest b)
 
 pub chain-numbered : (n : ℕ) (a b : FlatBlock) → AreNumbered n a → AreNumbered (n + declarations_in_all a) b
     → AreNumbered n (chain a b)
@@ -38,7 +38,7 @@ chain-numbered n (first s rest) b one other =
 
 pub chain-nodes : (a b : FlatBlock) → body_nodes (chain a b) ≡ body_nodes a + body_nodes b
 chain-nodes nothing b = omega arith
-chain-nodes (first s rest) b = let same = chain-nodes rest b in omega (arith, same)
+chain-nodes (first s rest) b = omega (arith, chain-nodes rest b)
 
 -- A block that is numbered from n on declares its variables one after another: what each declaration keeps, as the
 -- next number goes on, the block keeps.
@@ -69,5 +69,5 @@ pub types_before : (types : Types) (n : ℕ) (b : FlatBlock) → AreNumbered n b
     → (types_after_all types b).at x ≡ types.at x
 types_before types n b are x low =
     (kept_by_numbered (λ k t. (x < k) × (t.at x ≡ types.at x))
-    (λ k t d kept. let below = kept.0 in (omega arith, with_type-other t k x d (λ q. omega arith) ∙ kept.1))
-    (λ k m t more kept. let below = kept.0 in (omega arith, kept.1)) b n types are (low, refl)).1
+    (λ k t d kept. (omega arith, with_type-other t k x d (λ q. omega arith) ∙ kept.1))
+    (λ k m t more kept. (omega arith, kept.1)) b n types are (low, refl)).1

@@ -37,25 +37,24 @@ module _ (most : ℕ) where
       pub statement_alike : (s : StatementTree)
           → AreAlike (statement_nodes counts s) (statement_words counts s) (statement_bodies counts s)
           (statement_nodes extents s) (statement_words extents s) (statement_bodies extents s)
-      statement_alike (declaration p l m k t r) = let h = right_alike r in record
-          { nodes = omega (arith, h.nodes); words = omega (arith, h.words); bodies = h.bodies }
+      statement_alike (declaration p l m k t r) =
+          let h = right_alike r in
+          record { nodes = omega arith; words = omega arith; bodies = h.bodies }
       statement_alike (array p l m k n t v) = record { nodes = refl; words = refl; bodies = refl }
-      statement_alike (assignment p g t r) = let h = right_alike r in record
-          { nodes = omega (arith, h.nodes); words = h.words; bodies = h.bodies }
-      statement_alike (element_assignment p b g t e r) = let h =
-          right_alike r in record { nodes = omega (arith, h.nodes); words = h.words; bodies = h.bodies }
+      statement_alike (assignment p g t r) =
+          let h = right_alike r in
+          record { nodes = omega arith; words = h.words; bodies = h.bodies }
+      statement_alike (element_assignment p b g t e r) =
+          let h = right_alike r in
+          record { nodes = omega arith; words = h.words; bodies = h.bodies }
       statement_alike (call c) = call_alike c
       statement_alike (conditional p c a b) =
           let h = block_alike a in
           let k = block_alike b in
-          record {
-            nodes = omega (arith, h.nodes, k.nodes);
-            words = omega (arith, h.words, k.words);
-            bodies = omega
-                (arith, h.bodies, k.bodies);
-          }
-      statement_alike (loop p c t l h b) = let k = block_alike b in record
-          { nodes = omega (arith, k.nodes); words = omega (arith, k.words); bodies = k.bodies }
+          record { nodes = omega arith; words = omega arith; bodies = omega arith }
+      statement_alike (loop p c t l h b) =
+          let k = block_alike b in
+          record { nodes = omega arith; words = omega arith; bodies = k.bodies }
 
       pub block_alike : (b : BlockTree)
           → AreAlike (block_nodes counts b) (block_words counts b) (block_bodies counts b)
@@ -64,21 +63,16 @@ module _ (most : ℕ) where
       block_alike (first s b) =
           let h = statement_alike s in
           let k = block_alike b in
-          record {
-            nodes = omega (arith, h.nodes, k.nodes);
-            words = omega (arith, h.words, k.words);
-            bodies = omega
-                (arith, h.bodies, k.bodies);
-          }
+          record { nodes = omega arith; words = omega arith; bodies = omega arith }
 
     -- what is counted by counts is what is counted by extents
     pub extent_same : (p : ProcedureTree) → extent_to most (extent_of counts p) ≡ extent_to most (extent_of extents p)
     extent_same p =
         let k = block_alike p.body in
         let n : counted_to most (extent_of counts p).nodes ≡ counted_to most (extent_of extents p).nodes =
-        omega (arith, k.nodes) in
+        omega arith in
         let w : counted_to most (extent_of counts p).words ≡ counted_to most (extent_of extents p).words =
-        omega (arith, k.words) in
+        omega arith in
         let b : counted_to most (extent_of counts p).bodies ≡ counted_to most (extent_of extents p).bodies =
-        omega (arith, k.bodies) in
+        omega arith in
         λ i. record { parameters = p.parameters; nodes = n i; words = w i; bodies = b i }

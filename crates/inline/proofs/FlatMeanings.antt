@@ -11,7 +11,7 @@ use Rattle.inline.specs.FlatMeaning.{Values, given, value_in, path_along, path_o
 use Rattle.inline.specs.FlatMeaning.{ending_by, ending_of}
 use Rattle.inline.specs.FlatTyping.{Types, parameter_types}
 use Rattle.inline.specs.Numbering.{Numbers, param_of, callables, parameter_names, names_after_all, value_of}
-use Rattle.inline.specs.Numbering.{flattened, block, term, declared_in_all, numbers_taken_all}
+use Rattle.inline.specs.Numbering.{flattened, block, term, declared_in_all}
 use Rattle.inline.specs.Path.{first_fault}
 use Rattle.language.specs.declared.typing.WordType.{WordType}
 use Rattle.language.specs.declared.values.Arg.{Arg}
@@ -22,7 +22,7 @@ use Rattle.language.specs.Results.{Results}
 use Rattle.language.specs.State.{State, Word}
 use Rattle.language.specs.Tree.{ProcedureTree, ProgramTree, ReturnTree}
 use Rattle.language.specs.Types.{Scope}
-use Rattle.language.specs.Typing.{body_scope, scope_after_all, violations, with_procedure}
+use Rattle.language.specs.Typing.{body_scope, violations, with_procedure}
 use Rattle.language.specs.WellTyped as rules
 use Rattle.inline.proofs.Called.{Agrees, HasResult, nothing_given, a_word, Behaves, BodyComes, IsKept, Ready}
 use Rattle.inline.proofs.Called.{ready_after_all}
@@ -46,19 +46,18 @@ no_result rules.nothing_returned none = refl
 no_result (rules.value_returned has suit) none = absurd cc
 
 -- the end of a body, with its result
-result_comes : (before : List ProcedureTree) (p : ProcedureTree) (start end : State) (scope : Scope) (names : Numbers)
-    (types : Types) (n : ℕ) (m : Values) → Linked scope names types n → Shows names end m
+result_comes : {before : List ProcedureTree} {p : ProcedureTree} {start end : State} {scope : Scope} {names : Numbers}
+    {types : Types} {n : ℕ} (m : Values) → Linked scope names types n → Shows names end m
     → RunsAll before start p.body (gives end) → {result : Option WordType} {o : Option ReturnTree}
     → rules.Returns scope result o → p.returned ≡ o → IsSmallReturn o
     → Comes (Bodies before p start) (Agrees names m result (value_of names o))
     (first_fault (path_of_result m (value_of names o)))
-result_comes before p start end scope names types n m linked shows run rules.nothing_returned is small =
+result_comes {end = end} m linked shows run rules.nothing_returned is small =
     well (record { word = None; state = end }) (returns_nothing run is)
     (record { word = nothing_given; shows = shows })
-result_comes before p start end scope names types n m linked shows run
-    (rules.value_returned {r = r} has suit) is small =
+result_comes {end = end} {names = names} m linked shows run (rules.value_returned {r = r} has suit) is small =
     let v = value_in m (term names r.value) in
-    also ((means scope names types n linked has small).value end m shows)
+    also ((means linked has small).value end m shows)
     (λ w gives same. (
       record { word = Some w; state = end },
       returns run is gives,
@@ -82,21 +81,14 @@ module _ (before : List ProcedureTree) (scope : Scope) (p : ProcedureTree) (stan
     pub body_comes : (s : State) (m : Values) → Shows names s m → BodyComes before p names n s m
     body_comes s m shows =
         let known = callables before in
-        let body = block known names n p.body in
-        let last = names_after_all known names n p.body in
-        let end = after_all m body in
-        let ready = ready_after_all before typed.body names n begins in
-        then_comes (same_ends before typed.body names n begins plain.body s m shows)
+        let end = after_all m (block known names n p.body) in
+        then_comes (same_ends typed.body begins plain.body s m shows)
         (λ t run good.
-        also (result_comes before p s t (scope_after_all (body_scope scope (length before) p) p.body) last ready.types
-        (n + numbers_taken_all known p.body) end ready.linked good run typed.returns refl plain.returned)
+        also (result_comes end (ready_after_all typed.body begins).linked good run typed.returns refl plain.returned)
         (λ r is agrees. (
           r,
           is,
-          record {
-            word = agrees.word;
-            shows = shows_before known p.body names n r.state end agrees.shows;
-          },
+          record { word = agrees.word; shows = shows_before known p.body names n r.state end agrees.shows },
         ))
         (λ at is. is))
         (λ at run. statements_fault run)
@@ -109,7 +101,7 @@ module _ (before : List ProcedureTree) (scope : Scope) (p : ProcedureTree) (stan
     parameters = typed.parameters;
     returns = no_result typed.returns;
     comes = λ names types n s m linked. body_comes names types n linked s m;
-    keeps = λ names types n linked. block_keeps before typed.body names n (begins names types n linked);
+    keeps = λ names types n linked x. block_keeps typed.body (begins names types n linked);
   }
 
 -- The program.

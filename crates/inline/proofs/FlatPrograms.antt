@@ -10,7 +10,7 @@ use Rattle.inline.specs.declared.flat.FlatVariable.{FlatVariable}
 use Rattle.inline.specs.FlatTyping.{Types, IsTypedProgram, AreNumbered, AreTyped, IsResult, parameter_types}
 use Rattle.inline.specs.FlatTyping.{types_after_all}
 use Rattle.inline.specs.Numbering.{Numbers, param_of, parameter_names, flattened, callables, block, declared_in_all}
-use Rattle.inline.specs.Numbering.{numbers_taken_all, names_after_all, value_of}
+use Rattle.inline.specs.Numbering.{names_after_all, value_of}
 use Rattle.language.specs.declared.signature.Label.{Label}
 use Rattle.language.specs.declared.signature.Label.TheVariants.{Public, Secret}
 use Rattle.language.specs.declared.typing.WordType.{WordType}
@@ -19,7 +19,7 @@ use Rattle.language.specs.Meaning.{exported}
 use Rattle.language.specs.Tree.{ParameterTree, ProcedureTree, ProgramTree, ReturnTree}
 use Rattle.language.specs.Types.{Scope, joined}
 use Rattle.language.specs.Typing.{assigns_public, parameters_assign, block_assigns, with_procedure, body_scope}
-use Rattle.language.specs.Typing.{violations, scope_after_all}
+use Rattle.language.specs.Typing.{violations}
 use Rattle.language.specs.WellTyped.{Returns, nothing_returned, value_returned, IsProcedure}
 use Rattle.inline.proofs.CallTypes.{TypedBody}
 use Rattle.inline.proofs.FlatTypes.{IsHushed, typed_block}
@@ -33,12 +33,11 @@ use Rattle.inline.proofs.Procedures.{callable_parameters}
 use Rattle.inline.proofs.Terms.{means, suits_there}
 
 -- a value is returned exactly where there is a result
-result_typed : (scope : Scope) (names : Numbers) (types : Types) (n : ℕ) → Linked scope names types n
+result_typed : {scope : Scope} {names : Numbers} {types : Types} {n : ℕ} → Linked scope names types n
     → {result : Option WordType} {returned : Option ReturnTree} → Returns scope result returned
     → IsSmallReturn returned → IsResult types result (value_of names returned)
-result_typed scope names types n linked nothing_returned small = tt
-result_typed scope names types n linked (value_returned has suit) small =
-    suits_there (means scope names types n linked has small) suit
+result_typed linked nothing_returned small = tt
+result_typed linked (value_returned has suit) small = suits_there (means linked has small) suit
 
 joined-public : (label : Label) → joined label Public ≡ label
 joined-public Public = refl
@@ -73,17 +72,13 @@ module _ (before : List ProcedureTree) (at : Scope) (p : ProcedureTree) (stand :
       → AreTyped all types control (block (callables before) names n p.body)
   body_typed all control names types n linked quiet lists =
       subst (λ l. AreTyped all types l (block (callables before) names n p.body)) (joined-public control)
-      (typed_block before at stand all control typed.body within (hushed control quiet) names types n linked
-      plain.body lists)
+      (typed_block before at stand all control typed.body within (hushed control quiet) linked plain.body lists)
 
   body_gives : (names : Numbers) (types : Types) (n : ℕ) → Linked inside names types n
       → IsResult (types_after_all types (block (callables before) names n p.body)) p.result
       (value_of (names_after_all (callables before) names n p.body) p.returned)
   body_gives names types n linked =
-      result_typed (scope_after_all inside p.body) (names_after_all (callables before) names n p.body)
-      (types_after_all types (block (callables before) names n p.body))
-      (n + numbers_taken_all (callables before) p.body)
-      (linked_after_all before typed.body names types n linked) typed.returns plain.returned
+      result_typed (linked_after_all before typed.body linked) typed.returns plain.returned
 
   pub typed_one : TypedBody before at p
   typed_one = record {
@@ -105,7 +100,7 @@ export_typed profile program before p h is plain = own_typing TypedBody IsGramma
 -- each parameter has a number
 own_count : (ps : List ParameterTree) → length (all_own ps) ≡ length ps
 own_count [] = refl
-own_count (p ∷ ps) = let same = own_count ps in omega (arith, same)
+own_count (p ∷ ps) = omega (arith, own_count ps)
 
 pub flat_is_typed : (profile : Profile) (program : ProgramTree) (before : List ProcedureTree) (p : ProcedureTree)
     → length (violations profile program) ≡ 0 → exported [] program.procedures ≡ Some (before, p)

@@ -95,9 +95,7 @@ module _ (earlier : List ProcedureTree) (at : Scope) (stand : Stand SizedBody ea
       let whole = chain-nodes body (single tree.skip) in
       let value = value_there (call_result (known c.name)) (call_value (known c.name) names n c.arguments) given
       f.gives f.returns in
-      let same = f.nodes in
-      let few = f.words in
-      record { nodes = omega (arith, whole, value, same); words = omega (arith, few) }
+      record { nodes = omega (arith, whole, value); words = omega arith }
 
   -- so is a statement
   pub record StatementSized (names : Numbers) (n : ℕ) (s : StatementTree) : Type 0 where
@@ -123,9 +121,7 @@ module _ (earlier : List ProcedureTree) (at : Scope) (stand : Stand SizedBody ea
       (single (tree.put bracket (number_of names text) (size_of names text) (tree.variable n) value)) in
       let there = value_there (call_result (known c.name)) (call_value (known c.name) names (n + 1) c.arguments) given
       f.gives f.returns in
-      let same = f.nodes in
-      let few = f.words in
-      record { nodes = omega (arith, whole, there, same, same_nodes names index); words = omega (arith, few) }
+      record { nodes = omega (arith, whole, there, same_nodes names index); words = omega arith }
 
   mutual
     pub statement_sized : {scope : Scope} {control : Label} {s : StatementTree} → IsWellTyped earlier scope control s
@@ -137,18 +133,14 @@ module _ (earlier : List ProcedureTree) (at : Scope) (stand : Stand SizedBody ea
         let whole = chain-nodes (right_block known names n r)
         (single (tree.declare (right_end known n r) (labelled kind label) mutable (right known names n r))) in
         let sum = words-append (right_variables known r) (own ∷ []) in
-        let same = f.nodes in
-        let few = f.words in
-        record { nodes = omega (arith, whole, same); words = omega (arith, sum, few) }
+        record { nodes = omega (arith, whole); words = omega (arith, sum) }
     statement_sized (declares_array {values = values} new suit count flow) inside names n =
         record { nodes = omega (arith, same_all names (written values)); words = omega arith }
     statement_sized (assigns {text = text} {right = r} is has suit flow) inside names n =
         let f = right_sized has inside names n in
         let whole = chain-nodes (right_block known names n r)
         (single (tree.assign (number_of names text) (right known names n r))) in
-        let same = f.nodes in
-        let few = f.words in
-        record { nodes = omega (arith, whole, same); words = omega (arith, few) }
+        record { nodes = omega (arith, whole); words = omega arith }
     statement_sized (assigns_element {place = place} {bracket = bracket} {target = target} {text =
         text} {index = index}
         is has value suit flow) inside names n = element_sized value inside place bracket target text index names n
@@ -162,32 +154,18 @@ module _ (earlier : List ProcedureTree) (at : Scope) (stand : Stand SizedBody ea
         let sum = words-append vars (dropped_variables (call_result o)) in
         let back = dropped_nodes (n + length vars) (call_result o) value f.returns in
         let held = dropped_words (call_result o) value f.returns in
-        let same = f.nodes in
-        let few = f.words in
-        record { nodes = omega (arith, whole, back, same); words = omega (arith, sum, held, few) }
+        record { nodes = omega (arith, whole, back); words = omega (arith, sum, held) }
     statement_sized (chooses {condition = condition} {accepted = accepted} {otherwise = otherwise} has one other)
         inside names n =
         let a = block_sized one inside names n in
         let b = block_sized other inside names (n + numbers_taken_all known accepted) in
         let sum = words-append (declared_in_all known accepted) (declared_in_all known otherwise) in
-        let left = a.nodes in
-        let right = b.nodes in
-        let few = a.words in
-        let more = b.words in
-        record {
-          nodes = omega (arith, left, right, same_nodes names condition);
-          words = omega (arith, sum, few, more);
-        }
+        record { nodes = omega (arith, same_nodes names condition); words = omega (arith, sum) }
     statement_sized (repeats {scope = scope} {text = text} {low = low} {high = high} {body = body} has is new all)
         inside names n =
         let b = block_sized all (callable_declared earlier (IsAt at) scope text _ inside)
         (naming names text n (word_as counter_type false)) (n + 1) in
-        let same = b.nodes in
-        let few = b.words in
-        record {
-          nodes = omega (arith, same, same_nodes names low, same_nodes names high);
-          words = omega (arith, few);
-        }
+        record { nodes = omega (arith, same_nodes names low, same_nodes names high); words = omega arith }
 
     pub block_sized : {scope : Scope} {control : Label} {b : BlockTree} → AreWellTyped earlier scope control b
         → IsWithin earlier at scope → (names : Numbers) (n : ℕ) → BlockSized names n b
@@ -199,11 +177,7 @@ module _ (earlier : List ProcedureTree) (at : Scope) (stand : Stand SizedBody ea
         let whole = chain-nodes (statement known names n s)
         (block known (names_after known names n s) (n + numbers_taken known s) rest) in
         let sum = words-append (declared_in known s) (declared_in_all known rest) in
-        let left = a.nodes in
-        let right = b.nodes in
-        let few = a.words in
-        let more = b.words in
-        record { nodes = omega (arith, whole, left, right); words = omega (arith, sum, few, more) }
+        record { nodes = omega (arith, whole); words = omega (arith, sum) }
 
 -- Procedures.
 
@@ -256,15 +230,12 @@ flat_is_sized profile program before p h is earlier plain small =
     let few = limits before p small in
     let nodes = body.nodes (parameter_names p) (length p.parameters) in
     let value = same_result (return_names (callables before) p) p.returned in
-    let words = body.words in
     let sum = words-append (all_own p.parameters) (declared_in_all (callables before) p.body) in
     let taken = parameters_take p.parameters in
-    let most = few.0 in
-    let bytes = few.1 in
     record {
       lengths = have_lengths p.parameters plain.parameters;
-      parameters = omega (arith, taken, bytes);
-      declared = omega (arith, sum, taken, words, most, bytes);
+      parameters = omega (arith, taken);
+      declared = omega (arith, sum, taken);
       counted = omega (arith, nodes, value);
-      nodes = most;
+      nodes = few.0;
     }

@@ -5,15 +5,15 @@ use Rattle.std.proofs.Common.{None, refl, sym, ap, ◌∙◌, subst, arith}
 use Rattle.std.proofs.lemmas.Bool.{or_parts}
 use Rattle.std.proofs.lemmas.List.{length-map}
 use Rattle.inline.specs.declared.flat.FlatVariable.{FlatVariable}
-use Rattle.inline.specs.Flat.{chain, word_as, array_as, numbers_in}
+use Rattle.inline.specs.Flat.{word_as, array_as, numbers_in}
 use Rattle.inline.specs.Flat as tree
 use Rattle.inline.specs.FlatTyping.{Types, AreTyped, IsPut, Suits, types_after_all, with_type, counter_type}
 use Rattle.inline.specs.FlatTyping as flat
 use Rattle.inline.specs.Numbering.{Numbers, Callables, callables, call_block, call_variables, call_result, call_value}
 use Rattle.inline.specs.Numbering.{right_block, right_variables, right_end, right, value_given, element_block}
 use Rattle.inline.specs.Numbering.{element_variables, dropped_block, dropped_variables, statement, block, names_after}
-use Rattle.inline.specs.Numbering.{naming, number_of, size_of, declared_in, declared_in_all}
-use Rattle.inline.specs.Numbering.{numbers_taken, numbers_taken_all, term, single}
+use Rattle.inline.specs.Numbering.{number_of, size_of, declared_in, declared_in_all, numbers_taken, numbers_taken_all}
+use Rattle.inline.specs.Numbering.{term, single}
 use Rattle.language.specs.declared.signature.Kind.TheVariants.{Boolean}
 use Rattle.language.specs.declared.signature.Label.{Label}
 use Rattle.language.specs.declared.signature.Label.TheVariants.{Public, Secret}
@@ -34,11 +34,10 @@ use Rattle.inline.proofs.CallTypes.{TypedBody, call_fits, result_suits, dropped_
 use Rattle.inline.proofs.ChainTypes.{chain-types, chain-typed, types_before}
 use Rattle.inline.proofs.Hiding.{Hides, hides_after, hides_counter}
 use Rattle.inline.proofs.KnownLemmas.{AllKnown}
-use Rattle.inline.proofs.Linked.{Linked, Serves, KnownAs, linked_beside, linked_declared, known_word, known_array}
-use Rattle.inline.proofs.Linked.{later, with_type-same}
+use Rattle.inline.proofs.Linked.{Linked, Serves, Known, linked_beside, linked_declared, later, with_type-same}
 use Rattle.inline.proofs.Listed.{Lists, IsCounted, call_takes, passed_over, all_counted}
 use Rattle.inline.proofs.LinkedAfter.{linked_after, linked_right}
-use Rattle.inline.proofs.Listed.{lists_first, lists_left, lists_right}
+use Rattle.inline.proofs.Listed.{first_new, lists_left, lists_rest, lists_right}
 use Rattle.inline.proofs.Procedures.{Stand, IsAt, IsWithin, callable_after, callable_declared}
 use Rattle.inline.proofs.Terms.{means, suits_there}
 
@@ -70,18 +69,18 @@ served {d = d} serves free = serves.is
 
 -- an array's number and size
 array_there : {names : Numbers} {types : Types} {text : List ℕ} {array : ArrayType}
-    → KnownAs names types text (array_as array.element true array.length)
+    → Known names types text (array_as array.element true array.length)
     → types.at (number_of names text) ≡ Some (array_as array.element true (size_of names text))
 array_there {array = own} x = served x.typed refl
     ∙ ap (λ (d : FlatVariable). Some (array_as own.element true (numbers_in d.elements))) (sym x.declared)
 
 -- the first values of an array
-module _ (scope : Scope) (names : Numbers) (types : Types) (n : ℕ) (linked : Linked scope names types n) where
-  all_suit : {wanted : WordType} {es : List ExprTree} → rules.AllSuit scope wanted es → AreAllSmall es
-      → flat.AllSuit types wanted (map (term names) es)
-  all_suit rules.none_wanted small = tt
-  all_suit (rules.one_suits has suit all) small =
-      (suits_there (means scope names types n linked has small.0) suit, all_suit all small.1)
+all_suit : {scope : Scope} {names : Numbers} {types : Types} {n : ℕ} → Linked scope names types n
+    → {wanted : WordType} {es : List ExprTree} → rules.AllSuit scope wanted es → AreAllSmall es
+    → flat.AllSuit types wanted (map (term names) es)
+all_suit linked rules.none_wanted small = tt
+all_suit linked (rules.one_suits has suit all) small =
+    (suits_there (means linked has small.0) suit, all_suit linked all small.1)
 
 pub small_values : (values : Option (List ExprTree)) → AreSmallValues values → AreAllSmall (written values)
 small_values None small = tt
@@ -120,21 +119,19 @@ module _ (earlier : List ProcedureTree) where
     right_fits : {scope : Scope} {control : Label} {r : RightTree} {given wanted : WordType}
         → Gives earlier scope control r (Word given) → rules.Suits given wanted → IsWithin earlier at scope
         → (outer ≡ Secret → right_assigns at r ≡ false)
-        → (names : Numbers) (types : Types) (n : ℕ) → Linked scope names types n → IsSmallRight r
+        → {names : Numbers} {types : Types} {n : ℕ} → Linked scope names types n → IsSmallRight r
         → Lists all n (right_variables known r) → RightFits types (joined outer control) names n r wanted
-    right_fits {scope = scope} (of_value has) suit within hush names types n linked small lists =
-        record { typed = tt; suits = suits_there (means scope names types n linked has small) suit }
+    right_fits (of_value has) suit within hush linked small lists =
+        record { typed = tt; suits = suits_there (means linked has small) suit }
     right_fits {control = control} {given = given} {wanted = wanted} (of_call {c = c} is) suit within hush
-        names types n
-        linked small lists =
-        let f = call_fits earlier at stand is within outer hush all names types n linked small lists in
+        {names = names} {types = types} {n = n} linked small lists =
+        let f = call_fits earlier at stand is within outer hush all linked small lists in
         let body = call_block (known c.name) names n c.arguments in
         let value = call_value (known c.name) names n c.arguments in
-        let suits = result_suits (types_after_all types body) (call_result (known c.name)) value given wanted f.result
-        f.gives suit in
         record {
           typed = (tt, chain-typed all types (joined outer control) body (single tree.skip) f.typed (tt, tt));
-          suits = rw chain-types suits;
+          suits = rw chain-types (result_suits (types_after_all types body) (call_result (known c.name)) value given
+              wanted f.result f.gives suit);
         }
 
     -- an assignment to an element
@@ -144,48 +141,41 @@ module _ (earlier : List ProcedureTree) where
         → Gives earlier scope control r (Word given) → rules.Suits given array.element
         → FlowsTo control array.element.label → IsWithin earlier at scope
         → IsHushed outer scope (right_assigns at r) → (bracket : Place)
-        → (names : Numbers) (types : Types) (n : ℕ) → Linked scope names types n → AreSmall index → IsSmallRight r
+        → {names : Numbers} {types : Types} {n : ℕ} → Linked scope names types n → AreSmall index → IsSmallRight r
         → Lists all n (element_variables known r) → AreTyped all types (joined outer control)
         (element_block known names n bracket text index r)
-    element_typed text {scope = scope} {array = own} is has (of_value value) suit flow within hush bracket
-        names types n
-        linked plain small lists = (
-          record {
-            word = own.element;
-            known = array_there (known_array scope names types n linked text own true is);
-            index_type = (means scope names types n linked has plain).typed;
-            suits = suits_there (means scope names types n linked value small) suit;
-            hidden = still_secret outer flow (λ e. (hush e).0 text _ is refl);
-          },
-          tt,
-        )
-    element_typed text {scope = scope} {control = control} {index = index} {given = given} {array = own} is has
-        (of_call {c = c} made) suit flow within hush bracket names types n linked plain small lists =
+    element_typed text {array = own} is has (of_value value) suit flow within hush bracket linked plain small lists = (
+      record {
+        word = own.element;
+        known = array_there (linked.known text (array_as own.element true own.length) is);
+        index_type = (means linked has plain).typed;
+        suits = suits_there (means linked value small) suit;
+        hidden = still_secret outer flow (λ e. (hush e).0 text _ is refl);
+      },
+      tt,
+    )
+    element_typed text {control = control} {given = given} {array = own} is has (of_call {c = c} made) suit flow within
+        hush bracket {names = names} {types = types} {n = n} linked plain small lists =
         let counter = word_as counter_type false in
         let o = known c.name in
-        let vars = call_variables o c.arguments in
         let inside = with_type types n counter in
-        let next = linked_beside scope names types n counter linked in
-        let f = call_fits earlier at stand made within outer (λ e. (hush e).1) all names inside (n + 1) next small
-        (lists_right all n (counter ∷ []) vars lists) in
+        let next = linked_beside linked counter in
+        let f = call_fits earlier at stand made within outer (λ e. (hush e).1) all next small (lists_rest lists) in
         let body = call_block o names (n + 1) c.arguments in
         let value = call_value o names (n + 1) c.arguments in
         let takes = call_takes names c.arguments (n + 1) o (counted c.name) in
         let end = types_after_all inside body in
-        let there = passed_over scope names inside (n + 1) body (length vars) takes next in
+        let there = passed_over takes next in
         let put : IsPut end (joined outer control) (number_of names text) (size_of names text) (tree.variable n)
         (value_given value) = record {
           word = own.element;
-          known = array_there (known_array scope names end ((n + 1) + length vars) there text own true is);
+          known = array_there (there.known text (array_as own.element true own.length) is);
           index_type = flat.of_variable (types_before inside (n + 1) body takes.numbered n (omega arith)
               ∙ with_type-same types n counter);
           suits = result_suits end (call_result o) value given own.element f.result f.gives suit;
           hidden = still_secret outer flow (λ e. (hush e).0 text _ is refl);
         } in (
-          (
-            record { new = linked.fresh n (omega arith); listed = lists_first all n counter vars lists },
-            (means scope names types n linked has plain).typed,
-          ),
+          (first_new linked lists, (means linked has plain).typed),
           chain-typed all inside (joined outer control) body
               (single (tree.put bracket (number_of names text) (size_of names text) (tree.variable n)
               (value_given value))) f.typed (put, tt),
@@ -195,42 +185,32 @@ module _ (earlier : List ProcedureTree) where
       pub typed_statement : {scope : Scope} {control : Label} {s : StatementTree}
           → IsWellTyped earlier scope control s
           → IsWithin earlier at scope → IsHushed outer scope (statement_assigns at s)
-          → (names : Numbers) (types : Types) (n : ℕ) → Linked scope names types n → IsPlain s
+          → {names : Numbers} {types : Types} {n : ℕ} → Linked scope names types n → IsPlain s
           → Lists all n (declared_in known s) → AreTyped all types (joined outer control)
           (statement known names n s)
-      typed_statement (declares {scope = scope} {control = control} {label = label} {mutable = mutable} {kind = kind}
-          {right = r} new has suit flow) within hush names types n linked plain lists =
+      typed_statement (declares {control = control} {label = label} {mutable = mutable} {kind = kind} {right = r} new
+          has suit flow) within hush {names = names} {types = types} {n = n} linked plain lists =
           let own = word_as (labelled kind label) mutable in
           let vars = right_variables known r in
-          let front = right_block known names n r in
-          let m = right_end known n r in
-          let there = linked_right earlier scope names types n linked r in
-          let f = right_fits has suit within (λ e. (or_parts _ (right_assigns at r) (hush e).1).1) names types n
-          linked plain (lists_left all n vars (own ∷ []) lists) in
-          let listed = lists_first all m own [] (lists_right all n vars (own ∷ []) lists) in
-          chain-typed all types (joined outer control) front
-          (single (tree.declare m (labelled kind label) mutable (right known names n r))) f.typed
-          ((record { new = there.fresh m (omega arith); listed = listed }, f.suits), tt)
-      typed_statement (declares_array {scope = scope} {label = label} {mutable = mutable} {kind = kind} {size = size}
-          {values = values} new suit count flow) within hush names types n linked plain lists = (
+          let f = right_fits has suit within (λ e. (or_parts _ (right_assigns at r) (hush e).1).1) linked plain
+          (lists_left vars (own ∷ []) lists) in
+          chain-typed all types (joined outer control) (right_block known names n r) (single (tree.declare
+          (right_end known n r) (labelled kind label) mutable (right known names n r))) f.typed
+          ((first_new (linked_right earlier linked r) (lists_right vars (own ∷ []) lists), f.suits), tt)
+      typed_statement (declares_array {values = values} new suit count flow) within hush {names = names} linked plain
+          lists = (
             (
-              record {
-                new = linked.fresh n (omega arith);
-                listed = lists_first all n (array_as (labelled kind label) mutable size) [] lists;
-              },
-              all_suit scope names types n linked suit (small_values values plain.1),
+              first_new linked lists,
+              all_suit linked suit (small_values values plain.1),
               has_count names count,
             ),
             tt,
           )
-      typed_statement (assigns {scope = scope} {control = control} {text = text} {right = r} {wanted = wanted} is has
-          suit flow) within hush names types n linked plain lists =
-          let front = right_block known names n r in
-          let m = right_end known n r in
-          let inside = types_after_all types front in
-          let x = known_word scope names inside m (linked_right earlier scope names types n linked r) text wanted true is in
-          let f = right_fits has suit within (λ e. (hush e).1) names types n linked plain lists in
-          chain-typed all types (joined outer control) front
+      typed_statement (assigns {control = control} {text = text} {right = r} {wanted = wanted} is has suit flow) within
+          hush {names = names} {types = types} {n = n} linked plain lists =
+          let x = (linked_right earlier linked r).known text (word_as wanted true) is in
+          let f = right_fits has suit within (λ e. (hush e).1) linked plain lists in
+          chain-typed all types (joined outer control) (right_block known names n r)
           (single (tree.assign (number_of names text) (right known names n r))) f.typed (
             record {
               word = wanted;
@@ -240,11 +220,9 @@ module _ (earlier : List ProcedureTree) where
             },
             tt,
           )
-      typed_statement (assigns_element {bracket = bracket} {text = text} is has value suit flow) within hush
-          names types
-          n linked plain lists =
-          element_typed text is has value suit flow within hush bracket names types n linked plain.0 plain.1 lists
-      typed_statement (calls {scope = scope} {control = control} {c = c} is) within hush names types n linked
+      typed_statement (assigns_element {bracket = bracket} {text = text} is has value suit flow) within hush linked
+          plain lists = element_typed text is has value suit flow within hush bracket linked plain.0 plain.1 lists
+      typed_statement (calls {control = control} {c = c} is) within hush {names = names} {types = types} {n = n} linked
           plain lists =
           let o = known c.name in
           let vars = call_variables o c.arguments in
@@ -252,71 +230,61 @@ module _ (earlier : List ProcedureTree) where
           let body = call_block o names n c.arguments in
           let value = call_value o names n c.arguments in
           let m = n + length vars in
-          let f = call_fits earlier at stand is within outer (λ e. (hush e).1) all names types n linked plain
-          (lists_left all n vars dropped lists) in
-          let there = passed_over scope names types n body (length vars)
-          (call_takes names c.arguments n o (counted c.name)) linked in (
+          let f = call_fits earlier at stand is within outer (λ e. (hush e).1) all linked plain
+          (lists_left vars dropped lists) in
+          let there = passed_over (call_takes names c.arguments n o (counted c.name)) linked in (
             tt,
             chain-typed all types (joined outer control) body (dropped_block m (call_result o) value) f.typed
                 (dropped_typed all (types_after_all types body) (joined outer control) m (call_result o) value
-                (there.fresh m (omega arith)) (lists_right all n vars dropped lists) f.result),
+                (there.fresh m (omega arith)) (lists_right vars dropped lists) f.result),
           )
-      typed_statement (chooses {scope = scope} {control = control} {condition = condition} {accepted = accepted}
-          {otherwise = otherwise} {label = label} has one other) within hush names types n linked plain lists =
+      typed_statement (chooses {control = control} {condition = condition} {accepted = accepted}
+          {otherwise = otherwise} {label = label} has one other) within hush {names = names} {types = types} {n = n}
+          linked plain lists =
           let m = n + numbers_taken_all known accepted in
-          let c = means scope names types n linked has plain.0 in
+          let c = means linked has plain.0 in
+          let ones = declared_in_all known accepted in
+          let others = declared_in_all known otherwise in
           let quiet = λ (e : outer ≡ Secret). or_parts (block_assigns at accepted) (block_assigns at otherwise)
           (hush e).1 in
-          let a = typed_block one within (λ e. ((hush e).0, (quiet e).0)) names types n linked plain.1
-          (lists_left all n (declared_in_all known accepted) (declared_in_all known otherwise) lists) in
-          let b = typed_block other within (λ e. ((hush e).0, (quiet e).1)) names types m
-          (later scope names types n m (omega arith) linked) plain.2
-          (lists_right all n (declared_in_all known accepted) (declared_in_all known otherwise) lists) in
-          let swap = joined-swap outer label control in
-          let arms = subst (λ k. AreTyped all types k (block known names n accepted)
-          × AreTyped all types k (block known names m otherwise)) swap (a, b) in (
-            subst (λ l. flat.HasType types (term names condition) (labelled Boolean l)
-                × AreTyped all types (joined l (joined outer control)) (block known names n accepted)
-                × AreTyped all types (joined l (joined outer control)) (block known names m otherwise))
-                (sym c.label) (c.typed, arms.0, arms.1),
+          let a = typed_block one within (λ e. ((hush e).0, (quiet e).0)) linked plain.1
+          (lists_left ones others lists) in
+          let b = typed_block other within (λ e. ((hush e).0, (quiet e).1)) (later {m = m} (omega arith) linked) plain.2
+          (lists_right ones others lists) in
+          let both = λ (l k : Label). flat.HasType types (term names condition) (labelled Boolean l)
+          × AreTyped all types k (block known names n accepted)
+          × AreTyped all types k (block known names m otherwise) in (
+            subst (λ l. both l (joined l (joined outer control))) (sym c.label)
+                (subst (both label) (joined-swap outer label control) (c.typed, a, b)),
             tt,
           )
-      typed_statement (repeats {scope = scope} {text = text} {body = body} low high new inner) within hush
-          names types n
-          linked plain lists =
+      typed_statement (repeats {scope = scope} {text = text} low high new inner) within hush linked plain lists =
           let own = word_as counter_type false in (
             (
-              (means scope names types n linked low plain.0).typed,
-              (means scope names types n linked high plain.1).typed,
-              record {
-                new = linked.fresh n (omega arith);
-                listed = lists_first all n own (declared_in_all known body) lists;
-              },
+              (means linked low plain.0).typed,
+              (means linked high plain.1).typed,
+              first_new linked lists,
               typed_block inner (callable_declared earlier (IsAt at) scope text _ within)
-                  (λ e. (hides_counter scope text (hush e).0, (hush e).1)) (naming names text n own)
-                  (with_type types n own) (n + 1) (linked_declared scope names types n linked text own new) plain.2
-                  (lists_right all n (own ∷ []) (declared_in_all known body) lists),
+                  (λ e. (hides_counter scope text (hush e).0, (hush e).1)) (linked_declared linked text own new) plain.2
+                  (lists_rest lists),
             ),
             tt,
           )
 
       pub typed_block : {scope : Scope} {control : Label} {b : BlockTree} → AreWellTyped earlier scope control b
           → IsWithin earlier at scope → IsHushed outer scope (block_assigns at b)
-          → (names : Numbers) (types : Types) (n : ℕ) → Linked scope names types n → ArePlain b
+          → {names : Numbers} {types : Types} {n : ℕ} → Linked scope names types n → ArePlain b
           → Lists all n (declared_in_all known b) → AreTyped all types (joined outer control)
           (block known names n b)
-      typed_block no_statement within hush names types n linked plain lists = tt
-      typed_block (one_more {control = control} {statement = s} {rest = rest} here there) within hush names types n
-          linked plain lists =
-          let front = statement known names n s in
-          let next = names_after known names n s in
-          let m = n + numbers_taken known s in
+      typed_block no_statement within hush linked plain lists = tt
+      typed_block (one_more {control = control} {statement = s} {rest = rest} here there) within hush {names = names}
+          {types = types} {n = n} linked plain lists =
           let quiet = λ (e : outer ≡ Secret). or_parts (statement_assigns at s) (block_assigns at rest)
           (hush e).1 in
-          chain-typed all types (joined outer control) front (block known next m rest)
-          (typed_statement here within (λ e. ((hush e).0, (quiet e).0)) names types n linked plain.0
-          (lists_left all n (declared_in known s) (declared_in_all known rest) lists))
+          chain-typed all types (joined outer control) (statement known names n s)
+          (block known (names_after known names n s) (n + numbers_taken known s) rest)
+          (typed_statement here within (λ e. ((hush e).0, (quiet e).0)) linked plain.0
+          (lists_left (declared_in known s) (declared_in_all known rest) lists))
           (typed_block there (callable_after earlier (IsAt at) here within)
-          (λ e. (hides_after at here (hush e).0 (quiet e).0, (quiet e).1)) next (types_after_all types front) m
-          (linked_after earlier here names types n linked) plain.1
-          (lists_right all n (declared_in known s) (declared_in_all known rest) lists))
+          (λ e. (hides_after at here (hush e).0 (quiet e).0, (quiet e).1)) (linked_after earlier here linked) plain.1
+          (lists_right (declared_in known s) (declared_in_all known rest) lists))

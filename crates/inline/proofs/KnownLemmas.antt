@@ -1,14 +1,12 @@
 -- What is known of procedures by their names, and one procedure more.
-use Rattle.std.proofs.Common.{◌≡◌, ℕ, Bool, true, false, if◌then◌else◌, List, [], ◌∷◌, ◌++◌, Option, Some, None, sym}
-use Rattle.std.proofs.Common.{inl, inr, ap, ◌∙◌}
+use Rattle.std.proofs.Common.{◌≡◌, ℕ, Bool, true, false, if◌then◌else◌, List, [], ◌∷◌, ◌++◌, Option, Some, None}
+use Rattle.std.proofs.Common.{inl, inr, refl}
 use Rattle.std.proofs.lemmas.Bool.{cases_Bool}
 use Rattle.std.proofs.lemmas.List.{append-nil, append_assoc}
-use Rattle.std.proofs.lemmas.Option.{none-some}
 use Rattle.std.specs.Str.{bytes_eq}
 use Rattle.language.specs.Known.{Known, known_of, known_from, nothing_known, first_known, with_known}
 use Rattle.language.specs.Meaning.{named}
 use Rattle.language.specs.Tree.{ProcedureTree}
-use Rattle.inline.proofs.Below.{Found}
 
 -- What is true of all that is made, where each is made from such as it is true of.
 
@@ -41,33 +39,11 @@ module _ {A : Type 0} (P : A → Type 0) (make : Known A → ProcedureTree → A
   pub known-true : (ps : List ProcedureTree) → AllKnown P (known_of make ps)
   known-true ps = from-true nothing_known ps (λ text. tt)
 
--- One procedure more.
-
-pub named-kept : (before ps : List ProcedureTree) (p : ProcedureTree) (text : List ℕ) (found : Found)
-    → named before ps text ≡ Some found → named before (ps ++ p ∷ []) text ≡ Some found
-named-kept before [] p text found is = absurd cc
-named-kept before (q ∷ ps) p text found is = elim (cases_Bool (bytes_eq text q.name)) [
-  | inl here ↦ rw here (rw here at is)
-  | inr there ↦ rw there (named-kept (before ++ q ∷ []) ps p text found (rw there at is))
-]
-
--- of another name
-pub named-missed : (before ps : List ProcedureTree) (p : ProcedureTree) (text : List ℕ) → named before ps text ≡ None
-    → bytes_eq text p.name ≡ false → named before (ps ++ p ∷ []) text ≡ None
-named-missed before [] p text is other = ap (λ b. if b then Some (before, p) else None) other
-named-missed before (q ∷ ps) p text is other = elim (cases_Bool (bytes_eq text q.name)) [
-  | inl here ↦ rw here (rw here at is)
-  | inr there ↦ rw there (named-missed (before ++ q ∷ []) ps p text (rw there at is) other)
-]
-
--- of a new name
-pub named-new : (before ps : List ProcedureTree) (p : ProcedureTree) (text : List ℕ) → named before ps text ≡ None
-    → bytes_eq text p.name ≡ true → named before (ps ++ p ∷ []) text ≡ Some (before ++ ps, p)
-named-new before [] p text is same =
-    ap (λ b. if b then Some (before, p) else None) same
-    ∙ ap (λ (qs : List ProcedureTree). Some (qs, p)) (sym (append-nil before))
-named-new before (q ∷ ps) p text is same = elim (cases_Bool (bytes_eq text q.name)) [
-  | inl here ↦ absurd (none-some (before, q) (sym (rw here at is)))
-  | inr there ↦ rw there (named-new (before ++ q ∷ []) ps p text (rw there at is) same
-      ∙ ap (λ (qs : List ProcedureTree). Some (qs, p)) (append_assoc before (q ∷ []) ps))
+-- One procedure more: a name stands for it where it has the name, and stood for nothing.
+pub named-more : (before ps : List ProcedureTree) (p : ProcedureTree) (text : List ℕ) → named before (ps ++ p ∷ []) text
+    ≡ first_known (named before ps text) (if bytes_eq text p.name then Some (before ++ ps, p) else None)
+named-more before [] p text = rw append-nil refl
+named-more before (q ∷ ps) p text = elim (cases_Bool (bytes_eq text q.name)) [
+  | inl here ↦ rw here refl
+  | inr there ↦ rw (there, ← append_assoc before (q ∷ []) ps) (named-more (before ++ q ∷ []) ps p text)
 ]

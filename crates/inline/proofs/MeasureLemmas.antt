@@ -21,15 +21,14 @@ use Rattle.language.specs.Types.{at, when}
 use Rattle.word.specs.declared.place.Place.{Place}
 
 -- what is counted by counts, with so many words of parameters, is what is counted by what they count
-procedure_alike : (counts extents : Extents) (p : ProcedureTree) (size : Size) (words w : ℕ)
+pub procedure_alike : (counts extents : Extents) (p : ProcedureTree) {size : Size} {words : ℕ} (w : ℕ)
     → AreCountsTo most_counted counts extents → words ≡ counted w →
     size ≡ procedure_size counts words p → size ≡ procedure_size extents w p
-procedure_alike counts extents p size words w same taken is =
+procedure_alike counts extents p {words = words} w same taken is =
     let k = block_alike most_counted counts extents same p.body in
-    let n : (procedure_size counts words p).nodes ≡ (procedure_size extents w p).nodes = omega (arith, k.nodes) in
-    let d : (procedure_size counts words p).words ≡ (procedure_size extents w p).words =
-    omega (arith, k.words, taken) in
-    let b : (procedure_size counts words p).bodies ≡ (procedure_size extents w p).bodies = omega (arith, k.bodies) in
+    let n : (procedure_size counts words p).nodes ≡ (procedure_size extents w p).nodes = omega arith in
+    let d : (procedure_size counts words p).words ≡ (procedure_size extents w p).words = omega arith in
+    let b : (procedure_size counts words p).bodies ≡ (procedure_size extents w p).bodies = omega arith in
     is ∙ (λ i. record { nodes = n i; words = d i; bodies = b i })
 
 -- what is told of a procedure that was measured by a table is what is counted of it
@@ -40,8 +39,7 @@ pub measured_alike : (known : Extents) (table : List (List ℕ × Measured)) (p 
     → extent_of_measured m ≡ extent_to most_counted (extent_of known (procedure_tree p))
 measured_alike known table p m words same own taken measured =
     let tree = procedure_tree p in
-    let size = procedure_alike (extents_in table) known tree m.size words (passed_words tree.parameters) same taken
-    measured in
+    let size = procedure_alike (extents_in table) known tree (passed_words tree.parameters) same taken measured in
     ap₂ (λ ps (s : Size). record {
       parameters = map parameter_tree ps;
       nodes = s.nodes;
@@ -64,13 +62,6 @@ limits_counted place n w b =
     (ap₂ ◌||◌ (same_test most_nodes (counted n) n (omega arith) (omega arith))
     (same_test most_bodies (counted b) b (omega arith) (omega arith)))
     (same_test most_declared_bytes (4 * counted w) (4 * w) (omega arith) (omega arith))
-
--- the size of the export, by what counts the earlier procedures
-pub size_exact : (counts extents : Extents) → AreCountsTo most_counted counts extents → (p : ProcedureTree)
-    (words : ℕ) (size : Size) → words ≡ counted (parameter_words p.parameters) → size ≡ procedure_size counts words p
-    → size ≡ procedure_size extents (parameter_words p.parameters) p
-size_exact counts extents same p words size taken is =
-    procedure_alike counts extents p size words (parameter_words p.parameters) same taken is
 
 -- what is said of the size of the export is said of the export
 module _ (extents : Extents) (p : ProcedureTree) (size : Size)

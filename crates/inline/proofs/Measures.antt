@@ -8,9 +8,9 @@ use Rattle.language.specs.declared.tree.Counter.{Counter}
 use Rattle.language.specs.declared.tree.Expr.{Expr}
 use Rattle.language.specs.declared.tree.Procedure.{Procedure}
 use Rattle.language.specs.declared.tree.Statement.{Statement, If, For}
-use Rattle.language.specs.Meaning.{named, word_arguments}
-use Rattle.language.specs.Size.{Extents, block_nodes, called_nodes, call_nodes, extent_of, extents_of, nodes_in}
-use Rattle.language.specs.Size.{nodes_passed, return_nodes, right_nodes, statement_nodes}
+use Rattle.language.specs.Meaning.{named}
+use Rattle.language.specs.Size.{Extents, block_nodes, call_nodes, extent_of, extents_of, nodes_in, right_nodes}
+use Rattle.language.specs.Size.{statement_nodes}
 use Rattle.language.specs.Tree.{CallTree, RightTree, StatementTree, block_tree, expr_tree, procedure_tree}
 use Rattle.language.specs.Tree.{statement_tree}
 
@@ -37,43 +37,27 @@ body_smaller earlier before callee c body is list =
     let p = procedure_tree callee in
     let known : extents_by earlier c.name ≡ Some (extent_of (extents_by before) p) =
     known_by_name extent_of (map procedure_tree earlier) c.name ∙ ap (option_map (made extent_of)) (sym is) in
-    let count : nodes_of_call earlier c ≡ 1 + nodes_passed (word_arguments p.parameters c.arguments)
-    + (block_nodes (extents_by before) p.body + return_nodes p.returned) =
-    ap (λ o. called_nodes o c) known in
-    let same : nodes_of_block before body ≡ block_nodes (extents_by before) p.body =
-    ap (nodes_of_block before) list in
-    omega (arith, count, same)
+    rw (known, list) (omega arith)
 
 -- the parts of a conditional and of a loop
-pub conditional_smaller : (earlier : List Procedure) (s : Statement) (place : Place) (condition : Expr)
-    (accepted otherwise : Vec Statement Global) (ones others : List Statement) →
-    s ≡ If place condition accepted otherwise → ones ≡ accepted.items → others ≡ otherwise.items →
+pub conditional_smaller : (earlier : List Procedure) (place : Place) (condition : Expr)
+    (accepted otherwise : Vec Statement Global) {s : Statement} {ones others : List Statement}
+    → s ≡ If place condition accepted otherwise → ones ≡ accepted.items → others ≡ otherwise.items →
     8 * (1 + nodes_in (expr_tree condition) + nodes_of_block earlier ones + nodes_of_block earlier others) + 5
     < 8 * nodes_of_statement earlier (statement_tree s) + 6
-conditional_smaller earlier s place condition accepted otherwise ones others is first_arm second_arm =
-    let whole : nodes_of_statement earlier (statement_tree s) ≡ 1 + nodes_in (expr_tree condition)
-    + nodes_of_block earlier ones + nodes_of_block earlier others =
-    ap (nodes_of_statement earlier)
-    (conditional_whole s place condition accepted otherwise ones others is first_arm second_arm) in
-    omega (arith, whole)
+conditional_smaller earlier place condition accepted otherwise is first_arm second_arm =
+    rw (conditional_whole place condition accepted otherwise is first_arm second_arm) (omega arith)
 
-pub loop_smaller : (earlier : List Procedure) (s : Statement) (place : Place) (counter : Counter) (low high : Expr)
-    (body : Vec Statement Global) (ones : List Statement) →
-    s ≡ For place counter low high body → ones ≡ body.items →
+pub loop_smaller : (earlier : List Procedure) (place : Place) (counter : Counter) (low high : Expr)
+    (body : Vec Statement Global) {s : Statement} {ones : List Statement}
+    → s ≡ For place counter low high body → ones ≡ body.items →
     8 * (1 + nodes_in (expr_tree low) + nodes_in (expr_tree high) + nodes_of_block earlier ones) + 5
     < 8 * nodes_of_statement earlier (statement_tree s) + 6
-loop_smaller earlier s place counter low high body ones is list =
-    let whole : nodes_of_statement earlier (statement_tree s)
-    ≡ 1 + nodes_in (expr_tree low) + nodes_in (expr_tree high)
-    + nodes_of_block earlier ones =
-    ap (nodes_of_statement earlier) (loop_whole s place counter low high body ones is list) in
-    omega (arith, whole)
+loop_smaller earlier place counter low high body is list =
+    rw (loop_whole place counter low high body is list) (omega arith)
 
--- a statement of a block, and what is left behind it
-module _ (earlier : List Procedure) (block left rest : List Statement) (s : Statement) (here : left ≡ s ∷ rest)
-    (smaller : nodes_of_block earlier left ≤ nodes_of_block earlier block) where
-  counted : nodes_of_block earlier left ≡ nodes_of_statement earlier (statement_tree s) + nodes_of_block earlier rest
-  counted = ap (nodes_of_block earlier) here
-
-  pub rest_smaller : nodes_of_block earlier rest ≤ nodes_of_block earlier block
-  rest_smaller = let both = counted in omega (arith, both, smaller)
+-- what is left behind a statement of a block
+pub rest_smaller : (earlier : List Procedure) (block : List Statement) {left rest : List Statement} {s : Statement}
+    → left ≡ s ∷ rest → nodes_of_block earlier left ≤ nodes_of_block earlier block
+    → nodes_of_block earlier rest ≤ nodes_of_block earlier block
+rest_smaller earlier block here smaller = omega (arith, ap (nodes_of_block earlier) here)

@@ -1,6 +1,6 @@
 -- Where a body begins: the parameters have the first numbers, and hold the arguments.
-use Rattle.std.proofs.Common.{◌≡◌, ◌≢◌, ℕ, suc, ◌+◌, ◌<◌, ◌≤◌, true, false, inl, inr, cond, List, [], ◌∷◌, ◌++◌}
-use Rattle.std.proofs.Common.{length, map, Option, Some, None, slice_get, refl, sym, ap, ◌∙◌, subst, arith}
+use Rattle.std.proofs.Common.{◌≡◌, ◌≢◌, ℕ, suc, ◌+◌, ◌<◌, ◌≤◌, true, inl, inr, List, [], ◌∷◌, ◌++◌, length, map}
+use Rattle.std.proofs.Common.{Option, Some, None, slice_get, refl, sym, ap, ◌∙◌, subst, arith}
 use Rattle.std.proofs.lemmas.Bool.{cases_Bool}
 use Rattle.std.proofs.Common.{append_assoc, append-nil, length-append}
 use Rattle.std.proofs.lemmas.Option.{none-some, same_Some, slice_get_past}
@@ -31,7 +31,7 @@ use Rattle.language.specs.Typing.{with_parameters, parameter_as, parameter_value
 use Rattle.language.specs.WellTyped.{AreNew, one_is_new}
 use Rattle.inline.proofs.Below.{found-new, found-other, found-kept}
 use Rattle.inline.proofs.Linked.{Linked, Serves, serves_itself, widened, later, entry, value_as, variable_as}
-use Rattle.inline.proofs.Linked.{linked_beside, linked_named, with_type-same}
+use Rattle.inline.proofs.Linked.{linked_beside, linked_named, not_named, with_type-same}
 use Rattle.inline.proofs.ListLemmas.{get_front, get_last}
 use Rattle.inline.proofs.Terms.{held, Holds, Shows}
 
@@ -52,24 +52,24 @@ pub parameter_same : (p : ParameterTree) → Variable (variable_as (own p)) ≡ 
 parameter_same p = ap (λ v. Variable (record { value = v; mutable = is_mutable p.form })) (sym (value_same p p.form))
 
 -- it has a number: one of its own, or that of a caller's array
-pub linked_parameter : (scope : Scope) (names : Numbers) (types : Types) (n : ℕ) → Linked scope names types n
+pub linked_parameter : {scope : Scope} {names : Numbers} {types : Types} {n : ℕ} → Linked scope names types n
     → (p : ParameterTree) → found scope.names p.name ≡ None → (number : ℕ) → number < n
     → Serves (types.at number) (own p)
     → ((other : List ℕ) (x : Numbered) → found names other ≡ Some x → x.number ≡ number
     → (x.declaration.mutable ≡ true → ⊥) × ((own p).mutable ≡ true → ⊥))
     → Linked (declared scope p.name (parameter_as p)) (naming names p.name number (own p)) types n
-linked_parameter scope names types n linked p new number low serves clear =
+linked_parameter {scope = scope} {names = names} {types = types} {n = n} linked p new number low serves clear =
     subst (λ v. Linked (declared scope p.name v) (naming names p.name number (own p)) types n) (parameter_same p)
-    (linked_named scope names types n linked p.name new number (own p) low serves clear)
+    (linked_named linked p.name new number (own p) low serves clear)
 
 -- the next number, where the parameter is declared so
-pub linked_own : (scope : Scope) (names : Numbers) (types : Types) (n : ℕ) → Linked scope names types n
+pub linked_own : {scope : Scope} {names : Numbers} {types : Types} {n : ℕ} → Linked scope names types n
     → (p : ParameterTree) → found scope.names p.name ≡ None → (d : FlatVariable) → d ≡ own p
     → Linked (declared scope p.name (parameter_as p)) (naming names p.name n (own p)) (with_type types n d) (n + 1)
-linked_own scope names types n linked p new d same =
-    linked_parameter scope names (with_type types n d) (n + 1) (linked_beside scope names types n d linked) p new n
-    (omega arith) (serves_itself _ (own p) (with_type-same types n d ∙ ap Some same))
-    (λ other x is equal. let low = linked.below other x is in absurd (omega (arith, low, equal)))
+linked_own {types = types} {n = n} linked p new d same =
+    linked_parameter (linked_beside linked d) p new n (omega arith)
+    (serves_itself (with_type-same types n d ∙ ap Some same))
+    (λ other x is equal. absurd (not_named linked other x is equal))
 
 -- Numbers.
 
@@ -90,19 +90,17 @@ itself text = (bytes_decides text text).1 refl
 
 module _ (profile : Profile) where
   -- a parameter behind the variables of a list
-  linked_behind : (scope : Scope) (names : Numbers) (ds : List FlatVariable) (n : ℕ) → n ≡ length ds
+  linked_behind : {scope : Scope} {names : Numbers} (ds : List FlatVariable) {n : ℕ} → n ≡ length ds
       → Linked scope names (types_of profile ds) n → (p : ParameterTree) → found scope.names p.name ≡ None
       → Linked (declared scope p.name (parameter_as p)) (naming names p.name n (own p))
       (types_of profile (ds ++ own p ∷ [])) (n + 1)
-  linked_behind scope names ds n many linked p new =
-      let types = types_of profile (ds ++ own p ∷ []) in
+  linked_behind ds {n = n} many linked p new =
       let count = length-append ds (own p ∷ []) in
-      linked_parameter scope names types (n + 1)
-      (widened scope names (types_of profile ds) types n (n + 1) (omega arith) refl
-      (λ x low. get_front ds (own p) x (omega arith))
+      linked_parameter
+      (widened (omega arith) refl (λ x low. get_front ds (own p) x (omega arith))
       (λ x high. slice_get_past (ds ++ own p ∷ []) x (omega arith)) linked) p new n (omega arith)
-      (serves_itself _ (own p) (ap (slice_get (ds ++ own p ∷ [])) many ∙ get_last ds (own p)))
-      (λ other x is equal. let low = linked.below other x is in absurd (omega (arith, low, equal)))
+      (serves_itself (ap (slice_get (ds ++ own p ∷ [])) many ∙ get_last ds (own p)))
+      (λ other x is equal. absurd (not_named linked other x is equal))
 
   pub record Begins (scope : Scope) (names : Numbers) (ds : List FlatVariable) (n : ℕ) (ps : List ParameterTree) :
       Type 0 where
@@ -112,20 +110,17 @@ module _ (profile : Profile) where
 
   begins : (ps : List ParameterTree) (scope : Scope) (names : Numbers) (ds : List FlatVariable) (n : ℕ)
       → n ≡ length ds → AreNew scope ps → Linked scope names (types_of profile ds) n → Begins scope names ds n ps
-  begins [] scope names ds n many new linked = record {
-    linked = rw append-nil (later scope names (types_of profile ds) n (n + 0) (omega arith) linked);
-    named = tt;
-  }
+  begins [] scope names ds n many new linked =
+      record { linked = rw append-nil (later (omega arith) linked); named = tt }
   begins (p ∷ ps) scope names ds n many (one_is_new here there) linked =
+      let more = naming names p.name n (own p) in
       let count = length-append ds (own p ∷ []) in
-      let rest = begins ps _ (naming names p.name n (own p)) (ds ++ own p ∷ []) (n + 1) (omega arith) there
-      (linked_behind scope names ds n many linked p here) in
+      let rest = begins ps _ more (ds ++ own p ∷ []) (n + 1) (omega arith) there
+      (linked_behind ds many linked p here) in
       record {
-        linked = subst (λ es. Linked (with_parameters scope (p ∷ ps)) (numbering.with_parameters names n (p ∷ ps))
-            (types_of profile es) (n + length (p ∷ ps))) (append_assoc ds (own p ∷ []) (all_own ps))
-            (later _ _ _ ((n + 1) + length ps) (n + length (p ∷ ps)) (omega arith) rest.linked);
+        linked = rw (← append_assoc ds (own p ∷ []) (all_own ps)) (later (omega arith) rest.linked);
         named = (
-          kept_parameters ps (naming names p.name n (own p)) (n + 1) p.name (entry n (own p))
+          kept_parameters ps more (n + 1) p.name (entry n (own p))
               (found-new names p.name (entry n (own p)) p.name (itself p.name) (linked.none p.name here)),
           rest.named,
         );
@@ -136,9 +131,9 @@ abbrev pub NoVariables : Scope → Type 0
 NoVariables scope = (text : List ℕ) (v : VariableType) → found scope.names text ≢ Some (Variable v)
 
 -- before the first declaration
-pub no_names : (scope : Scope) → NoVariables scope → (types : Types) (n : ℕ) → types.profile ≡ scope.profile
+pub no_names : {scope : Scope} {types : Types} {n : ℕ} → NoVariables scope → types.profile ≡ scope.profile
     → ((x : ℕ) → n ≤ x → types.at x ≡ None) → Linked scope [] types n
-no_names scope none types n observed fresh = record {
+no_names none observed fresh = record {
   observed = observed;
   known = λ text d is. absurd (none text (variable_as d) is);
   none = λ text is. refl;
@@ -150,15 +145,15 @@ no_names scope none types n observed fresh = record {
 -- where a body begins
 pub where_begun : (profile : Profile) (scope : Scope) → scope.profile ≡ profile → NoVariables scope
     → (ps : List ParameterTree) → AreNew scope ps → Begins profile scope [] [] 0 ps
-where_begun profile scope observed none ps new = begins profile ps scope [] [] 0 refl new
-    (no_names scope none (types_of profile []) 0 (sym observed) (λ x high. refl))
+where_begun profile scope observed none ps new =
+    begins profile ps scope [] [] 0 refl new (no_names none (sym observed) (λ x high. refl))
 
 pub linked_parameters : (profile : Profile) (scope : Scope) → scope.profile ≡ profile → NoVariables scope
     → (ps : List ParameterTree) → AreNew scope ps
     → Linked (with_parameters scope ps) (numbering.with_parameters [] 0 ps) (types_of profile (all_own ps))
     (length ps)
 linked_parameters profile scope observed none ps new =
-    later _ _ _ (0 + length ps) (length ps) (omega arith) (where_begun profile scope observed none ps new).linked
+    later (omega arith) (where_begun profile scope observed none ps new).linked
 
 -- Arguments.
 
@@ -177,56 +172,28 @@ argument_count SingleWord size (Array words) shape = absurd shape
 argument_count form size (Word word) shape = absurd shape
 argument_count form size (Array words) shape = shape
 
--- a parameter's number, and that it holds its argument
-record Passed (n : ℕ) (ps : List ParameterTree) (rest : List FlatVariable) (text : List ℕ) (x : Numbered) :
-    Type 0 where
-  pub index : ℕ
-  pub number : x.number ≡ n + index
-  pub holds : (args : List Arg) → AreWithin (map param_of ps) args
-      → Holds x.declaration (holding ps args text) (given (all_own ps ++ rest) args index)
-
-first_holds : (p : ParameterTree) (ps : List ParameterTree) (rest : List FlatVariable) (args : List Arg)
-    (text : List ℕ)
-    → bytes_eq text p.name ≡ true → AreWithin (map param_of (p ∷ ps)) args
-    → Holds (own p) (holding (p ∷ ps) args text) (given (all_own (p ∷ ps) ++ rest) args 0)
-first_holds p ps rest [] text e within = absurd within
-first_holds p ps rest (arg ∷ args) text e within = record {
-  is = ap (λ t. cond t (Some (argument_value p.kind arg)) (holding ps args text)) e
-      ∙ argument_held p.kind p.form p.length arg within.0.shape;
-  count = argument_count p.form p.length arg within.0.shape;
-}
-
-later_holds : (p : ParameterTree) (ps : List ParameterTree) (rest : List FlatVariable) (args : List Arg)
-    (text : List ℕ)
-    (index : ℕ) (d : FlatVariable) → bytes_eq text p.name ≡ false → AreWithin (map param_of (p ∷ ps)) args
-    → ((more : List Arg) → AreWithin (map param_of ps) more
-    → Holds d (holding ps more text) (given (all_own ps ++ rest) more index))
-    → Holds d (holding (p ∷ ps) args text) (given (all_own (p ∷ ps) ++ rest) args (suc index))
-later_holds p ps rest [] text index d e within holds = absurd within
-later_holds p ps rest (arg ∷ args) text index d e within holds =
-    subst (λ o. Holds d o (given (all_own ps ++ rest) args index))
-    (sym (ap (λ t. cond t (Some (argument_value p.kind arg)) (holding ps args text)) e)) (holds args within.1)
-
-passed : (ps : List ParameterTree) (names : Numbers) (n : ℕ) (rest : List FlatVariable) (text : List ℕ) (x : Numbered)
-    → found names text ≡ None → found (numbering.with_parameters names n ps) text ≡ Some x → Passed n ps rest text x
-passed [] names n rest text x none is = absurd (none-some x (sym none ∙ is))
-passed (p ∷ ps) names n rest text x none is = elim (cases_Bool (bytes_eq text p.name)) [
+-- a name that is not among the earlier ones holds its argument, where the variables from n on do
+passed : (ps : List ParameterTree) (names : Numbers) (n : ℕ) (rest : List FlatVariable) (args : List Arg) (m : Values)
+    → AreWithin (map param_of ps) args → ((i : ℕ) → m (n + i) ≡ given (all_own ps ++ rest) args i)
+    → (text : List ℕ) (x : Numbered) → found names text ≡ None
+    → found (numbering.with_parameters names n ps) text ≡ Some x
+    → Holds x.declaration (holding ps args text) (m x.number)
+passed [] names n rest args m within are text x none is = absurd (none-some x (sym none ∙ is))
+passed (p ∷ ps) names n rest [] m within are text x none is = absurd within
+passed (p ∷ ps) names n rest (arg ∷ args) m within are text x none is = elim (cases_Bool (bytes_eq text p.name)) [
   | inl e ↦ (
       let new = ap (found names) (sym ((bytes_decides text p.name).0 e)) ∙ none in
       let here = kept_parameters ps (naming names p.name n (own p)) (n + 1) text (entry n (own p))
       (found-new names p.name (entry n (own p)) text e new) in
-      let zeroth : n ≡ n + 0 = omega arith in
-      subst (Passed n (p ∷ ps) rest text) (same_Some (entry n (own p)) x (sym here ∙ is))
-      (record { index = 0; number = zeroth; holds = λ args. first_holds p ps rest args text e }))
-  | inr e ↦ (
-      let r = passed ps (naming names p.name n (own p)) (n + 1) rest text x
-      (found-other names p.name (entry n (own p)) text e ∙ none) is in
-      let same : (n + 1) + r.index ≡ n + suc r.index = omega arith in
-      record {
-        index = suc r.index;
-        number = r.number ∙ same;
-        holds = λ args within. later_holds p ps rest args text r.index x.declaration e within r.holds;
-      })
+      let words : m n ≡ words_of arg = ap m (omega arith) ∙ are 0 in
+      subst (λ (y : Numbered). Holds y.declaration (holding (p ∷ ps) (arg ∷ args) text) (m y.number))
+      (same_Some (entry n (own p)) x (sym here ∙ is)) (record {
+        is = rw (e, words) (argument_held p.kind p.form p.length arg within.0.shape);
+        count = rw words (argument_count p.form p.length arg within.0.shape);
+      }))
+  | inr e ↦ rw e (passed ps (naming names p.name n (own p)) (n + 1) rest args m within.1
+      (λ i. ap m (omega arith) ∙ are (suc i)) text x
+      (found-other names p.name (entry n (own p)) text e ∙ none) is)
 ]
 
 -- the parameters hold the arguments
@@ -234,12 +201,8 @@ pub shows_arguments : (ps : List ParameterTree) (rest : List FlatVariable) (args
     → AreWithin (map param_of ps) args → Shows (numbering.with_parameters [] 0 ps) (holding ps args)
     (given (all_own ps ++ rest) args)
 shows_arguments ps rest args within text x is =
-    let r = passed ps [] 0 rest text x refl is in
-    let i = r.index in
-    let e = r.number in
-    let same : i ≡ x.number = omega arith in
-    subst (λ y. Holds x.declaration (holding ps args text) (given (all_own ps ++ rest) args y)) same
-    (r.holds args within)
+    let m = given (all_own ps ++ rest) args in
+    passed ps [] 0 rest args m within (λ i. ap m (omega arith)) text x refl is
 
 -- The `mut` arrays at the end.
 

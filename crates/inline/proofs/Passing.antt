@@ -23,11 +23,11 @@ use Rattle.language.specs.State.{State, Value, Word, single}
 use Rattle.language.specs.Tree.{ExprTree, ParameterTree}
 use Rattle.language.specs.Types.{Scope}
 use Rattle.language.specs.WellTyped as rules
-use Rattle.language.specs.WellTyped.{labelled, ArePassed, none_passed, one_passed}
+use Rattle.language.specs.WellTyped.{ArePassed, none_passed, one_passed}
 use Rattle.language.specs.names.Scope.{found}
 use Rattle.inline.proofs.Begun.{word_given, array_passed, kept_begun}
 use Rattle.inline.proofs.Comes.{Comes, well, then_comes, also, across}
-use Rattle.inline.proofs.Linked.{Linked, entry, later}
+use Rattle.inline.proofs.Linked.{Linked, entry, later, not_named}
 use Rattle.inline.proofs.Below.{found-new, found-other}
 use Rattle.inline.proofs.States.{with_value-other, with_value-same, shows_kept}
 use Rattle.inline.proofs.Terms.{Holds, Shows, word_at, held, means}
@@ -43,10 +43,6 @@ passed_keeps names (p ∷ ps) (e ∷ es) n x low m = elim (cases_Bool (is_word p
       ∙ with_value-other m n x (value_in m (term names e) ∷ []) (λ q. omega arith))
   | inr array ↦ rw array (passed_keeps names ps es n x low m)
 ]
-
-pub held_by_name : (s : State) (text other : List ℕ) (v : Option Value) (w : Value) → v ≡ Some w
-    → bytes_eq other text ≡ true → with_some s text v other ≡ Some w
-held_by_name s text other v w is e = ap (λ o. with_some s text o other) is ∙ ap (λ b. if b then Some w else s other) e
 
 pub held_by_other : (s : State) (text other : List ℕ) (v : Option Value) → bytes_eq other text ≡ false
     → with_some s text v other ≡ s other
@@ -73,87 +69,79 @@ AreHeld names n ps es s m vs =
     → found (begun names own n ps es) text ≡ Some x → Holds x.declaration (meaning.begun s ps es vs text)
     (after_all m (passed names n ps es) x.number)
 
-module _ (scope : Scope) (names : Numbers) (types : Types) (s : State) where
-  -- with one more name, for what its variable holds
-  with_one : (p : ParameterTree) (ps : List ParameterTree) (es : List ExprTree) (number n : ℕ) (m : Values)
-      (value : Option Value) (w : Value) (left : List Word) → value ≡ Some w
-      → Holds (own_variable p) (Some w) (after_all m (passed names n ps es) number) → AreHeld names n ps es s m left
-      → (own : Numbers) (text : List ℕ) (x : Numbered) → found own text ≡ None
-      → found (begun names (naming own p.name number (own_variable p)) n ps es) text ≡ Some x
-      → Holds x.declaration (with_some (meaning.begun s ps es left) p.name value text)
-      (after_all m (passed names n ps es) x.number)
-  with_one p ps es number n m value w left there first rest own text x none is =
-      elim (cases_Bool (bytes_eq text p.name)) [
-        | inl same ↦ (
-            let d = own_variable p in
-            let new = ap (found own) (sym ((bytes_decides text p.name).0 same)) ∙ none in
-            let here = kept_begun names ps es (naming own p.name number d) n text (entry number d)
-            (found-new own p.name (entry number d) text same new) in
-            subst (λ (z : Numbered). Holds z.declaration (with_some (meaning.begun s ps es left) p.name value text)
-            (after_all m (passed names n ps es) z.number)) (same_Some (entry number d) x (sym here ∙ is))
-            (subst (λ o. Holds d o (after_all m (passed names n ps es) number))
-            (sym (held_by_name (meaning.begun s ps es left) p.name text value w there same)) first))
-        | inr other ↦ subst (λ o. Holds x.declaration o (after_all m (passed names n ps es) x.number))
-            (sym (held_by_other (meaning.begun s ps es left) p.name text value other))
-            (rest (naming own p.name number (own_variable p)) text x
-            (found-other own p.name (entry number (own_variable p)) text other ∙ none) is)
-      ]
+-- with one more name, for what its variable holds
+with_one : (names : Numbers) (s : State) (p : ParameterTree) (ps : List ParameterTree) (es : List ExprTree)
+    (number n : ℕ) (m : Values) (value : Option Value) (w : Value) (left : List Word) → value ≡ Some w
+    → Holds (own_variable p) (Some w) (after_all m (passed names n ps es) number) → AreHeld names n ps es s m left
+    → (own : Numbers) (text : List ℕ) (x : Numbered) → found own text ≡ None
+    → found (begun names (naming own p.name number (own_variable p)) n ps es) text ≡ Some x
+    → Holds x.declaration (with_some (meaning.begun s ps es left) p.name value text)
+    (after_all m (passed names n ps es) x.number)
+with_one names s p ps es number n m value w left there first rest own text x none is =
+    let named = entry number (own_variable p) in
+    let more = naming own p.name number (own_variable p) in
+    elim (cases_Bool (bytes_eq text p.name)) [
+      | inl same ↦ (
+          let new = ap (found own) (sym ((bytes_decides text p.name).0 same)) ∙ none in
+          let here = kept_begun names ps es more n text named (found-new own p.name named text same new) in
+          subst (λ (z : Numbered). Holds z.declaration (with_some (meaning.begun s ps es left) p.name value text)
+          (after_all m (passed names n ps es) z.number)) (same_Some named x (sym here ∙ is))
+          (rw (there, same) first))
+      | inr other ↦ rw (held_by_other (meaning.begun s ps es left) p.name text value other)
+          (rest more text x (found-other own p.name named text other ∙ none) is)
+    ]
 
-  word_holds : (p : ParameterTree) (w : Word) (v : ℕ) → p.form ≡ SingleWord → w ≡ word_at p.kind v
-      → Holds (own_variable p) (Some (single w)) (v ∷ [])
-  word_holds p w v form same = record {
-    is = ap (λ u. Some (single u)) same ∙ ap (λ f. Some (held p.kind (elements_by f p.length) (v ∷ []))) (sym form);
-    count = ap (λ f. numbers_in (elements_by f p.length)) (sym form);
-  }
+word_holds : (p : ParameterTree) (w : Word) (v : ℕ) → p.form ≡ SingleWord → w ≡ word_at p.kind v
+    → Holds (own_variable p) (Some (single w)) (v ∷ [])
+word_holds p w v form same = record {
+  is = ap (λ u. Some (single u)) same ∙ ap (λ f. Some (held p.kind (elements_by f p.length) (v ∷ []))) (sym form);
+  count = ap (λ f. numbers_in (elements_by f p.length)) (sym form);
+}
 
-  -- the words of arguments, from left to right
-  pub passed_comes : {ps : List ParameterTree} {es : List ExprTree} → ArePassed scope ps es → AreAllSmall es → (n : ℕ)
-      → Linked scope names types n → (m : Values) → Shows names s m
-      → Comes (EvaluatesAll s (word_arguments ps es)) (AreHeld names n ps es s m)
-      (first_fault (path_along m (passed names n ps es)))
-  passed_comes none_passed small n linked m shows =
-      well [] none_left (λ own text x none is. absurd (none-some x (sym none ∙ is)))
-  passed_comes (one_passed {p = p} {ps = ps} {argument = e} {arguments = es} is shares are) small n linked m shows =
-      elim (cases_Bool (is_word p.form)) [
-        | inl word ↦ (
-            let g = word_given is word in
-            let v = value_in m (term names e) in
-            let next = flat_meaning.with_value m n (v ∷ []) in
-            let shown = shows_kept names s m next shows
-            (λ text x there. let low = linked.below text x there in with_value-other m n x.number (v ∷ [])
-            (λ q. omega arith)) in
-            let here = passed_keeps names ps es (n + 1) n (omega arith) next ∙ with_value-same m n (v ∷ []) in
-            rw (word, across (path_in m (term names e)) (path_along next (passed names (n + 1) ps es)))
-            (then_comes ((means scope names types n linked g.has small.0).value s m shows)
-            (λ w one same.
-            also (passed_comes are small.1 (n + 1) (later scope names types n (n + 1) (omega arith) linked) next shown)
-            (λ vs all holds. (
-              w ∷ vs,
-              one_more one all,
-              rw word (with_one p ps es n (n + 1) next _ (single w) _ (ap (λ f. argument_held s f e (w ∷ vs)) g.form)
-                  (subst (Holds (own_variable p) (Some (single w))) (sym here)
-                  (word_holds p w v g.form (same ∙ ap (λ k. word_at k v) (kind_suits g.suits))))
-                  (subst (AreHeld names (n + 1) ps es s next) (sym (ap (λ f. words_left f (w ∷ vs)) g.form)) holds)),
-            ))
-            (λ at all. later_faults one all))
-            (λ at one. this_faults one)))
-        | inr array ↦ (
-            let a = array_passed scope names types n linked is array in
-            let there = shows a.text _ a.found in
-            let words = m (number_given names e) in
-            let value = held p.kind (Some p.length) words in
-            rw array (also (passed_comes are small.1 n linked m shows)
-            (λ vs all holds. (
-              vs,
-              all,
-              rw array (with_one p ps es (number_given names e) n m _ value _
-                  (array_held s p.form e vs array ∙ (ap (array_named s) a.named ∙ there.is))
-                  (subst (Holds (own_variable p) (Some value))
-                  (sym (passed_keeps names ps es n (number_given names e) a.low m)) (record {
-                    is = ap (λ o. Some (held p.kind o words)) (sym a.elements);
-                    count = there.count ∙ ap numbers_in (sym a.elements);
-                  }))
-                  (subst (AreHeld names n ps es s m) (sym (no_word_left p.form vs array)) holds)),
-            ))
-            (λ at all. all)))
-      ]
+-- the words of arguments, from left to right
+pub passed_comes : {scope : Scope} {names : Numbers} {s : State} {ps : List ParameterTree} {es : List ExprTree}
+    → ArePassed scope ps es → AreAllSmall es → {types : Types} {n : ℕ} → Linked scope names types n → (m : Values)
+    → Shows names s m
+    → Comes (EvaluatesAll s (word_arguments ps es)) (AreHeld names n ps es s m)
+    (first_fault (path_along m (passed names n ps es)))
+passed_comes none_passed small linked m shows =
+    well [] none_left (λ own text x none is. absurd (none-some x (sym none ∙ is)))
+passed_comes {names = names} {s = s} (one_passed {p = p} {ps = ps} {argument = e} {arguments = es} is shares are) small
+    {n = n} linked m shows = elim (cases_Bool (is_word p.form)) [
+      | inl word ↦ (
+          let g = word_given is word in
+          let v = value_in m (term names e) in
+          let next = flat_meaning.with_value m n (v ∷ []) in
+          let shown = shows_kept names s m next shows
+          (λ text x there. with_value-other m n x.number (v ∷ []) (not_named linked text x there)) in
+          let here = passed_keeps names ps es (n + 1) n (omega arith) next ∙ with_value-same m n (v ∷ []) in
+          rw (word, across (path_in m (term names e)) (path_along next (passed names (n + 1) ps es)))
+          (then_comes ((means linked g.has small.0).value s m shows)
+          (λ w one same.
+          also (passed_comes are small.1 (later (omega arith) linked) next shown)
+          (λ vs all holds. (
+            w ∷ vs,
+            one_more one all,
+            rw word (with_one names s p ps es n (n + 1) next _ (single w) _
+                (ap (λ f. argument_held s f e (w ∷ vs)) g.form)
+                (rw here (word_holds p w v g.form (same ∙ ap (λ k. word_at k v) (kind_suits g.suits))))
+                (subst (AreHeld names (n + 1) ps es s next) (sym (ap (λ f. words_left f (w ∷ vs)) g.form)) holds)),
+          ))
+          (λ at all. later_faults one all))
+          (λ at one. this_faults one)))
+      | inr array ↦ (
+          let a = array_passed linked is array in
+          let there = shows a.text _ a.found in
+          let number = number_given names e in
+          rw array (also (passed_comes are small.1 linked m shows)
+          (λ vs all holds. (
+            vs,
+            all,
+            rw array (with_one names s p ps es number n m _ (held p.kind (Some p.length) (m number)) _
+                (array_held s p.form e vs array ∙ (ap (array_named s) a.named ∙ there.is))
+                (rw (passed_keeps names ps es n number a.low m)
+                (record { is = rw a.elements; count = rw a.elements there.count }))
+                (subst (AreHeld names n ps es s m) (sym (no_word_left p.form vs array)) holds)),
+          ))
+          (λ at all. all)))
+    ]

@@ -1,7 +1,6 @@
 -- A statement about each procedure that may be called, by induction over the text.
-use Rattle.std.proofs.Common.{◌≡◌, ◌≢◌, ℕ, ◌<◌, Bool, true, false, List, [], ◌∷◌, ◌++◌}
-use Rattle.std.proofs.Common.{length, Some, None, is_some, refl, sym, ap, ◌∙◌, subst, arith, slice_get, length-append}
-use Rattle.std.proofs.Common.{inl, inr}
+use Rattle.std.proofs.Common.{◌≡◌, ◌≢◌, ℕ, ◌<◌, true, false, List, [], ◌∷◌, ◌++◌, length, Some, None, is_some, refl}
+use Rattle.std.proofs.Common.{sym, ap, ◌∙◌, subst, arith, slice_get, length-append, inl, inr}
 use Rattle.std.proofs.lemmas.Bool.{cases_Bool}
 use Rattle.std.proofs.lemmas.List.{nil_from_length}
 use Rattle.std.proofs.lemmas.Option.{none-some, same_Some, slice_get_past}
@@ -20,7 +19,7 @@ use Rattle.language.specs.Typing.{assigns_public, parameter_as, scope_after, vio
 use Rattle.language.specs.Typing.{with_procedure}
 use Rattle.language.specs.WellTyped.{IsWellTyped, declares, declares_array}
 use Rattle.language.specs.WellTyped.{IsProcedure, AreProcedures, no_procedure, one_procedure}
-use Rattle.inline.proofs.KnownLemmas.{named-kept, named-missed, named-new}
+use Rattle.inline.proofs.KnownLemmas.{named-more}
 use Rattle.inline.proofs.Below.{found-new, found-other, found-split}
 use Rattle.inline.proofs.ListLemmas.{get_front, get_last}
 use Rattle.inline.proofs.Parameters.{NoVariables}
@@ -38,11 +37,10 @@ no_callee c v e = cc
 
 -- Lists.
 
-module _ (Extra : ProcedureTree → Type 0) where
-  all_front : (ps : List ProcedureTree) (p : ProcedureTree) → AllByRecursion Extra (ps ++ p ∷ [])
-      → AllByRecursion Extra ps × Extra p
-  all_front [] p all = (tt, all.0)
-  all_front (q ∷ ps) p all = let rest = all_front ps p all.1 in ((all.0, rest.0), rest.1)
+all_front : (Extra : ProcedureTree → Type 0) (ps : List ProcedureTree) (p : ProcedureTree)
+    → AllByRecursion Extra (ps ++ p ∷ []) → AllByRecursion Extra ps × Extra p
+all_front Extra [] p all = (tt, all.0)
+all_front Extra (q ∷ ps) p all = let rest = all_front Extra ps p all.1 in ((all.0, rest.0), rest.1)
 
 -- What is true, for the scope's observer, of each procedure that a scope lets call, of these.
 abbrev pub EachCallable : List ProcedureTree → (Profile → List ℕ → Callee → ProcedureTree → Type 0) → Scope → Type 0
@@ -152,54 +150,47 @@ module _ (Good : List ProcedureTree → Scope → ProcedureTree → Type 0) wher
         let count = length-append earlier (p ∷ []) in
         elim (cases_Bool (bytes_eq text p.name)) [
           | inl e ↦ (
-              let same = ap (λ (d : Callee). d.number) (same_callee own c (sym (here text e) ∙ is)) in
-              omega (arith, same, count))
-          | inr e ↦ (let low = stand.below text c (sym (there text e) ∙ is) in omega (arith, low, count))
+              let same = ap (λ (d : Callee). d.number) (same_callee own c (sym (here text e) ∙ is)) in omega arith)
+          | inr e ↦ omega (arith, stand.below text c (sym (there text e) ∙ is))
         ]
 
     new_by : (text : List ℕ) → found after text ≡ None → named [] (earlier ++ p ∷ []) text ≡ None
     new_by text is = elim (cases_Bool (bytes_eq text p.name)) [
       | inl e ↦ absurd (none-some (Procedure own) (sym is ∙ here text e))
-      | inr e ↦ named-missed [] earlier p text (stand.new text (sym (there text e) ∙ is)) e
+      | inr e ↦ rw (named-more [] earlier p text, stand.new text (sym (there text e) ∙ is), e) refl
     ]
 
-    callable_by : Good earlier scope p → (text : List ℕ) (c : Callee) (q : ProcedureTree) (b : Bool)
-        → bytes_eq text p.name ≡ b → found after text ≡ Some (Procedure c)
-        → slice_get (earlier ++ p ∷ []) c.number ≡ Some q
-        → IsCallable (earlier ++ p ∷ []) scope.profile text c q
-    callable_by good text c q true e is get =
-        let same = same_callee own c (sym (here text e) ∙ is) in
-        let tree = same_Some p q (sym (get_last earlier p)
-        ∙ (ap (λ (d : Callee). slice_get (earlier ++ p ∷ []) d.number) same ∙ get)) in
-        let absent = stand.new text (ap (found scope) ((bytes_decides text p.name).0 e) ∙ new) in
-        subst (IsCallable (earlier ++ p ∷ []) scope.profile text c) tree (record {
-          before = earlier;
-          at = scope;
-          observed = refl;
-          is = named-new [] earlier p text absent e;
-          quiet = ap (λ (d : Callee). d.assigns_public) (sym same);
-          good = good;
-        })
-    callable_by good text c q false e is get =
-        let old = sym (there text e) ∙ is in
-        let k = stand.callable text c q old (sym (get_front earlier p c.number (stand.below text c old)) ∙ get) in
-        record {
-          before = k.before;
-          at = k.at;
-          observed = k.observed;
-          is = named-kept [] earlier p text _ k.is;
-          quiet =
-              k.quiet;
-          good = k.good;
-        }
+    callable_by : Good earlier scope p → EachCallable (earlier ++ p ∷ []) (IsCallable (earlier ++ p ∷ [])) after
+    callable_by good text c q is get = elim (cases_Bool (bytes_eq text p.name)) [
+      | inl e ↦ (
+          let same = same_callee own c (sym (here text e) ∙ is) in
+          let tree = same_Some p q (sym (get_last earlier p)
+          ∙ (ap (λ (d : Callee). slice_get (earlier ++ p ∷ []) d.number) same ∙ get)) in
+          let absent = stand.new text (ap (found scope) ((bytes_decides text p.name).0 e) ∙ new) in
+          subst (IsCallable (earlier ++ p ∷ []) scope.profile text c) tree (record {
+            before = earlier;
+            at = scope;
+            observed = refl;
+            is = rw (named-more [] earlier p text, absent, e) refl;
+            quiet = ap (λ (d : Callee). d.assigns_public) (sym same);
+            good = good;
+          }))
+      | inr e ↦ (
+          let old = sym (there text e) ∙ is in
+          let k = stand.callable text c q old (sym (get_front earlier p c.number (stand.below text c old)) ∙ get) in
+          record {
+            before = k.before;
+            at = k.at;
+            observed = k.observed;
+            is = rw (named-more [] earlier p text, k.is) refl;
+            quiet = k.quiet;
+            good = k.good;
+          })
+    ]
 
     one_stands : Good earlier scope p → Stand (earlier ++ p ∷ []) after
-    one_stands good = record {
-      variables = variables_within;
-      below = below_by;
-      new = new_by;
-      callable = λ text c q. callable_by good text c q (bytes_eq text p.name) refl;
-    }
+    one_stands good =
+        record { variables = variables_within; below = below_by; new = new_by; callable = callable_by good }
 
   -- the export behind the procedures that it may call
   pub record Exported (profile : Profile) (before : List ProcedureTree) (p : ProcedureTree) : Type 0 where

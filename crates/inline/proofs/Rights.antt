@@ -1,7 +1,7 @@
 -- A right side comes to the same, and changes only what may be changed.
-use Rattle.std.proofs.Common.{◌≡◌, ℕ, List, Option, Some, None, refl, ap, ◌∙◌, subst}
+use Rattle.std.proofs.Common.{◌≡◌, ℕ, List, Option, Some, None, refl, subst}
 use Rattle.inline.specs.Flat as flat
-use Rattle.inline.specs.Flat.{TermTree, chain}
+use Rattle.inline.specs.Flat.{TermTree}
 use Rattle.inline.specs.FlatMeaning.{Values, value_in, path_in, after_all, path_along, path_of_result}
 use Rattle.inline.specs.Numbering.{Numbers, callables, single, call_block, call_value, call_result, value_given}
 use Rattle.inline.specs.Numbering.{right_block, right}
@@ -41,23 +41,21 @@ pub given_word : {m : Values} {given : WordType} {value : Option TermTree} {w : 
     → HasResult m (Some given) value w → word_given w ≡ word_at given.kind (value_in m (value_given value))
 given_word (a_word same) = same
 
-module _ (earlier : List ProcedureTree) (scope : Scope) (names : Numbers) (n : ℕ)
+module _ {earlier : List ProcedureTree} {scope : Scope} {names : Numbers} {n : ℕ}
     (ready : Ready earlier scope names n) where
   -- a call that gives a word
   pub call_gives : {control : Label} {c : CallTree} {given : WordType}
       → rules.IsCall earlier scope control c (Word given) → (s : State) (m : Values) → Shows names s m
       → IsSmallRight (called c)
-      → Comes (Rights earlier s (called c))
-      (IsGiven names (after_all m (call_block (callables earlier c.name) names n c.arguments)) given
-      (value_given (call_value (callables earlier c.name) names n c.arguments)))
-      (either (first_fault (path_along m (call_block (callables earlier c.name) names n c.arguments)))
-      (first_fault (path_in (after_all m (call_block (callables earlier c.name) names n c.arguments))
-      (value_given (call_value (callables earlier c.name) names n c.arguments)))))
-  call_gives {c = c} {given = given} is s m shows small =
-      let k = call_means earlier scope names n ready is in
-      let tree = call_block (callables earlier c.name) names n c.arguments in
-      let value = call_value (callables earlier c.name) names n c.arguments in
+      → (let tree = call_block (callables earlier c.name) names n c.arguments in
+      let value = value_given (call_value (callables earlier c.name) names n c.arguments) in
       let end = after_all m tree in
+      Comes (Rights earlier s (called c)) (IsGiven names end given value)
+      (either (first_fault (path_along m tree)) (first_fault (path_in end value))))
+  call_gives {c = c} {given = given} is s m shows small =
+      let k = call_means ready is in
+      let value = call_value (callables earlier c.name) names n c.arguments in
+      let end = after_all m (call_block (callables earlier c.name) names n c.arguments) in
       let result = word_result (call_result (callables earlier c.name)) given k.result in
       rw (← path_given end value)
       (also (k.comes s m shows small)
@@ -84,16 +82,15 @@ module _ (earlier : List ProcedureTree) (scope : Scope) (names : Numbers) (n : �
 
   pub right_means : {control : Label} {value : RightTree} {given : WordType}
       → rules.Gives earlier scope control value (Word given) → RightMeans value given
-  right_means {given = given} (rules.of_value {e = e} has) = record {
+  right_means (rules.of_value has) = record {
     comes = λ s m shows small.
-        also ((means scope names ready.types n ready.linked has small).value s m shows)
+        also ((means ready.linked has small).value s m shows)
         (λ w is same. (record { word = Some w; state = s }, of_expr is, record { word = same; shows = shows }))
         (λ at is. expr_faults is);
     keeps = λ x spares m. refl;
   }
-  right_means {given = given} (rules.of_call {c = c} is) =
+  right_means (rules.of_call {c = c} is) =
       let tree = call_block (callables earlier c.name) names n c.arguments in
-      let value = value_given (call_value (callables earlier c.name) names n c.arguments) in
       record {
         comes = λ s m shows small.
             rw (
@@ -101,6 +98,5 @@ module _ (earlier : List ProcedureTree) (scope : Scope) (names : Numbers) (n : �
               fault_chain tree (single flat.skip) m,
               either-none (first_fault (path_along m tree)),
             ) (call_gives is s m shows small);
-        keeps = λ x spares m. ap (λ (end : Values). end x) (after_chain tree (single flat.skip) m)
-            ∙ (call_means earlier scope names n ready is).keeps x spares m;
+        keeps = λ x spares m. rw after_chain ((call_means ready is).keeps x spares m);
       }

@@ -1,7 +1,6 @@
 -- States of the source beside the values of numbered variables, as declarations and assignments change both.
-use Rattle.std.proofs.Common.{◌≡◌, ℕ, ◌+◌, true, if◌then◌else◌, List, Option, Some, None, refl, sym, ap}
-use Rattle.std.proofs.Common.{◌∙◌, subst, arith, true≢false, ne_eqb, eq-eqb}
-use Rattle.std.proofs.Common.{inl, inr}
+use Rattle.std.proofs.Common.{◌≡◌, ℕ, ◌+◌, true, if◌then◌else◌, List, Some, None, refl, sym, ap, ◌∙◌, subst}
+use Rattle.std.proofs.Common.{true≢false, ne_eqb, eq-eqb, inl, inr}
 use Rattle.std.proofs.lemmas.Bool.{cases_Bool}
 use Rattle.std.proofs.lemmas.Option.{same_Some}
 use Rattle.std.specs.Str.{bytes_eq}
@@ -19,7 +18,7 @@ use Rattle.language.specs.Tree.{StatementTree, declaration, array}
 use Rattle.language.specs.Tree.{BlockTree, nothing, first}
 use Rattle.language.specs.Types.{Scope}
 use Rattle.language.specs.WellTyped.{labelled}
-use Rattle.inline.proofs.Linked.{Linked, entry}
+use Rattle.inline.proofs.Linked.{Linked, entry, not_named}
 use Rattle.inline.proofs.Below.{found-new, found-other, found-kept}
 use Rattle.inline.proofs.Terms.{Holds, Shows}
 
@@ -29,14 +28,8 @@ with_value-other m x y v other = ap (λ b. if b then v else m y) (ne_eqb y x oth
 pub with_value-same : (m : Values) (x : ℕ) (v : List ℕ) → flat.with_value m x v x ≡ v
 with_value-same m x v = ap (λ b. if b then v else m x) (eq-eqb x x refl)
 
--- equal parts hold alike
-holds_by : {d e : FlatVariable} {o p : Option Value} {a b : List ℕ} → d ≡ e → o ≡ p → a ≡ b → Holds d o a
-    → Holds e p b
-holds_by {d = d} {e = e} {o = o} {p = p} {a = a} {b = b} same one other holds =
-    subst (λ c. Holds c p b) same (subst (λ q. Holds d q b) one (subst (λ ns. Holds d o ns) other holds))
-
-module _ (scope : Scope) (names : Numbers) (types : Types) (n : ℕ) (linked : Linked scope names types n) (s : State)
-    (m : Values) (shows : Shows names s m) (text : List ℕ) (own : FlatVariable) (v : Value) (numbers : List ℕ)
+module _ {scope : Scope} {names : Numbers} {types : Types} {n : ℕ} (linked : Linked scope names types n) (s : State)
+    (m : Values) (shows : Shows names s m) (text : List ℕ) {own : FlatVariable} {v : Value} {numbers : List ℕ}
     (holds : Holds own (Some v) numbers) where
   -- after a declaration
   pub shows_declared : found scope.names text ≡ None
@@ -45,13 +38,11 @@ module _ (scope : Scope) (names : Numbers) (types : Types) (n : ℕ) (linked : L
     | inl e ↦ (
         let same = same_Some (entry n own) x (sym (found-new names text (entry n own) other e (linked.none text new))
         ∙ is) in
-        holds_by (ap (λ (y : Numbered). y.declaration) same) (sym (ap (λ b. if b then Some v else s other) e))
-        (sym (with_value-same m n numbers) ∙ ap (λ (y : Numbered). flat.with_value m n numbers y.number) same) holds)
+        subst (λ (y : Numbered). Holds y.declaration (with_value s text v other) (flat.with_value m n numbers y.number))
+        same (rw (e, with_value-same m n numbers) holds))
     | inr e ↦ (
         let old = sym (found-other names text (entry n own) other e) ∙ is in
-        let low = linked.below other x old in
-        holds_by refl (sym (ap (λ b. if b then Some v else s other) e))
-        (sym (with_value-other m n x.number numbers (λ q. omega arith))) (shows other x old))
+        rw (e, with_value-other m n x.number numbers (not_named linked other x old)) (shows other x old))
   ]
 
   -- after an assignment
@@ -61,14 +52,13 @@ module _ (scope : Scope) (names : Numbers) (types : Types) (n : ℕ) (linked : L
     | inl e ↦ (
         let same = same_Some (entry y own) x (sym known
         ∙ (ap (found names) (sym ((bytes_decides other text).0 e)) ∙ is)) in
-        holds_by (ap (λ (z : Numbered). z.declaration) same) (sym (ap (λ b. if b then Some v else s other) e))
-        (sym (with_value-same m y numbers) ∙ ap (λ (z : Numbered). flat.with_value m y numbers z.number) same) holds)
+        subst (λ (z : Numbered). Holds z.declaration (with_value s text v other) (flat.with_value m y numbers z.number))
+        same (rw (e, with_value-same m y numbers) holds))
     | inr e ↦ (
         let apart = λ (q : x.number ≡ y). true≢false
         (sym ((bytes_decides other text).1 (sym (linked.apart text other (entry y own) x known is (sym q) free)))
         ∙ e) in
-        holds_by refl (sym (ap (λ b. if b then Some v else s other) e))
-        (sym (with_value-other m y x.number numbers apart)) (shows other x is))
+        rw (e, with_value-other m y x.number numbers apart) (shows other x is))
   ]
 
 -- What holds of a state where no number of a name has changed.

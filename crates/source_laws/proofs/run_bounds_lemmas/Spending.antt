@@ -112,10 +112,9 @@ module _ (ps : List ProcedureTree) where
 
       entered : Enters counted.good.behaves.scope names p.parameters c.arguments own own_types start
       entered =
-          enters scope names passed_are counted.good.behaves.scope [] ready.types n counted.good.behaves.parameters
-          ready.linked
-          (no_names counted.good.behaves.scope counted.good.behaves.procedures ready.types n (ready.linked.observed
-          ∙ sym (counted.good.behaves.observed ∙ counted.observed)) ready.linked.fresh)
+          enters passed_are counted.good.behaves.parameters ready.linked
+          (no_names counted.good.behaves.procedures
+          (ready.linked.observed ∙ sym (counted.good.behaves.observed ∙ counted.observed)) ready.linked.fresh)
           (distinct_none names p.parameters c.arguments)
 
       abbrev CallSpends : Option Runnable → Option Callable → State → Values → Type 0
@@ -138,7 +137,7 @@ module _ (ps : List ProcedureTree) where
           tick_within _ (nodes_passed words + inner) _
           (then_within (passed s words) _ (nodes_passed words) inner _ (passed_spends s words)
           (λ vs is.
-          let held = reached (passed_comes scope names ready.types s passed_are small n ready.linked m shows)
+          let held = reached (passed_comes passed_are small ready.linked m shows)
           (passed s words).ends (λ e d. passed-worked s words e d) vs is in
           let began = begun s p.parameters c.arguments vs in
           then_within (inside (body_run (runnables counted.before) p began)) _ inner 0 _
@@ -239,7 +238,7 @@ module _ (ps : List ProcedureTree) where
         index} is has (rules.of_call {c = c} given) suit flow) names n ready calls plain s m shows =
         let held = flat_tree.hold n bracket (size_of names text) (term names index) in
         let began = flat.with_value m n (value_in m (term names index) ∷ []) in
-        let next = ready_later n (n + 1) (omega arith) ready in
+        let next = ready_later {m = n + 1} (omega arith) ready in
         let tree = call_block (callables ps c.name) names (n + 1) c.arguments in
         let taken = call_value (callables ps c.name) names (n + 1) c.arguments in
         let last = flat_tree.put bracket (number_of names text) (size_of names text) (flat_tree.variable n)
@@ -261,7 +260,7 @@ module _ (ps : List ProcedureTree) where
         (omega arith))
         (omega (arith, same_nodes names index, whole, given_nodes taken))
     statement_spends (rules.calls {scope = scope} {c = c} is) names n ready calls plain s m shows =
-        let known = call_means ps scope names n ready is in
+        let known = call_means ready is in
         let tree = call_block (callables ps c.name) names n c.arguments in
         let k = n + length (call_variables (callables ps c.name) c.arguments) in
         let result = call_result (callables ps c.name) in
@@ -275,7 +274,7 @@ module _ (ps : List ProcedureTree) where
     statement_spends (rules.chooses {scope = scope} {condition = condition} {accepted = accepted} {otherwise =
         otherwise} has one other) names n ready calls plain s m shows =
         let k = n + numbers_taken_all (callables ps) accepted in
-        let next = ready_later n k (omega arith) ready in
+        let next = ready_later {m = k} (omega arith) ready in
         let v = value_in m (term names condition) in
         let a = evaluated_all m (block (callables ps) names n accepted) in
         let o = evaluated_all m (block (callables ps) names k otherwise) in
@@ -286,7 +285,7 @@ module _ (ps : List ProcedureTree) where
         tick_within _ (nodes_in condition + most) _
         (then_within (value s condition) _ (nodes_in condition) most _ (value_spends s condition)
         (λ c is.
-        let same = reached ((means scope names ready.types n ready.linked has plain.0).value s m shows)
+        let same = reached ((means ready.linked has plain.0).value s m shows)
         (value s condition).ends (λ e d. value-worked s condition e d) c is in
         subst (λ (w : Word). (if not (w.value == 0) then run_all (runnables ps) s accepted
         else run_all (runnables ps) s otherwise).nodes ≤ most) (sym same) arms)
@@ -303,9 +302,9 @@ module _ (ps : List ProcedureTree) where
         let count = λ (i : ℕ) (t : Values). evaluated_all (flat.with_value t n (i ∷ [])) flat_body in
         let turn = λ (i : ℕ) (t : State). run_all (runnables ps) (counting t text i) body in
         let began = λ (i : ℕ) (s : State) (m : Values) (shows : Shows names s m).
-        shows_declared scope names ready.types n ready.linked s m shows text own (single (word_at Uint32 i)) (i ∷ [])
+        shows_declared ready.linked s m shows text {own = own} {v = single (word_at Uint32 i)} {numbers = i ∷ []}
         (record { is = refl; count = refl }) new in
-        let within = ready_declared n ready text own new in
+        let within = ready_declared ready text own new in
         let calls_within = callable_declared ps (IsCallable HasBound ps) scope text _ calls in
         let each = λ (i : ℕ) (s : State) (m : Values) (shows : Shows names s m).
         block_spends inner inside_names (n + 1) within calls_within plain.2 (counting s text i)
@@ -313,7 +312,7 @@ module _ (ps : List ProcedureTree) where
         let keeps = λ (i : ℕ) (s : State) (m : Values) (t : State) (shows : Shows names s m)
         (is : (turn i s).ends ≡ gives t).
         let good =
-        reached (same_ends ps inner inside_names (n + 1) within plain.2 (counting s text i)
+        reached (same_ends inner within plain.2 (counting s text i)
         (flat.with_value m n (i ∷ [])) (began i s m shows)) (turn i s).ends
         (λ e d. block-worked ps (counting s text i) body e d) t is in
         λ (other : List ℕ) (x : Numbered) (there : found names other ≡ Some x).
@@ -324,11 +323,11 @@ module _ (ps : List ProcedureTree) where
         tick_within _ (nodes_in low + nodes_in high + most) _
         (then_within (value s low) _ (nodes_in low) (nodes_in high + most) _ (value_spends s low)
         (λ u is.
-        let first = reached ((means scope names ready.types n ready.linked one plain.0).value s m shows)
+        let first = reached ((means ready.linked one plain.0).value s m shows)
         (value s low).ends (λ e d. value-worked s low e d) u is in
         then_within (value s high) _ (nodes_in high) most _ (value_spends s high)
         (λ w is'.
-        let second = reached ((means scope names ready.types n ready.linked other plain.1).value s m shows)
+        let second = reached ((means ready.linked other plain.1).value s m shows)
         (value s high).ends (λ e d. value-worked s high e d) w is' in
         subst (λ (y : Word). (turns (y.value - u.value) u.value turn s).nodes ≤ most) (sym second)
         (subst (λ (x : Word). (turns (b - x.value) x.value turn s).nodes ≤ most) (sym first) all))
@@ -352,8 +351,8 @@ module _ (ps : List ProcedureTree) where
         (evaluated_all (after_all m tree) more) _
         (statement_spends here names n ready calls plain.0 s m shows)
         (λ t is.
-        let good = reached (same_end ps here names n ready plain.0 s m shows) (run (runnables ps) s statement).ends
+        let good = reached (same_end here ready plain.0 s m shows) (run (runnables ps) s statement).ends
         (λ e d. statement-worked ps s statement e d) t is in
-        block_spends there later_names k (ready_after ps here names n ready)
+        block_spends there later_names k (ready_after here ready)
         (callable_after ps (IsCallable HasBound ps) here calls) plain.1 t (after_all m tree) good)
         (omega (arith, whole))
