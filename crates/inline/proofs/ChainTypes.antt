@@ -1,8 +1,7 @@
 -- A block and another behind it: what is known of both is known of the two.
-use Rattle.std.proofs.Common.{◌≡◌, ℕ, ◌+◌, ◌<◌, ◌≤◌, false, List, refl, sym, ◌∙◌, subst, arith}
+use Rattle.std.proofs.Common.{◌≡◌, ℕ, ◌+◌, ◌<◌, ◌≤◌, List, refl, ◌∙◌, subst, arith}
 use Rattle.inline.specs.declared.flat.FlatVariable.{FlatVariable}
-use Rattle.inline.specs.Flat.{FlatTree, declare, array, hold, FlatBlock, nothing}
-use Rattle.inline.specs.Flat.{first, chain, word_as, array_as, counter_type}
+use Rattle.inline.specs.Flat.{FlatTree, declare, array, hold, FlatBlock, nothing, first, chain}
 use Rattle.inline.specs.FlatSize.{body_nodes}
 use Rattle.inline.specs.FlatTyping.{Types, with_type, AreTyped, types_after, types_after_all, declarations_in}
 use Rattle.inline.specs.FlatTyping.{declarations_in_all, IsNumbered, AreNumbered}
@@ -47,12 +46,9 @@ module _ (P : ℕ → Types → Type 0)
     (goes_on : (n m : ℕ) (types : Types) → n ≤ m → P n types → P m types) where
   kept_by_one : (s : FlatTree) (n : ℕ) (types : Types) → IsNumbered n s → P n types
       → P (n + declarations_in s) (types_after types s)
-  kept_by_one (declare x word mutable value) n types is kept =
-      subst (λ y. P (n + 1) (with_type types y (word_as word mutable))) (sym is) (declares n types _ kept)
-  kept_by_one (array x word mutable size values) n types is kept =
-      subst (λ y. P (n + 1) (with_type types y (array_as word mutable size))) (sym is) (declares n types _ kept)
-  kept_by_one (hold x place size index) n types is kept =
-      subst (λ y. P (n + 1) (with_type types y (word_as counter_type false))) (sym is) (declares n types _ kept)
+  kept_by_one (declare x word mutable value) n types is kept = rw is (declares n types _ kept)
+  kept_by_one (array x word mutable size values) n types is kept = rw is (declares n types _ kept)
+  kept_by_one (hold x place size index) n types is kept = rw is (declares n types _ kept)
   kept_by_one other n types is kept = goes_on n (n + declarations_in other) types (omega arith) kept
 
   pub kept_by_numbered : (b : FlatBlock) (n : ℕ) (types : Types) → AreNumbered n b → P n types

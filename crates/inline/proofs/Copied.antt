@@ -97,9 +97,7 @@ module _ {scope : Scope} {names : Numbers} {types : Types} {n : ℕ} (linked : L
         | inl same ↦ (
             let alike = same_Some (entry (number_of names array) d) x (sym k.found
             ∙ (ap (found names) (sym ((bytes_decides text array).0 same)) ∙ there)) in
-            subst (λ (y : Numbered). Holds y.declaration (gone_back p.form s t (name place array) p.name text)
-            (m y.number)) alike
-            (rw (form, holds.is, same) (record { is = rw size; count = holds.count ∙ ap numbers_in size })))
+            rw (← alike, form, holds.is, same) (record { is = rw size; count = holds.count ∙ ap numbers_in size }))
         | inr other ↦ (
             let apart = λ (same : number_of names array ≡ x.number).
             (bytes_decides text array).1 (sym (linked.apart array text _ x k.found there same refl)) in

@@ -1,5 +1,5 @@
 -- What counts say of the extents that they are counts of: the same, as far as a count goes.
-use Rattle.std.proofs.Common.{◌≡◌, ℕ, Option, Some, None, refl, subst, sym, arith}
+use Rattle.std.proofs.Common.{◌≡◌, ℕ, Option, Some, None, refl, arith}
 use Rattle.std.specs.Option.{option_map}
 use Rattle.inline.specs.Counts.{AreCountsTo, counted_to, extent_to}
 use Rattle.language.specs.Size.{Extent, Extents, called_nodes, right_nodes, statement_nodes, block_nodes}
@@ -26,7 +26,7 @@ module _ (most : ℕ) where
 
   module _ (counts extents : Extents) (same : AreCountsTo most counts extents) where
     call_alike : (c : CallTree) → CallAlike c (counts c.name) (extents c.name)
-    call_alike c = subst (λ e. CallAlike c e (extents c.name)) (sym (same c.name)) (called_alike c (extents c.name))
+    call_alike c = rw (same c.name) (called_alike c (extents c.name))
 
     right_alike : (r : RightTree) → AreAlike (right_nodes counts r) (right_words counts r) (right_bodies counts r)
         (right_nodes extents r) (right_words extents r) (right_bodies extents r)

@@ -1,7 +1,7 @@
 -- A well-typed statement comes to the same once its names are numbers.
 use Rattle.std.proofs.Common.{◌≡◌, ℕ, zero, suc, ◌+◌, ◌-◌, ◌<◌, ◌==◌, Bool, true, false, not, List, [], ◌∷◌, length}
-use Rattle.std.proofs.Common.{map, replicate, Option, Some, None, slice_index, slice_set, refl, sym, ap, ap₂, ◌∙◌}
-use Rattle.std.proofs.Common.{subst, arith, inl, inr}
+use Rattle.std.proofs.Common.{map, Option, Some, None, slice_index, slice_set, refl, sym, ap, ap₂, ◌∙◌, arith, inl}
+use Rattle.std.proofs.Common.{inr}
 use Rattle.std.proofs.lemmas.Bool.{cases_Bool}
 use Rattle.std.proofs.lemmas.List.{length-set, length-replicate, length-map}
 use Rattle.word.specs.declared.place.Place.{Place}
@@ -56,24 +56,16 @@ holds_word own mutable w v same = record { is = ap (λ u. Some (single u)) same;
 
 -- Arrays.
 
--- what an array of so many holds, of which these are the first values
-abbrev filled : ℕ → List ℕ → List ℕ
-filled size [] = replicate size 0
-filled size (v ∷ vs) = v ∷ vs
-
 unworded : (kind : Kind) (vs : List ℕ) → map (λ (w : state.Word). w.value) (map (word_at kind) vs) ≡ vs
 unworded kind [] = refl
 unworded kind (v ∷ vs) = ap (λ us. v ∷ us) (unworded kind vs)
 
-made_filled : (kind : Kind) (size : ℕ) (vs : List ℕ)
-    → made_array kind size (map (word_at kind) vs) ≡ state.array kind (filled size vs)
-made_filled kind size [] = refl
-made_filled kind size (v ∷ vs) = ap (λ us. state.array kind (v ∷ us)) (unworded kind vs)
-
-elements_filled : (m : Values) (size : ℕ) (es : List TermTree)
-    → elements m size es ≡ filled size (map (value_in m) es)
-elements_filled m size [] = refl
-elements_filled m size (e ∷ es) = refl
+-- a new array holds its first values, or zeros
+made_elements : (kind : Kind) (size : ℕ) (m : Values) (es : List TermTree)
+    → made_array kind size (map (word_at kind) (map (value_in m) es)) ≡ state.array kind (elements m size es)
+made_elements kind size m [] = refl
+made_elements kind size m (e ∷ es) =
+    ap (λ us. state.array kind (value_in m e ∷ us)) (unworded kind (map (value_in m) es))
 
 filled_count : (m : Values) (names : Numbers) {size : ℕ} {values : Option (List ExprTree)}
     → rules.HasCount size values
@@ -129,9 +121,7 @@ element_shown {names = names} linked text own is s m shows {i = i} {v = v} same 
     let holds = shows text (entry y d) x.found in
     let changed : Holds d (Some (state.array own.element.kind (slice_set (m y) i v))) (slice_set (m y) i v) =
     record { is = refl; count = length-set (m y) i v ∙ holds.count } in
-    subst (λ t. Shows names t (flat.with_value m y (slice_set (m y) i v)))
-    (ap (λ o. with_some s text (with_element o i (word_at own.element.kind v))) (sym holds.is)
-    ∙ ap₂ (λ (j z : state.Word). with_some s text (with_element (s text) j.value z)) (sym same) (sym alike))
+    rw (same, alike, holds.is)
     (shows_changed linked s m shows text changed y x.found refl)
 
 -- what is to be shown of a statement and of a block
@@ -185,9 +175,7 @@ module _ {ps : List ProcedureTree} where
         (also (values_come ready.linked s m shows all (small_values values plain.1))
         (λ vs is same.
         let holds : Holds d (Some (made_array kind size vs)) (elements m size terms) = record {
-          is = ap (λ us. Some (made_array kind size us)) same
-              ∙ (ap Some (made_filled kind size (map (value_in m) terms))
-              ∙ ap (λ us. Some (state.array kind us)) (sym (elements_filled m size terms)));
+          is = rw same (ap Some (made_elements kind size m terms));
           count = filled_count m names count;
         } in (
           with_value s text (made_array kind size vs),

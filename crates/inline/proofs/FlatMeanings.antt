@@ -1,6 +1,5 @@
 -- A program that violates no rule comes to what the flat program comes to.
-use Rattle.std.proofs.Common.{◌≡◌, ℕ, ◌+◌, List, [], ◌++◌, length, map, Option, None, Some, refl, sym, ap, ap₂, ◌∙◌}
-use Rattle.std.proofs.Common.{subst}
+use Rattle.std.proofs.Common.{◌≡◌, ℕ, ◌+◌, List, [], ◌++◌, length, map, Option, None, Some, refl, ap, ap₂, ◌∙◌}
 use Rattle.std.specs.List.{AllByRecursion}
 use Rattle.std.specs.Option.{option_map}
 use Rattle.word.specs.declared.place.Place.{Place}
@@ -124,7 +123,7 @@ ended : (program : ProgramTree) (args : List Arg) (before : List ProcedureTree) 
     } ≡ outcome) fault
     → Gives program args (ending_by fault outcome)
 ended program args before p outcome fault is (well r body same) =
-    subst (λ x. Gives program args (gives x)) same (ends_well is body)
+    rw (← same) (ends_well is body)
 ended program args before p outcome fault is (fails at body) = meets_fault is body
 
 pub flat_keeps_meaning : (profile : Profile) (program : ProgramTree) (before : List ProcedureTree) (p : ProcedureTree)
@@ -147,9 +146,7 @@ flat_keeps_meaning profile program before p args h is grammatical plain within =
     let named = (where_begun profile scope e.observed variables p.parameters e.typed.parameters).named in
     ended program args before p (outcome_of (flattened profile before p) args)
     (first_fault (path_along from body ++ path_of_result m value)) is
-    (subst (Comes (Bodies before p start) (λ r. _ ≡ outcome_of (flattened profile before p) args))
-    (sym (across (path_along from body) (path_of_result m value)))
-    (also (body_comes before e.scope p e.stand e.typed plain names
+    (rw (across (path_along from body) (path_of_result m value)) (also (body_comes before e.scope p e.stand e.typed plain names
     (parameter_types profile (map param_of p.parameters))
     n linked start from (shows_arguments p.parameters (declared_in_all known p.body) args within))
     (λ r bodies agrees. (

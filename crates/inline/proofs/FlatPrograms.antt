@@ -1,14 +1,13 @@
 -- The export of a program that violates no rule is a well-typed flat program.
-use Rattle.std.proofs.Common.{◌≡◌, ℕ, ◌+◌, false, List, [], ◌∷◌, ◌++◌, length, map, take, Option, Some, refl, sym, ap}
-use Rattle.std.proofs.Common.{◌∙◌, subst, arith}
+use Rattle.std.proofs.Common.{◌≡◌, ℕ, ◌+◌, false, List, [], ◌++◌, length, map, take, Option, Some, refl, sym, ap, ◌∙◌}
 use Rattle.std.proofs.Math.Seq.{take-append_seam}
 use Rattle.std.proofs.lemmas.Bool.{or_parts}
 use Rattle.std.proofs.lemmas.List.{length-map}
 use Rattle.std.specs.List.{AllByRecursion}
 use Rattle.word.specs.declared.profile.Profile.{Profile}
 use Rattle.inline.specs.declared.flat.FlatVariable.{FlatVariable}
-use Rattle.inline.specs.FlatTyping.{Types, IsTypedProgram, AreNumbered, AreTyped, IsResult, parameter_types}
-use Rattle.inline.specs.FlatTyping.{types_after_all}
+use Rattle.inline.specs.Flat.{declaration_of}
+use Rattle.inline.specs.FlatTyping.{Types, IsTypedProgram, AreTyped, IsResult, parameter_types, types_after_all}
 use Rattle.inline.specs.Numbering.{Numbers, param_of, parameter_names, flattened, callables, block, declared_in_all}
 use Rattle.inline.specs.Numbering.{names_after_all, value_of}
 use Rattle.language.specs.declared.signature.Label.{Label}
@@ -71,8 +70,8 @@ module _ (before : List ProcedureTree) (at : Scope) (p : ProcedureTree) (stand :
       → Lists all n (declared_in_all (callables before) p.body)
       → AreTyped all types control (block (callables before) names n p.body)
   body_typed all control names types n linked quiet lists =
-      subst (λ l. AreTyped all types l (block (callables before) names n p.body)) (joined-public control)
-      (typed_block before at stand all control typed.body within (hushed control quiet) linked plain.body lists)
+      rw (joined-public control) at (typed_block before at stand all control typed.body within (hushed control quiet)
+      linked plain.body lists)
 
   body_gives : (names : Numbers) (types : Types) (n : ℕ) → Linked inside names types n
       → IsResult (types_after_all types (block (callables before) names n p.body)) p.result
@@ -99,8 +98,7 @@ export_typed profile program before p h is plain = own_typing TypedBody IsGramma
 
 -- each parameter has a number
 own_count : (ps : List ParameterTree) → length (all_own ps) ≡ length ps
-own_count [] = refl
-own_count (p ∷ ps) = omega (arith, own_count ps)
+own_count ps = length-map (map param_of ps) declaration_of ∙ length-map ps param_of
 
 pub flat_is_typed : (profile : Profile) (program : ProgramTree) (before : List ProcedureTree) (p : ProcedureTree)
     → length (violations profile program) ≡ 0 → exported [] program.procedures ≡ Some (before, p)
@@ -119,10 +117,9 @@ flat_is_typed profile program before p h is earlier plain =
     record {
       parameters = ap (λ k. take k (front ++ back)) (many ∙ sym (own_count p.parameters))
           ∙ take-append_seam front back;
-      numbered = subst (λ k. AreNumbered k (block (callables before) (parameter_names p) n p.body)) (sym many)
-          (block_takes (callables before) (all_counted before) (parameter_names p) n p.body).numbered;
+      numbered = rw many (block_takes (callables before) (all_counted before) (parameter_names p) n p.body).numbered;
       body = one.typed (front ++ back) Public (parameter_names p) types n linked (λ e. absurd (public_not_secret e))
-          (subst (λ k. Lists (front ++ back) k back) (own_count p.parameters) (lists_end front back));
+          (rw (own_count p.parameters) at (lists_end front back));
       result = one.result (parameter_names p) types n linked;
     }
   where

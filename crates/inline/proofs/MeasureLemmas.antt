@@ -1,7 +1,6 @@
 -- Procedures that were measured, and the limits by what was counted.
 use Rattle.std.proofs.Common.{◌≡◌, ℕ, ◌+◌, ◌*◌, ◌<◌, ◌≤◌, ◌||◌, Bool, nat_lt, List, [], ◌++◌}
-use Rattle.std.proofs.Common.{length, map, Some, Result, Ok, Err, IfOk, IfErr, inr, refl}
-use Rattle.std.proofs.Common.{sym, ap, ap₂, subst, ◌∙◌, arith}
+use Rattle.std.proofs.Common.{length, map, Some, Result, Ok, Err, IfOk, IfErr, inr, refl, sym, ap, ap₂, ◌∙◌, arith}
 use Rattle.std.proofs.lemmas.Bool.Decides.{nat_tests}
 use Rattle.inline.proofs.CountLemmas.{block_alike}
 use Rattle.inline.specs.declared.measured.Measured.{Measured}
@@ -92,10 +91,4 @@ module _ (extents : Extents) (p : ProcedureTree) (size : Size)
       IfErr r (λ refusal. IsRefusedFor own refusal.rule refusal.place)
   refused_told (Ok n) here first = tt
   refused_told (Err e) here first =
-      inr (
-        record { place = p.place; rule = e.rule },
-        subst
-            (λ all. IsFirst all (record { place = p.place; rule = e.rule })) limits first,
-        refl,
-        here,
-      )
+      inr (record { place = p.place; rule = e.rule }, rw limits at first, refl, here)

@@ -1,6 +1,6 @@
 -- Where a body begins: the parameters have the first numbers, and hold the arguments.
 use Rattle.std.proofs.Common.{◌≡◌, ◌≢◌, ℕ, suc, ◌+◌, ◌<◌, ◌≤◌, true, inl, inr, List, [], ◌∷◌, ◌++◌, length, map}
-use Rattle.std.proofs.Common.{Option, Some, None, slice_get, refl, sym, ap, ◌∙◌, subst, arith}
+use Rattle.std.proofs.Common.{Option, Some, None, slice_get, refl, sym, ap, ◌∙◌, arith}
 use Rattle.std.proofs.lemmas.Bool.{cases_Bool}
 use Rattle.std.proofs.Common.{append_assoc, append-nil, length-append}
 use Rattle.std.proofs.lemmas.Option.{none-some, same_Some, slice_get_past}
@@ -58,9 +58,8 @@ pub linked_parameter : {scope : Scope} {names : Numbers} {types : Types} {n : �
     → ((other : List ℕ) (x : Numbered) → found names other ≡ Some x → x.number ≡ number
     → (x.declaration.mutable ≡ true → ⊥) × ((own p).mutable ≡ true → ⊥))
     → Linked (declared scope p.name (parameter_as p)) (naming names p.name number (own p)) types n
-linked_parameter {scope = scope} {names = names} {types = types} {n = n} linked p new number low serves clear =
-    subst (λ v. Linked (declared scope p.name v) (naming names p.name number (own p)) types n) (parameter_same p)
-    (linked_named linked p.name new number (own p) low serves clear)
+linked_parameter linked p new number low serves clear =
+    rw (← parameter_same p) (linked_named linked p.name new number (own p) low serves clear)
 
 -- the next number, where the parameter is declared so
 pub linked_own : {scope : Scope} {names : Numbers} {types : Types} {n : ℕ} → Linked scope names types n
@@ -186,8 +185,7 @@ passed (p ∷ ps) names n rest (arg ∷ args) m within are text x none is = elim
       let here = kept_parameters ps (naming names p.name n (own p)) (n + 1) text (entry n (own p))
       (found-new names p.name (entry n (own p)) text e new) in
       let words : m n ≡ words_of arg = ap m (omega arith) ∙ are 0 in
-      subst (λ (y : Numbered). Holds y.declaration (holding (p ∷ ps) (arg ∷ args) text) (m y.number))
-      (same_Some (entry n (own p)) x (sym here ∙ is)) (record {
+      rw (← same_Some (entry n (own p)) x (sym here ∙ is)) (record {
         is = rw (e, words) (argument_held p.kind p.form p.length arg within.0.shape);
         count = rw words (argument_count p.form p.length arg within.0.shape);
       }))

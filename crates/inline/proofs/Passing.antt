@@ -6,7 +6,6 @@ use Rattle.std.proofs.lemmas.Option.{none-some, same_Some}
 use Rattle.std.specs.Str.{bytes_eq}
 use lib.Pointwise.{bytes_decides}
 use Rattle.inline.specs.declared.numbering.Numbered.{Numbered}
-use Rattle.inline.specs.Flat.{elements_by, numbers_in}
 use Rattle.inline.specs.FlatMeaning.{Values, value_in, path_in, after_all, path_along}
 use Rattle.inline.specs.FlatMeaning as flat_meaning
 use Rattle.inline.specs.FlatTyping.{Types}
@@ -84,19 +83,14 @@ with_one names s p ps es number n m value w left there first rest own text x non
       | inl same ↦ (
           let new = ap (found own) (sym ((bytes_decides text p.name).0 same)) ∙ none in
           let here = kept_begun names ps es more n text named (found-new own p.name named text same new) in
-          subst (λ (z : Numbered). Holds z.declaration (with_some (meaning.begun s ps es left) p.name value text)
-          (after_all m (passed names n ps es) z.number)) (same_Some named x (sym here ∙ is))
-          (rw (there, same) first))
+          rw (← same_Some named x (sym here ∙ is), there, same) first)
       | inr other ↦ rw (held_by_other (meaning.begun s ps es left) p.name text value other)
           (rest more text x (found-other own p.name named text other ∙ none) is)
     ]
 
 word_holds : (p : ParameterTree) (w : Word) (v : ℕ) → p.form ≡ SingleWord → w ≡ word_at p.kind v
     → Holds (own_variable p) (Some (single w)) (v ∷ [])
-word_holds p w v form same = record {
-  is = ap (λ u. Some (single u)) same ∙ ap (λ f. Some (held p.kind (elements_by f p.length) (v ∷ []))) (sym form);
-  count = ap (λ f. numbers_in (elements_by f p.length)) (sym form);
-}
+word_holds p w v form same = record { is = rw (same, form); count = rw form }
 
 -- the words of arguments, from left to right
 pub passed_comes : {scope : Scope} {names : Numbers} {s : State} {ps : List ParameterTree} {es : List ExprTree}

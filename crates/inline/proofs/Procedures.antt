@@ -206,8 +206,8 @@ module _ (Good : List ProcedureTree → Scope → ProcedureTree → Type 0) wher
         → AllByRecursion Extra before → AllByRecursion Extra earlier
     all_before earlier [] before p is all = absurd (none-some _ is)
     all_before earlier (q ∷ qs) before p is all = elim (cases_Bool (is_some q.export)) [
-      | inl word ↦ subst (AllByRecursion Extra) (sym (ap (λ (z : List ProcedureTree × ProcedureTree). z.0)
-          (same_Some (earlier, q) (before, p) (rw word at is)))) all
+      | inl word ↦ rw (ap (λ (z : List ProcedureTree × ProcedureTree). z.0)
+          (same_Some (earlier, q) (before, p) (rw word at is))) all
       | inr none ↦ (all_front Extra earlier q (all_before (earlier ++ q ∷ []) qs before p (rw none at is) all)).0
     ]
 

@@ -1,5 +1,5 @@
 -- A right side comes to the same, and changes only what may be changed.
-use Rattle.std.proofs.Common.{◌≡◌, ℕ, List, Option, Some, None, refl, subst}
+use Rattle.std.proofs.Common.{◌≡◌, ℕ, List, Option, Some, None, refl}
 use Rattle.inline.specs.Flat as flat
 use Rattle.inline.specs.Flat.{TermTree}
 use Rattle.inline.specs.FlatMeaning.{Values, value_in, path_in, after_all, path_along, path_of_result}
@@ -62,10 +62,7 @@ module _ {earlier : List ProcedureTree} {scope : Scope} {names : Numbers} {n : �
       (λ r is agrees. (
         r,
         of_call is,
-        record {
-          word = given_word (subst (λ o. HasResult end o value r.word) result agrees.word);
-          shows = agrees.shows;
-        },
+        record { word = given_word (rw result at agrees.word); shows = agrees.shows },
       ))
       (λ at is. of_call is))
 

@@ -1,6 +1,6 @@
 -- States of the source beside the values of numbered variables, as declarations and assignments change both.
-use Rattle.std.proofs.Common.{◌≡◌, ℕ, ◌+◌, true, if◌then◌else◌, List, Some, None, refl, sym, ap, ◌∙◌, subst}
-use Rattle.std.proofs.Common.{true≢false, ne_eqb, eq-eqb, inl, inr}
+use Rattle.std.proofs.Common.{◌≡◌, ℕ, ◌+◌, true, if◌then◌else◌, List, Some, None, refl, sym, ap, ◌∙◌, true≢false}
+use Rattle.std.proofs.Common.{ne_eqb, eq-eqb, inl, inr}
 use Rattle.std.proofs.lemmas.Bool.{cases_Bool}
 use Rattle.std.proofs.lemmas.Option.{same_Some}
 use Rattle.std.specs.Str.{bytes_eq}
@@ -38,8 +38,7 @@ module _ {scope : Scope} {names : Numbers} {types : Types} {n : ℕ} (linked : L
     | inl e ↦ (
         let same = same_Some (entry n own) x (sym (found-new names text (entry n own) other e (linked.none text new))
         ∙ is) in
-        subst (λ (y : Numbered). Holds y.declaration (with_value s text v other) (flat.with_value m n numbers y.number))
-        same (rw (e, with_value-same m n numbers) holds))
+        rw (← same, e, with_value-same m n numbers) holds)
     | inr e ↦ (
         let old = sym (found-other names text (entry n own) other e) ∙ is in
         rw (e, with_value-other m n x.number numbers (not_named linked other x old)) (shows other x old))
@@ -52,8 +51,7 @@ module _ {scope : Scope} {names : Numbers} {types : Types} {n : ℕ} (linked : L
     | inl e ↦ (
         let same = same_Some (entry y own) x (sym known
         ∙ (ap (found names) (sym ((bytes_decides other text).0 e)) ∙ is)) in
-        subst (λ (z : Numbered). Holds z.declaration (with_value s text v other) (flat.with_value m y numbers z.number))
-        same (rw (e, with_value-same m y numbers) holds))
+        rw (← same, e, with_value-same m y numbers) holds)
     | inr e ↦ (
         let apart = λ (q : x.number ≡ y). true≢false
         (sym ((bytes_decides other text).1 (sym (linked.apart text other (entry y own) x known is (sym q) free)))
@@ -65,7 +63,7 @@ module _ {scope : Scope} {names : Numbers} {types : Types} {n : ℕ} (linked : L
 pub shows_kept : (names : Numbers) (s : State) (m o : Values) → Shows names s m
     → ((text : List ℕ) (x : Numbered) → found names text ≡ Some x → o x.number ≡ m x.number) → Shows names s o
 shows_kept names s m o shows same text x is =
-    subst (Holds x.declaration (s text)) (sym (same text x is)) (shows text x is)
+    rw (same text x is) (shows text x is)
 
 -- Names outlast statements.
 

@@ -166,9 +166,7 @@ module _ {scope : Scope} {names : Numbers} {types : Types} {n : ℕ} (linked : L
       record {
         kind = ap (operation_kind (operation_of operator)) a.kind ∙ kind;
         label = ap₂ joined a.label b.label ∙ made_label makes;
-        typed = flat.of_binary a.typed b.typed
-            (subst (λ q. rules.Makes q (operation_of operator) one other whole) (sym linked.observed) makes)
-            (ap width_of a.kind);
+        typed = flat.of_binary a.typed b.typed (rw linked.observed makes) (ap width_of a.kind);
         value = λ s m shows.
             let x = value_in m (term names left) in
             let y = value_in m (term names right) in
