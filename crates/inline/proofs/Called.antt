@@ -21,7 +21,7 @@ use Rattle.language.specs.WellTyped.{AreNew, IsWellTyped, AreWellTyped, no_state
 use Rattle.language.specs.names.Scope.{found}
 use Rattle.inline.proofs.Comes.{Comes}
 use Rattle.inline.proofs.Linked.{Linked, later, linked_declared, variable_as}
-use Rattle.inline.proofs.LinkedAfter.{linked_after}
+use Rattle.inline.proofs.Listed.{linked_after}
 use Rattle.inline.proofs.Parameters.{NoVariables}
 use Rattle.inline.proofs.Procedures.{EachCallable, IsCallable, callable_after, callable_declared}
 use Rattle.inline.proofs.Terms.{Shows, word_at}

@@ -31,7 +31,7 @@ use Rattle.language.specs.Meaning.{right_faults, assigns_element, calls, call_fa
 use Rattle.language.specs.Meaning.{declines, bounds_fault, loops, ends, stops, goes_on}
 use Rattle.language.specs.State.{State, single, with_value}
 use Rattle.language.specs.State as state
-use Rattle.language.specs.Tree.{ExprTree, element, StatementTree, BlockTree, ProcedureTree, written}
+use Rattle.language.specs.Tree.{ExprTree, StatementTree, BlockTree, ProcedureTree, written}
 use Rattle.language.specs.Types.{Scope}
 use Rattle.language.specs.WellTyped as rules
 use Rattle.language.specs.WellTyped.{labelled, IsVariable}

@@ -1,5 +1,5 @@
 -- The export of a program that violates no rule is a well-typed flat program.
-use Rattle.std.proofs.Common.{◌≡◌, ℕ, ◌+◌, false, List, [], ◌++◌, length, map, take, Option, Some, refl, sym, ap, ◌∙◌}
+use Rattle.std.proofs.Common.{◌≡◌, ℕ, false, List, [], ◌++◌, length, map, take, Option, Some, refl, sym, ap, ◌∙◌}
 use Rattle.std.proofs.Math.Seq.{take-append_seam}
 use Rattle.std.proofs.lemmas.Bool.{or_parts}
 use Rattle.std.proofs.lemmas.List.{length-map}
@@ -24,8 +24,7 @@ use Rattle.inline.proofs.CallTypes.{TypedBody}
 use Rattle.inline.proofs.FlatTypes.{IsHushed, typed_block}
 use Rattle.inline.proofs.Hiding.{hides_none, hides_parameters}
 use Rattle.inline.proofs.Linked.{Linked}
-use Rattle.inline.proofs.LinkedAfter.{linked_after_all}
-use Rattle.inline.proofs.Listed.{Lists, lists_end, block_takes, all_counted}
+use Rattle.inline.proofs.Listed.{Lists, lists_end, block_takes, all_counted, linked_after_all}
 use Rattle.inline.proofs.Parameters.{linked_parameters, all_own}
 use Rattle.inline.proofs.Procedures.{Stand, Exported, IsAt, IsWithin, own_typing, variables_within, earlier_within}
 use Rattle.inline.proofs.Procedures.{callable_parameters}

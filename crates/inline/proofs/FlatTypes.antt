@@ -1,7 +1,7 @@
 -- A well-typed statement is well typed once its names are numbers, under the control label of the source, and under
 -- secret control too where it assigns to nothing public.
-use Rattle.std.proofs.Common.{◌≡◌, ℕ, ◌+◌, Bool, false, true, List, [], ◌∷◌, length, map, Option, Some}
-use Rattle.std.proofs.Common.{None, refl, sym, ap, ◌∙◌, subst, arith}
+use Rattle.std.proofs.Common.{◌≡◌, ℕ, ◌+◌, Bool, false, true, List, [], ◌∷◌, length, map, Option, Some, None, refl}
+use Rattle.std.proofs.Common.{sym, ap, ◌∙◌, subst, arith}
 use Rattle.std.proofs.lemmas.Bool.{or_parts}
 use Rattle.std.proofs.lemmas.List.{length-map}
 use Rattle.inline.specs.declared.flat.FlatVariable.{FlatVariable}
@@ -21,8 +21,7 @@ use Rattle.language.specs.declared.typing.ArrayType.{ArrayType}
 use Rattle.language.specs.declared.typing.ValueType.TheVariants.{Word, Array}
 use Rattle.language.specs.declared.typing.WordType.{WordType}
 use Rattle.language.specs.Grammatical.{AreSmall, AreAllSmall, AreSmallValues, IsSmallRight, IsPlain, ArePlain}
-use Rattle.language.specs.Tree.{ExprTree, RightTree, StatementTree}
-use Rattle.language.specs.Tree.{BlockTree, ProcedureTree, written}
+use Rattle.language.specs.Tree.{ExprTree, RightTree, StatementTree, BlockTree, ProcedureTree, written}
 use Rattle.language.specs.Types.{Scope, joined}
 use Rattle.language.specs.Typing.{block_assigns, right_assigns, statement_assigns}
 use Rattle.language.specs.WellTyped as rules
@@ -33,11 +32,9 @@ use Rattle.word.specs.declared.place.Place.{Place}
 use Rattle.inline.proofs.CallTypes.{TypedBody, call_fits, result_suits, dropped_typed}
 use Rattle.inline.proofs.ChainTypes.{chain-types, chain-typed, types_before}
 use Rattle.inline.proofs.Hiding.{Hides, hides_after, hides_counter}
-use Rattle.inline.proofs.KnownLemmas.{AllKnown}
 use Rattle.inline.proofs.Linked.{Linked, Serves, Known, linked_beside, linked_declared, later, with_type-same}
-use Rattle.inline.proofs.Listed.{Lists, IsCounted, call_takes, passed_over, all_counted}
-use Rattle.inline.proofs.LinkedAfter.{linked_after, linked_right}
-use Rattle.inline.proofs.Listed.{first_new, lists_left, lists_rest, lists_right}
+use Rattle.inline.proofs.Listed.{Lists, IsCounted, call_takes, passed_over, all_counted, first_new, lists_left}
+use Rattle.inline.proofs.Listed.{lists_rest, lists_right, AllKnown, linked_after, linked_right}
 use Rattle.inline.proofs.Procedures.{Stand, IsAt, IsWithin, callable_after, callable_declared}
 use Rattle.inline.proofs.Terms.{means, suits_there}
 

@@ -1,5 +1,4 @@
 mod Below
-pub mod ListLemmas
 pub mod Linked
 pub mod Comes
 pub mod Chains
@@ -8,11 +7,9 @@ pub mod ChainTypes
 pub mod Terms
 pub mod States
 pub mod Parameters
-pub mod KnownLemmas
 pub mod Procedures
 pub mod Begun
 pub mod Listed
-pub mod LinkedAfter
 pub mod CallTypes
 pub mod Hiding
 pub mod FlatTypes
@@ -35,7 +32,6 @@ pub mod RowLemmas
 pub mod PassLemmas
 pub mod NumberingLemmas
 pub mod Measures
-pub mod CallLemmas
 mod SizeLemmas
 pub mod CountLemmas
 mod MeasureLemmas

@@ -1,10 +1,10 @@
 -- Where declarations stand in the list of all, and how many there are.
 use Rattle.std.proofs.Common.{◌≡◌, ℕ, zero, suc, ◌+◌, false, List, [], ◌∷◌, ◌++◌, length, Option, Some, None, refl}
-use Rattle.std.proofs.Common.{ap, ◌∙◌, subst, arith, slice_get, length-append, inl, inr}
+use Rattle.std.proofs.Common.{ap, ◌∙◌, subst, arith, slice_get, length-append, inl, inr, Bool, true, if◌then◌else◌}
 use Rattle.std.proofs.lemmas.Bool.{cases_Bool}
 use Rattle.std.proofs.lemmas.Option.{none-some}
 use Rattle.inline.specs.declared.flat.FlatVariable.{FlatVariable}
-use Rattle.inline.specs.Flat.{TermTree, FlatTree, FlatBlock, chain, word_as, counter_type}
+use Rattle.inline.specs.Flat.{TermTree, FlatTree, FlatBlock, chain, word_as, counter_type, array_as}
 use Rattle.inline.specs.Flat as flat
 use Rattle.inline.specs.FlatTyping.{Types, types_after_all, declarations_in, declarations_in_all, IsNew, IsNumbered}
 use Rattle.inline.specs.FlatTyping.{AreNumbered}
@@ -13,7 +13,7 @@ use Rattle.inline.specs.Numbering.{call_block, call_variables, call_result, call
 use Rattle.inline.specs.Numbering.{right_block, right_variables, value_given, element_block, element_variables}
 use Rattle.inline.specs.Numbering.{dropped_block, dropped_variables, declared_in, declared_in_all, numbers_taken}
 use Rattle.inline.specs.Numbering.{numbers_taken_all, names_after, naming, statement, block, single, number_of}
-use Rattle.inline.specs.Numbering.{size_of}
+use Rattle.inline.specs.Numbering.{size_of, right_end, names_after_all}
 use Rattle.word.specs.declared.place.Place.{Place}
 use Rattle.language.specs.declared.typing.WordType.{WordType}
 use Rattle.language.specs.Meaning.{is_word}
@@ -21,9 +21,14 @@ use Rattle.language.specs.Tree.{ExprTree, ParameterTree, ProcedureTree, RightTre
 use Rattle.language.specs.Tree.{declaration, array, assignment, element_assignment, call, conditional, loop}
 use Rattle.language.specs.Tree.{BlockTree, nothing, first}
 use Rattle.language.specs.Types.{Scope}
-use Rattle.inline.proofs.ChainTypes.{chain-declarations, chain-numbered, kept_by_numbered}
-use Rattle.inline.proofs.KnownLemmas.{OnSome, AllKnown, known-true}
-use Rattle.inline.proofs.Linked.{Linked, later, linked_beside}
+use Rattle.language.specs.declared.signature.Label.{Label}
+use Rattle.language.specs.Typing.{scope_after, scope_after_all}
+use Rattle.language.specs.WellTyped.{labelled, IsWellTyped, declares, declares_array, AreWellTyped, no_statement}
+use Rattle.language.specs.WellTyped.{one_more}
+use Rattle.std.specs.Str.{bytes_eq}
+use Rattle.language.specs.Known.{Known, known_of, known_from, nothing_known, first_known, with_known}
+use Rattle.inline.proofs.ChainTypes.{chain-declarations, chain-numbered, kept_by_numbered, chain-types}
+use Rattle.inline.proofs.Linked.{Linked, later, linked_beside, linked_declared}
 
 -- in the list of all, these stand from n on
 pub record Lists (all : List FlatVariable) (n : ℕ) (ds : List FlatVariable) : Type 0 where
@@ -96,6 +101,37 @@ passed_over {scope = scope} {names = names} {types = types} {n = n} {b = b} take
     later (omega arith)
     (kept_by_numbered (λ k t. Linked scope names t k) (λ k t d kept. linked_beside kept d)
     (λ k m t more. later more) b n types takes.numbered linked)
+
+-- What is true of all that is made, where each is made from such as it is true of.
+
+-- it is true of what is there
+abbrev pub OnSome : {A : Type 0} → (A → Type 0) → Option A → Type 0
+OnSome P None = Unit {0}
+OnSome P (Some a) = P a
+
+-- of each that is known
+abbrev pub AllKnown : {A : Type 0} → (A → Type 0) → Known A → Type 0
+AllKnown P known = (text : List ℕ) → OnSome P (known text)
+
+module _ {A : Type 0} (P : A → Type 0) (make : Known A → ProcedureTree → A)
+    (true_of : (known : Known A) → AllKnown P known → (p : ProcedureTree) → P (make known p)) where
+  first-true : (a b : Option A) → OnSome P a → OnSome P b → OnSome P (first_known a b)
+  first-true (Some x) b one other = one
+  first-true None b one other = other
+
+  one-true : (b : Bool) (a : A) → P a → OnSome P (if b then Some a else None)
+  one-true true a is = is
+  one-true false a is = tt
+
+  from-true : (known : Known A) (ps : List ProcedureTree) → AllKnown P known → AllKnown P (known_from make known ps)
+  from-true known [] all = all
+  from-true known (p ∷ ps) all =
+      from-true (with_known known p.name (make known p)) ps
+      (λ text. first-true (known text) _ (all text)
+      (one-true (bytes_eq text p.name) (make known p) (true_of known all p)))
+
+  pub known-true : (ps : List ProcedureTree) → AllKnown P (known_of make ps)
+  known-true ps = from-true nothing_known ps (λ text. tt)
 
 -- Calls.
 
@@ -188,3 +224,36 @@ module _ (known : Callables) (counted : AllKnown IsCounted known) where
 pub all_counted : (before : List ProcedureTree) → AllKnown IsCounted (callables before)
 all_counted before =
     known-true IsCounted callable (λ known counted p names n. block_takes known counted names n p.body) before
+
+-- Names, their types and their numbers still go together behind a right side, a statement and a block.
+module _ (earlier : List ProcedureTree) where
+  abbrev known : Callables
+  known = callables earlier
+
+  pub linked_right : {scope : Scope} {names : Numbers} {types : Types} {n : ℕ} → Linked scope names types n
+      → (r : RightTree)
+      → Linked scope names (types_after_all types (right_block known names n r)) (right_end known n r)
+  linked_right {names = names} {n = n} linked r = passed_over (right_takes known (all_counted earlier) names n r) linked
+
+  pub linked_after : {scope : Scope} {control : Label} {s : StatementTree} → IsWellTyped earlier scope control s
+      → {names : Numbers} {types : Types} {n : ℕ} → Linked scope names types n
+      → Linked (scope_after scope s) (names_after known names n s) (types_after_all types (statement known names n s))
+      (n + numbers_taken known s)
+  linked_after (declares {label = label} {mutable = mutable} {kind = kind} {text = text} {right = r} new has suit flow)
+      linked =
+      let own = word_as (labelled kind label) mutable in
+      rw chain-types (later (omega (arith, length-append (right_variables known r) (own ∷ [])))
+      (linked_declared (linked_right linked r) text own new))
+  linked_after (declares_array {label = label} {mutable = mutable} {kind = kind} {size = size} {text = text} new all
+      count flow) linked = linked_declared linked text (array_as (labelled kind label) mutable size) new
+  linked_after {s = s} other {names = names} {n = n} linked =
+      passed_over (statement_takes known (all_counted earlier) names n s) linked
+
+  pub linked_after_all : {scope : Scope} {control : Label} {b : BlockTree} → AreWellTyped earlier scope control b
+      → {names : Numbers} {types : Types} {n : ℕ} → Linked scope names types n
+      → Linked (scope_after_all scope b) (names_after_all known names n b)
+      (types_after_all types (block known names n b)) (n + numbers_taken_all known b)
+  linked_after_all no_statement linked = later (omega arith) linked
+  linked_after_all (one_more {statement = s} {rest = rest} here there) linked =
+      rw chain-types (later (omega (arith, length-append (declared_in known s) (declared_in_all known rest)))
+      (linked_after_all there (linked_after here linked)))

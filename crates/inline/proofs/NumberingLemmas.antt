@@ -1,22 +1,44 @@
 -- Numbering statements one by one, and the names that outlast them.
 use Rattle.std.proofs.Common.{◌≡◌, ℕ, ◌+◌, List, [], ◌∷◌, ◌++◌, Vec, Global, length, take, is_some, refl, sym, ap}
-use Rattle.std.proofs.Common.{ap₂, ◌∙◌, inl, inr}
+use Rattle.std.proofs.Common.{ap₂, ◌∙◌, inl, inr, Some, None, map}
 use Rattle.std.proofs.lemmas.Bool.{cases_Bool}
 use Rattle.std.proofs.lemmas.List.{append_assoc, append-nil}
 use Rattle.std.proofs.Math.Seq.{take-append_seam}
-use Rattle.inline.proofs.Below.{conditional_tree, loop_tree}
 use Rattle.inline.specs.declared.numbering.Numbered.{Numbered}
 use Rattle.inline.specs.Flat.{word_as, array_as}
 use Rattle.language.specs.declared.tree.Counter.{Counter}
 use Rattle.language.specs.WellTyped.{labelled}
 use Rattle.inline.specs.Numbering.{Callables, Numbers, names_after, names_after_all, right_end, numbers_taken}
+use Rattle.inline.specs.Numbering.{callable}
 use Rattle.language.specs.names.Scope.{declared, found}
 use Rattle.word.specs.declared.place.Place.{Place}
 use Rattle.language.specs.declared.tree.Expr.{Expr}
 use Rattle.language.specs.declared.tree.Statement.{Statement, If, For}
 use Rattle.language.specs.Tree.{StatementTree, declaration, conditional, BlockTree, expr_tree, statement_tree}
-use Rattle.language.specs.Tree.{block_tree}
+use Rattle.language.specs.Tree.{block_tree, procedure_tree}
 use Rattle.language.specs.Tree as source
+use Rattle.std.specs.Option.{option_map}
+use Rattle.inline.specs.Callees.{called_by}
+use Rattle.language.specs.declared.tree.Procedure.{Procedure}
+use Rattle.language.specs.Meaning.{named}
+use Rattle.inline.proofs.Below.{conditional_tree, loop_tree, known_by_name, made}
+
+-- Calls.
+
+-- no procedure has the name
+pub not_called : (earlier : List Procedure) (text : List ℕ) → None ≡ named [] (map procedure_tree earlier) text
+    → called_by earlier text ≡ None
+not_called earlier text is = known_by_name callable (map procedure_tree earlier) text
+    ∙ ap (option_map (made callable)) (sym is)
+
+-- the procedure that the name stands for
+pub called : (earlier before : List Procedure) (callee : Procedure) (text : List ℕ)
+    → Some (map procedure_tree before, procedure_tree callee) ≡ named [] (map procedure_tree earlier) text
+    → called_by earlier text ≡ Some (callable (called_by before) (procedure_tree callee))
+called earlier before callee text is = known_by_name callable (map procedure_tree earlier) text
+    ∙ ap (option_map (made callable)) (sym is)
+
+-- Statements.
 
 -- a conditional, by the lists of its arms
 pub conditional_whole : (place : Place) (condition : Expr) (accepted otherwise : Vec Statement Global) {s : Statement}

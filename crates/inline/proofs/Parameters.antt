@@ -1,8 +1,8 @@
 -- Where a body begins: the parameters have the first numbers, and hold the arguments.
 use Rattle.std.proofs.Common.{◌≡◌, ◌≢◌, ℕ, suc, ◌+◌, ◌<◌, ◌≤◌, true, inl, inr, List, [], ◌∷◌, ◌++◌, length, map}
-use Rattle.std.proofs.Common.{Option, Some, None, slice_get, refl, sym, ap, ◌∙◌, arith}
+use Rattle.std.proofs.Common.{Option, Some, None, slice_get, refl, sym, ap, ◌∙◌, arith, append_assoc, append-nil}
+use Rattle.std.proofs.Common.{length-append, zero}
 use Rattle.std.proofs.lemmas.Bool.{cases_Bool}
-use Rattle.std.proofs.Common.{append_assoc, append-nil, length-append}
 use Rattle.std.proofs.lemmas.Option.{none-some, same_Some, slice_get_past}
 use Rattle.std.specs.Str.{bytes_eq}
 use Rattle.word.specs.declared.profile.Profile.{Profile}
@@ -32,7 +32,6 @@ use Rattle.language.specs.WellTyped.{AreNew, one_is_new}
 use Rattle.inline.proofs.Below.{found-new, found-other, found-kept}
 use Rattle.inline.proofs.Linked.{Linked, Serves, serves_itself, widened, later, entry, value_as, variable_as}
 use Rattle.inline.proofs.Linked.{linked_beside, linked_named, not_named, with_type-same}
-use Rattle.inline.proofs.ListLemmas.{get_front, get_last}
 use Rattle.inline.proofs.Terms.{held, Holds, Shows}
 
 -- what a parameter is declared as
@@ -71,6 +70,16 @@ linked_own {types = types} {n = n} linked p new d same =
     (λ other x is equal. absurd (not_named linked other x is equal))
 
 -- Numbers.
+
+-- a list with one more element at its end
+pub get_front : {A : Type 0} (xs : List A) (y : A) (i : ℕ) → i < length xs → slice_get (xs ++ y ∷ []) i ≡ slice_get xs i
+get_front [] y i low = absurd (omega (arith, low))
+get_front (x ∷ xs) y zero low = refl
+get_front (x ∷ xs) y (suc i) low = get_front xs y i (omega (arith, low))
+
+pub get_last : {A : Type 0} (xs : List A) (y : A) → slice_get (xs ++ y ∷ []) (length xs) ≡ Some y
+get_last [] y = refl
+get_last (x ∷ xs) y = get_last xs y
 
 -- names of the one list keep what they stand for in a longer one
 pub kept_parameters : (ps : List ParameterTree) (names : Numbers) (n : ℕ) (text : List ℕ) (x : Numbered)

@@ -1,8 +1,8 @@
 -- A statement about each procedure that may be called, by induction over the text.
 use Rattle.std.proofs.Common.{◌≡◌, ◌≢◌, ℕ, ◌<◌, true, false, List, [], ◌∷◌, ◌++◌, length, Some, None, is_some, refl}
-use Rattle.std.proofs.Common.{sym, ap, ◌∙◌, subst, arith, slice_get, length-append, inl, inr}
+use Rattle.std.proofs.Common.{sym, ap, ◌∙◌, subst, arith, slice_get, length-append, inl, inr, if◌then◌else◌}
 use Rattle.std.proofs.lemmas.Bool.{cases_Bool}
-use Rattle.std.proofs.lemmas.List.{nil_from_length}
+use Rattle.std.proofs.lemmas.List.{nil_from_length, append-nil, append_assoc}
 use Rattle.std.proofs.lemmas.Option.{none-some, same_Some, slice_get_past}
 use Rattle.std.specs.List.{AllByRecursion}
 use Rattle.std.specs.Str.{bytes_eq}
@@ -17,13 +17,12 @@ use Rattle.language.specs.Tree.{ParameterTree, ProcedureTree, ProgramTree, State
 use Rattle.language.specs.Types.{Scope, empty, found, declared}
 use Rattle.language.specs.Typing.{assigns_public, parameter_as, scope_after, violations, with_parameters}
 use Rattle.language.specs.Typing.{with_procedure}
-use Rattle.language.specs.WellTyped.{IsWellTyped, declares, declares_array}
-use Rattle.language.specs.WellTyped.{IsProcedure, AreProcedures, no_procedure, one_procedure}
-use Rattle.inline.proofs.KnownLemmas.{named-more}
-use Rattle.inline.proofs.Below.{found-new, found-other, found-split}
-use Rattle.inline.proofs.ListLemmas.{get_front, get_last}
-use Rattle.inline.proofs.Parameters.{NoVariables}
+use Rattle.language.specs.WellTyped.{IsWellTyped, declares, declares_array, IsProcedure, AreProcedures, no_procedure}
+use Rattle.language.specs.WellTyped.{one_procedure}
 use Rattle.language.proofs.typing_laws_lemmas.Programs.{programs}
+use Rattle.language.specs.Known.{first_known}
+use Rattle.inline.proofs.Below.{found-new, found-other, found-split}
+use Rattle.inline.proofs.Parameters.{NoVariables, get_front, get_last}
 
 -- what a name in scope is, where it is a procedure's
 abbrev pub as_callee : Scope → ℕ → ProcedureTree → Callee
@@ -34,6 +33,15 @@ same_callee a b e = cc
 
 no_callee : (c : Callee) (v : VariableType) → Some (Procedure c) ≢ Some (Variable v)
 no_callee c v e = cc
+
+-- One procedure more: a name stands for it where it has the name, and stood for nothing.
+pub named-more : (before ps : List ProcedureTree) (p : ProcedureTree) (text : List ℕ) → named before (ps ++ p ∷ []) text
+    ≡ first_known (named before ps text) (if bytes_eq text p.name then Some (before ++ ps, p) else None)
+named-more before [] p text = rw append-nil refl
+named-more before (q ∷ ps) p text = elim (cases_Bool (bytes_eq text q.name)) [
+  | inl here ↦ rw here refl
+  | inr there ↦ rw (there, ← append_assoc before (q ∷ []) ps) (named-more (before ++ q ∷ []) ps p text)
+]
 
 -- Lists.
 

@@ -29,7 +29,7 @@ use Rattle.language.specs.Operators.{divides, multiplies, operated, width_of}
 use Rattle.language.specs.OperatorWords.{binary_word, prefix_word, rotated_word, converted_word, selected_word}
 use Rattle.language.specs.State.{State, Value, single, array}
 use Rattle.language.specs.State as state
-use Rattle.language.specs.Tree.{ExprTree, number, binary, element}
+use Rattle.language.specs.Tree.{ExprTree, binary, element}
 use Rattle.language.specs.Types.{Scope, joined}
 use Rattle.language.specs.WellTyped as rules
 use Rattle.language.specs.WellTyped.{labelled}

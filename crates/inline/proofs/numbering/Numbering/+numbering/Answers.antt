@@ -1,17 +1,16 @@
 use Rattle.std.proofs.Common.{rules, arith, Some, ◌≡◌, ◌<◌, ◌+◌, ◌*◌, ◌∷◌, ap, ap₂, drop, length, length-append, map}
 use Rattle.std.proofs.Common.{refl, sym, take, ◌∙◌}
 use Rattle.std.proofs.lemmas.List.{append-nil, append_assoc, at_drop_all, drop_more}
-use Rattle.inline.proofs.BlockLemmas.{chain_chain, chain_nothing, ok_any}
-use Rattle.inline.proofs.CallLemmas.{called, not_called}
-use Rattle.inline.proofs.Measures.{body_smaller, conditional_smaller, loop_smaller, nodes_of_block}
-use Rattle.inline.proofs.Measures.{rest_smaller}
-use Rattle.inline.proofs.NumberingLemmas.{conditional_whole, loop_whole, names_before, names_before_one}
-use Rattle.inline.proofs.RowLemmas.{branch_tree, loop_tree}
-use Rattle.inline.proofs.numbering.Numbering.+numbering.Goals as goal
 use Rattle.inline.specs.Callees.{called_by}
 use Rattle.inline.specs.Flat.{chain, flat_block, term_tree}
 use Rattle.inline.specs.Numbering.{block, call_result, call_value, value_given}
 use Rattle.language.specs.Tree.{block_tree, call_tree, expr_tree}
+use Rattle.inline.proofs.BlockLemmas.{chain_chain, chain_nothing, ok_any}
+use Rattle.inline.proofs.Measures.{body_smaller, conditional_smaller, loop_smaller, nodes_of_block, rest_smaller}
+use Rattle.inline.proofs.NumberingLemmas.{conditional_whole, loop_whole, names_before, names_before_one, called}
+use Rattle.inline.proofs.NumberingLemmas.{not_called}
+use Rattle.inline.proofs.RowLemmas.{branch_tree, loop_tree}
+use Rattle.inline.proofs.numbering.Numbering.+numbering.Goals as goal
 
 pub arm-returns-clause-names : goal.arm-returns-clause-names
 arm-returns-clause-names t c =
