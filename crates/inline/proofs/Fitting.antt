@@ -1,6 +1,6 @@
 -- A well-typed expression's value is within its kind.
-use Rattle.std.proofs.Common.{ℕ, ◌<◌, ◌==◌, ◌&&◌, ◌||◌, Bool, true, false, not, nat_lt, nat_le, if◌then◌else◌}
-use Rattle.std.proofs.Common.{List, length, All, slice_index, ⊎_elim, sym, subst, arith}
+use Rattle.std.proofs.Common.{ℕ, ◌<◌, ◌==◌, ◌&&◌, ◌||◌, Bool, true, false, not, nat_lt, nat_le, if◌then◌else◌, List}
+use Rattle.std.proofs.Common.{length, All, slice_index, ⊎_elim, arith}
 use Rattle.std.proofs.lemmas.Nat.{or_lt, xor_lt}
 use Rattle.std.specs.Int.Bits.{and_lt}
 use Rattle.std.proofs.Math.Nat.{div-le_self, mod-le}
@@ -9,7 +9,7 @@ use Rattle.std.proofs.lemmas.List.{get_or_past}
 use Rattle.word.specs.declared.profile.Profile.{Profile}
 use Rattle.word.specs.declared.width.Width.{Width}
 use Rattle.word.specs.declared.width.Width.TheVariants.{W8}
-use Rattle.word.specs.Operators.{complemented, rotated_left, wrapped, word_of, quotient, remainder}
+use Rattle.word.specs.Operators.{complemented, wrapped, word_of, quotient, remainder}
 use Rattle.word.specs.Widths.{IsWord}
 use Rattle.inline.specs.Fitting.{IsWithinKind, Fits}
 use Rattle.inline.specs.Flat.{TermTree, word_as, array_as}
@@ -60,17 +60,16 @@ fits_number Boolean v numeric h = absurd numeric
 fits_number other v numeric h = h
 
 quotient_fits : (w : Width) (a b : ℕ) → IsWord w a → IsWord w (quotient a b)
-quotient_fits w a b low = let less = div-le_self a b in omega (arith, low, less)
+quotient_fits w a b low = omega (arith, div-le_self a b)
 
 remainder_fits : (w : Width) (a b : ℕ) → IsWord w a → IsWord w (remainder a b)
-remainder_fits w a b low = let less = mod-le a b in omega (arith, low, less)
+remainder_fits w a b low = omega (arith, mod-le a b)
 
 -- Operators.
 
 pub prefix_fits : (operator : PrefixOperator) (k : Kind) (a : ℕ) → Takes operator k
     → IsWithinKind k (prefix_value operator (width_of k) a)
-prefix_fits Not k a is = subst (λ j. IsWithinKind j (word_of (not (truth_of a)))) (sym is)
-    (bit_fits (not (truth_of a)))
+prefix_fits Not k a is = rw is (bit_fits (not (truth_of a)))
 prefix_fits Complement k a numeric = number_fits k _ numeric (complement_fits (width_of k) a)
 prefix_fits Negate k a numeric = number_fits k _ numeric (wrapped_fits (width_of k) _)
 
@@ -107,7 +106,7 @@ operated_fits Remainder a b (division {kind = k} numeric) low high =
 pub element_fits : (kind : Kind) (numbers : List ℕ) (i : ℕ) → All (IsWithinKind kind) numbers
     → IsWithinKind kind (slice_index numbers i)
 element_fits kind numbers i within = ⊎_elim (λ low. within i 0 low)
-    (λ past. subst (λ v. IsWithinKind kind v) (sym (get_or_past numbers i 0 past)) (some_bit kind))
+    (λ past. rw (get_or_past numbers i 0 past) (some_bit kind))
     (cases_lt i (length numbers))
 
 pub either_fits : (kind : Kind) (b : Bool) (x y : ℕ) → IsWithinKind kind x → IsWithinKind kind y
@@ -122,19 +121,15 @@ module _ (types : Types) (m : Values) (fits : Fits types m) where
   value_fits (of_variable {x = x} {word = word} {mutable = mutable} is) =
       element_fits word.kind (m x) 0 (fits x (word_as word mutable) is).within
   value_fits (of_prefix {operator = operator} {operand = operand} {kind = kind} has takes width) =
-      subst (λ w. IsWithinKind kind (prefix_value operator w (value_in m operand))) (sym width)
-      (prefix_fits operator kind (value_in m operand) takes)
-  value_fits (of_binary {operator = operator} {left = left} {right = right} {one = one} {whole = whole} has more
-      makes width) =
-      subst (λ w. IsWithinKind whole.kind (operated operator w (value_in m left) (value_in m right))) (sym width)
-      (operated_fits operator (value_in m left) (value_in m right) makes (value_fits has) (value_fits more))
-  value_fits (of_rotation {operand = operand} {amount = amount} {kind = kind} has numeric low high width) =
-      subst (λ w. IsWithinKind kind (rotated_left w (value_in m operand) amount)) (sym width)
-      (number_fits kind _ numeric (wrapped_fits (width_of kind) _))
+      rw width (prefix_fits operator kind (value_in m operand) takes)
+  value_fits (of_binary {operator = operator} {left = left} {right = right} has more makes width) =
+      rw width (operated_fits operator (value_in m left) (value_in m right) makes (value_fits has) (value_fits more))
+  value_fits (of_rotation {kind = kind} has numeric low high width) =
+      rw width (number_fits kind _ numeric (wrapped_fits (width_of kind) _))
   value_fits (of_conversion {kind = kind} {operand = operand} has numeric) =
       number_fits kind _ numeric (wrapped_fits (width_of kind) (value_in m operand))
-  value_fits (of_selection {condition = condition} {accepted = accepted} {otherwise = otherwise} {kind =
-      kind} chooser has more) =
+  value_fits (of_selection {condition = condition} {accepted = accepted} {otherwise = otherwise} {kind = kind} chooser
+      has more) =
       either_fits kind (value_in m condition == 0) (value_in m accepted) (value_in m otherwise) (value_fits has)
       (value_fits more)
   value_fits (of_element {x = x} {size = size} {index = index} {word = word} {mutable = mutable} is has) =
@@ -143,4 +138,4 @@ module _ (types : Types) (m : Values) (fits : Fits types m) where
   -- and what suits is within the kind that is wanted
   pub suited_fits : (wanted : WordType) (e : TermTree) → Suits types wanted e
       → IsWithinKind wanted.kind (value_in m e)
-  suited_fits wanted e suits = subst (λ k. IsWithinKind k (value_in m e)) suits.kind (value_fits suits.has_type)
+  suited_fits wanted e suits = rw (← suits.kind) (value_fits suits.has_type)

@@ -1,8 +1,8 @@
 -- A well-typed body keeps each variable in scope as it is declared.
-use Rattle.std.proofs.Common.{◌≡◌, ℕ, zero, suc, ◌-◌, ◌^◌, ◌<◌, ◌≤◌, ◌==◌, Bool, true, false, if◌then◌else◌}
-use Rattle.std.proofs.Common.{List, [], ◌∷◌, length, map, take, drop, All, slice_get, slice_set, Some, sym, ap, ◌∙◌}
-use Rattle.std.proofs.Common.{subst, refl, arith, eqb-true}
-use Rattle.std.proofs.lemmas.Bool.{cond_both}
+use Rattle.std.proofs.Common.{◌≡◌, ℕ, zero, suc, ◌-◌, ◌^◌, ◌<◌, ◌≤◌, ◌==◌, Bool, true, false, List, [], ◌∷◌, length}
+use Rattle.std.proofs.Common.{map, take, drop, All, slice_get, slice_set, Some, sym, ap, ◌∙◌, refl, arith, eqb-true}
+use Rattle.std.proofs.lemmas.Bool.{cases_Bool, cond_both}
+use Rattle.std.proofs.Common.{inl, inr}
 use Rattle.std.proofs.lemmas.List.{length-set, length-replicate, length-map}
 use Rattle.std.proofs.lemmas.List.Elements.{All-nil, All-cons, All-set, All-replicate}
 use Rattle.std.proofs.lemmas.Option.{none-some, same_Some}
@@ -12,7 +12,7 @@ use Rattle.inline.specs.Fitting.{IsWithinKind, IsHeld, Fits}
 use Rattle.inline.specs.Flat.{TermTree, FlatTree, declare, array, assign, put, hold, skip, branch, loop, FlatBlock}
 use Rattle.inline.specs.Flat.{nothing, first, FlatProgram, word_as, array_as, declaration_of}
 use Rattle.inline.specs.FlatMeaning.{Values, with_value, value_in, elements, after, after_all, given, end_of}
-use Rattle.inline.specs.FlatTyping.{Types, with_type, AllSuit, HasCount, IsTyped, AreTyped, IsTypedProgram, IsResult}
+use Rattle.inline.specs.FlatTyping.{Types, with_type, AllSuit, HasCount, IsTyped, AreTyped, IsTypedProgram}
 use Rattle.inline.specs.FlatTyping.{counter_type, types_after, types_after_all, parameter_types, end_types}
 use Rattle.language.specs.declared.signature.Kind.{Kind}
 use Rattle.language.specs.declared.signature.Kind.TheVariants.{Boolean}
@@ -38,17 +38,17 @@ one_held word mutable v below = record
 pub fits_declared : (types : Types) (m : Values) (y : ℕ) (v : List ℕ) (own : FlatVariable) → IsHeld own v
     → Fits types m
     → Fits (with_type types y own) (with_value m y v)
-fits_declared types m y v own here fits x d is = by_number (x == y) is
-  where
-    by_number : (b : Bool) → (if b then Some own else types.at x) ≡ Some d → IsHeld d (if b then v else m x)
-    by_number true is = subst (λ (t : FlatVariable). IsHeld t v) (same_Some own d is) here
-    by_number false is = fits x d is
+fits_declared types m y v own here fits x d is = elim (cases_Bool (x == y)) [
+  | inl e ↦ rw (e, ← same_Some own d (rw e at is)) here
+  | inr e ↦ rw e (fits x d (rw e at is))
+]
 
 pub fits_assigned : (types : Types) (m : Values) (y : ℕ) (v : List ℕ) (own : FlatVariable) → types.at y ≡ Some own
     → IsHeld own v → Fits types m → Fits types (with_value m y v)
-fits_assigned types m y v own there here fits x d is = cond_both (x == y) v (m x) (IsHeld d)
-    (λ same. subst (λ (t : FlatVariable). IsHeld t v)
-    (same_Some own d (sym there ∙ (ap types.at (sym (eqb-true x y same)) ∙ is))) here) (λ other. fits x d is)
+fits_assigned types m y v own there here fits x d is = elim (cases_Bool (x == y)) [
+  | inl e ↦ rw (e, ← same_Some own d (sym there ∙ (ap types.at (sym (eqb-true x y e)) ∙ is))) here
+  | inr e ↦ rw e (fits x d is)
+]
 
 -- where each of an array's first values is replaced, they are as many as before
 pub still_counted : (change : TermTree → TermTree) (size : ℕ) (values : List TermTree) → HasCount size values
@@ -137,8 +137,7 @@ within_kind other v h = omega (arith, h)
 argument_held : (p : Param) (arg : Arg) → IsWithin p arg → IsHeld (declaration_of p) (words_of arg)
 argument_held p arg within = record {
   count = argument_count p.form p.length arg within.shape;
-  within = λ k d less. within_kind p.kind _
-      (within.values k d less);
+  within = λ k d less. within_kind p.kind _ (within.values k d less);
 }
 
 fits_given : (ps : List Param) (ds : List FlatVariable) (args : List Arg) → AreWithin ps args
@@ -148,8 +147,7 @@ fits_given [] ds args within front x d is = absurd (none-some d is)
 fits_given (p ∷ ps) [] args within front x d is = absurd cc
 fits_given (p ∷ ps) (e ∷ ds) [] within front x d is = absurd within
 fits_given (p ∷ ps) (e ∷ ds) (arg ∷ args) within front zero d is =
-    subst (λ (t : FlatVariable). IsHeld t (words_of arg)) (same_Some (declaration_of p) d is)
-    (argument_held p arg within.0)
+    rw (← same_Some (declaration_of p) d is) (argument_held p arg within.0)
 fits_given (p ∷ ps) (e ∷ ds) (arg ∷ args) within front (suc x) d is =
     fits_given ps ds args within.1 (ap (λ xs. drop 1 xs) front) x d is
 
@@ -167,6 +165,5 @@ pub result_fits : (p : FlatProgram) (args : List Arg) (word : WordType) (value :
     → AreWithin p.parameters args → p.returned ≡ Some word → p.value ≡ Some value
     → IsWithinKind word.kind (value_in (end_of p args) value)
 result_fits p args word value typed within returned valued =
-    let result = subst (λ v. IsResult (end_types p) (Some word) v) valued
-    (subst (λ r. IsResult (end_types p) r p.value) returned typed.result) in
+    let result = rw (returned, valued) at typed.result in
     suited_fits (end_types p) (end_of p args) (end_fits p args typed within) word value result

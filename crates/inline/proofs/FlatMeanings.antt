@@ -146,7 +146,8 @@ flat_keeps_meaning profile program before p args h is grammatical plain within =
     let named = (where_begun profile scope e.observed variables p.parameters e.typed.parameters).named in
     ended program args before p (outcome_of (flattened profile before p) args)
     (first_fault (path_along from body ++ path_of_result m value)) is
-    (rw (across (path_along from body) (path_of_result m value)) (also (body_comes before e.scope p e.stand e.typed plain names
+    (rw (across (path_along from body) (path_of_result m value))
+    (also (body_comes before e.scope p e.stand e.typed plain names
     (parameter_types profile (map param_of p.parameters))
     n linked start from (shows_arguments p.parameters (declared_in_all known p.body) args within))
     (λ r bodies agrees. (
