@@ -71,7 +71,7 @@ module _ {scope : Scope} {names : Numbers} {types : Types} {n : ℕ} (linked : L
   by_name p form place text mutable is known given enough elements =
       let k = linked.known text (array_as (labelled p.kind p.label) mutable p.length) known in
       let may = λ (e : is_mutable p.form ≡ true). enough (sym (ap is_mutable is) ∙ e) in
-      let count = ap (λ f. elements_by f p.length) is ∙ elements in
+      let count : elements_by p.form p.length ≡ Some p.length = rw is elements in
       record {
         text = text;
         place = place;
@@ -79,16 +79,10 @@ module _ {scope : Scope} {names : Numbers} {types : Types} {n : ℕ} (linked : L
         free = mutable;
         found = k.found;
         low = linked.below text _ k.found;
-        given = ap (λ f. array_given f (name place text)) is ∙ given;
+        given = rw is given;
         enough = may;
         elements = count;
-        serves = record {
-          free = k.typed.free;
-          is = k.typed.is
-              ∙ ap (λ o. Some (record { word = labelled p.kind p.label; mutable = k.typed.free; elements = o }))
-              (sym count);
-          enough = λ e. k.typed.enough (may e);
-        };
+        serves = record { free = k.typed.free; is = rw count k.typed.is; enough = λ e. k.typed.enough (may e) };
       }
 
   pub array_passed : {p : ParameterTree} {e : ExprTree} → IsPassed scope p e → is_word p.form ≡ false

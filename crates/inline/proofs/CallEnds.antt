@@ -75,9 +75,6 @@ module _ {earlier : List ProcedureTree} {scope : Scope} {names : Numbers} {n : â
     abbrev body_block : FlatBlock
     body_block = block (callables meant.before) own start p.body
 
-    abbrev own_callable : Callable
-    own_callable = callable (callables meant.before) p
-
     entered : Enters meant.good.scope names p.parameters c.arguments own
         (types_after_all ready.types passed_block) start
     entered = enters passed_are meant.good.parameters ready.linked
@@ -92,7 +89,7 @@ module _ {earlier : List ProcedureTree} {scope : Scope} {names : Numbers} {n : â
         (spares_begun names n start x p.parameters c.arguments (omega arith) none) (after_all m passed_block)
         âˆ™ passed_keeps names p.parameters c.arguments n x low m
 
-    own_means : CallMeans c (result_value p.result) (Some own_callable)
+    own_means : CallMeans c (result_value p.result) (Some (callable (callables meant.before) p))
     own_means = record {
       result = refl;
       comes = Î» s m shows small.

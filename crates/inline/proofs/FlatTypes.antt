@@ -5,7 +5,7 @@ use Rattle.std.proofs.Common.{sym, ap, ◌∙◌, subst, arith}
 use Rattle.std.proofs.lemmas.Bool.{or_parts}
 use Rattle.std.proofs.lemmas.List.{length-map}
 use Rattle.inline.specs.declared.flat.FlatVariable.{FlatVariable}
-use Rattle.inline.specs.Flat.{word_as, array_as, numbers_in}
+use Rattle.inline.specs.Flat.{word_as, array_as}
 use Rattle.inline.specs.Flat as tree
 use Rattle.inline.specs.FlatTyping.{Types, AreTyped, IsPut, Suits, types_after_all, with_type, counter_type}
 use Rattle.inline.specs.FlatTyping as flat
@@ -68,8 +68,7 @@ served {d = d} serves free = serves.is
 array_there : {names : Numbers} {types : Types} {text : List ℕ} {array : ArrayType}
     → Known names types text (array_as array.element true array.length)
     → types.at (number_of names text) ≡ Some (array_as array.element true (size_of names text))
-array_there {array = own} x = served x.typed refl
-    ∙ ap (λ (d : FlatVariable). Some (array_as own.element true (numbers_in d.elements))) (sym x.declared)
+array_there x = rw (x.declared, size_of) (served x.typed refl)
 
 -- the first values of an array
 all_suit : {scope : Scope} {names : Numbers} {types : Types} {n : ℕ} → Linked scope names types n

@@ -1,6 +1,6 @@
 -- Procedures that were measured, and the limits by what was counted.
-use Rattle.std.proofs.Common.{◌≡◌, ℕ, ◌+◌, ◌*◌, ◌<◌, ◌≤◌, ◌||◌, Bool, nat_lt, List, [], ◌++◌}
-use Rattle.std.proofs.Common.{length, map, Some, Result, Ok, Err, IfOk, IfErr, inr, refl, sym, ap, ap₂, ◌∙◌, arith}
+use Rattle.std.proofs.Common.{◌≡◌, ℕ, ◌+◌, ◌*◌, ◌<◌, ◌≤◌, ◌||◌, Bool, nat_lt, List, [], ◌++◌, length, Some, Result}
+use Rattle.std.proofs.Common.{Ok, Err, IfOk, IfErr, inr, refl, sym, ap, ap₂, ◌∙◌, arith}
 use Rattle.std.proofs.lemmas.Bool.Decides.{nat_tests}
 use Rattle.inline.proofs.CountLemmas.{block_alike}
 use Rattle.inline.specs.declared.measured.Measured.{Measured}
@@ -15,7 +15,7 @@ use Rattle.language.specs.declared.rule.Rule.TheVariants.{InlinedSize, DeclaredB
 use Rattle.language.specs.declared.tree.Procedure.{Procedure}
 use Rattle.language.specs.declared.typing.Violation.{Violation}
 use Rattle.language.specs.Size.{Extents, block_words, bodies_of, extent_of, nodes_of, parameter_words, passed_words}
-use Rattle.language.specs.Tree.{ProcedureTree, parameter_tree, procedure_tree}
+use Rattle.language.specs.Tree.{ProcedureTree, procedure_tree}
 use Rattle.language.specs.Types.{at, when}
 use Rattle.word.specs.declared.place.Place.{Place}
 
@@ -39,12 +39,7 @@ pub measured_alike : (known : Extents) (table : List (List ℕ × Measured)) (p 
 measured_alike known table p m words same own taken measured =
     let tree = procedure_tree p in
     let size = procedure_alike (extents_in table) known tree (passed_words tree.parameters) same taken measured in
-    ap₂ (λ ps (s : Size). record {
-      parameters = map parameter_tree ps;
-      nodes = s.nodes;
-      words = s.words;
-      bodies = s.bodies;
-    }) own size
+    rw (own, size) refl
 
 -- numbers that count the same are above the same limit
 same_test : (limit a b : ℕ) → limit < most_counted → counted a ≡ counted b → nat_lt limit a ≡ nat_lt limit b

@@ -1,6 +1,6 @@
 -- Numbering statements one by one, and the names that outlast them.
 use Rattle.std.proofs.Common.{◌≡◌, ℕ, ◌+◌, List, [], ◌∷◌, ◌++◌, Vec, Global, length, take, is_some, refl, sym, ap}
-use Rattle.std.proofs.Common.{ap₂, ◌∙◌, inl, inr, Some, None, map}
+use Rattle.std.proofs.Common.{◌∙◌, inl, inr, Some, None, map}
 use Rattle.std.proofs.lemmas.Bool.{cases_Bool}
 use Rattle.std.proofs.lemmas.List.{append_assoc, append-nil}
 use Rattle.std.proofs.Math.Seq.{take-append_seam}
@@ -46,9 +46,7 @@ pub conditional_whole : (place : Place) (condition : Expr) (accepted otherwise :
     → others ≡ otherwise.items
     → statement_tree s ≡ conditional place (expr_tree condition) (block_tree ones) (block_tree others)
 conditional_whole place condition accepted otherwise is first_arm second_arm =
-    ap statement_tree is ∙ conditional_tree place condition accepted otherwise
-    ∙ ap₂ (λ a b. conditional place (expr_tree condition) (block_tree a) (block_tree b)) (sym first_arm)
-    (sym second_arm)
+    rw (is, first_arm, second_arm) (conditional_tree place condition accepted otherwise)
 
 -- a loop, by the list of its body
 pub loop_whole : (place : Place) (counter : Counter) (low high : Expr) (body : Vec Statement Global) {s : Statement}
@@ -56,9 +54,7 @@ pub loop_whole : (place : Place) (counter : Counter) (low high : Expr) (body : V
     → statement_tree s ≡ source.loop place counter.place counter.name.now (expr_tree low) (expr_tree high)
     (block_tree ones)
 loop_whole place counter low high body is list =
-    ap statement_tree is ∙ loop_tree place counter low high body
-    ∙ ap (λ b. source.loop place counter.place counter.name.now (expr_tree low) (expr_tree high) (block_tree b))
-    (sym list)
+    rw (is, list) (loop_tree place counter low high body)
 
 -- a declaration only appends
 declared_more : (names : Numbers) (text : List ℕ) (what : Numbered)

@@ -222,6 +222,7 @@ pub arrays_same : (ps : List ParameterTree) (names : Numbers) (n : ℕ) (t : Sta
     → Shows names t m → final_arrays t ps ≡ arrays_from n (map param_of ps) m
 arrays_same [] names n t m named shows = refl
 arrays_same (p ∷ ps) names n t m named shows =
-    ap (λ a. a ++ final_arrays t ps)
-    (array_same p.kind p.form p.length (t p.name) (m n) (shows p.name (entry n (own p)) named.0).is)
-    ∙ ap (λ a. array_of p.form (m n) ++ a) (arrays_same ps names (n + 1) t m named.1 shows)
+    rw (
+      array_same p.kind p.form p.length (t p.name) (m n) (shows p.name (entry n (own p)) named.0).is,
+      arrays_same ps names (n + 1) t m named.1 shows,
+    ) refl

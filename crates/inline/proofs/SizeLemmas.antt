@@ -1,5 +1,5 @@
 -- What is passed to a call past its last argument.
-use Rattle.std.proofs.Common.{◌≡◌, ℕ, ◌≤◌, false, nat_lt, List, [], ◌∷◌, length, drop, map, refl, ap, ◌∙◌, arith}
+use Rattle.std.proofs.Common.{◌≡◌, ℕ, ◌≤◌, false, nat_lt, List, [], ◌∷◌, length, drop, map, refl, arith}
 use Rattle.std.proofs.lemmas.Bool.Decides.{nat_tests}
 use Rattle.std.proofs.lemmas.List.{drop_all}
 use Rattle.language.specs.declared.tree.Expr.{Expr}
@@ -16,5 +16,4 @@ pub no_arguments : (ps : List ParameterTree) (es : List Expr) (n : ℕ) → fals
     → nodes_passed (word_arguments ps (map expr_tree (drop n es))) ≡ 0
 no_arguments ps es n past =
     let end : length es ≤ n = grind (arith, nat_tests) in
-    ap (λ rest. nodes_passed (word_arguments ps (map expr_tree rest))) (drop_all n es end)
-    ∙ ap nodes_passed (no_word_arguments ps)
+    rw (drop_all n es end, no_word_arguments ps) refl

@@ -44,8 +44,8 @@ module _ {Entry Made Told : Type 0} (told : Entry → Told) (count : Made → To
       let made = make known (procedure_tree p) in
       let next = drop_more procedures i p within ∙ ap (λ q. q ∷ drop (i + 1) procedures) (sym is) in (
         with_known known name made,
-        (λ text. ap (λ t. option_map told (found t text)) more ∙ ap (option_map told) (found_declared table name x text)
-            ∙ told_alike (found table text) (known text) (bytes_eq text name) x made (knows.1 text)
-            (one known knows.1)),
+        (λ text. rw (more, found_declared table name x text)
+            (told_alike (found table text) (known text) (bytes_eq text name) x made (knows.1 text)
+            (one known knows.1))),
         sym (ap (λ rest. known_from make known (map procedure_tree rest)) next) ∙ knows.2,
       )

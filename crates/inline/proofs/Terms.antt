@@ -101,15 +101,11 @@ marks_found false false place a b w = refl
 -- Types.
 
 -- the kind and the label of what is made of two words
-made_kind : {profile : Profile} {operation : Operation} {one other whole : WordType}
-    → rules.Makes profile operation one other whole → operation_kind operation one.kind ≡ whole.kind
-made_kind (rules.arithmetic numeric) = refl
-made_kind other = refl
-
-made_label : {profile : Profile} {operation : Operation} {one other whole : WordType}
-    → rules.Makes profile operation one other whole → joined one.label other.label ≡ whole.label
-made_label (rules.arithmetic numeric) = refl
-made_label other = refl
+made : {profile : Profile} {operation : Operation} {one other whole : WordType}
+    → rules.Makes profile operation one other whole
+    → (operation_kind operation one.kind ≡ whole.kind) × (joined one.label other.label ≡ whole.label)
+made (rules.arithmetic numeric) = (refl, refl)
+made other = (refl, refl)
 
 -- the word that is chosen
 picked : (is_zero : Bool) (k : Kind) (a b : ℕ)
@@ -162,10 +158,10 @@ module _ {scope : Scope} {names : Numbers} {types : Types} {n : ℕ} (linked : L
       {whole = whole} has more makes) small =
       let a = means has small.0 in
       let b = means more small.1 in
-      let kind = made_kind makes in
+      let kind = (made makes).0 in
       record {
         kind = ap (operation_kind (operation_of operator)) a.kind ∙ kind;
-        label = ap₂ joined a.label b.label ∙ made_label makes;
+        label = ap₂ joined a.label b.label ∙ (made makes).1;
         typed = flat.of_binary a.typed b.typed (rw linked.observed makes) (ap width_of a.kind);
         value = λ s m shows.
             let x = value_in m (term names left) in
