@@ -1,6 +1,6 @@
 -- Where a called body begins: its words have new numbers, and its arrays those of the caller.
-use Rattle.std.proofs.Common.{◌≡◌, ℕ, ◌+◌, ◌<◌, ◌&&◌, ◌||◌, Bool, true, false, List, [], ◌∷◌, length, Some, inl, inr}
-use Rattle.std.proofs.Common.{refl, sym, ap, ap₂, ◌∙◌, subst, arith, true≢false}
+use Rattle.std.proofs.Common.{◌≡◌, ℕ, ◌+◌, ◌<◌, Bool, true, false, List, [], ◌∷◌, length, Some, inl, inr, refl, sym}
+use Rattle.std.proofs.Common.{ap, ◌∙◌, subst, arith, true≢false}
 use Rattle.std.proofs.lemmas.Bool.{cases_Bool, or_parts}
 use Rattle.std.proofs.lemmas.Option.{none-some}
 use lib.Pointwise.{bytes_decides}
@@ -133,20 +133,18 @@ module _ {scope : Scope} {names : Numbers} {types : Types} {n : ℕ} (linked : L
       → {ps : List ParameterTree} {es : List ExprTree} → SharesNone p e ps es → ArePassed scope ps es
       → Unshared names (number_given names e) (is_mutable p.form) ps es
   unshared_array a none none_passed = tt
-  unshared_array {p = p} {e = e} a none (one_passed {p = q} {argument = f} is shares are) =
-      ((λ off at. apart (array_passed linked is off) at), unshared_array a none.1 are)
-    where
-      apart : ArrayGiven names types n q f → number_given names e ≡ number_given names f
-          → (is_mutable p.form ≡ true → ⊥) × (is_mutable q.form ≡ true → ⊥)
-      apart b at =
-          let neither = λ (same : b.text ≡ a.text). or_parts (is_mutable q.form) (is_mutable p.form)
-          (sym (ap (λ t. t && (is_mutable q.form || is_mutable p.form)) (ap₂ same_name b.given a.given
-          ∙ (bytes_decides b.text a.text).1 same)) ∙ none.0) in (
-            (λ free. true≢false (sym free
-                ∙ (neither (sym (linked.apart a.text b.text _ _ a.found b.found at (a.enough free)))).1)),
-            (λ free. true≢false (sym free
-                ∙ (neither (linked.apart b.text a.text _ _ b.found a.found (sym at) (b.enough free))).0)),
-          )
+  unshared_array {p = p} a none (one_passed {p = q} is shares are) = (
+    (λ off at.
+        let b = array_passed linked is off in
+        let neither = λ (same : b.text ≡ a.text). or_parts (is_mutable q.form) (is_mutable p.form)
+        (rw (b.given, a.given, (bytes_decides b.text a.text).1 same, same_name) at none.0) in (
+          (λ free. true≢false (sym free
+              ∙ (neither (sym (linked.apart a.text b.text _ _ a.found b.found at (a.enough free)))).1)),
+          (λ free. true≢false (sym free
+              ∙ (neither (linked.apart b.text a.text _ _ b.found a.found (sym at) (b.enough free))).0)),
+        )),
+    unshared_array a none.1 are,
+  )
 
 -- All parameters.
 

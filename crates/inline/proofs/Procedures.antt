@@ -1,6 +1,6 @@
 -- A statement about each procedure that may be called, by induction over the text.
-use Rattle.std.proofs.Common.{◌≡◌, ◌≢◌, ℕ, ◌<◌, true, false, List, [], ◌∷◌, ◌++◌, length, Some, None, is_some, refl}
-use Rattle.std.proofs.Common.{sym, ap, ◌∙◌, subst, arith, slice_get, length-append, inl, inr, if◌then◌else◌}
+use Rattle.std.proofs.Common.{◌≡◌, ◌≢◌, ◌⊎◌, ℕ, ◌<◌, true, List, [], ◌∷◌, ◌++◌, length, Some, None, is_some, refl, sym}
+use Rattle.std.proofs.Common.{ap, ◌∙◌, subst, arith, slice_get, length-append, inl, inr, if◌then◌else◌}
 use Rattle.std.proofs.lemmas.Bool.{cases_Bool}
 use Rattle.std.proofs.lemmas.List.{nil_from_length, append-nil, append_assoc}
 use Rattle.std.proofs.lemmas.Option.{none-some, same_Some, slice_get_past}
@@ -122,29 +122,29 @@ module _ (Good : List ProcedureTree → Scope → ProcedureTree → Type 0) wher
     abbrev after : Scope
     after = with_procedure scope (length earlier) p
 
-    here : (text : List ℕ) → bytes_eq text p.name ≡ true → found after text ≡ Some (Procedure own)
-    here text e = found-new scope.names p.name (Procedure own) text e new
-
-    there : (text : List ℕ) → bytes_eq text p.name ≡ false → found after text ≡ found scope text
-    there text e = found-other scope.names p.name (Procedure own) text e
+    -- a callee here was one before, or is this procedure
+    split : (text : List ℕ) (c : Callee) → found after text ≡ Some (Procedure c)
+        → (found scope text ≡ Some (Procedure c)) ⊎ ((bytes_eq text p.name ≡ true) × (own ≡ c))
+    split text c is = elim (found-split scope.names p.name (Procedure own) text (Procedure c) is) [
+      | inl old ↦ inl old
+      | inr this ↦ inr (this.0, same_callee own c (ap (λ d. Some d) this.1))
+    ]
 
     -- what a procedure's name is in its own body
     pub variables_within : NoVariables after
-    variables_within text v is = elim (cases_Bool (bytes_eq text p.name)) [
-      | inl e ↦ no_callee own v (sym (here text e) ∙ is)
-      | inr e ↦ stand.variables text v (sym (there text e) ∙ is)
+    variables_within text v is = elim (found-split scope.names p.name (Procedure own) text (Variable v) is) [
+      | inl old ↦ stand.variables text v old
+      | inr this ↦ no_callee own v (ap (λ d. Some d) this.1)
     ]
 
     -- which may not call itself
     pub earlier_within : IsWithin earlier scope after
     earlier_within text c q is get = (
       refl,
-      elim (cases_Bool (bytes_eq text p.name)) [
-        | inl e ↦ (
-            let same = same_callee own c (sym (here text e) ∙ is) in
-            absurd (none-some q (sym (slice_get_past earlier (length earlier) (omega arith))
-            ∙ (ap (λ (d : Callee). slice_get earlier d.number) same ∙ get))))
-        | inr e ↦ sym (there text e) ∙ is
+      elim (split text c is) [
+        | inl old ↦ old
+        | inr this ↦ absurd (none-some q (sym (slice_get_past earlier (length earlier) (omega arith))
+            ∙ (ap (λ (d : Callee). slice_get earlier d.number) this.1 ∙ get)))
       ],
     )
 
@@ -156,35 +156,36 @@ module _ (Good : List ProcedureTree → Scope → ProcedureTree → Type 0) wher
         → c.number < length (earlier ++ p ∷ [])
     below_by text c is =
         let count = length-append earlier (p ∷ []) in
-        elim (cases_Bool (bytes_eq text p.name)) [
-          | inl e ↦ (
-              let same = ap (λ (d : Callee). d.number) (same_callee own c (sym (here text e) ∙ is)) in omega arith)
-          | inr e ↦ omega (arith, stand.below text c (sym (there text e) ∙ is))
+        elim (split text c is) [
+          | inl old ↦ omega (arith, stand.below text c old)
+          | inr this ↦ omega (arith, ap (λ (d : Callee). d.number) this.1)
         ]
 
     new_by : (text : List ℕ) → found after text ≡ None → named [] (earlier ++ p ∷ []) text ≡ None
     new_by text is = elim (cases_Bool (bytes_eq text p.name)) [
-      | inl e ↦ absurd (none-some (Procedure own) (sym is ∙ here text e))
-      | inr e ↦ rw (named-more [] earlier p text, stand.new text (sym (there text e) ∙ is), e) refl
+      | inl e ↦ absurd (none-some (Procedure own) (sym is ∙ found-new scope.names p.name (Procedure own) text e new))
+      | inr e ↦ rw (
+        named-more [] earlier p text,
+        stand.new text (sym (found-other scope.names p.name (Procedure own) text e) ∙ is),
+        e,
+      ) refl
     ]
 
     callable_by : Good earlier scope p → EachCallable (earlier ++ p ∷ []) (IsCallable (earlier ++ p ∷ [])) after
-    callable_by good text c q is get = elim (cases_Bool (bytes_eq text p.name)) [
-      | inl e ↦ (
-          let same = same_callee own c (sym (here text e) ∙ is) in
+    callable_by good text c q is get = elim (split text c is) [
+      | inr this ↦ (
           let tree = same_Some p q (sym (get_last earlier p)
-          ∙ (ap (λ (d : Callee). slice_get (earlier ++ p ∷ []) d.number) same ∙ get)) in
-          let absent = stand.new text (ap (found scope) ((bytes_decides text p.name).0 e) ∙ new) in
+          ∙ (ap (λ (d : Callee). slice_get (earlier ++ p ∷ []) d.number) this.1 ∙ get)) in
+          let absent = stand.new text (ap (found scope) ((bytes_decides text p.name).0 this.0) ∙ new) in
           subst (IsCallable (earlier ++ p ∷ []) scope.profile text c) tree (record {
             before = earlier;
             at = scope;
             observed = refl;
-            is = rw (named-more [] earlier p text, absent, e) refl;
-            quiet = ap (λ (d : Callee). d.assigns_public) (sym same);
+            is = rw (named-more [] earlier p text, absent, this.0) refl;
+            quiet = ap (λ (d : Callee). d.assigns_public) (sym this.1);
             good = good;
           }))
-      | inr e ↦ (
-          let old = sym (there text e) ∙ is in
+      | inl old ↦ (
           let k = stand.callable text c q old (sym (get_front earlier p c.number (stand.below text c old)) ∙ get) in
           record {
             before = k.before;

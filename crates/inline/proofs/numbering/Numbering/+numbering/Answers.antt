@@ -88,27 +88,19 @@ statement-turns-requires t c =
     c.in-For.is c.deref-in-For.ensures.value in
     search (rules, smaller)
 
-pub statement-returns-in-If-clause-block : goal.statement-returns-in-If-clause-block
-statement-returns-in-If-clause-block t c =
-    rw (conditional_whole _ c.in-If.condition c.in-If.accepted c.in-If.otherwise c.in-If.is c.deref.ensures.value
-    c.deref-in-If.ensures.value)
-    c.branch-self.ensures.block
+pub statement-returns-in-If : goal.statement-returns-in-If
+statement-returns-in-If t c =
+    let whole = conditional_whole _ c.in-If.condition c.in-If.accepted c.in-If.otherwise c.in-If.is c.deref.ensures.value
+    c.deref-in-If.ensures.value in
+    let made = c.branch-self.ensures in
+    record { block = rw whole made.block; names = rw whole made.names; declared = rw whole made.declared }
 
-pub statement-returns-in-If-clause-declared : goal.statement-returns-in-If-clause-declared
-statement-returns-in-If-clause-declared t c =
-    rw (conditional_whole _ c.in-If.condition c.in-If.accepted c.in-If.otherwise c.in-If.is c.deref.ensures.value
-    c.deref-in-If.ensures.value)
-    c.branch-self.ensures.declared
-
-pub statement-returns-in-For-clause-block : goal.statement-returns-in-For-clause-block
-statement-returns-in-For-clause-block t c =
-    rw (loop_whole _ c.in-For.counted c.in-For.low c.in-For.high c.in-For.body c.in-For.is c.deref-in-For.ensures.value)
-    c.turns.ensures.block
-
-pub statement-returns-in-For-clause-declared : goal.statement-returns-in-For-clause-declared
-statement-returns-in-For-clause-declared t c =
-    rw (loop_whole _ c.in-For.counted c.in-For.low c.in-For.high c.in-For.body c.in-For.is c.deref-in-For.ensures.value)
-    c.turns.ensures.declared
+pub statement-returns-in-For : goal.statement-returns-in-For
+statement-returns-in-For t c =
+    let whole = loop_whole _ c.in-For.counted c.in-For.low c.in-For.high c.in-For.body c.in-For.is
+    c.deref-in-For.ensures.value in
+    let made = c.turns.ensures in
+    record { block = rw whole made.block; names = rw whole made.names; declared = rw whole made.declared }
 
 pub word-returns-clause-block : goal.word-returns-clause-block
 word-returns-clause-block t c =
@@ -121,23 +113,15 @@ word-returns-clause-block t c =
       chain_chain,
     ) at c.push.ensures
 
-pub call-returns-in_default-clause-word : goal.call-returns-in_default-clause-word
-call-returns-in_default-clause-word t c =
-    rw (not_called c.args.earlier.now c.args.call.now.name.now c.in_default.ensures) refl
-
-pub call-returns-in_default-clause-value : goal.call-returns-in_default-clause-value
-call-returns-in_default-clause-value t c =
-    rw (not_called c.args.earlier.now c.args.call.now.name.now c.in_default.ensures) refl
-
-pub call-returns-in_default-clause-block : goal.call-returns-in_default-clause-block
-call-returns-in_default-clause-block t c =
-    rw (not_called c.args.earlier.now c.args.call.now.name.now c.in_default.ensures)
-    (sym (chain_nothing (flat_block c.args.flat.now.items)))
-
-pub call-returns-in_default-clause-declared : goal.call-returns-in_default-clause-declared
-call-returns-in_default-clause-declared t c =
-    rw (not_called c.args.earlier.now c.args.call.now.name.now c.in_default.ensures)
-    (sym (append-nil c.args.declared.now.items))
+pub call-returns-in_default : goal.call-returns-in_default
+call-returns-in_default t c =
+    let is = not_called c.args.earlier.now c.args.call.now.name.now c.in_default.ensures in
+    record {
+      word = rw is refl;
+      value = rw is refl;
+      block = rw is (sym (chain_nothing (flat_block c.args.flat.now.items)));
+      declared = rw is (sym (append-nil c.args.declared.now.items));
+    }
 
 pub call-inside-requires : goal.call-inside-requires
 call-inside-requires t c =
@@ -152,58 +136,31 @@ inside-block-requires t c =
     < 8 * nodes_of_block c.args.earlier.now c.args.procedure.now.body.items + 8 = omega (arith, same) in
     search (rules, smaller)
 
-pub inside-returns-clause-value : goal.inside-returns-clause-value
-inside-returns-clause-value t c = rw (c.in_ok-block.ensures.names, c.deref.ensures.value) at c.value.ensures
+pub inside-returns : goal.inside-returns
+inside-returns t c =
+    let list = c.deref.ensures.value in
+    let made = c.in_ok-block.ensures in
+    record {
+      value = rw (made.names, list) at c.value.ensures;
+      block = ok_any c.value.result (rw list at made.block);
+      declared = ok_any c.value.result (rw list at made.declared);
+    }
 
-pub inside-returns-clause-block : goal.inside-returns-clause-block
-inside-returns-clause-block t c =
-    ok_any c.value.result (rw c.deref.ensures.value at c.in_ok-block.ensures.block)
-
-pub inside-returns-clause-declared : goal.inside-returns-clause-declared
-inside-returns-clause-declared t c =
-    ok_any c.value.result (rw c.deref.ensures.value at c.in_ok-block.ensures.declared)
-
-pub call-returns-clause-word : goal.call-returns-clause-word
-call-returns-clause-word t c =
-    rw (called c.args.earlier.now c.in-Some.before.now c.in-Some.callee.now c.args.call.now.name.now
-    c.in-Some.ensures) refl
-
-pub call-returns-clause-value : goal.call-returns-clause-value
-call-returns-clause-value t c =
-    rw (
-      called c.args.earlier.now c.in-Some.before.now c.in-Some.callee.now c.args.call.now.name.now c.in-Some.ensures,
-      c.in_ok-value.ensures.value,
-      c.in_ok-own.ensures.own,
-      c.in_ok-own.ensures.declared,
-      c.deref.ensures.value,
-      c.deref-2.ensures.value,
-      length-append,
-    ) refl
-
-pub call-returns-clause-block : goal.call-returns-clause-block
-call-returns-clause-block t c =
-    rw (
-      called c.args.earlier.now c.in-Some.before.now c.in-Some.callee.now c.args.call.now.name.now c.in-Some.ensures,
-      c.in_ok-value.ensures.block,
-      c.in_ok-own.ensures.block,
-      c.in_ok-own.ensures.own,
-      c.in_ok-own.ensures.declared,
-      c.deref.ensures.value,
-      c.deref-2.ensures.value,
-      length-append,
-      chain_chain,
-    ) refl
-
-pub call-returns-clause-declared : goal.call-returns-clause-declared
-call-returns-clause-declared t c =
-    rw (
-      called c.args.earlier.now c.in-Some.before.now c.in-Some.callee.now c.args.call.now.name.now c.in-Some.ensures,
-      c.in_ok-value.ensures.declared,
-      c.in_ok-own.ensures.declared,
-      c.deref.ensures.value,
-      c.deref-2.ensures.value,
-      append_assoc,
-    ) refl
+pub call-returns : goal.call-returns
+call-returns t c =
+    let is = called c.args.earlier.now c.in-Some.before.now c.in-Some.callee.now c.args.call.now.name.now
+    c.in-Some.ensures in
+    let own = c.in_ok-own.ensures in
+    let made = c.in_ok-value.ensures in
+    let parameters = c.deref.ensures.value in
+    let arguments = c.deref-2.ensures.value in
+    record {
+      word = rw is refl;
+      value = rw (is, made.value, own.own, own.declared, parameters, arguments, length-append) refl;
+      block = rw (is, made.block, own.block, own.own, own.declared, parameters, arguments, length-append, chain_chain)
+          refl;
+      declared = rw (is, made.declared, own.declared, parameters, arguments, append_assoc) refl;
+    }
 
 pub call_alone-returns-in_ok-push-2-clause-block : goal.call_alone-returns-in_ok-push-2-clause-block
 call_alone-returns-in_ok-push-2-clause-block t c =
