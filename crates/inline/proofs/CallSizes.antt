@@ -142,11 +142,11 @@ body_sized before at p body scope names n c are =
     let own = begun names [] n p.parameters c.arguments in
     let m = n + length vars in
     let end = names_after_all (callables before) own m p.body in
-    let whole = chain-nodes (passed names n p.parameters c.arguments) (block (callables before) own m p.body) in
     let value = same_result end p.returned in
     record {
-      nodes = omega (arith, whole, passed_nodes names n p.parameters c.arguments, body.nodes own m, value);
-      words = omega (arith, words-append vars (declared_in_all (callables before) p.body), passed_take are, value);
+      nodes = rw chain-nodes
+          (omega (arith, passed_nodes names n p.parameters c.arguments, body.nodes own m, value));
+      words = rw words-append (omega (arith, passed_take are, value));
       gives = refl;
       returns = value_together end p.result p.returned body.returns;
     }

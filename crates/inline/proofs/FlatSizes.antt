@@ -6,13 +6,11 @@ use Rattle.std.proofs.lemmas.Bool.Decides.{nat_tests}
 use Rattle.std.proofs.lemmas.List.{length-map}
 use Rattle.std.specs.List.{AllByRecursion}
 use Rattle.inline.specs.Flat.{elements_by, word_as, counter_type}
-use Rattle.inline.specs.Flat as tree
 use Rattle.inline.specs.FlatSize as flat
 use Rattle.inline.specs.FlatSize.{term_nodes, body_nodes, words_by, declared_words, IsSized}
-use Rattle.inline.specs.Numbering.{Numbers, Callables, callables, call_block, call_variables, call_result, call_value}
-use Rattle.inline.specs.Numbering.{right_block, right_variables, right_end, right, value_given, dropped_block}
-use Rattle.inline.specs.Numbering.{dropped_variables, declared_in, declared_in_all, numbers_taken, numbers_taken_all}
-use Rattle.inline.specs.Numbering.{naming, names_after, statement, block, single, number_of, size_of, param_of}
+use Rattle.inline.specs.Numbering.{Numbers, Callables, callables, call_variables, call_result, call_value}
+use Rattle.inline.specs.Numbering.{right_block, right_variables, right, declared_in, declared_in_all, numbers_taken}
+use Rattle.inline.specs.Numbering.{numbers_taken_all, naming, names_after, statement, block, param_of}
 use Rattle.inline.specs.Numbering.{parameter_names, return_names, flattened}
 use Rattle.language.specs.Limits.{most_nodes, most_bodies, most_declared_bytes}
 use Rattle.language.specs.declared.rule.Rule.{Rule}
@@ -33,9 +31,9 @@ use Rattle.language.specs.Tree.{ExprTree, RightTree, StatementTree, element_assi
 use Rattle.language.specs.Tree.{ProcedureTree, ProgramTree, ReturnTree, written}
 use Rattle.language.specs.Types.{Scope, when}
 use Rattle.language.specs.Typing.{violations, with_procedure}
-use Rattle.language.specs.WellTyped.{labelled, Gives, of_call, of_value, IsWellTyped, declares, declares_array}
-use Rattle.language.specs.WellTyped.{assigns, assigns_element, calls, chooses, repeats, AreWellTyped, no_statement}
-use Rattle.language.specs.WellTyped.{one_more, IsProcedure, Returns, nothing_returned, value_returned}
+use Rattle.language.specs.WellTyped.{Gives, of_call, of_value, IsWellTyped, declares, declares_array, assigns}
+use Rattle.language.specs.WellTyped.{assigns_element, calls, chooses, repeats, AreWellTyped, no_statement, one_more}
+use Rattle.language.specs.WellTyped.{IsProcedure, Returns, nothing_returned, value_returned}
 use Rattle.word.specs.declared.place.Place.{Place}
 use Rattle.word.specs.declared.profile.Profile.{Profile}
 use Rattle.inline.proofs.CallSizes.{same_nodes, same_all, same_result, GoTogether, value_there, dropped_nodes}
@@ -91,11 +89,9 @@ module _ (earlier : List ProcedureTree) (at : Scope) (stand : Stand SizedBody ea
       record { nodes = omega (arith, same_nodes names e); words = omega arith }
   right_sized {given = given} (of_call {c = c} is) inside names n =
       let f = call_sized earlier at stand is inside names n in
-      let body = call_block (known c.name) names n c.arguments in
-      let whole = chain-nodes body (single tree.skip) in
       let value = value_there (call_result (known c.name)) (call_value (known c.name) names n c.arguments) given
       f.gives f.returns in
-      record { nodes = omega (arith, whole, value); words = omega arith }
+      record { nodes = rw chain-nodes (omega (arith, value)); words = omega arith }
 
   -- so is a statement
   pub record StatementSized (names : Numbers) (n : ℕ) (s : StatementTree) : Type 0 where
@@ -114,53 +110,36 @@ module _ (earlier : List ProcedureTree) (at : Scope) (stand : Stand SizedBody ea
       record { nodes = omega (arith, same_nodes names index, same_nodes names e); words = omega arith }
   element_sized {given = given} (of_call {c = c} is) inside place bracket target text index names n =
       let f = call_sized earlier at stand is inside names (n + 1) in
-      let body = call_block (known c.name) names (n + 1) c.arguments in
-      let value = value_given (call_value (known c.name) names (n + 1) c.arguments) in
-      let whole =
-      chain-nodes body
-      (single (tree.put bracket (number_of names text) (size_of names text) (tree.variable n) value)) in
-      let there = value_there (call_result (known c.name)) (call_value (known c.name) names (n + 1) c.arguments) given
+      let value = value_there (call_result (known c.name)) (call_value (known c.name) names (n + 1) c.arguments) given
       f.gives f.returns in
-      record { nodes = omega (arith, whole, there, same_nodes names index); words = omega arith }
+      record { nodes = rw chain-nodes (omega (arith, value, same_nodes names index)); words = omega arith }
 
   mutual
     pub statement_sized : {scope : Scope} {control : Label} {s : StatementTree} → IsWellTyped earlier scope control s
         → IsWithin earlier at scope → (names : Numbers) (n : ℕ) → StatementSized names n s
-    statement_sized (declares {label = label} {mutable = mutable} {kind = kind} {right = r} new has suit flow)
-        inside names n =
+    statement_sized (declares new has suit flow) inside names n =
         let f = right_sized has inside names n in
-        let own = word_as (labelled kind label) mutable in
-        let whole = chain-nodes (right_block known names n r)
-        (single (tree.declare (right_end known n r) (labelled kind label) mutable (right known names n r))) in
-        let sum = words-append (right_variables known r) (own ∷ []) in
-        record { nodes = omega (arith, whole); words = omega (arith, sum) }
+        record { nodes = rw chain-nodes (omega arith); words = rw words-append (omega arith) }
     statement_sized (declares_array {values = values} new suit count flow) inside names n =
         record { nodes = omega (arith, same_all names (written values)); words = omega arith }
-    statement_sized (assigns {text = text} {right = r} is has suit flow) inside names n =
+    statement_sized (assigns is has suit flow) inside names n =
         let f = right_sized has inside names n in
-        let whole = chain-nodes (right_block known names n r)
-        (single (tree.assign (number_of names text) (right known names n r))) in
-        record { nodes = omega (arith, whole); words = omega arith }
-    statement_sized (assigns_element {place = place} {bracket = bracket} {target = target} {text =
-        text} {index = index}
-        is has value suit flow) inside names n = element_sized value inside place bracket target text index names n
+        record { nodes = rw chain-nodes (omega arith); words = omega arith }
+    statement_sized (assigns_element is has value suit flow) inside names n =
+        element_sized value inside _ _ _ _ _ names n
     statement_sized (calls {c = c} is) inside names n =
         let f = call_sized earlier at stand is inside names n in
         let o = known c.name in
         let vars = call_variables o c.arguments in
         let value = call_value o names n c.arguments in
-        let last = dropped_block (n + length vars) (call_result o) value in
-        let whole = chain-nodes (call_block o names n c.arguments) last in
-        let sum = words-append vars (dropped_variables (call_result o)) in
-        let back = dropped_nodes (n + length vars) (call_result o) value f.returns in
-        let held = dropped_words (call_result o) value f.returns in
-        record { nodes = omega (arith, whole, back); words = omega (arith, sum, held) }
-    statement_sized (chooses {condition = condition} {accepted = accepted} {otherwise = otherwise} has one other)
-        inside names n =
+        record {
+          nodes = rw (chain-nodes, dropped_nodes (n + length vars) (call_result o) value f.returns) (omega arith);
+          words = rw words-append (omega (arith, dropped_words (call_result o) value f.returns));
+        }
+    statement_sized (chooses {condition = condition} {accepted = accepted} has one other) inside names n =
         let a = block_sized one inside names n in
         let b = block_sized other inside names (n + numbers_taken_all known accepted) in
-        let sum = words-append (declared_in_all known accepted) (declared_in_all known otherwise) in
-        record { nodes = omega (arith, same_nodes names condition); words = omega (arith, sum) }
+        record { nodes = omega (arith, same_nodes names condition); words = rw words-append (omega arith) }
     statement_sized (repeats {scope = scope} {text = text} {low = low} {high = high} {body = body} has is new all)
         inside names n =
         let b = block_sized all (callable_declared earlier (IsAt at) scope text _ inside)
@@ -170,14 +149,11 @@ module _ (earlier : List ProcedureTree) (at : Scope) (stand : Stand SizedBody ea
     pub block_sized : {scope : Scope} {control : Label} {b : BlockTree} → AreWellTyped earlier scope control b
         → IsWithin earlier at scope → (names : Numbers) (n : ℕ) → BlockSized names n b
     block_sized no_statement inside names n = record { nodes = refl; words = omega arith }
-    block_sized (one_more {statement = s} {rest = rest} here there) inside names n =
+    block_sized (one_more {statement = s} here there) inside names n =
         let a = statement_sized here inside names n in
         let b = block_sized there (callable_after earlier (IsAt at) here inside) (names_after known names n s)
         (n + numbers_taken known s) in
-        let whole = chain-nodes (statement known names n s)
-        (block known (names_after known names n s) (n + numbers_taken known s) rest) in
-        let sum = words-append (declared_in known s) (declared_in_all known rest) in
-        record { nodes = omega (arith, whole); words = omega (arith, sum) }
+        record { nodes = rw chain-nodes (omega arith); words = rw words-append (omega arith) }
 
 -- Procedures.
 

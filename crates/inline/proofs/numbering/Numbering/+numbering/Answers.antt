@@ -1,8 +1,8 @@
 use Rattle.std.proofs.Common.{rules, arith, Some, ◌≡◌, ◌<◌, ◌+◌, ◌*◌, ◌∷◌, ap, ap₂, drop, length, length-append, map}
 use Rattle.std.proofs.Common.{refl, sym, take, ◌∙◌}
-use Rattle.std.proofs.lemmas.List.{append-nil, append_assoc, at_drop_all, drop_more}
+use Rattle.std.proofs.lemmas.List.{append-nil, append_assoc, drop_all, drop_more}
 use Rattle.inline.specs.Callees.{called_by}
-use Rattle.inline.specs.Flat.{chain, flat_block, term_tree}
+use Rattle.inline.specs.Flat.{flat_block, term_tree}
 use Rattle.inline.specs.Numbering.{block, call_result, call_value, value_given}
 use Rattle.language.specs.Tree.{block_tree, call_tree, expr_tree}
 use Rattle.inline.proofs.BlockLemmas.{chain_chain, chain_nothing, ok_any}
@@ -37,10 +37,8 @@ block-loop-statement-preserved t c =
 pub block-returns-clause-block : goal.block-returns-clause-block
 block-returns-clause-block t c =
     let l = c.loop-statement in
-    let none = at_drop_all (λ ss. chain (flat_block l.flat.items)
-    (block (called_by c.args.earlier.now) l.self.names (length l.declared.items) (block_tree ss))) c.args.block.now
-    l.statement-index c.loop-statement-test.false in
-    sym (chain_nothing (flat_block l.flat.items)) ∙ sym none ∙ l.invariant.block
+    sym (chain_nothing (flat_block l.flat.items))
+    ∙ (rw (drop_all l.statement-index c.args.block.now c.loop-statement-test.false) at l.invariant.block)
 
 pub branch-returns-clause-block : goal.branch-returns-clause-block
 branch-returns-clause-block t c =

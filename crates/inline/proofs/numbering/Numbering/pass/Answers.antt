@@ -1,15 +1,12 @@
-use Rattle.std.proofs.Common.{ap, length, map, refl}
+use Rattle.std.proofs.Common.{refl}
 use Rattle.inline.proofs.PassLemmas.{passes_next, passes_parameters, passes_arguments}
 use Rattle.inline.proofs.numbering.Numbering.pass.Goals as goal
-use Rattle.inline.specs.Numbering.{Numbers, begun}
-use Rattle.language.specs.Tree.{expr_tree, parameter_tree}
 
 pub loop-index-init : goal.loop-index-init
 loop-index-init c = record {
   all = record {
     block = refl;
-    begins = ap (λ (own : Numbers). begun c.args.self.now.names own (length c.args.declared.now.items)
-        (map parameter_tree c.args.parameters.now) (map expr_tree c.args.arguments.now)) c.new-own.ensures;
+    begins = rw c.new-own.ensures refl;
     declared = refl;
   };
 }
