@@ -1,5 +1,5 @@
 -- A call is well typed once its names are numbers: words are declared, and then comes the called body.
-use Rattle.std.proofs.Common.{◌≡◌, ℕ, false, List, length, Option, Some, None, inl, inr, refl, sym, ap, ◌∙◌, subst}
+use Rattle.std.proofs.Common.{◌≡◌, ℕ, false, List, length, Option, Some, None, inl, inr, refl, sym, ap, ◌∙◌}
 use Rattle.std.proofs.lemmas.Bool.{cases_Bool}
 use Rattle.inline.specs.declared.flat.FlatVariable.{FlatVariable}
 use Rattle.inline.specs.Flat.{TermTree, word_as}
@@ -131,7 +131,7 @@ result_suits types None value given wanted is same suit = absurd cc
 result_suits types (Some word) None given wanted is same suit = absurd is
 result_suits types (Some word) (Some value) given wanted is same suit =
     let equal : given ≡ word = cc in
-    suits_as is (subst (λ w. rules.Suits w wanted) equal suit)
+    suits_as is (rw equal at suit)
 
 -- a result that nothing takes
 pub dropped_typed : (all : List FlatVariable) (types : Types) (control : Label) (n : ℕ) (result : Option WordType)

@@ -5,11 +5,10 @@ use Rattle.std.proofs.lemmas.Bool.{or_parts}
 use Rattle.std.proofs.lemmas.List.{length-map}
 use Rattle.std.specs.List.{AllByRecursion}
 use Rattle.word.specs.declared.profile.Profile.{Profile}
-use Rattle.inline.specs.declared.flat.FlatVariable.{FlatVariable}
 use Rattle.inline.specs.Flat.{declaration_of}
-use Rattle.inline.specs.FlatTyping.{Types, IsTypedProgram, AreTyped, IsResult, parameter_types, types_after_all}
-use Rattle.inline.specs.Numbering.{Numbers, param_of, parameter_names, flattened, callables, block, declared_in_all}
-use Rattle.inline.specs.Numbering.{names_after_all, value_of}
+use Rattle.inline.specs.FlatTyping.{Types, IsTypedProgram, IsResult, parameter_types}
+use Rattle.inline.specs.Numbering.{Numbers, param_of, parameter_names, flattened, callables, declared_in_all}
+use Rattle.inline.specs.Numbering.{value_of}
 use Rattle.language.specs.declared.signature.Label.{Label}
 use Rattle.language.specs.declared.signature.Label.TheVariants.{Public, Secret}
 use Rattle.language.specs.declared.typing.WordType.{WordType}
@@ -24,7 +23,7 @@ use Rattle.inline.proofs.CallTypes.{TypedBody}
 use Rattle.inline.proofs.FlatTypes.{IsHushed, typed_block}
 use Rattle.inline.proofs.Hiding.{hides_none, hides_parameters}
 use Rattle.inline.proofs.Linked.{Linked}
-use Rattle.inline.proofs.Listed.{Lists, lists_end, block_takes, all_counted, linked_after_all}
+use Rattle.inline.proofs.Listed.{lists_end, block_takes, all_counted, linked_after_all}
 use Rattle.inline.proofs.Parameters.{linked_parameters, all_own}
 use Rattle.inline.proofs.Procedures.{Stand, Exported, IsAt, IsWithin, own_typing, variables_within, earlier_within}
 use Rattle.inline.proofs.Procedures.{callable_parameters}
@@ -64,26 +63,14 @@ module _ (before : List ProcedureTree) (at : Scope) (p : ProcedureTree) (stand :
   within = callable_parameters before (IsAt at) p.parameters (with_procedure at (length before) p)
       (earlier_within TypedBody before at stand p typed.is_new)
 
-  body_typed : (all : List FlatVariable) (control : Label) (names : Numbers) (types : Types) (n : ℕ)
-      → Linked inside names types n → (control ≡ Secret → assigns_public at p ≡ false)
-      → Lists all n (declared_in_all (callables before) p.body)
-      → AreTyped all types control (block (callables before) names n p.body)
-  body_typed all control names types n linked quiet lists =
-      rw (joined-public control) at (typed_block before at stand all control typed.body within (hushed control quiet)
-      linked plain.body lists)
-
-  body_gives : (names : Numbers) (types : Types) (n : ℕ) → Linked inside names types n
-      → IsResult (types_after_all types (block (callables before) names n p.body)) p.result
-      (value_of (names_after_all (callables before) names n p.body) p.returned)
-  body_gives names types n linked =
-      result_typed (linked_after_all before typed.body linked) typed.returns plain.returned
-
   pub typed_one : TypedBody before at p
   typed_one = record {
     variables = variables_within TypedBody before at stand p typed.is_new;
     parameters = typed.parameters;
-    typed = body_typed;
-    result = body_gives;
+    typed = λ all control names types n linked quiet lists. rw (joined-public control) at (typed_block before at stand
+        all control typed.body within (hushed control quiet) linked plain.body lists);
+    result = λ names types n linked.
+        result_typed (linked_after_all before typed.body linked) typed.returns plain.returned;
   }
 
 -- The program.

@@ -10,10 +10,9 @@ use Rattle.inline.specs.Flat as tree
 use Rattle.inline.specs.FlatTyping.{Types, AreTyped, IsPut, Suits, types_after_all, with_type, counter_type}
 use Rattle.inline.specs.FlatTyping as flat
 use Rattle.inline.specs.Numbering.{Numbers, Callables, callables, call_block, call_variables, call_result, call_value}
-use Rattle.inline.specs.Numbering.{right_block, right_variables, right_end, right, value_given, element_block}
-use Rattle.inline.specs.Numbering.{element_variables, dropped_block, dropped_variables, statement, block, names_after}
-use Rattle.inline.specs.Numbering.{number_of, size_of, declared_in, declared_in_all, numbers_taken, numbers_taken_all}
-use Rattle.inline.specs.Numbering.{term, single}
+use Rattle.inline.specs.Numbering.{right_block, right_variables, right, value_given, element_block, element_variables}
+use Rattle.inline.specs.Numbering.{dropped_variables, statement, block, number_of, size_of, declared_in}
+use Rattle.inline.specs.Numbering.{declared_in_all, numbers_taken_all, term}
 use Rattle.language.specs.declared.signature.Kind.TheVariants.{Boolean}
 use Rattle.language.specs.declared.signature.Label.{Label}
 use Rattle.language.specs.declared.signature.Label.TheVariants.{Public, Secret}
@@ -125,7 +124,7 @@ module _ (earlier : List ProcedureTree) where
         let body = call_block (known c.name) names n c.arguments in
         let value = call_value (known c.name) names n c.arguments in
         record {
-          typed = (tt, chain-typed all types (joined outer control) body (single tree.skip) f.typed (tt, tt));
+          typed = (tt, chain-typed all _ _ _ _ f.typed (tt, tt));
           suits = rw chain-types (result_suits (types_after_all types body) (call_result (known c.name)) value given
               wanted f.result f.gives suit);
         }
@@ -172,9 +171,7 @@ module _ (earlier : List ProcedureTree) where
           hidden = still_secret outer flow (λ e. (hush e).0 text _ is refl);
         } in (
           (first_new linked lists, (means linked has plain).typed),
-          chain-typed all inside (joined outer control) body
-              (single (tree.put bracket (number_of names text) (size_of names text) (tree.variable n)
-              (value_given value))) f.typed (put, tt),
+          chain-typed all _ _ _ _ f.typed (put, tt),
         )
 
     mutual
@@ -190,8 +187,7 @@ module _ (earlier : List ProcedureTree) where
           let vars = right_variables known r in
           let f = right_fits has suit within (λ e. (or_parts _ (right_assigns at r) (hush e).1).1) linked plain
           (lists_left vars (own ∷ []) lists) in
-          chain-typed all types (joined outer control) (right_block known names n r) (single (tree.declare
-          (right_end known n r) (labelled kind label) mutable (right known names n r))) f.typed
+          chain-typed all _ _ _ _ f.typed
           ((first_new (linked_right earlier linked r) (lists_right vars (own ∷ []) lists), f.suits), tt)
       typed_statement (declares_array {values = values} new suit count flow) within hush {names = names} linked plain
           lists = (
@@ -206,8 +202,7 @@ module _ (earlier : List ProcedureTree) where
           hush {names = names} {types = types} {n = n} linked plain lists =
           let x = (linked_right earlier linked r).known text (word_as wanted true) is in
           let f = right_fits has suit within (λ e. (hush e).1) linked plain lists in
-          chain-typed all types (joined outer control) (right_block known names n r)
-          (single (tree.assign (number_of names text) (right known names n r))) f.typed (
+          chain-typed all _ _ _ _ f.typed (
             record {
               word = wanted;
               known = served x.typed refl;
@@ -230,7 +225,7 @@ module _ (earlier : List ProcedureTree) where
           (lists_left vars dropped lists) in
           let there = passed_over (call_takes names c.arguments n o (counted c.name)) linked in (
             tt,
-            chain-typed all types (joined outer control) body (dropped_block m (call_result o) value) f.typed
+            chain-typed all _ _ _ _ f.typed
                 (dropped_typed all (types_after_all types body) (joined outer control) m (call_result o) value
                 (there.fresh m (omega arith)) (lists_right vars dropped lists) f.result),
           )
@@ -277,8 +272,7 @@ module _ (earlier : List ProcedureTree) where
           {types = types} {n = n} linked plain lists =
           let quiet = λ (e : outer ≡ Secret). or_parts (statement_assigns at s) (block_assigns at rest)
           (hush e).1 in
-          chain-typed all types (joined outer control) (statement known names n s)
-          (block known (names_after known names n s) (n + numbers_taken known s) rest)
+          chain-typed all _ _ _ _
           (typed_statement here within (λ e. ((hush e).0, (quiet e).0)) linked plain.0
           (lists_left (declared_in known s) (declared_in_all known rest) lists))
           (typed_block there (callable_after earlier (IsAt at) here within)

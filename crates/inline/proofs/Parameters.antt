@@ -97,19 +97,6 @@ pub itself : (text : List ℕ) → bytes_eq text text ≡ true
 itself text = (bytes_decides text text).1 refl
 
 module _ (profile : Profile) where
-  -- a parameter behind the variables of a list
-  linked_behind : {scope : Scope} {names : Numbers} (ds : List FlatVariable) {n : ℕ} → n ≡ length ds
-      → Linked scope names (types_of profile ds) n → (p : ParameterTree) → found scope.names p.name ≡ None
-      → Linked (declared scope p.name (parameter_as p)) (naming names p.name n (own p))
-      (types_of profile (ds ++ own p ∷ [])) (n + 1)
-  linked_behind ds {n = n} many linked p new =
-      let count = length-append ds (own p ∷ []) in
-      linked_parameter
-      (widened (omega arith) refl (λ x low. get_front ds (own p) x (omega arith))
-      (λ x high. slice_get_past (ds ++ own p ∷ []) x (omega arith)) linked) p new n (omega arith)
-      (serves_itself (ap (slice_get (ds ++ own p ∷ [])) many ∙ get_last ds (own p)))
-      (λ other x is equal. absurd (not_named linked other x is equal))
-
   pub record Begins (scope : Scope) (names : Numbers) (ds : List FlatVariable) (n : ℕ) (ps : List ParameterTree) :
       Type 0 where
     pub linked : Linked (with_parameters scope ps) (numbering.with_parameters names n ps)
@@ -122,9 +109,14 @@ module _ (profile : Profile) where
       record { linked = rw append-nil (later (omega arith) linked); named = tt }
   begins (p ∷ ps) scope names ds n many (one_is_new here there) linked =
       let more = naming names p.name n (own p) in
+      let all = ds ++ own p ∷ [] in
       let count = length-append ds (own p ∷ []) in
-      let rest = begins ps _ more (ds ++ own p ∷ []) (n + 1) (omega arith) there
-      (linked_behind ds many linked p here) in
+      let wider : Linked scope names (types_of profile all) (n + 1) = widened (omega arith) refl
+      (λ x low. get_front ds (own p) x (omega arith)) (λ x high. slice_get_past all x (omega arith)) linked in
+      let rest = begins ps _ more all (n + 1) (omega arith) there
+      (linked_parameter wider p here n (omega arith)
+      (serves_itself (ap (slice_get all) many ∙ get_last ds (own p)))
+      (λ other x is equal. absurd (not_named linked other x is equal))) in
       record {
         linked = rw (← append_assoc ds (own p ∷ []) (all_own ps)) (later (omega arith) rest.linked);
         named = (

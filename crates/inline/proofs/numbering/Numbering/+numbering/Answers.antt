@@ -3,7 +3,7 @@ use Rattle.std.proofs.Common.{refl, sym, take, ◌∙◌}
 use Rattle.std.proofs.lemmas.List.{append-nil, append_assoc, drop_all, drop_more}
 use Rattle.inline.specs.Callees.{called_by}
 use Rattle.inline.specs.Flat.{flat_block, term_tree}
-use Rattle.inline.specs.Numbering.{block, call_result, call_value, value_given}
+use Rattle.inline.specs.Numbering.{call_result, call_value, value_given}
 use Rattle.language.specs.Tree.{block_tree, call_tree, expr_tree}
 use Rattle.inline.proofs.BlockLemmas.{chain_chain, chain_nothing, ok_any}
 use Rattle.inline.proofs.Measures.{body_smaller, conditional_smaller, loop_smaller, nodes_of_block, rest_smaller}
