@@ -38,7 +38,3 @@ pub across : (p q : Path) → first_fault (p ++ q) ≡ either (first_fault p) (f
 across [] q = refl
 across (mark ∷ p) q = ap (either (fault_at mark)) (across p q)
     ∙ sym (either-assoc (fault_at mark) (first_fault p) (first_fault q))
-
-pub across₃ : (p q r : Path) → first_fault (p ++ q ++ r)
-    ≡ either (either (first_fault p) (first_fault q)) (first_fault r)
-across₃ p q r = across (p ++ q) r ∙ ap (λ a. either a (first_fault r)) (across p q)

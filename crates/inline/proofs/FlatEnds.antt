@@ -38,7 +38,7 @@ use Rattle.language.specs.WellTyped.{labelled, IsVariable}
 use Rattle.inline.proofs.Called.{Spares, Ready, ready_later, ready_declared, ready_after}
 use Rattle.inline.proofs.CallEnds.{call_means}
 use Rattle.inline.proofs.Chains.{after_chain, fault_chain}
-use Rattle.inline.proofs.Comes.{Comes, well, then_comes, also, either-assoc, either-none, across, across₃}
+use Rattle.inline.proofs.Comes.{Comes, well, then_comes, also, either-assoc, either-none, across}
 use Rattle.inline.proofs.FlatTypes.{small_values}
 use Rattle.inline.proofs.Kept.{dropped_keeps}
 use Rattle.inline.proofs.Linked.{Linked, entry, not_named}
@@ -313,7 +313,7 @@ module _ {ps : List ProcedureTree} where
           (λ other x is. shows_before (callables ps) body inside (n + 1) t (turn i m) good other x
               (found-kept names text (entry n own) other x is)),
         )) (λ at is. is) in
-        rw (across, either-none, across₃ (path_in m (term names low)) (path_in m (term names high)), either-assoc)
+        rw (across, either-none, across, across, either-assoc)
         (then_comes ((means ready.linked one plain.0).value s m shows)
         (λ u first same.
         then_comes ((means ready.linked other plain.1).value s m shows)

@@ -6,11 +6,10 @@ use Rattle.std.proofs.lemmas.Bool.{or_parts}
 use Rattle.std.proofs.lemmas.List.{length-map}
 use Rattle.inline.specs.declared.flat.FlatVariable.{FlatVariable}
 use Rattle.inline.specs.Flat.{word_as, array_as}
-use Rattle.inline.specs.Flat as tree
-use Rattle.inline.specs.FlatTyping.{Types, AreTyped, IsPut, Suits, types_after_all, with_type, counter_type}
+use Rattle.inline.specs.FlatTyping.{Types, AreTyped, Suits, types_after_all, with_type, counter_type}
 use Rattle.inline.specs.FlatTyping as flat
 use Rattle.inline.specs.Numbering.{Numbers, Callables, callables, call_block, call_variables, call_result, call_value}
-use Rattle.inline.specs.Numbering.{right_block, right_variables, right, value_given, element_block, element_variables}
+use Rattle.inline.specs.Numbering.{right_block, right_variables, right, element_block, element_variables}
 use Rattle.inline.specs.Numbering.{dropped_variables, statement, block, number_of, size_of, declared_in}
 use Rattle.inline.specs.Numbering.{declared_in_all, numbers_taken_all, term}
 use Rattle.language.specs.declared.signature.Kind.TheVariants.{Boolean}
@@ -159,19 +158,20 @@ module _ (earlier : List ProcedureTree) where
         let body = call_block o names (n + 1) c.arguments in
         let value = call_value o names (n + 1) c.arguments in
         let takes = call_takes names c.arguments (n + 1) o (counted c.name) in
-        let end = types_after_all inside body in
-        let there = passed_over takes next in
-        let put : IsPut end (joined outer control) (number_of names text) (size_of names text) (tree.variable n)
-        (value_given value) = record {
-          word = own.element;
-          known = array_there (there.known text (array_as own.element true own.length) is);
-          index_type = flat.of_variable (types_before inside (n + 1) body takes.numbered n (omega arith)
-              ∙ with_type-same types n counter);
-          suits = result_suits end (call_result o) value given own.element f.result f.gives suit;
-          hidden = still_secret outer flow (λ e. (hush e).0 text _ is refl);
-        } in (
+        let there = passed_over takes next in (
           (first_new linked lists, (means linked has plain).typed),
-          chain-typed all _ _ _ _ f.typed (put, tt),
+          chain-typed all _ _ _ _ f.typed (
+            record {
+              word = own.element;
+              known = array_there (there.known text (array_as own.element true own.length) is);
+              index_type = flat.of_variable (types_before inside (n + 1) body takes.numbered n (omega arith)
+                  ∙ with_type-same types n counter);
+              suits = result_suits (types_after_all inside body) (call_result o) value given own.element f.result
+                  f.gives suit;
+              hidden = still_secret outer flow (λ e. (hush e).0 text _ is refl);
+            },
+            tt,
+          ),
         )
 
     mutual

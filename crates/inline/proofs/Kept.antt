@@ -102,9 +102,9 @@ module _ {earlier : List ProcedureTree} where
         ∙ (call_means ready is).keeps x spares m)
     statement_keeps (chooses {condition = condition} has one other) {names = names} ready spares m =
         elim (cases_Bool (value_in m (term names condition) == 0)) [
-          | inl zero ↦ rw zero
+          | inl off ↦ rw off
               (block_keeps other (ready_later (omega arith) ready) (spares_later (omega arith) spares) m)
-          | inr nonzero ↦ rw nonzero (block_keeps one ready spares m)
+          | inr on ↦ rw on (block_keeps one ready spares m)
         ]
     statement_keeps (repeats {text = text} {low = low} {high = high} {body = body} one other new inner)
         {names = names} {n = n} ready {x = x} spares m =

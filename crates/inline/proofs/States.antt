@@ -7,17 +7,15 @@ use Rattle.std.specs.Str.{bytes_eq}
 use lib.Pointwise.{bytes_decides}
 use Rattle.inline.specs.declared.flat.FlatVariable.{FlatVariable}
 use Rattle.inline.specs.declared.numbering.Numbered.{Numbered}
-use Rattle.inline.specs.Flat.{word_as, array_as}
 use Rattle.inline.specs.FlatMeaning.{Values}
 use Rattle.inline.specs.FlatMeaning as flat
 use Rattle.inline.specs.FlatTyping.{Types}
-use Rattle.inline.specs.Numbering.{Numbers, Callables, naming, names_after, names_after_all, numbers_taken, right_end}
+use Rattle.inline.specs.Numbering.{Numbers, Callables, naming, names_after, names_after_all, numbers_taken}
 use Rattle.language.specs.names.Scope.{found}
 use Rattle.language.specs.State.{State, Value, with_value}
 use Rattle.language.specs.Tree.{StatementTree, declaration, array}
 use Rattle.language.specs.Tree.{BlockTree, nothing, first}
 use Rattle.language.specs.Types.{Scope}
-use Rattle.language.specs.WellTyped.{labelled}
 use Rattle.inline.proofs.Linked.{Linked, entry, not_named}
 use Rattle.inline.proofs.Below.{found-new, found-other, found-kept}
 use Rattle.inline.proofs.Terms.{Holds, Shows}
@@ -71,10 +69,8 @@ module _ (known : Callables) where
   kept_number : (s : StatementTree) (names : Numbers) (n : ℕ) (text : List ℕ) (x : Numbered)
       → found names text ≡ Some x
       → found (names_after known names n s) text ≡ Some x
-  kept_number (declaration place label mutable kind own value) names n text x h =
-      found-kept names own (entry (right_end known n value) (word_as (labelled kind label) mutable)) text x h
-  kept_number (array place label mutable kind size own values) names n text x h =
-      found-kept names own (entry n (array_as (labelled kind label) mutable size)) text x h
+  kept_number (declaration place label mutable kind own value) names n text x h = found-kept names own _ text x h
+  kept_number (array place label mutable kind size own values) names n text x h = found-kept names own _ text x h
   kept_number other names n text x h = h
 
   pub kept_numbers : (b : BlockTree) (names : Numbers) (n : ℕ) (text : List ℕ) (x : Numbered)

@@ -33,7 +33,7 @@ use Rattle.language.specs.Tree.{ExprTree, binary, element}
 use Rattle.language.specs.Types.{Scope, joined}
 use Rattle.language.specs.WellTyped as rules
 use Rattle.language.specs.WellTyped.{labelled}
-use Rattle.inline.proofs.Comes.{Comes, well, fails, then_comes, also, either-assoc, either-none, across, across₃}
+use Rattle.inline.proofs.Comes.{Comes, well, fails, then_comes, also, either-assoc, either-none, across}
 use Rattle.inline.proofs.Linked.{Known, Linked}
 
 -- States.
@@ -171,7 +171,7 @@ module _ {scope : Scope} {names : Numbers} {types : Types} {n : ℕ} (linked : L
             let word : binary_word operator (word_at one.kind x) (word_at other.kind y)
             ≡ word_at whole.kind (operated operator (width_of (kind_in names left)) x y) =
             ap₂ (λ k u. word_at k (operated operator u x y)) kind (ap width_of (sym a.kind)) in
-            rw (across₃ (path_in m (term names left)) (path_in m (term names right)) own, either-assoc)
+            rw (across, across, either-assoc)
             (then_comes (a.value s m shows)
             (λ v first same.
             then_comes (b.value s m shows)
@@ -213,11 +213,7 @@ module _ {scope : Scope} {names : Numbers} {types : Types} {n : ℕ} (linked : L
         label = ap₂ joined c.label (ap₂ joined a.label b.label);
         typed = flat.of_selection c.typed a.typed b.typed;
         value = λ s m shows.
-            rw (
-              across₃ (path_in m (term names condition)) (path_in m (term names accepted))
-                  (path_in m (term names otherwise)),
-              either-assoc,
-            )
+            rw (across, across, either-assoc)
             (then_comes (c.value s m shows)
             (λ u zeroth chosen.
             then_comes (a.value s m shows)
@@ -243,8 +239,7 @@ module _ {scope : Scope} {names : Numbers} {types : Types} {n : ℕ} (linked : L
         typed = flat.of_element
             (k.typed.is ∙ ap (λ n. Some (array_as own.element k.typed.free n)) (sym size)) i.typed;
         value = λ s m shows.
-            let mark = indexed place (size_of names text) (value_in m (term names index)) in
-            rw (across (path_in m (term names index)) (mark ∷ []), either-none (fault_at mark))
+            rw (across, either-none)
             (then_comes (i.value s m shows)
             (λ w one same. element_comes k s m shows place target one same)
             (λ at is. operand_faults (this_faults is)));
