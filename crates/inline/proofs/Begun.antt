@@ -1,6 +1,6 @@
 -- Where a called body begins: its words have new numbers, and its arrays those of the caller.
 use Rattle.std.proofs.Common.{◌≡◌, ℕ, ◌+◌, ◌<◌, Bool, true, false, List, [], ◌∷◌, length, Some, inl, inr, refl, sym}
-use Rattle.std.proofs.Common.{ap, ◌∙◌, subst, arith, true≢false}
+use Rattle.std.proofs.Common.{ap, ◌∙◌, arith, true≢false}
 use Rattle.std.proofs.lemmas.Bool.{cases_Bool, or_parts}
 use Rattle.std.proofs.lemmas.Option.{none-some}
 use lib.Pointwise.{bytes_decides}
@@ -117,7 +117,7 @@ distinct_more : (names own : Numbers) (text : List ℕ) (number : ℕ) (d : Flat
 distinct_more names own text number d ps es shares others other x is =
     elim (found-split own text (entry number d) other x is) [
       | inl old ↦ others other x old
-      | inr new ↦ subst (λ (z : Numbered). Unshared names z.number z.declaration.mutable ps es) new.1 shares
+      | inr new ↦ rw (← new.1) shares
     ]
 
 module _ {scope : Scope} {names : Numbers} {types : Types} {n : ℕ} (linked : Linked scope names types n) where

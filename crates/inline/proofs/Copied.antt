@@ -1,6 +1,6 @@
 -- What the caller's names hold once a called body has ended.
 use Rattle.std.proofs.Common.{◌≡◌, ℕ, ◌+◌, ◌<◌, true, false, List, [], ◌∷◌, Some, ◌⊎◌, inl, inr, ⊎_elim, refl, sym}
-use Rattle.std.proofs.Common.{ap, ◌∙◌, subst, true≢false}
+use Rattle.std.proofs.Common.{ap, ◌∙◌, true≢false}
 use Rattle.std.proofs.lemmas.Bool.{cases_Bool}
 use Rattle.std.proofs.lemmas.Option.{none-some, same_Some}
 use Rattle.std.specs.Str.{bytes_eq}
@@ -66,7 +66,7 @@ pub spares_begun : (names : Numbers) (n start x : ℕ) (ps : List ParameterTree)
 spares_begun names n start x ps es low none = record {
   below = low;
   spared = λ text y is free same. none-some y (mutable_begun names ps es [] n text y is free
-      (λ changes. none (subst (λ k. Changes names k ps es) same changes)));
+      (λ changes. none (rw same at changes)));
 }
 
 -- an array goes back to where it came from

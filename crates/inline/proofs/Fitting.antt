@@ -19,10 +19,10 @@ use Rattle.inline.specs.FlatTyping.{of_rotation, of_conversion, of_selection, of
 use Rattle.language.specs.declared.signature.Kind.{Kind}
 use Rattle.language.specs.declared.signature.Kind.TheVariants.{Boolean}
 use Rattle.language.specs.declared.operators.BinaryOperator.{BinaryOperator}
-use Rattle.language.specs.declared.operators.BinaryOperator.TheVariants.{Either, Both, Equal, Unequal, Less, LessOrEqual}
-use Rattle.language.specs.declared.operators.BinaryOperator.TheVariants.{Greater, GreaterOrEqual, BitOr, BitXor, BitAnd}
-use Rattle.language.specs.declared.operators.BinaryOperator.TheVariants.{ShiftLeft, ShiftRight, Add, Subtract, Multiply}
-use Rattle.language.specs.declared.operators.BinaryOperator.TheVariants.{Divide, Remainder}
+use Rattle.language.specs.declared.operators.BinaryOperator.TheVariants.{Either, Both, Equal, Unequal, Less}
+use Rattle.language.specs.declared.operators.BinaryOperator.TheVariants.{LessOrEqual, Greater, GreaterOrEqual, BitOr}
+use Rattle.language.specs.declared.operators.BinaryOperator.TheVariants.{BitXor, BitAnd, ShiftLeft, ShiftRight, Add}
+use Rattle.language.specs.declared.operators.BinaryOperator.TheVariants.{Subtract, Multiply, Divide, Remainder}
 use Rattle.language.specs.declared.operators.PrefixOperator.{PrefixOperator}
 use Rattle.language.specs.declared.operators.PrefixOperator.TheVariants.{Not, Complement, Negate}
 use Rattle.language.specs.declared.typing.WordType.{WordType}

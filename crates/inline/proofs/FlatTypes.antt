@@ -117,15 +117,14 @@ module _ (earlier : List ProcedureTree) where
         → Lists all n (right_variables known r) → RightFits types (joined outer control) names n r wanted
     right_fits (of_value has) suit within hush linked small lists =
         record { typed = tt; suits = suits_there (means linked has small) suit }
-    right_fits {control = control} {given = given} {wanted = wanted} (of_call {c = c} is) suit within hush
-        {names = names} {types = types} {n = n} linked small lists =
+    right_fits {given = given} {wanted = wanted} (of_call {c = c} is) suit within hush {names = names} {n = n} linked
+        small lists =
         let f = call_fits earlier at stand is within outer hush all linked small lists in
-        let body = call_block (known c.name) names n c.arguments in
         let value = call_value (known c.name) names n c.arguments in
         record {
           typed = (tt, chain-typed all _ _ _ _ f.typed (tt, tt));
-          suits = rw chain-types (result_suits (types_after_all types body) (call_result (known c.name)) value given
-              wanted f.result f.gives suit);
+          suits = rw chain-types
+              (result_suits _ (call_result (known c.name)) value given wanted f.result f.gives suit);
         }
 
     -- an assignment to an element
@@ -148,8 +147,8 @@ module _ (earlier : List ProcedureTree) where
       },
       tt,
     )
-    element_typed text {control = control} {given = given} {array = own} is has (of_call {c = c} made) suit flow within
-        hush bracket {names = names} {types = types} {n = n} linked plain small lists =
+    element_typed text {given = given} {array = own} is has (of_call {c = c} made) suit flow within hush bracket
+        {names = names} {types = types} {n = n} linked plain small lists =
         let counter = word_as counter_type false in
         let o = known c.name in
         let inside = with_type types n counter in
@@ -166,8 +165,7 @@ module _ (earlier : List ProcedureTree) where
               known = array_there (there.known text (array_as own.element true own.length) is);
               index_type = flat.of_variable (types_before inside (n + 1) body takes.numbered n (omega arith)
                   ∙ with_type-same types n counter);
-              suits = result_suits (types_after_all inside body) (call_result o) value given own.element f.result
-                  f.gives suit;
+              suits = result_suits _ (call_result o) value given own.element f.result f.gives suit;
               hidden = still_secret outer flow (λ e. (hush e).0 text _ is refl);
             },
             tt,
@@ -181,8 +179,8 @@ module _ (earlier : List ProcedureTree) where
           → {names : Numbers} {types : Types} {n : ℕ} → Linked scope names types n → IsPlain s
           → Lists all n (declared_in known s) → AreTyped all types (joined outer control)
           (statement known names n s)
-      typed_statement (declares {control = control} {label = label} {mutable = mutable} {kind = kind} {right = r} new
-          has suit flow) within hush {names = names} {types = types} {n = n} linked plain lists =
+      typed_statement (declares {label = label} {mutable = mutable} {kind = kind} {right = r} new has suit flow) within
+          hush linked plain lists =
           let own = word_as (labelled kind label) mutable in
           let vars = right_variables known r in
           let f = right_fits has suit within (λ e. (or_parts _ (right_assigns at r) (hush e).1).1) linked plain
@@ -198,8 +196,8 @@ module _ (earlier : List ProcedureTree) where
             ),
             tt,
           )
-      typed_statement (assigns {control = control} {text = text} {right = r} {wanted = wanted} is has suit flow) within
-          hush {names = names} {types = types} {n = n} linked plain lists =
+      typed_statement (assigns {text = text} {right = r} {wanted = wanted} is has suit flow) within hush linked plain
+          lists =
           let x = (linked_right earlier linked r).known text (word_as wanted true) is in
           let f = right_fits has suit within (λ e. (hush e).1) linked plain lists in
           chain-typed all _ _ _ _ f.typed (
@@ -213,12 +211,10 @@ module _ (earlier : List ProcedureTree) where
           )
       typed_statement (assigns_element {bracket = bracket} {text = text} is has value suit flow) within hush linked
           plain lists = element_typed text is has value suit flow within hush bracket linked plain.0 plain.1 lists
-      typed_statement (calls {control = control} {c = c} is) within hush {names = names} {types = types} {n = n} linked
-          plain lists =
+      typed_statement (calls {c = c} is) within hush {names = names} {n = n} linked plain lists =
           let o = known c.name in
           let vars = call_variables o c.arguments in
           let dropped = dropped_variables (call_result o) in
-          let body = call_block o names n c.arguments in
           let value = call_value o names n c.arguments in
           let m = n + length vars in
           let f = call_fits earlier at stand is within outer (λ e. (hush e).1) all linked plain
@@ -226,7 +222,7 @@ module _ (earlier : List ProcedureTree) where
           let there = passed_over (call_takes names c.arguments n o (counted c.name)) linked in (
             tt,
             chain-typed all _ _ _ _ f.typed
-                (dropped_typed all (types_after_all types body) (joined outer control) m (call_result o) value
+                (dropped_typed all _ _ m (call_result o) value
                 (there.fresh m (omega arith)) (lists_right vars dropped lists) f.result),
           )
       typed_statement (chooses {control = control} {condition = condition} {accepted = accepted}
@@ -268,8 +264,7 @@ module _ (earlier : List ProcedureTree) where
           → Lists all n (declared_in_all known b) → AreTyped all types (joined outer control)
           (block known names n b)
       typed_block no_statement within hush linked plain lists = tt
-      typed_block (one_more {control = control} {statement = s} {rest = rest} here there) within hush {names = names}
-          {types = types} {n = n} linked plain lists =
+      typed_block (one_more {statement = s} {rest = rest} here there) within hush linked plain lists =
           let quiet = λ (e : outer ≡ Secret). or_parts (statement_assigns at s) (block_assigns at rest)
           (hush e).1 in
           chain-typed all _ _ _ _

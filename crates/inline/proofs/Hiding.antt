@@ -1,5 +1,5 @@
 -- A scope in which nothing public may be assigned to.
-use Rattle.std.proofs.Common.{◌≡◌, ℕ, Bool, true, false, List, Some, inl, inr, refl, sym, ap, ◌∙◌, subst, true≢false}
+use Rattle.std.proofs.Common.{◌≡◌, ℕ, Bool, true, false, List, Some, inl, inr, refl, sym, ap, ◌∙◌, true≢false}
 use Rattle.std.proofs.lemmas.Bool.{or_parts}
 use Rattle.language.specs.declared.signature.Form.{Form}
 use Rattle.language.specs.declared.signature.Form.TheVariants.{SingleWord}
@@ -27,8 +27,7 @@ pub hides_declared : (scope : Scope) (name : List ℕ) (v : VariableType)
 hides_declared scope name v own hides text w is =
     elim (found-split scope.names name (Variable v) text (Variable w) is) [
       | inl old ↦ hides text w old
-      | inr new ↦ subst (λ (u : VariableType). u.mutable ≡ true → label_of u.value ≡ Secret)
-          (same_variable v w (ap Some new.1)) own
+      | inr new ↦ rw (← same_variable v w (ap Some new.1)) own
     ]
 
 -- what is no public name that may be assigned to

@@ -88,8 +88,8 @@ statement-turns-requires t c =
 
 pub statement-returns-in-If : goal.statement-returns-in-If
 statement-returns-in-If t c =
-    let whole = conditional_whole _ c.in-If.condition c.in-If.accepted c.in-If.otherwise c.in-If.is c.deref.ensures.value
-    c.deref-in-If.ensures.value in
+    let whole = conditional_whole _ c.in-If.condition c.in-If.accepted c.in-If.otherwise c.in-If.is
+    c.deref.ensures.value c.deref-in-If.ensures.value in
     let made = c.branch-self.ensures in
     record { block = rw whole made.block; names = rw whole made.names; declared = rw whole made.declared }
 
