@@ -1,8 +1,6 @@
-use Rattle.std.proofs.Common.{rules, ℕ, List, refl, sym, ap, ◌∙◌}
-use Rattle.codegen.specs.private.Uses.{controls_read_by, controls_read_by_all}
-use Rattle.codegen.proofs.Language.{StraightTree, straight_block}
-use Rattle.codegen.proofs.StatementCode.{tree_of_branch, tree_of_loop, accepted_smaller, otherwise_smaller}
-use Rattle.codegen.proofs.StatementCode.{body_smaller, item_here, smaller_here}
+use Rattle.std.proofs.Common.{rules, refl}
+use Rattle.branch_removal.proofs.StatementTrees.{tree_of_branch, tree_of_loop, accepted_smaller, otherwise_smaller}
+use Rattle.branch_removal.proofs.StatementTrees.{body_smaller, item_here, smaller_here}
 use Rattle.codegen.proofs.control_uses.+counts.Goals as goal
 
 pub count_by-count_by_all-requires : goal.count_by-count_by_all-requires
@@ -21,23 +19,20 @@ count_by-count_by_all-requires-in-Repeat t c =
 
 pub count_by-returns-in-Branch : goal.count_by-returns-in-Branch
 count_by-returns-in-Branch t c =
-    let w = c.args.weight in
-    let one = straight_block c.deref.result.now in
-    let other = straight_block c.deref-in-Branch.result.now in
-    let tree = tree_of_branch c.in-Branch.accepted c.in-Branch.otherwise c.in-Branch.is
-    c.deref.ensures.value c.deref-in-Branch.ensures.value in
-    c.count_by_all-in-Branch.ensures
-    ∙ (ap (λ (weights : List ℕ). controls_read_by_all w other weights) c.count_by_all.ensures
-    ∙ sym (ap (λ (s : StraightTree). controls_read_by w s c.args.weights.now) tree))
+    rw (
+      c.count_by_all-in-Branch.ensures,
+      c.count_by_all.ensures,
+      tree_of_branch c.in-Branch.accepted c.in-Branch.otherwise c.in-Branch.is c.deref.ensures.value
+          c.deref-in-Branch.ensures.value,
+    )
 
 pub count_by-returns-in-Repeat : goal.count_by-returns-in-Repeat
 count_by-returns-in-Repeat t c =
-    let w = c.args.weight in
-    let body = straight_block c.deref-in-Repeat.result.now in
-    c.count_by_all-in-Repeat.ensures
-    ∙ (ap (λ (v : ℕ). controls_read_by_all v body c.args.weights.now) c.weight_inside.ensures
-    ∙ sym (ap (λ (s : StraightTree). controls_read_by w s c.args.weights.now)
-    (tree_of_loop c.in-Repeat.body c.in-Repeat.is c.deref-in-Repeat.ensures.value)))
+    rw (
+      c.count_by_all-in-Repeat.ensures,
+      c.weight_inside.ensures,
+      tree_of_loop c.in-Repeat.body c.in-Repeat.is c.deref-in-Repeat.ensures.value,
+    )
 
 pub count_by_all-count_by-requires : goal.count_by_all-count_by-requires
 count_by_all-count_by-requires t c =

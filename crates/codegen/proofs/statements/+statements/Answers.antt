@@ -1,57 +1,53 @@
 use Rattle.std.proofs.Common.{rules, ◌≡◌, ◌++◌, length, List, refl, sym, ap, ◌∙◌, subst, arith, IfErr, OnOk}
 use Rattle.branch_removal.specs.Straight.{straight_block}
-use Rattle.codegen.proofs.Machine.{Instr, HasPlace, IsFar}
-use Rattle.codegen.proofs.StatementCode.{tree_of_branch, accepted_smaller, otherwise_smaller, arms_within, branch_is}
-use Rattle.codegen.proofs.StatementCode.{tree_of_loop, body_smaller, body_within, loop_is, item_here, smaller_here}
-use Rattle.codegen.proofs.StatementCode.{placed_here, emitted, for_part, part_here}
+use Rattle.branch_removal.proofs.StatementTrees.{tree_of_branch, tree_of_loop, accepted_smaller, otherwise_smaller}
+use Rattle.branch_removal.proofs.StatementTrees.{body_smaller, item_here, smaller_here}
+use Rattle.codegen.proofs.Machine.{Instr, HavePlaces, IsFar}
+use Rattle.codegen.proofs.StatementCode.{arms_within, branch_is, body_within, loop_is, emitted, for_part, part_here}
 use Rattle.codegen.specs.private.Loops.{any_sets}
 use Rattle.codegen.proofs.statements.+statements.Goals as goal
 
 pub statement-statements-requires : goal.statement-statements-requires
 statement-statements-requires t c =
-    let f = c.args.layout.now in
     let b = c.in-Branch in
-    let placed = subst (HasPlace f.declared f.allocation f.controls f.depths c.args.depth)
-    (tree_of_branch b.accepted b.otherwise b.is c.deref-in-Branch.ensures.value refl) c.requires.placed in
+    let tree = tree_of_branch b.accepted b.otherwise b.is c.deref-in-Branch.ensures.value refl in
+    let placed = rw tree at c.requires.placed in
     (search (rules, accepted_smaller b.accepted b.otherwise b.is c.deref-in-Branch.ensures.value refl), placed.1)
 
 pub statement-statements-requires-in-Branch : goal.statement-statements-requires-in-Branch
 statement-statements-requires-in-Branch t c =
-    let f = c.args.layout.now in
     let b = c.in-Branch in
-    let placed = subst (HasPlace f.declared f.allocation f.controls f.depths c.args.depth)
-    (tree_of_branch b.accepted b.otherwise b.is refl c.deref-in-Branch-2.ensures.value) c.requires.placed in
+    let tree = tree_of_branch b.accepted b.otherwise b.is refl c.deref-in-Branch-2.ensures.value in
+    let placed = rw tree at c.requires.placed in
     (search (rules, otherwise_smaller b.accepted b.otherwise b.is refl c.deref-in-Branch-2.ensures.value), placed.2)
 
 pub statement-statements-requires-in-Repeat : goal.statement-statements-requires-in-Repeat
 statement-statements-requires-in-Repeat t c =
-    let f = c.args.layout.now in
-    let placed = subst (HasPlace f.declared f.allocation f.controls f.depths c.args.depth)
-    (tree_of_loop c.in-Repeat.body c.in-Repeat.is c.deref-in-Repeat.ensures.value) c.requires.placed in
-    (search (rules, body_smaller c.in-Repeat.body c.in-Repeat.is c.deref-in-Repeat.ensures.value), placed.4)
+    let r = c.in-Repeat in
+    let placed = rw (tree_of_loop r.body r.is c.deref-in-Repeat.ensures.value) at c.requires.placed in
+    (search (rules, body_smaller r.body r.is c.deref-in-Repeat.ensures.value), placed.4)
 
 pub statement-returns-in_ok-branch-in-Branch-clause-code : goal.statement-returns-in_ok-branch-in-Branch-clause-code
 statement-returns-in_ok-branch-in-Branch-clause-code t c =
-    let f = c.args.layout.now in
+    let b = c.in-Branch in
     c.in_ok-branch-in-Branch.ensures
     ∙ ap (λ (l : List Instr). c.args.code.now.items ++ l)
-    (branch_is c.in-Branch.accepted c.in-Branch.otherwise c.in-Branch.is c.deref-in-Branch.ensures.value
-    c.deref-in-Branch-2.ensures.value f.declared f.allocation f.controls f.depths c.args.depth
-    (c.as_slice.ensures.value
-    ∙ emitted c.in_ok-statements-in-Branch.ensures.code c.new-one.ensures.items)
+    (branch_is c.args.layout.now c.args.depth
+    (tree_of_branch b.accepted b.otherwise b.is c.deref-in-Branch.ensures.value c.deref-in-Branch-2.ensures.value)
+    (c.as_slice.ensures.value ∙ emitted c.in_ok-statements-in-Branch.ensures.code c.new-one.ensures.items)
     (c.as_slice-in-Branch.ensures.value
     ∙ emitted c.in_ok-statements-in-Branch-2.ensures.code c.new-other.ensures.items))
 
 pub statement-returns-in_ok-statements-in-Repeat : goal.statement-returns-in_ok-statements-in-Repeat
 statement-returns-in_ok-statements-in-Repeat t c =
-    let f = c.args.layout.now in
+    let r = c.in-Repeat in
     let same = c.deref-in-Repeat-2.ensures.value ∙ sym c.deref-in-Repeat.ensures.value in
-    let code = loop_is c.in-Repeat.body c.in-Repeat.is c.deref-in-Repeat.ensures.value f.declared f.allocation
-    f.controls f.depths c.args.depth
-    (c.as_slice-in-Repeat.ensures.value
-    ∙ emitted c.in_ok-statements-in-Repeat.ensures.code c.new-turn.ensures.items)
-    c.any_sets.result
-    (c.any_sets.ensures ∙ ap (λ body. any_sets c.in-Repeat.counter (straight_block body)) same) in
+    let set = c.any_sets.ensures ∙ ap (λ body. any_sets r.counter (straight_block body)) same in
+    let code =
+    loop_is c.args.layout.now c.args.depth r.counter
+    (tree_of_loop r.body r.is c.deref-in-Repeat.ensures.value)
+    (c.as_slice-in-Repeat.ensures.value ∙ emitted c.in_ok-statements-in-Repeat.ensures.code c.new-turn.ensures.items)
+    c.any_sets.result set in
     record {
       code = subst (λ (l : List Instr). OnOk c.repeat.result (c.repeat.new.code.items ≡ c.args.code.now.items ++ l))
           code c.repeat.ensures.code;
@@ -60,13 +56,13 @@ statement-returns-in_ok-statements-in-Repeat t c =
 
 pub statements-statement-requires : goal.statements-statement-requires
 statements-statement-requires t c =
+    let f = c.args.layout.now in
     let s = c.each-item.result in
     let l = c.loop-each in
-    let f = c.args.layout.now in
     let here = item_here c.args.statements.now l.each-index s c.loop-each-test.true c.each-item.is in (
       search (rules, smaller_here c.args.statements.now l.each-index s here),
-      placed_here f.declared f.allocation f.controls f.depths c.args.depth c.args.statements.now l.each-index s
-          here l.invariant.placed,
+      (subst (λ xs. HavePlaces f.declared f.allocation f.controls f.depths c.args.depth (straight_block xs)) here
+          l.invariant.placed).0,
     )
 
 -- Code that is not emitted.
@@ -74,29 +70,26 @@ statements-statement-requires t c =
 pub statement-returns-in_err-statements-in-Branch-clause-far :
     goal.statement-returns-in_err-statements-in-Branch-clause-far
 statement-returns-in_err-statements-in-Branch-clause-far t c =
-    let f = c.args.layout.now in
     let b = c.in-Branch in
-    let within = arms_within b.accepted b.otherwise b.is c.deref-in-Branch.ensures.value refl f.declared f.allocation
-    f.controls f.depths c.args.depth refl refl in
+    let tree = tree_of_branch b.accepted b.otherwise b.is c.deref-in-Branch.ensures.value refl in
     for_part _ _ _ c.from_residual-in_err-statements-in-Branch.ensures.1 c.in_err-statements-in-Branch.ensures.far
-    (omega (arith, within))
+    (omega (arith, arms_within c.args.layout.now c.args.depth tree refl refl))
 
 pub statement-returns-in_err-statements-in-Branch-2-clause-far :
     goal.statement-returns-in_err-statements-in-Branch-2-clause-far
 statement-returns-in_err-statements-in-Branch-2-clause-far t c =
-    let f = c.args.layout.now in
     let b = c.in-Branch in
-    let within = arms_within b.accepted b.otherwise b.is c.deref-in-Branch.ensures.value
-    c.deref-in-Branch-2.ensures.value f.declared f.allocation f.controls f.depths c.args.depth refl refl in
+    let tree = tree_of_branch b.accepted b.otherwise b.is c.deref-in-Branch.ensures.value
+    c.deref-in-Branch-2.ensures.value in
     for_part _ _ _ c.from_residual-in_err-statements-in-Branch-2.ensures.1 c.in_err-statements-in-Branch-2.ensures.far
-    (omega (arith, within))
+    (omega (arith, arms_within c.args.layout.now c.args.depth tree refl refl))
 
 pub statement-returns-in_err-reach-in-Branch-clause-far : goal.statement-returns-in_err-reach-in-Branch-clause-far
 statement-returns-in_err-reach-in-Branch-clause-far t c =
-    let f = c.args.layout.now in
     let b = c.in-Branch in
-    let within = arms_within b.accepted b.otherwise b.is c.deref-in-Branch.ensures.value
-    c.deref-in-Branch-2.ensures.value f.declared f.allocation f.controls f.depths c.args.depth
+    let tree = tree_of_branch b.accepted b.otherwise b.is c.deref-in-Branch.ensures.value
+    c.deref-in-Branch-2.ensures.value in
+    let within = arms_within c.args.layout.now c.args.depth tree
     (emitted c.in_ok-statements-in-Branch.ensures.code c.new-one.ensures.items)
     (emitted c.in_ok-statements-in-Branch-2.ensures.code c.new-other.ensures.items) in
     for_part _ _ _ c.from_residual-in_err-reach-in-Branch.ensures.1 c.in_err-reach-in-Branch.ensures.far
@@ -105,17 +98,15 @@ statement-returns-in_err-reach-in-Branch-clause-far t c =
 pub statement-returns-in_err-statements-in-Repeat-clause-far :
     goal.statement-returns-in_err-statements-in-Repeat-clause-far
 statement-returns-in_err-statements-in-Repeat-clause-far t c =
-    let f = c.args.layout.now in
-    let within = body_within c.in-Repeat.body c.in-Repeat.is c.deref-in-Repeat.ensures.value f.declared f.allocation
-    f.controls f.depths c.args.depth refl in
+    let r = c.in-Repeat in
+    let tree = tree_of_loop r.body r.is c.deref-in-Repeat.ensures.value in
     for_part _ _ _ c.from_residual-in_err-statements-in-Repeat.ensures.1 c.in_err-statements-in-Repeat.ensures.far
-    (omega (arith, within))
+    (omega (arith, body_within c.args.layout.now c.args.depth r.counter tree refl))
 
 pub statements-returns-in_err-statement-clause-far : goal.statements-returns-in_err-statement-clause-far
 statements-returns-in_err-statement-clause-far t c =
     let s = c.each-item.result in
     let l = c.loop-each in
-    let f = c.args.layout.now in
     let here = item_here c.args.statements.now l.each-index s c.loop-each-test.true c.each-item.is in
     for_part _ _ _ c.from_residual.ensures.1 c.in_err-statement.ensures.far
-    (part_here f.declared f.allocation f.controls f.depths c.args.depth c.args.statements.now l.each-index s here)
+    (part_here c.args.layout.now c.args.depth c.args.statements.now l.each-index s here)
