@@ -9,14 +9,15 @@ use Rattle.codegen.proofs.Machine.{word_of, IsImage, AreSlots, IsResultSlot, is_
 use Rattle.codegen.proofs.Machine.{Slot, ResultSlot, program_base, program_code, program_slots, result_slot, image_of}
 use Rattle.codegen.proofs.Machine.{image_within, most_words, step_limit, Fields, result_code, slots_from, result_offset}
 use Rattle.codegen.proofs.Machine.{HasRoom, Allocation, depth_in_all, entry_code, HavePlaces, home_count, IsAmong}
-use Rattle.codegen.proofs.Machine.{IsFitting, AllReadKept, Instr, IsKeptWithin, plain, ReadsKept, word_offset}
+use Rattle.codegen.proofs.Machine.{IsFitting, Instr, plain, word_offset}
 use Rattle.codegen.proofs.FewerHomes.{homes_fewer}
 use Rattle.codegen.specs.private.Fresh.{homes_but, starts_fresh}
-use Rattle.branch_removal.specs.Straight as straight
-use Rattle.codegen.proofs.Language.{StraightBlock, StraightTree, first, nothing, StraightProgram, most_elements, Form}
+use Rattle.codegen.proofs.ReadControls.{plain_reads}
+use Rattle.codegen.proofs.Language.{StraightProgram, most_elements, Form}
 use Rattle.codegen.proofs.Language.{SingleWord, Kind, Boolean, Param, WordType, held_words, array_words, Profile}
 use Rattle.codegen.proofs.Language.{FlatVariable, declaration_of, TermTree, HasLength, declared_words, value_nodes}
-use Rattle.codegen.proofs.Language.{IsBounded, IsCounted, IsTypedStraight, types_of, IsResult}
+use Rattle.codegen.proofs.Language.{IsCounted, types_of, IsResult}
+use Rattle.branch_removal.specs.Kept.{IsStraight}
 use Rattle.inline.specs.FlatSize.{words_of}
 use Rattle.codegen.proofs.CodeLengths.{assign_length, block_length, blocks_placed}
 
@@ -208,23 +209,19 @@ first_words zero ds = omega arith
 first_words (suc count) [] = omega arith
 first_words (suc count) (d ∷ ds) = omega (arith, first_words count ds)
 
-module _ (p : StraightProgram) (typed : IsTypedStraight p) (is : IsBounded p) where
-  parameters : declared_words (map declaration_of p.parameters) ≤ declared_words p.declared
+pub has_room : (p : StraightProgram) → IsStraight p → HasRoom p
+has_room p is = record {
+  typed = is.typed;
+  lengths = is.bounded.lengths;
   parameters =
-      omega (arith, first_words (length p.parameters) p.declared, ap declared_words typed.parameters)
-
-  pub has_room : HasRoom p
-  has_room = record {
-    typed = typed;
-    lengths = is.lengths;
-    parameters = parameters;
-    given = is.parameters;
-    declared = is.declared;
-    nodes = is.nodes;
-    work = is.work_fits;
-    worked = is.worked;
-    frame = is.framed;
-  }
+      omega (arith, first_words (length p.parameters) p.declared, ap declared_words is.typed.parameters);
+  given = is.bounded.parameters;
+  declared = is.bounded.declared;
+  nodes = is.bounded.nodes;
+  work = is.bounded.work_fits;
+  worked = is.bounded.worked;
+  frame = is.bounded.framed;
+}
 
 -- what the result's expression names is declared
 pub result_among : (profile : Profile) (declared : List FlatVariable) (returned : Option WordType)
@@ -242,25 +239,6 @@ body_placed a p room =
     let d = room.declared in
     blocks_placed p.profile p.declared a p.controls (depth_in_all p.body) d 0 p.body room.typed.body
     (omega (arith, d, room.nodes, room.frame)) (omega arith)
-
--- plain code keeps every control value
-
-plain_within : (within : Option ℕ) → IsKeptWithin [] within
-plain_within None = tt
-plain_within (Some control) = refl
-
-mutual
-  plain_read : (s : StraightTree) → ReadsKept [] s
-  plain_read (straight.set within x value) = plain_within within
-  plain_read (straight.array x size values) = tt
-  plain_read (straight.put within place x size index value) = plain_within within
-  plain_read (straight.take control within condition) = plain_within within
-  plain_read (straight.branch condition accepted otherwise) = (plain_reads accepted, plain_reads otherwise)
-  plain_read (straight.repeats x low high body) = plain_reads body
-
-  plain_reads : (b : StraightBlock) → AllReadKept [] b
-  plain_reads nothing = tt
-  plain_reads (first s rest) = (plain_read s, plain_reads rest)
 
 -- no homes fit any program
 pub plain_fits : (p : StraightProgram) → IsFitting p plain

@@ -1,13 +1,13 @@
 -- What a program reads is kept in its optimised code: each place that reads a control value gives it some weight.
-use Rattle.std.proofs.Common.{◌≡◌, ℕ, ◌+◌, ◌<◌, ◌≤◌, ◌==◌, Bool, true, false, List, length, Option, None, Some}
-use Rattle.std.proofs.Common.{slice_index, min, nat_lt, ne_eqb, refl, ap, subst, ◌∙◌, arith, unwrap_or, replicate}
+use Rattle.std.proofs.Common.{◌≡◌, ⊎_elim, ℕ, ◌+◌, ◌<◌, ◌≤◌, ◌==◌, Bool, true, false, List, [], length, map, Option}
+use Rattle.std.proofs.Common.{None, Some, slice_get, slice_index, min, ne_eqb, refl, ap, subst, ◌∙◌, arith, unwrap_or}
+use Rattle.std.proofs.Common.{replicate}
 use Rattle.std.proofs.lemmas.List.{get_or-set_other, get_or-set_same}
 use Rattle.std.proofs.lemmas.Option.{slice_get-map, slice_get-get_or, slice_get_past}
 use Rattle.branch_removal.specs.Straight as straight
 use Rattle.codegen.proofs.Language.{StraightBlock, StraightProgram, StraightTree, first, nothing}
-use Rattle.codegen.proofs.Logic.{eqb-true, eqb-false, nat_tests, option_map}
-use Rattle.codegen.proofs.Machine.{AllReadKept, IsKeptWithin, ReadsKept, is_unread}
-use Rattle.codegen.specs.private.Homes.{word_homes}
+use Rattle.codegen.proofs.Logic.{cases_lt, eqb-true, eqb-false, option_map}
+use Rattle.codegen.proofs.Machine.{AllReadKept, IsKeptWithin, ReadsKept}
 use Rattle.codegen.specs.private.Reads.{unread_of}
 use Rattle.branch_removal.specs.Uses.{greatest_weight, used, weight_inside}
 use Rattle.codegen.specs.private.Uses.{control_weights_of, controls_read_by, controls_read_by_all, used_within}
@@ -49,16 +49,16 @@ weight_kept c n x weights has below =
     used_stays n x c weights inside (has inside)
 
 -- So what is read is kept, where what has some weight in the end is, and what has no number here is.
-module _ (p : StraightProgram) where
+module _ (unread : List Bool) where
   abbrev IsKept : ℕ → Type 0
-  IsKept c = is_unread (word_homes p) c ≡ false
+  IsKept c = unwrap_or (slice_get unread c) false ≡ false
 
   -- what has weight among these is kept
   abbrev Keeps : List ℕ → Type 0
   Keeps weights = (c : ℕ) → HasWeight c weights → IsKept c
 
   within_here : (n : ℕ) (within : Option ℕ) (weights : List ℕ) → 0 < n → Keeps (used_within n within weights)
-      → IsKeptWithin (unread_of p) within
+      → IsKeptWithin unread within
   within_here n None weights some keeps = tt
   within_here n (Some x) weights some keeps =
       keeps x (λ below. let same = used_length n x weights in
@@ -66,7 +66,7 @@ module _ (p : StraightProgram) where
 
   mutual
     kept : (n : ℕ) (s : StraightTree) (weights : List ℕ) → 0 < n → Keeps (controls_read_by n s weights)
-        → ReadsKept (unread_of p) s
+        → ReadsKept unread s
     kept n (straight.set within x value) weights some keeps = within_here n within weights some keeps
     kept n (straight.array x size values) weights some keeps = tt
     kept n (straight.put within place x size index value) weights some keeps =
@@ -81,8 +81,8 @@ module _ (p : StraightProgram) where
     kept n (straight.repeats x low high body) weights some keeps =
         all_kept (weight_inside n) body weights (omega (arith, some)) keeps
 
-    all_kept : (n : ℕ) (b : StraightBlock) (weights : List ℕ) → 0 < n → Keeps (controls_read_by_all n b weights)
-        → AllReadKept (unread_of p) b
+    pub all_kept : (n : ℕ) (b : StraightBlock) (weights : List ℕ) → 0 < n → Keeps (controls_read_by_all n b weights)
+        → AllReadKept unread b
     all_kept n nothing weights some keeps = tt
     all_kept n (first s rest) weights some keeps =
         let between = controls_read_by n s weights in (
@@ -91,21 +91,23 @@ module _ (p : StraightProgram) where
           all_kept n rest between some keeps,
         )
 
-  -- what has weight in the end is not among the unread
-  weighed : Keeps (control_weights_of p)
-  weighed c weighs = by_test (nat_lt c (length (control_weights_of p))) refl
-    where
-      by_test : (b : Bool) → nat_lt c (length (control_weights_of p)) ≡ b → IsKept c
-      by_test true below =
-          let within : c < length (control_weights_of p) = grind (arith, nat_tests, below) in
-          let some = weighs within in
-          ap (λ (o : Option Bool). unwrap_or o false) (slice_get-map (λ w. w == 0) (control_weights_of p) c
-          ∙ ap (option_map (λ w. w == 0)) (slice_get-get_or (control_weights_of p) c 0 within))
-          ∙ ne_eqb (slice_index (control_weights_of p) c) 0 (λ e. omega (arith, some, e))
-      by_test false beyond =
-          let past : length (control_weights_of p) ≤ c = grind (arith, nat_tests, beyond) in
-          ap (λ (o : Option Bool). unwrap_or o false) (slice_get-map (λ w. w == 0) (control_weights_of p) c
-          ∙ ap (option_map (λ w. w == 0)) (slice_get_past (control_weights_of p) c past))
+-- what has weight in the end is not among the unread
+weighed : (weights : List ℕ) → Keeps (map (λ w. w == 0) weights) weights
+weighed weights c weighs =
+    ap (λ (o : Option Bool). unwrap_or o false) (slice_get-map (λ w. w == 0) weights c)
+    ∙ ⊎_elim
+    (λ (below : c < length weights).
+    let some = weighs below in
+    ap (λ (o : Option ℕ). unwrap_or (option_map (λ w. w == 0) o) false) (slice_get-get_or weights c 0 below)
+    ∙ ne_eqb (slice_index weights c) 0 (λ e. omega (arith, some, e)))
+    (λ (past : length weights ≤ c).
+    ap (λ (o : Option ℕ). unwrap_or (option_map (λ w. w == 0) o) false) (slice_get_past weights c past))
+    (cases_lt c (length weights))
 
 pub all_read_kept : (p : StraightProgram) → AllReadKept (unread_of p) p.body
-all_read_kept p = all_kept p 1 p.body (replicate p.controls 0) (omega arith) (weighed p)
+all_read_kept p =
+    all_kept (unread_of p) 1 p.body (replicate p.controls 0) (omega arith) (weighed (control_weights_of p))
+
+-- plain code keeps every control value
+pub plain_reads : (b : StraightBlock) → AllReadKept [] b
+plain_reads b = all_kept [] 1 b [] (omega arith) (λ c has. refl)

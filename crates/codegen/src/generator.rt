@@ -5,7 +5,9 @@ ghost use Rattle.codegen.specs.Exact.{fields_of, optimised_fields_of};
 ghost use Rattle.codegen.specs.Followed.{IsGenerated};
 ghost use Rattle.branch_removal.specs.Bounds.{IsCounted};
 ghost use Rattle.codegen.specs.private.Fresh.{homes_but, starts_fresh};
-ghost use Rattle.codegen.specs.private.Generated.{entry_code, program_code, program_slots, result_slot, most_words};
+ghost use Rattle.branch_removal.specs.Heights.{program_height};
+ghost use Rattle.codegen.specs.expression_code.Allocation.{slots_to};
+ghost use Rattle.codegen.specs.private.Generated.{entry_code, program_code, result_slot, most_words};
 ghost use Rattle.codegen.specs.private.Generated.{step_limit, image_of, image_within};
 ghost use Rattle.codegen.specs.private.Jumps.{IsFar};
 ghost use Rattle.codegen.specs.private.Room.{HasRoom, IsFitting, frame_of};
@@ -22,7 +24,7 @@ use crate::expression_code::{
     Allocation, Layout, REGISTER_COUNT, WORD_BYTES, emit, offsets, slots,
 };
 use crate::fresh::starts_fresh;
-use crate::heights::{extent_of_all, program_height, temporary_registers};
+use crate::heights::{program_extent, temporary_registers};
 use crate::homes::word_homes;
 use crate::image_fields::{ImageFields, ResultSlot};
 use crate::reading::assign;
@@ -127,11 +129,12 @@ fn code_within(
     }
 }
 
-/// How many slots the temporaries of a program take.
-fn temporaries(straight: &Straight<'_>, layout: &Layout<'_>) -> u32
-    ensures { result ≡ program_slots layout.now.allocation straight.now }
+/// How many slots temporaries take, of which so many are there at once, beside the first.
+fn temporary_slots(height: u32, layout: &Layout<'_>) -> u32
+    requires { height ≤ 6000 }
+    ensures { result ≡ slots_to layout.now.allocation.count height }
 {
-    (program_height(straight) + 1).saturating_sub(layout.register_count())
+    (height + 1).saturating_sub(layout.register_count())
 }
 
 /// The slot of the result, where there is one.
@@ -160,11 +163,14 @@ fn listed(
     alloc: Global,
     straight: &Straight<'_>,
     layout: &Layout<'_>,
+    height: u32,
     code: &[Instr],
 ) -> Result<ImageFields, AllocError>
     requires room { HasRoom straight.now }
     requires fitting { IsFitting straight.now layout.now.allocation }
     requires frame { layout.now ≡ frame_of layout.now.allocation straight.now }
+    requires height { height ≡ program_height straight.now }
+    requires few { height ≤ 6000 }
     requires code { code.now ≡ program_code layout.now.allocation straight.now }
     requires within { length code.now ≤ most_words straight.now.nodes }
     ensures exact { IfOk result (λ fields. fields ≡ image_of layout.now.allocation straight.now) }
@@ -173,7 +179,7 @@ fn listed(
     let returned = result_slot(straight, layout);
     let slots = slots(alloc, straight.parameters())?;
     let words = words(alloc, code)?;
-    let frame_bytes = layout.temporaries() + WORD_BYTES * temporaries(straight, layout);
+    let frame_bytes = layout.temporaries() + WORD_BYTES * temporary_slots(height, layout);
     let max_steps = step_limit(straight.work());
     let profile = straight.profile();
     Ok(ImageFields::new(profile, slots, returned, frame_bytes, max_steps, words))
@@ -191,20 +197,20 @@ fn generate_with(
     ensures allowed { IfOk result (λ made. IfSome made IsImage) }
     ensures memory { IfErr result (λ refusal. IsWantOfMemory refusal.rule refusal.place) }
 {
-    let depths = extent_of_all(straight.body()).depth;
+    let extent = program_extent(straight);
     let declared = straight.declared();
     let offsets = offsets(alloc, declared)?;
     let layout = Layout::new(
         declared,
         offsets.as_slice(),
         straight.controls(),
-        depths,
+        extent.depth,
         allocation,
     );
     let Some(code) = code_within(alloc, straight, &layout)? else {
         return Ok(None);
     };
-    let fields = listed(alloc, straight, &layout, code.as_slice())?;
+    let fields = listed(alloc, straight, &layout, extent.height, code.as_slice())?;
     Ok(Some(Code::new(fields)))
 }
 

@@ -4,6 +4,7 @@ ghost use Rattle.std.specs.Prelude.{◌≡◌, ◌≤◌, map};
 ghost use Rattle.branch_removal.specs.Straight.{straight_tree, straight_block};
 ghost use Rattle.branch_removal.specs.Heights.{program_height, height_of_all, height_in, height_in_all, depth_in};
 ghost use Rattle.branch_removal.specs.Heights.{depth_in_all};
+ghost use Rattle.branch_removal.specs.Kept.{IsStraight};
 ghost use Rattle.codegen.specs.private.Homes.{temporary_registers};
 ghost use Rattle.inline.specs.Flat.{term_tree};
 
@@ -28,14 +29,16 @@ fn height_of_all(values: &[Term]) -> u32
     greatest
 }
 
-/// How many temporaries there are at once at most, beside the first, and how many loops stand in one another.
-#[derive(Clone, Copy, Debug)]
+/// What statements have at once at most.
+#[derive(Clone, Copy)]
 pub struct Extent {
+    /// How many temporaries, beside the first.
     pub height: u32,
+    /// How many loops, one in the other.
     pub depth: u32,
 }
 
-/// That of a statement.
+/// The extent of a statement.
 #[cycle(extents)]
 fn extent_of(statement: &StraightStatement) -> Extent
     requires height { height_in (straight_tree statement.now) ≤ 6000 }
@@ -67,9 +70,9 @@ fn extent_of(statement: &StraightStatement) -> Extent
     Extent { height, depth: 0 }
 }
 
-/// That of statements.
+/// The extent of statements, one after the other.
 #[cycle(extents)]
-pub fn extent_of_all(statements: &[StraightStatement]) -> Extent
+fn extent_of_all(statements: &[StraightStatement]) -> Extent
     requires height { height_in_all (straight_block statements.now) ≤ 6000 }
     requires depth { depth_in_all (straight_block statements.now) ≤ 6000 }
     ensures height { result.height ≡ height_in_all (straight_block statements.now) }
@@ -85,17 +88,22 @@ pub fn extent_of_all(statements: &[StraightStatement]) -> Extent
     Extent { height, depth }
 }
 
-/// How many temporaries a program has at once at most, beside the first.
-pub fn program_height(straight: &Straight<'_>) -> u32
-    ensures height { result ≡ program_height straight.now }
-    ensures few { result ≤ 6000 }
+/// The extent of a program: its result is computed like a statement.
+pub fn program_extent(straight: &Straight<'_>) -> Extent
+    ensures height { result.height ≡ program_height straight.now }
+    ensures depth { result.depth ≡ depth_in_all straight.now.body }
+    ensures few { result.height ≤ 6000 }
+    ensures kept { IsStraight straight.now }
 {
-    let body = straight.body();
+    let body = extent_of_all(straight.body());
     let result = match straight.value() {
         Some(value) => height(value),
         None => 0,
     };
-    extent_of_all(body).height.max(result)
+    Extent {
+        height: body.height.max(result),
+        depth: body.depth,
+    }
 }
 
 /// How many temporaries have registers in optimised code: the others are for words.
@@ -103,7 +111,7 @@ pub fn temporary_registers(straight: &Straight<'_>) -> u32
     ensures count { result ≡ temporary_registers straight.now }
     ensures few { result ≤ 16 }
 {
-    (program_height(straight) + 1)
+    (program_extent(straight).height + 1)
         .max(FEWEST_TEMPORARIES)
         .min(MOST_TEMPORARIES)
 }

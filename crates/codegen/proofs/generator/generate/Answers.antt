@@ -1,17 +1,14 @@
-use Rattle.std.proofs.Common.{◌≡◌, false, ℕ, List, [], Option, Some, ap, sym, subst, ◌∙◌}
+use Rattle.std.proofs.Common.{◌≡◌, Option, Some, ap, sym, ◌∙◌}
 use Rattle.codegen.proofs.Language.{IsCounted, StraightProgram}
 use Rattle.codegen.proofs.Logic.{none-some, same_Some}
-use Rattle.codegen.proofs.Machine.{Allocation, Fields, image_of, image_within, IsFitting, plain}
+use Rattle.codegen.proofs.Machine.{Allocation, Fields, image_of, image_within, plain}
 use Rattle.codegen.specs.Exact.{fields_of}
 use Rattle.codegen.proofs.ImageLemmas.{image_there, plain_fits, program_length}
 use Rattle.codegen.proofs.generator.generate.Goals as goal
 
 pub generate_with-requires : goal.generate_with-requires
 generate_with-requires c =
-    let none : List (Option ℕ) → Allocation = λ homes. record { count = 16; homes = homes; immediates = false; unread = [] } in
-    let bare : c.new-allocation.result ≡ plain = c.new-allocation.ensures
-    ∙ ap none (c.as_slice.ensures.value ∙ c.new-homes.ensures.items) in
-    subst (IsFitting c.args.straight.now) (sym bare) (plain_fits c.args.straight.now)
+    rw (c.new-allocation.ensures, c.as_slice.ensures.value, c.new-homes.ensures.items) (plain_fits c.args.straight.now)
 
 -- so the image is there
 made_plain : (p : StraightProgram) (a : Allocation) (made : Option Fields) → a ≡ plain → made ≡ image_within a p
@@ -22,17 +19,15 @@ made_plain p a made bare is counted =
 
 pub unreachable-requires : goal.unreachable-requires
 unreachable-requires c =
-    let none : List (Option ℕ) → Allocation = λ homes. record { count = 16; homes = homes; immediates = false; unread = [] } in
-    let bare : c.new-allocation.result ≡ plain = c.new-allocation.ensures
-    ∙ ap none (c.as_slice.ensures.value ∙ c.new-homes.ensures.items) in
+    let bare : c.new-allocation.result ≡ plain =
+    rw (c.new-allocation.ensures, c.as_slice.ensures.value, c.new-homes.ensures.items) in
     none-some _ (sym c.in-None.is
     ∙ made_plain c.args.straight.now c.new-allocation.result _ bare c.in_ok-code.ensures.exact c.requires)
 
 pub returns-clause-exact : goal.returns-clause-exact
 unfolding fields_of
 returns-clause-exact c =
-    let none : List (Option ℕ) → Allocation = λ homes. record { count = 16; homes = homes; immediates = false; unread = [] } in
-    let bare : c.new-allocation.result ≡ plain = c.new-allocation.ensures
-    ∙ ap none (c.as_slice.ensures.value ∙ c.new-homes.ensures.items) in
+    let bare : c.new-allocation.result ≡ plain =
+    rw (c.new-allocation.ensures, c.as_slice.ensures.value, c.new-homes.ensures.items) in
     same_Some _ _ (sym c.in-Some.is
     ∙ made_plain c.args.straight.now c.new-allocation.result _ bare c.in_ok-code.ensures.exact c.requires)

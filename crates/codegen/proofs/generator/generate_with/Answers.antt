@@ -1,69 +1,58 @@
-use Rattle.std.proofs.Common.{rules, refl, ◌≡◌, ℕ, ◌≤◌, List, Option, Some, IfSome, length, ap, sym, subst, ◌∙◌, arith}
-use Rattle.codegen.proofs.Machine.{Allocation, image_of, IsFitting, depth_in_all, height_in_all, IsGenerated, frame_of}
+use Rattle.std.proofs.Common.{rules, ◌≡◌, ℕ, ◌≤◌, List, Some, length, refl, ap, sym, subst, ◌∙◌, arith}
+use Rattle.codegen.proofs.Machine.{Allocation, image_of, IsFitting, depth_in_all, IsGenerated, frame_of}
 use Rattle.codegen.proofs.Machine.{Frame, Fields, Instr, most_words, program_code}
 use Rattle.codegen.proofs.BodyRuns.{is_generated}
 use Rattle.codegen.proofs.ImageLemmas.{room_frame, has_room, image_there}
 use Rattle.codegen.proofs.Language.{FlatVariable, StraightProgram, declared_words}
 use Rattle.codegen.proofs.generator.generate_with.Goals as goal
 
-pub extent_of_all-depths-requires : goal.extent_of_all-depths-requires
-extent_of_all-depths-requires c =
-    let room = has_room c.args.straight.now c.body.ensures.kept.typed c.body.ensures.kept.bounded in
-    record {
-      height = omega (arith, ap height_in_all c.body.ensures.body, room.frame, room.nodes);
-      depth = omega (arith, ap depth_in_all c.body.ensures.body, room.frame, room.nodes);
-    }
-
 pub offsets-requires : goal.offsets-requires
 offsets-requires c =
-    let few = (has_room c.args.straight.now c.body.ensures.kept.typed c.body.ensures.kept.bounded).declared in
+    let few = (has_room c.args.straight.now c.program_extent-extent.ensures.kept).declared in
     omega (arith, ap declared_words c.declared-declared.ensures, few)
 
 pub new-layout-requires-clause-room : goal.new-layout-requires-clause-room
 new-layout-requires-clause-room c =
     let p = c.args.straight.now in
-    let depths = c.extent_of_all-depths.ensures.depth ∙ ap depth_in_all c.body.ensures.body in
-    let room = room_frame c.args.allocation p (has_room p c.body.ensures.kept.typed c.body.ensures.kept.bounded) in
-    omega (arith, ap declared_words c.declared-declared.ensures, c.controls.ensures, depths, room)
+    let room = room_frame c.args.allocation p (has_room p c.program_extent-extent.ensures.kept) in
+    omega (
+      arith,
+      ap declared_words c.declared-declared.ensures,
+      c.controls.ensures,
+      c.program_extent-extent.ensures.depth,
+      room,
+    )
 
 -- the layout is the program's
-laid_out : (a : Allocation) (p : StraightProgram) (declared : List FlatVariable) (controls depths : ℕ) (layout : Frame)
+laid_out : (a : Allocation) (p : StraightProgram) {declared : List FlatVariable} {controls depths : ℕ} (layout : Frame)
     → layout ≡ record { declared = declared; controls = controls; depths = depths; allocation = a }
     → declared ≡ p.declared → controls ≡ p.controls → depths ≡ depth_in_all p.body → IsFitting p a
     → IsFitting p layout.allocation × (layout ≡ frame_of layout.allocation p)
-laid_out a p declared controls depths layout is one two three fits =
-    let laid : layout ≡ frame_of a p = is ∙ rw (one, two, three) refl in
-    let given : layout.allocation ≡ a = ap (λ (f : Frame). f.allocation) laid in
-    (subst (IsFitting p) (sym given) fits, laid ∙ ap (λ (b : Allocation). frame_of b p) (sym given))
+laid_out a p layout is one two three fits =
+    let laid : layout ≡ frame_of a p = is ∙ rw (one, two, three) in
+    rw laid (fits, refl)
 
 pub code_within-requires : goal.code_within-requires
 code_within-requires c =
     let p = c.args.straight.now in
-    let laid = laid_out c.args.allocation p c.declared-declared.result.now c.controls.result
-    c.extent_of_all-depths.result.depth c.new-layout.result c.new-layout.ensures c.declared-declared.ensures
-    c.controls.ensures (c.extent_of_all-depths.ensures.depth ∙ ap depth_in_all c.body.ensures.body) c.requires in
-    record {
-      room = has_room p c.body.ensures.kept.typed c.body.ensures.kept.bounded;
-      fitting = laid.0;
-      frame = laid.1;
-    }
+    let laid = laid_out c.args.allocation p c.new-layout.result c.new-layout.ensures c.declared-declared.ensures
+    c.controls.ensures c.program_extent-extent.ensures.depth c.requires in
+    record { room = has_room p c.program_extent-extent.ensures.kept; fitting = laid.0; frame = laid.1 }
 
 pub listed-requires : goal.listed-requires
 listed-requires c =
     let p = c.args.straight.now in
-    let laid = laid_out c.args.allocation p c.declared-declared.result.now c.controls.result
-    c.extent_of_all-depths.result.depth c.new-layout.result c.new-layout.ensures c.declared-declared.ensures
-    c.controls.ensures (c.extent_of_all-depths.ensures.depth ∙ ap depth_in_all c.body.ensures.body) c.requires in
+    let laid = laid_out c.args.allocation p c.new-layout.result c.new-layout.ensures c.declared-declared.ensures
+    c.controls.ensures c.program_extent-extent.ensures.depth c.requires in
     record {
-      room = has_room p c.body.ensures.kept.typed c.body.ensures.kept.bounded;
+      room = has_room p c.program_extent-extent.ensures.kept;
       fitting = laid.0;
       frame = laid.1;
+      height = c.program_extent-extent.ensures.height;
+      few = c.program_extent-extent.ensures.few;
       code = search rules;
       within = search rules;
     }
-
-of_some : {T : Type 0} (o : Option T) (x : T) (P : T → Type 0) → o ≡ Some x → IfSome o P → P x
-of_some o x P is both = subst (λ o. IfSome o P) is both
 
 -- the code in the layout, which is short
 short : (a : Allocation) (p : StraightProgram) (layout : Frame) → layout.allocation ≡ a → (code : List Instr)
@@ -77,13 +66,12 @@ pub returns-clause-generated : goal.returns-clause-generated
 returns-clause-generated c =
     let p = c.args.straight.now in
     let a = c.args.allocation in
-    let room = has_room p c.body.ensures.kept.typed c.body.ensures.kept.bounded in
     let given : c.new-layout.result.allocation ≡ a = ap (λ (f : Frame). f.allocation) c.new-layout.ensures in
     let few = short a p c.new-layout.result given c.in-Some.code.items
-    (of_some _ _ _ c.in-Some.is c.in_ok-code.ensures.code) (of_some _ _ _ c.in-Some.is c.in_ok-code.ensures.within) in
+    (rw c.in-Some.is at c.in_ok-code.ensures.code) (rw c.in-Some.is at c.in_ok-code.ensures.within) in
     subst (λ (fields : Fields). IsGenerated p fields)
     (sym (c.new.ensures ∙ (c.in_ok-fields.ensures.exact ∙ ap (λ (b : Allocation). image_of b p) given)))
-    (is_generated a p room c.requires few)
+    (is_generated a p (has_room p c.program_extent-extent.ensures.kept) c.requires few)
 
 pub returns-clause-exact : goal.returns-clause-exact
 returns-clause-exact c =
@@ -91,6 +79,6 @@ returns-clause-exact c =
     let a = c.args.allocation in
     let given : c.new-layout.result.allocation ≡ a = ap (λ (f : Frame). f.allocation) c.new-layout.ensures in
     let few = short a p c.new-layout.result given c.in-Some.code.items
-    (of_some _ _ _ c.in-Some.is c.in_ok-code.ensures.code) (of_some _ _ _ c.in-Some.is c.in_ok-code.ensures.within) in
+    (rw c.in-Some.is at c.in_ok-code.ensures.code) (rw c.in-Some.is at c.in_ok-code.ensures.within) in
     ap Some (c.new.ensures ∙ (c.in_ok-fields.ensures.exact ∙ ap (λ (b : Allocation). image_of b p) given))
     ∙ sym (image_there a p few)

@@ -1,6 +1,6 @@
 use Rattle.std.proofs.Common.{◌≡◌, ◌+◌, ◌*◌, ◌≤◌, List, length, map, ap, ap₂, subst, ◌∙◌}
 use Rattle.codegen.proofs.Machine.{program_base, program_slots, step_limit, Frame, slots_from, temporaries_offset}
-use Rattle.codegen.proofs.Machine.{most_words, word_of, Instr}
+use Rattle.codegen.proofs.Machine.{most_words, word_of, Instr, slots_to}
 use Rattle.codegen.proofs.ImageLemmas.{fields_allowed}
 use Rattle.codegen.proofs.generator.listed.Goals as goal
 
@@ -11,11 +11,11 @@ new-requires c =
     let start = c.temporaries.ensures
     ∙ ap (λ (f : Frame). temporaries_offset f.declared f.controls f.depths) c.requires.frame in
     let slots = c.in_ok-slots.ensures ∙ ap (λ ps. slots_from 0 ps) c.parameters.ensures in
-    let frame : c.temporaries.result + 4 * c.temporaries-2.result ≡ program_base p + 4 * program_slots a p =
-    ap₂ (λ m n. m + 4 * n) start c.temporaries-2.ensures in
+    let frame : c.temporaries.result + 4 * c.temporary_slots.result ≡ program_base p + 4 * program_slots a p =
+    ap₂ (λ m n. m + 4 * n) start (c.temporary_slots.ensures ∙ ap (slots_to a.count) c.requires.height) in
     let steps = c.step_limit-max_steps.ensures ∙ ap step_limit c.work.ensures in
     let words = c.in_ok-words.ensures.words ∙ ap (λ code. map word_of code) c.requires.code in
     let short = subst (λ (code : List Instr). length code ≤ most_words p.nodes) c.requires.code c.requires.within in
     fields_allowed a p c.requires.room c.requires.fitting short _ c.in_ok-slots.slots.items c.result_slot-returned.result
-    (c.temporaries.result + 4 * c.temporaries-2.result) c.step_limit-max_steps.result c.in_ok-words.words.items
+    (c.temporaries.result + 4 * c.temporary_slots.result) c.step_limit-max_steps.result c.in_ok-words.words.items
     slots c.result_slot-returned.ensures frame steps words c.in_ok-words.ensures.fit

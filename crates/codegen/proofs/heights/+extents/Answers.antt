@@ -1,7 +1,8 @@
 use Rattle.std.proofs.Common.{rules, refl, ap, arith}
 use Rattle.branch_removal.specs.Heights.{depth_in, depth_in_all, height_in, height_in_all}
-use Rattle.codegen.proofs.StatementCode.{tree_of_branch, tree_of_loop, accepted_smaller, otherwise_smaller}
-use Rattle.codegen.proofs.StatementCode.{body_smaller, item_here, smaller_here, greatest_here}
+use Rattle.branch_removal.specs.Straight.{straight_block}
+use Rattle.branch_removal.proofs.StatementTrees.{tree_of_branch, tree_of_loop, accepted_smaller, otherwise_smaller}
+use Rattle.branch_removal.proofs.StatementTrees.{body_smaller, item_here, smaller_here}
 use Rattle.codegen.proofs.heights.+extents.Goals as goal
 
 pub extent_of-extent_of_all-one-requires : goal.extent_of-extent_of_all-one-requires
@@ -52,9 +53,12 @@ extent_of_all-extent_of-one-requires t c =
     let here = item_here c.args.statements.now i s c.loop-statement-test.true c.statement-item.is in (
       search (rules, smaller_here c.args.statements.now i s here),
       (
-        greatest_here height_in height_in_all (λ s rest. refl) c.args.statements.now i s here l.height _
-            l.invariant.height c.requires.height,
-        greatest_here depth_in depth_in_all (λ s rest. refl) c.args.statements.now i s here l.depth _
-            l.invariant.depth c.requires.depth,
+        omega (
+          arith,
+          ap (λ xs. height_in_all (straight_block xs)) here,
+          l.invariant.height,
+          c.requires.height,
+        ),
+        omega (arith, ap (λ xs. depth_in_all (straight_block xs)) here, l.invariant.depth, c.requires.depth),
       ),
     )
