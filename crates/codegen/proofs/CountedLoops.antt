@@ -1,7 +1,7 @@
 -- The code of a loop that counts in its counter's home, by its bounds.
 use Rattle.std.proofs.Common.{◌≡◌, ◌≢◌, ℕ, zero, suc, ◌+◌, ◌-◌, ◌*◌, ◌^◌, ◌<◌, ◌≤◌, ◌==◌, Bool, true, false, cond}
-use Rattle.std.proofs.Common.{nat_lt, List, [], ◌∷◌, ◌++◌, length, None, Some, slice_get, slice_index, refl, sym, ap}
-use Rattle.std.proofs.Common.{◌∙◌, subst, arith, eq-eqb, ne_eqb, length-append, append-nil}
+use Rattle.std.proofs.Common.{nat_lt, List, [], ◌∷◌, ◌++◌, length, Some, slice_get, slice_index, refl, sym, ap}
+use Rattle.std.proofs.Common.{◌∙◌, ap₂, subst, arith, ne_eqb, length-append, append-nil}
 use Rattle.std.proofs.lemmas.Bool.{ltb-true}
 use Rattle.std.proofs.lemmas.Nat.{mul-le}
 use Rattle.codegen.proofs.CountingRuns.{Guarded, guarded_runs, home_high, home_low, turns_runs}
@@ -12,7 +12,7 @@ use Rattle.codegen.proofs.LoopRuns.{AtLoop, bounds_runs, is_left, next, next_ins
 use Rattle.codegen.proofs.Logic.{lt-ltb, nat_tests, none-some, same_Some, HeldAt, Setting, setting, base_of, Known}
 use Rattle.codegen.proofs.Logic.{by_bounds, none, Runs, along, along_fit, seq, quietly, weaken, gives, cheaper, never}
 use Rattle.codegen.proofs.Logic.{Ready, HomesKept, home_beside, homes_moved, number_or_zero, take, does, moves_run}
-use Rattle.codegen.proofs.Logic.{registers_after, is_free, none_low, computing_within, kept_less, unwritten}
+use Rattle.codegen.proofs.Logic.{is_free, none_low, computing_within, kept_less, register-at, unwritten, written}
 use Rattle.codegen.proofs.Logic.{load_length}
 use Rattle.codegen.proofs.Machine.{bounds_code, test_code, home_of, height_of, read_code, read_register, Instr}
 use Rattle.codegen.proofs.Machine.{slots_to, ByteMap, number_at, into_code, Sltu}
@@ -27,6 +27,7 @@ use Rattle.rv_code.specs.declared.operations.ImmediateOperation.TheVariants.{Add
 use Rattle.rv_machine.specs.Effects.{sign_extended}
 use Rattle.rv_machine.specs.Machine as machine
 use Rattle.codegen.proofs.HomeWords.{ready_homed}
+use Rattle.codegen.proofs.expression_code_lemmas.WorkRegisters.{when_some}
 
 -- Numbers as bounds.
 
@@ -36,14 +37,10 @@ pub record IsShort (e : TermTree) (bound : ℕ) : Type 0 where
   pub path : (m : Values) → path_in m e ≡ []
 
 pub short_is : (e : TermTree) (bound : ℕ) → short_number e ≡ Some bound → IsShort e bound
-short_is (number value kind) bound is = by_test (nat_lt value 2048) refl is
-  where
-    by_test : (b : Bool) → nat_lt value 2048 ≡ b → cond b (Some value) None ≡ Some bound
-        → IsShort (number value kind) bound
-    by_test true near same =
-        let e = same_Some value bound same in
-        record { small = let f = ltb-true value 2048 near in omega (arith, e, f); value = λ m. e; path = λ m. refl }
-    by_test false near same = absurd (none-some bound same)
+short_is (number value kind) bound is =
+    let both = when_some (nat_lt value 2048) (Some value) bound is in
+    let e = same_Some value bound both.1 in
+    record { small = omega (arith, e, ltb-true value 2048 both.0); value = λ m. e; path = λ m. refl }
 short_is e bound is = absurd (none-some bound is)
 
 below_is : (low : TermTree) (bound : ℕ) → is_below bound low ≡ true → (m : Values) → value_in m low < bound
@@ -61,29 +58,22 @@ module _ (z : Setting) where
   compared : (d r bound : ℕ) → 4 < d → d < 32 → 4 < r → r < 32 → bound < 2048
       → Runs z 1 none (below_number_code d r bound) (λ env s. HeldAt z s) (λ env s t. Compared d r bound s t)
   compared d r bound low high low' high' small =
-      let is = below_number_code d r bound in
-      let d0 : (d == 0) ≡ false = ne_eqb d 0 (λ e. omega (arith, low, e)) in
-      let r0 : (r == 0) ≡ false = ne_eqb r 0 (λ e. omega (arith, low', e)) in
-      let dd : (d == d) ≡ true = eq-eqb d d refl in
       let same : sign_extended 12 bound ≡ bound = grind (arith, nat_tests, small) in
       gives
-      (λ env s t fine held done.
-      let made : registers_after is s.regs d ≡ word_of (nat_lt (s.regs r) (sign_extended 12 bound)) =
-      simp (d0, dd, r0) in
-      record {
+      (λ env s t fine held done. record {
         held = done.held;
         there = ap (λ (regs : ℕ → ℕ). regs d) done.registers
-            ∙ (made ∙ ap (λ v. word_of (nat_lt (s.regs r) v)) same);
+            ∙ (written s.regs d _ (λ e. omega (arith, low, e))
+            ∙ ap₂ (λ a v. word_of (nat_lt a v)) (register-at s.regs r (λ e. omega (arith, low', e))) same);
         same = done.same;
         others = λ q apart. ap (λ (regs : ℕ → ℕ). regs q) done.registers ∙ unwritten s.regs d _ q apart;
       })
-      (computing_within z is_free is
+      (computing_within z is_free (below_number_code d r bound)
       (simp (lt-ltb 4 d low, lt-ltb d 32 high, lt-ltb r 32 high', lt-ltb bound 4096 (omega (arith, small)))) none_low)
 
   -- homes stay where a temporary is written
   homes_compared : {d r bound : ℕ} {s t : machine.State} → d < 8 → Compared d r bound s t → HomesKept z s t
-  homes_compared low done q home = let some = z.allocated.some in
-      done.others q (λ e. omega (arith, some, home.0, e, low))
+  homes_compared low done q home = done.others q (λ e. omega (arith, z.allocated.some, home.0, e, low))
 
 module _ (z : Setting) (depth x h : ℕ) (within : depth < z.depths)
     (known : slice_get z.declared x ≡ Some (word_as counter_type false)) (at : home_of z.allocation.homes x ≡ Some h)
@@ -118,7 +108,7 @@ module _ (z : Setting) (depth x h : ℕ) (within : depth < z.depths)
   turns_cost c = slice_index z.counts x * (n + (1 + c) + 1)
 
   round_near : (test : List Instr) → length test ≤ 4 → 2 * length (ys ++ instr.Immediate Addi h h 1 ∷ test) ≤ 2 ^ 11
-  round_near test few = let e = length-append ys (instr.Immediate Addi h h 1 ∷ test) in omega (arith, few, short, e)
+  round_near test few = omega (arith, few, short, length-append {A = Instr})
 
   -- what is shown with bounds that are known beforehand is shown with those of the state
   looped_by : (b : ℕ × ℕ) (env : StraightState) (s t : machine.State) → bounds env ≡ b
@@ -151,7 +141,7 @@ module _ (z : Setting) (depth x h : ℕ) (within : depth < z.depths)
         (compared z 5 h bound (omega arith) (omega arith) (omega (arith, least)) (omega (arith, most)) is_short.small)
 
     limited : (limit : ℕ) (bytes : ByteMap) → AtBound limit bytes → limit < 2 ^ 32
-    limited limit bytes is = let small = is_short.small in omega (arith, is, small)
+    limited limit bytes is = omega (arith, is, is_short.small)
 
     abbrev start : ℕ
     start = read_register z.allocation 5 low
@@ -174,9 +164,7 @@ module _ (z : Setting) (depth x h : ℕ) (within : depth < z.depths)
         (done.second.0, hidden_then z depth s m t (hidden_by z depth s m done.first.1) done.second.1))
         (quietly
         (weaken {P' = With (FirstRead z low) b}
-        {R = λ env s t. Guarded z depth x h known at 1 n limit (AtBound limit) body
-        (λ s t hidden is. is) (limited limit) (number_tests limit) unset inner (round_near _ (omega arith)) 6 start
-        (b.1 - b.0) b.0 env t × (t.bytes ≡ s.bytes)}
+        {R = λ env s t. Guarded z (AtBound limit) 6 start (b.1 - b.0) b.0 env t × (t.bytes ≡ s.bytes)}
         (λ env s fine known. known.given.ready.held)
         (λ env s t fine known done.
         let first = known.given.there ∙ ap (λ (c : ℕ × ℕ). c.0) known.is in
@@ -190,11 +178,10 @@ module _ (z : Setting) (depth x h : ℕ) (within : depth < z.depths)
           },
           done.same,
         ))
-        (compared z 6 start bound (omega arith) (omega arith) source.low
-        (let high = source.high in omega (arith, high)) is_short.small))
+        (compared z 6 start bound (omega arith) (omega arith) source.low (omega (arith, source.high)) is_short.small))
         (guarded_runs z depth x h known at 1 n limit (AtBound limit) body (λ s t hidden is. is) (limited limit)
         (number_tests limit) unset inner (round_near _ (omega arith)) 6 start (omega arith) (omega arith) source.low
-        (let high = source.high in omega (arith, high)) (b.1 - b.0) b.0 refl (slice_index z.counts x) few)
+        (omega (arith, source.high)) (b.1 - b.0) b.0 refl (slice_index z.counts x) few)
         (λ env s t known done. done.0)))
 
     -- from any first number on
@@ -262,7 +249,7 @@ module _ (z : Setting) (depth x h : ℕ) (within : depth < z.depths)
         (λ env s t ready done.
         let kept = kept_less z (base_of z) (base_of z + 4 * (0 - z.allocation.count)) s t (omega arith) done.kept in
         ready_homed z x h (value_in env.variables low) counter_type false known at
-        (let l = less env.variables in omega (arith, l, is_short.small)) env s t ready done.held kept done.there
+        (omega (arith, less env.variables, is_short.small)) env s t ready done.held kept done.there
         (λ r other apart. done.lower r (home_beside z.allocation.count 0 h r other.0 other.1 apart))))
 
     by_first : (b : Bool) → is_below bound low ≡ b
@@ -328,9 +315,7 @@ module _ (z : Setting) (depth x h : ℕ) (within : depth < z.depths)
         ((omega arith, omega (arith, inside)), (tt, tt)))
 
     word_test_length : length (below_word_code h words) ≤ 4
-    word_test_length =
-        let e = length-append {A = Instr} in
-        omega (arith, e, load_length 5 (words + 4))
+    word_test_length = omega (arith, length-append {A = Instr}, load_length 5 (words + 4))
 
     abbrev Beginning : StraightState → machine.State → Type 0
     Beginning env s = AtLoop z words ((bounds env).1 - (bounds env).0) (bounds env).0 env s
@@ -351,9 +336,7 @@ module _ (z : Setting) (depth x h : ℕ) (within : depth < z.depths)
         (done.second.0, hidden_then z depth s m t (hidden_by z depth s m done.first.1) done.second.1))
         (quietly
         (weaken {P' = With Beginning b}
-        {R = λ env s t. Guarded z depth x h known at 4 n limit (InWord limit) body
-        (word_kept limit) (λ bytes there. there.1) (word_tests limit) unset inner
-        (round_near _ word_test_length) 5 6 (b.1 - b.0) b.0 env t × (t.bytes ≡ s.bytes)}
+        {R = λ env s t. Guarded z (InWord limit) 5 6 (b.1 - b.0) b.0 env t × (t.bytes ≡ s.bytes)}
         (λ env s fine known. subst (λ (c : ℕ × ℕ). AtLoop z words (c.1 - c.0) c.0 env s) known.is known.given)
         (λ env s t fine known tested.
         let at' = subst (λ (c : ℕ × ℕ). AtLoop z words (c.1 - c.0) c.0 env s) known.is known.given in

@@ -1,26 +1,27 @@
 -- The code of a loop.
-use Rattle.std.proofs.Common.{◌≡◌, ℕ, suc, ◌+◌, ◌-◌, ◌*◌, ◌%◌, ◌^◌, ◌<◌, ◌≤◌, Bool, true, false, nat_lt, List, [], ◌∷◌}
-use Rattle.std.proofs.Common.{◌++◌, length, Option, None, Some, slice_get, slice_index, refl, sym, ap, ap₂, ◌∙◌, subst}
-use Rattle.std.proofs.Common.{arith, inr, ◌≢◌, ◌==◌, cond, eq-eqb, ne_eqb}
+use Rattle.std.proofs.Common.{◌≡◌, ℕ, suc, ◌+◌, ◌-◌, ◌*◌, ◌%◌, ◌^◌, ◌<◌, ◌≤◌, false, nat_lt, List, [], ◌∷◌, ◌++◌}
+use Rattle.std.proofs.Common.{length, Option, None, Some, slice_get, slice_index, refl, sym, ap, ap₂, ◌∙◌, subst, arith}
+use Rattle.std.proofs.Common.{inr}
 use Rattle.std.proofs.lemmas.Bool.Decides.{nat_tests}
 use Rattle.std.proofs.lemmas.Nat.{mul-le}
+use Rattle.codegen.proofs.CountingRuns.{home_low, moved_in, numbered}
 use Rattle.codegen.proofs.Language.{TermTree, word_as, value_in, path_in, turns, path_of_turns, Path, bounded}
 use Rattle.codegen.proofs.Language.{term_nodes, types_of, HasType, counter_type, StraightBlock, repeats, StraightState}
 use Rattle.codegen.proofs.Language.{counted, after, after_all, path_at, path_along, word_of}
 use Rattle.codegen.proofs.Machine.{bounds_code, test_code, count_code, loop_code, variable_offset, at_home, home_of}
-use Rattle.codegen.proofs.Machine.{InSlot, next_offset, slots_to, assign_code, store_code, variable_location, height_of}
-use Rattle.codegen.proofs.Machine.{Instr, Addi, Sltu, Sw, ByteMap, number_at, with_number, sum_of}
+use Rattle.codegen.proofs.Machine.{InSlot, next_offset, slots_to, assign_code, variable_location, height_of, Instr}
+use Rattle.codegen.proofs.Machine.{Addi, Sltu, Sw, ByteMap, number_at, with_number, sum_of}
 use Rattle.rv_code.specs.declared.instructions.Instr.TheVariants as instr
 use Rattle.rv_machine.specs.Machine as machine
-use Rattle.codegen.proofs.Logic.{lt-ltb, value_word, HeldAt, held_regs, take, put, does, moves_run, number_or_zero}
+use Rattle.codegen.proofs.Logic.{value_word, HeldAt, held_regs, take, put, does, move_runs, moves_run, number_or_zero}
 use Rattle.codegen.proofs.Logic.{Setting, setting, base_of, Known, by_bounds, none, Runs, Still, looping, along_fit}
-use Rattle.codegen.proofs.Logic.{seq, quietly, weaken, gives, cheaper, as_code, beside, Kept, Ready, Wrote, wrote_kept}
-use Rattle.codegen.proofs.Logic.{wrote_there, kept_number, kept_less, kept_then, ready_below, HomesKept, IsHome}
-use Rattle.codegen.proofs.Logic.{homes_by, homes_moved, homes_then, kept_by, registers_after}
+use Rattle.codegen.proofs.Logic.{seq, quiet, quietly, weaken, gives, cheaper, beside, Kept, Ready, Wrote, wrote_kept}
+use Rattle.codegen.proofs.Logic.{wrote_there, kept_number, kept_less, kept_then, ready_below, HomesKept, homes_by}
+use Rattle.codegen.proofs.Logic.{homes_computed, homes_moved, homes_then, computing_within, is_scratch, scratch_low}
 use Rattle.codegen.proofs.Slots.{Shown, ready_with, ready_behind, word_before, stored, assigned, Hidden, hidden_then}
 use Rattle.codegen.proofs.Slots.{hidden_less, hidden_by, hidden_wrote, hidden_beyond, hidden_number, other_number}
 use Rattle.codegen.proofs.Slots.{ready_set}
-use Rattle.codegen.proofs.HomeWords.{ready_homed}
+use Rattle.codegen.specs.private.Words.{put_word_code}
 
 -- So many turns are left, the next of them for this number: both of the loop's words tell it.
 pub record Counts (z : Setting) (next left i : ℕ) (s : machine.State) : Type 0 where
@@ -109,119 +110,97 @@ module _ (z : Setting) (depth : ℕ) (within : depth < z.depths) where
   abbrev Counted : ℕ → ℕ → ℕ → StraightState → machine.State → machine.State → Type 0
   Counted x left i env u v = AtLoop z next left (i + 1) (counted x i env) v × Hidden z depth u v
 
-  -- what the counter's store or move leaves: a turn more is counted, once the next number is stored
-  module _ (x left i : ℕ) (known : slice_get z.declared x ≡ Some (word_as counter_type false)) (env : StraightState)
-      (u m v : machine.State) (given : Turns left i env u)
-      (ready1 : Ready z (counted x i env) m) (same : number_at m.bytes 4 (z.frame + (next + 4))
-      ≡ number_at u.bytes 4 (z.frame + (next + 4))) (hidden : Hidden z depth u m)
-      (wrote : Wrote z 4 next (i + 1) m v) where
-    counts_more : Counted x left i env u v
-    counts_more =
-        let counts = given.0.counts in
-        let more = counts.left_is in (
-          record {
-            ready = ready_behind z 4 next (i + 1) (omega arith) (counted x i env) m v ready1 wrote;
-            counts = record {
-              next_there = wrote_there z next (i + 1) m v wrote (omega (arith, counts.bound_small, more));
-              bound = counts.bound;
-              left_is = omega (arith, more);
-              bound_small = counts.bound_small;
-              bound_there = other_number z 4 next (i + 1) 4 (next + 4) m v wrote (inr (omega arith))
-                  ∙ (same ∙ counts.bound_there);
-            };
-          },
-          hidden_then z depth u m v hidden (hidden_beyond z depth 4 next (i + 1) m v (omega arith) wrote),
-        )
+  -- the counter has the number, and nothing else that is shown has changed
+  record Taken (x i : ℕ) (env : StraightState) (s t : machine.State) : Type 0 where
+    ready : Ready z (counted x i env) t
+    six : t.regs 6 ≡ i
+    hidden : Hidden z depth s t
+    bound : number_at t.bytes 4 (z.frame + (next + 4)) ≡ number_at s.bytes 4 (z.frame + (next + 4))
+
+  -- in its slot, or in its home
+  taken_by : (x left i : ℕ) → slice_get z.declared x ≡ Some (word_as counter_type false) → (h : Option ℕ)
+      → home_of z.allocation.homes x ≡ h
+      → Runs z 3 none (put_word_code 6 (at_home h (InSlot (variable_offset z.declared x)))) (Turns left i) (Taken x i)
+  taken_by x left i known None away =
+      let o = variable_offset z.declared x in
+      let before = word_before z x counter_type false known in
+      weaken {P' = Turns left i}
+      (λ env s fine given. given.0.ready.held)
+      (λ env s t fine given moved.
+      let counts = given.0.counts in
+      let wrote : Wrote z 4 o i s t = record {
+        held = moved.held;
+        written = moved.bytes ∙ ap (λ w. with_number s.bytes 4 (z.frame + o) w) given.1;
+        homes = homes_moved z (put Sw 6 o ∷ []) env s t refl moved;
+      } in
+      record {
+        ready = ready_set z x i counter_type false known away (omega (arith, counts.bound_small, counts.left_is)) env s t
+            given.0.ready wrote;
+        six = ap (λ (regs : ℕ → ℕ). regs 6) moved.regs ∙ given.1;
+        hidden = hidden_wrote z depth 4 o i s t (omega (arith, before)) wrote;
+        bound = other_number z 4 o i 4 (next + 4) s t wrote (inr (omega (arith, before)));
+      })
+      (move_runs z (put Sw 6 o) refl (omega arith, omega (arith, before, z.room)))
+  taken_by x left i known (Some home) at =
+      let low = home_low z depth x home known at in
+      cheaper (omega arith)
+      (weaken {P' = Turns left i}
+      (λ env s fine given.
+      let counts = given.0.counts in
+      (given.0.ready.held, omega (arith, given.1, counts.bound_small, counts.left_is)))
+      (λ env s t fine given done.
+      let counts = given.0.counts in
+      record {
+        ready = numbered z depth x home known at (omega (arith, counts.bound_small, counts.left_is)) env s t
+            given.0.ready done given.1;
+        six = done.others 6 (λ e. omega (arith, low, e)) ∙ given.1;
+        hidden = hidden_by z depth s t done.same;
+        bound = ap (λ (b : ByteMap). number_at b 4 (z.frame + (next + 4))) done.same;
+      })
+      (moved_in z depth x home known at 6 (omega arith) (omega arith)))
 
   abbrev more_code : List Instr
   more_code = instr.Immediate Addi 6 6 1 ∷ []
 
-  -- into the counter's slot, or into its home
-  count_by : (x left i : ℕ) → slice_get z.declared x ≡ Some (word_as counter_type false) → (h : Option ℕ)
-      → home_of z.allocation.homes x ≡ h
-      → Runs z 7 none (count_code next (at_home h (InSlot (variable_offset z.declared x)))) (Turns left i)
-      (Counted x left i)
-  count_by x left i known None away =
-      let o = variable_offset z.declared x in
-      let before = word_before z x counter_type false known in
-      gives
-      (λ env u v fine given done.
-      let m = done.middle in
-      let one = done.first in
-      let small = given.0.counts.bound_small in
-      let more = given.0.counts.left_is in
-      let wrote : Wrote z 4 o i u m = record {
-        held = one.held;
-        written = one.bytes ∙ ap (λ w. with_number u.bytes 4 (z.frame + o) w) given.1;
-        homes = homes_moved z (put Sw 6 o ∷ does more_code ∷ []) env u m refl one;
-      } in
-      counts_more x left i known env u m v given
-      (ready_set z x i counter_type false known away (omega (arith, small, more)) env u m given.0.ready wrote)
-      (other_number z 4 o i 4 (next + 4) u m wrote (inr (omega (arith, before))))
-      (hidden_wrote z depth 4 o i u m (omega (arith, before)) wrote) done.second)
-      (stored z 6 next (λ env. i + 1) refl (omega arith) (omega (arith, next_inside))
-      (weaken {P' = Turns left i}
-      (λ env s fine given. given.0.ready.held)
-      (λ env s t fine given moved. moved)
-      (moves_run z (put Sw 6 o) (does more_code ∷ []) refl ((omega arith, omega (arith, before, z.room)), (tt, tt))))
-      (λ env s t given moved.
-      let small = given.0.counts.bound_small in
-      let more = given.0.counts.left_is in (
-        moved.held,
-        ap (λ (regs : ℕ → ℕ). regs 6) moved.regs
-            ∙ (ap (λ a. sum_of a 1) given.1 ∙ omega (arith, small, more)),
-      )))
-  count_by x left i known (Some home) at =
-      let is = z.allocated.allowed x home at in
-      let low : 8 ≤ home = omega (arith, z.allocated.some, is.0) in
-      let free : nat_lt 4 home ≡ true = lt-ltb 4 home (omega (arith, low)) in
-      let few : nat_lt home 32 ≡ true = lt-ltb home 32 (omega (arith, is.1)) in
-      let h0 : (home == 0) ≡ false = ne_eqb home 0 (λ e. omega (arith, low, e)) in
-      let h6 : (home == 6) ≡ false = ne_eqb home 6 (λ e. omega (arith, low, e)) in
-      let six : (6 == home) ≡ false = ne_eqb 6 home (λ e. omega (arith, low, e)) in
-      let hh : (home == home) ≡ true = eq-eqb home home refl in
-      let move = instr.Immediate Addi home 6 0 ∷ [] in
-      as_code (ap (λ (b : Bool). cond b [] move ++ more_code ++ store_code 6 next) h6)
-      (cheaper (omega arith)
-      (gives
-      (λ env u v fine given done.
-      let m = done.middle in
-      let one = done.first in
-      let small = given.0.counts.bound_small in
-      let more = given.0.counts.left_is in
-      let counter : registers_after more_code (registers_after move u.regs) home ≡ sum_of (u.regs 6) 0 =
-      simp (hh, h0, h6) in
-      let there : m.regs home ≡ i = ap (λ (regs : ℕ → ℕ). regs home) one.regs
-      ∙ (counter ∙ (ap (λ a. sum_of a 0) given.1 ∙ omega (arith, small, more))) in
-      let others = λ (r : ℕ) (other : IsHome z.allocation.count r) (apart : r ≢ home).
-      let r0 : (r == 0) ≡ false = ne_eqb r 0 (λ e. omega (arith, z.allocated.some, other.0, e)) in
-      let r6 : (r == 6) ≡ false = ne_eqb r 6 (λ e. omega (arith, z.allocated.some, other.0, e)) in
-      let stays : registers_after more_code (registers_after move u.regs) r ≡ u.regs r =
-      simp (r0, r6, ne_eqb r home apart) in
-      ap (λ (regs : ℕ → ℕ). regs r) one.regs ∙ stays in
-      counts_more x left i known env u m v given
-      (ready_homed z x home i counter_type false known at (omega (arith, small, more)) env u m given.0.ready one.held
-      (kept_by z (base_of z) u m one.bytes) there others)
-      (ap (λ (b : ByteMap). number_at b 4 (z.frame + (next + 4))) one.bytes) (hidden_by z depth u m one.bytes)
-      done.second)
-      (stored z 6 next (λ env. i + 1) refl (omega arith) (omega (arith, next_inside))
-      (weaken {P' = Turns left i}
-      (λ env s fine given. given.0.ready.held)
-      (λ env s t fine given moved. moved)
-      (moves_run z (does move) (does more_code ∷ []) (simp (free, few)) (tt, (tt, tt))))
-      (λ env s t given moved.
-      let small = given.0.counts.bound_small in
-      let more = given.0.counts.left_is in
-      let next_one : registers_after more_code (registers_after move s.regs) 6 ≡ sum_of (s.regs 6) 1 = simp six in (
-        moved.held,
-        ap (λ (regs : ℕ → ℕ). regs 6) moved.regs
-            ∙ (next_one ∙ (ap (λ a. sum_of a 1) given.1 ∙ omega (arith, small, more))),
-      )))))
-
+  -- and then the next number is stored
   count_runs : (x left i : ℕ) → slice_get z.declared x ≡ Some (word_as counter_type false)
       → Runs z 7 none (count_code next (variable_location z.declared z.allocation x)) (Turns left i)
       (Counted x left i)
-  count_runs x left i known = count_by x left i known (home_of z.allocation.homes x) refl
+  count_runs x left i known =
+      gives
+      (λ env s t fine given done.
+      let counts = given.0.counts in
+      let u = done.first.middle in
+      let m = done.middle in
+      let taken = done.first.first in
+      let more = done.first.second in
+      let wrote = done.second in (
+        record {
+          ready = ready_behind z 4 next (i + 1) (omega arith) (counted x i env) m t
+              (ready_with z (counted x i env) u m taken.ready more.held more.same
+              (homes_computed z more_code u m refl more.registers)) wrote;
+          counts = record {
+            next_there = wrote_there z next (i + 1) m t wrote (omega (arith, counts.bound_small, counts.left_is));
+            bound = counts.bound;
+            left_is = omega (arith, counts.left_is);
+            bound_small = counts.bound_small;
+            bound_there = other_number z 4 next (i + 1) 4 (next + 4) m t wrote (inr (omega arith))
+                ∙ (ap (λ (b : ByteMap). number_at b 4 (z.frame + (next + 4))) more.same
+                ∙ (taken.bound ∙ counts.bound_there));
+          };
+        },
+        hidden_then z depth s m t (hidden_then z depth s u m taken.hidden (hidden_by z depth u m more.same))
+            (hidden_beyond z depth 4 next (i + 1) m t (omega arith) wrote),
+      ))
+      (stored z 6 next (λ env. i + 1) refl (omega arith) (omega (arith, next_inside))
+      (quiet (taken_by x left i known (home_of z.allocation.homes x) refl)
+      (computing_within z is_scratch more_code refl scratch_low) (λ env s t given taken. taken.ready.held))
+      (λ env s t given done.
+      let counts = given.0.counts in (
+        done.second.held,
+        ap (λ (regs : ℕ → ℕ). regs 6) done.second.registers
+            ∙ (ap (λ a. sum_of a 1) done.first.six ∙ omega (arith, counts.bound_small, counts.left_is)),
+      )))
 
   -- Both bounds.
 

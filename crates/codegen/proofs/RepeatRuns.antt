@@ -1,15 +1,17 @@
 -- The code of a loop, whichever it is.
-use Rattle.std.proofs.Common.{◌≡◌, ℕ, ◌+◌, ◌*◌, ◌<◌, ◌≤◌, ◌&&◌, not, Bool, true, false, cond, nat_lt, List, length}
-use Rattle.std.proofs.Common.{Option, None, Some, slice_get, slice_index, refl, arith}
+use Rattle.std.proofs.Common.{◌≡◌, ℕ, ◌+◌, ◌*◌, ◌<◌, ◌≤◌, ◌&&◌, not, Bool, false, nat_lt, List, length, Option, None}
+use Rattle.std.proofs.Common.{Some, slice_get, slice_index, refl, arith}
+use Rattle.std.proofs.lemmas.Bool.{and_parts, ltb-true, not-true}
 use Rattle.codegen.proofs.CountedLoops.{short_is, to_number_runs, to_word_runs}
 use Rattle.codegen.proofs.Language.{TermTree, word_as, term_nodes, types_of, HasType, counter_type, StraightBlock}
 use Rattle.codegen.proofs.Language.{repeats, after, after_all, path_at, path_along}
-use Rattle.codegen.proofs.Logic.{none-some, nat_tests, Setting, base_of, Runs, cheaper, Ready}
+use Rattle.codegen.proofs.Logic.{none-some, Setting, base_of, Runs, cheaper, Ready}
 use Rattle.codegen.proofs.LoopLengths.{turn_near}
 use Rattle.codegen.proofs.LoopRuns.{repeats_runs}
 use Rattle.codegen.proofs.Machine.{at_home, bounds_code, far, height_of, home_of, InSlot, Instr, next_offset, slots_to}
 use Rattle.codegen.proofs.Machine.{variable_location, variable_offset}
 use Rattle.codegen.proofs.Slots.{Shown}
+use Rattle.codegen.proofs.expression_code_lemmas.WorkRegisters.{when_some}
 use Rattle.codegen.specs.private.Loops.{any_sets, counting_home, loop_from, repeat_code, short_number}
 
 -- what is so of a loop that counts in a home
@@ -21,14 +23,10 @@ record CountsIn (place : Option ℕ) (is_set : Bool) (body : List Instr) (home :
 counts_by : (place : Option ℕ) (offset : ℕ) (is_set : Bool) (body : List Instr) (home : ℕ)
     → counting_home (at_home place (InSlot offset)) is_set body ≡ Some home → CountsIn place is_set body home
 counts_by None offset is_set body home is = absurd (none-some home is)
-counts_by (Some h) offset is_set body home is = by_test is_set (nat_lt (length body) 1000) refl is
-  where
-    by_test : (b near : Bool) → nat_lt (length body) 1000 ≡ near → cond (not b && near) (Some h) None ≡ Some home
-        → CountsIn (Some h) b body home
-    by_test false true near same =
-        record { there = same; unset = refl; short = grind (arith, nat_tests, near) }
-    by_test false false near same = absurd (none-some home same)
-    by_test true near e same = absurd (none-some home same)
+counts_by (Some h) offset is_set body home is =
+    let both = when_some (not is_set && nat_lt (length body) 1000) (Some h) home is in
+    let tests = and_parts (not is_set) (nat_lt (length body) 1000) both.0 in
+    record { there = both.1; unset = not-true is_set tests.0; short = ltb-true (length body) 1000 tests.1 }
 
 module _ (z : Setting) (depth x : ℕ) (within : depth < z.depths) (low high : TermTree) (body : StraightBlock) (n : ℕ)
     {ys : List Instr}

@@ -1,7 +1,7 @@
 -- A variable that statements do not set holds behind them what it held before.
 use Rattle.std.proofs.Common.{◌≡◌, ℕ, zero, suc, ◌+◌, ◌-◌, ◌==◌, Bool, true, false, cond, if◌then◌else◌, List, [], ◌∷◌}
 use Rattle.std.proofs.Common.{refl, sym, ap, ◌∙◌}
-use Rattle.std.proofs.lemmas.Bool.{eqb-false, ne_eqb, or_parts}
+use Rattle.std.proofs.lemmas.Bool.{cond_both, eqb-false, ne_eqb, or_parts}
 use Rattle.codegen.proofs.Language.{StraightTree, set, array, put, take, branch, repeats, StraightBlock, nothing, first}
 use Rattle.codegen.proofs.Language.{StraightState, with_variable, counted, after, after_all, holds, turns, value_in}
 use Rattle.codegen.proofs.Language.{Values}
@@ -15,11 +15,6 @@ beside_under : (b : Bool) (s : StraightState) (x y : ℕ) (l : List ℕ) → (x 
     → (if b then with_variable s x l else s).variables y ≡ s.variables y
 beside_under true s x y l apart = beside s.variables x y l apart
 beside_under false s x y l apart = refl
-
-either : (b : Bool) (s t u : StraightState) (y : ℕ) → s.variables y ≡ u.variables y → t.variables y ≡ u.variables y
-    → (if b then s else t).variables y ≡ u.variables y
-either true s t u y one other = one
-either false s t u y one other = other
 
 turns_keep : (turn : ℕ → StraightState → StraightState) (y : ℕ)
     → ((i : ℕ) (s : StraightState) → (turn i s).variables y ≡ s.variables y)
@@ -35,9 +30,10 @@ mutual
   left_alone (put within place x size index value) y unset s = beside_under (holds s within) s x y _ unset
   left_alone (take control within condition) y unset s = refl
   left_alone (branch condition accepted otherwise) y unset s =
-      either (value_in s.variables condition == 0) (after_all s otherwise) (after_all s accepted) s y
-      (all_left_alone otherwise y (or_parts _ _ unset).1 s)
-      (all_left_alone accepted y (or_parts _ _ unset).0 s)
+      cond_both (value_in s.variables condition == 0) (after_all s otherwise) (after_all s accepted)
+      (λ (t : StraightState). t.variables y ≡ s.variables y)
+      (λ none. all_left_alone otherwise y (or_parts _ _ unset).1 s)
+      (λ some. all_left_alone accepted y (or_parts _ _ unset).0 s)
   left_alone (repeats x low high body) y unset s =
       turns_keep (λ i t. after_all (counted x i t) body) y
       (λ i t. all_left_alone body y (or_parts _ _ unset).1 (counted x i t)
