@@ -1,24 +1,23 @@
 -- The arguments, loaded: what the variables hold, and what lies in the slots; and what the slots hold in the end.
-use Rattle.std.proofs.Common.{◌≡◌, ◌⊎◌, inl, inr, ℕ, zero, suc, ◌+◌, ◌*◌, ◌^◌, ◌<◌, ◌≤◌, true, false, List, [], ◌∷◌}
-use Rattle.std.proofs.Common.{◌++◌, length, map, take, drop, replicate, Option, None, Some, is_some, slice_get}
-use Rattle.std.proofs.Common.{slice_index, refl, sym, ap, ap₂, ◌∙◌, subst, arith, unwrap_or}
+use Rattle.std.proofs.Common.{◌≡◌, ◌⊎◌, inl, inr, ℕ, zero, suc, ◌+◌, ◌*◌, ◌<◌, ◌≤◌, true, List, [], ◌∷◌, ◌++◌, length}
+use Rattle.std.proofs.Common.{map, take, drop, replicate, Option, None, Some, is_some, slice_get, slice_index, refl}
+use Rattle.std.proofs.Common.{sym, ap, ap₂, ◌∙◌, subst, arith, unwrap_or, false}
+use Rattle.std.proofs.lemmas.List.{get_or-replicate}
+use Rattle.inline.proofs.Fitting.{some_bit}
+use Rattle.inline.proofs.Parameters.{argument_count}
 use Rattle.codegen.proofs.Machine.{result_offset, control_offset, slots_from, variable_offset, with_numbers}
 use Rattle.codegen.proofs.Machine.{with_argument, with_arguments, word_in, numbers_at, array_in, arrays_in, ByteMap}
 use Rattle.codegen.proofs.Machine.{number_at, with_number, zeros, State, result_slot}
-use Rattle.codegen.proofs.Language.{AreWithin, IsWithin, HasShape, greatest_of, words_of, FlatVariable, Fits, IsHeld}
-use Rattle.codegen.proofs.Language.{IsWithinKind, numbers_in, declaration_of, TermTree, given, Values, value_in}
-use Rattle.codegen.proofs.Language.{array_of, arrays_from, declared_words, types_of, Types, IsResult, Form, SingleWord}
-use Rattle.codegen.proofs.Language.{FixedArray, MutableArray, Kind, Boolean, Label, Param, WordType, Arg, Word, Array}
-use Rattle.codegen.proofs.Language.{element_bytes, array_words, bits_of, Profile}
-use Rattle.codegen.proofs.Logic.{length-replicate, take-append-drop, All-replicate, number_at_same, place_within}
-use Rattle.codegen.proofs.Logic.{same_Some, none-some, bytes_by, bytes_of, place_of, Setting, place_ends, option_map}
+use Rattle.codegen.proofs.Language.{AreWithin, IsWithin, HasShape, greatest_of, words_of, FlatVariable, IsHeld}
+use Rattle.codegen.proofs.Language.{IsWithinKind, numbers_in, declaration_of}
+use Rattle.codegen.proofs.Language.{TermTree, given, Values, value_in, array_of, arrays_from, declared_words, Types}
+use Rattle.codegen.proofs.Language.{IsResult, Form, SingleWord, FixedArray, MutableArray, Kind, Boolean, Label, Param}
+use Rattle.codegen.proofs.Language.{WordType, Arg, Word, Array, element_bytes, array_words}
+use Rattle.codegen.proofs.Logic.{number_at_same, place_within, none-some, bytes_by, bytes_of, place_of, Setting}
+use Rattle.codegen.proofs.Logic.{place_ends, option_map, length-replicate, All-replicate, same_Some}
 use Rattle.codegen.proofs.Slots.{Laid, cut_number}
 use Rattle.inline.specs.FlatSize as flat_size
 use Rattle.codegen.proofs.Numbers.{numbers_beside, number_data, numbers_data, numbers_there, zero_byte, zero_number}
-
-greatest : (kind : Kind) (v : ℕ) → v ≤ greatest_of kind → v < 2 ^ bits_of kind
-greatest Boolean v h = omega (arith, h)
-greatest kind v h = omega (arith, h)
 
 in_words : (word : WordType) (elements : Option ℕ)
     → bytes_by word.kind elements * numbers_in elements ≤ 4 * flat_size.words_by word elements
@@ -29,64 +28,90 @@ in_words word (Some n) = in_array word.kind
     in_array Boolean = omega arith
     in_array kind = omega arith
 
+-- The beginning.
+
+within_kind : (kind : Kind) (v : ℕ) → v ≤ greatest_of kind → IsWithinKind kind v
+within_kind Boolean v h = omega (arith, h)
+within_kind other v h = omega (arith, h)
+
+argument_held : (p : Param) (arg : Arg) → IsWithin p arg → IsHeld (declaration_of p) (words_of arg)
+argument_held p arg within = record {
+  count = argument_count p.form p.length arg within.shape;
+  within = λ k d less. within_kind p.kind _ (within.values k d less);
+}
+
+pub held_zeros : (d : FlatVariable) → IsHeld d (replicate (numbers_in d.elements) 0)
+held_zeros d = record {
+  count = length-replicate (numbers_in d.elements) 0;
+  within = All-replicate (IsWithinKind d.word.kind) (numbers_in d.elements) 0 (some_bit d.word.kind);
+}
+
+-- without arguments each variable holds zeros
+given_none : (declared : List FlatVariable) (x : ℕ) (d : FlatVariable) → slice_get declared x ≡ Some d
+    → given declared [] x ≡ replicate (numbers_in d.elements) 0
+given_none [] x d is = absurd (none-some d is)
+given_none (e ∷ ds) zero d is = ap (λ (f : FlatVariable). replicate (numbers_in f.elements) 0) (same_Some e d is)
+given_none (e ∷ ds) (suc x) d is = given_none ds x d is
+
+-- with arguments for the parameters, which are the first variables, each holds what it is declared as
+given_fits : (ps : List Param) (ds : List FlatVariable) (args : List Arg) → AreWithin ps args
+    → take (length ps) ds ≡ map declaration_of ps → (x : ℕ) (d : FlatVariable) → slice_get ds x ≡ Some d
+    → IsHeld d (given ds args x)
+given_fits [] ds [] within front x d is =
+    subst (λ (l : List ℕ). IsHeld d l) (sym (given_none ds x d is)) (held_zeros d)
+given_fits (p ∷ ps) [] args within front x d is = absurd (none-some d is)
+given_fits (p ∷ ps) (e ∷ ds) (arg ∷ args) within front zero d is =
+    let same : declaration_of p ≡ d = cc in
+    subst (λ (t : FlatVariable). IsHeld t (words_of arg)) same (argument_held p arg within.0)
+given_fits (p ∷ ps) (e ∷ ds) (arg ∷ args) within front (suc x) d is =
+    given_fits ps ds args within.1 (ap (λ xs. drop 1 xs) front) x d is
+given_fits ps ds args within front x d is = absurd within
+
 -- One argument.
 
 abbrev made : Kind → Label → ℕ → Form → Param
 made k l n form = record { kind = k; label = l; form = form; length = n }
 
--- an argument is as many numbers as its parameter is declared with, put one after another
+-- its numbers are put one after another
 module _ (frame : ℕ) where
-  abbrev Lies : Param → Arg → Type 0
-  Lies p arg =
-      (length (words_of arg) ≡ numbers_in (declaration_of p).elements)
-      × ((bytes : ByteMap) (low : ℕ) → with_argument frame bytes (record { param = p; offset = low }) arg
-      ≡ with_numbers bytes (bytes_of (declaration_of p)) (frame + low) (words_of arg))
+  lies : (k : Kind) (l : Label) (n : ℕ) (form : Form) (arg : Arg) → HasShape form n arg → (bytes : ByteMap) (low : ℕ)
+      → with_argument frame bytes (record { param = made k l n form; offset = low }) arg
+      ≡ with_numbers bytes (bytes_of (declaration_of (made k l n form))) (frame + low) (words_of arg)
+  lies k l n SingleWord (Word w) shape bytes low = refl
+  lies k l n FixedArray (Array ws) shape bytes low = refl
+  lies k l n MutableArray (Array ws) shape bytes low = refl
+  lies k l n form arg shape bytes low = absurd shape
 
-  lies_by : (k : Kind) (l : Label) (n : ℕ) (form : Form) (arg : Arg) → HasShape form n arg
-      → Lies (made k l n form) arg
-  lies_by k l n SingleWord (Word w) shape = (refl, λ bytes low. refl)
-  lies_by k l n FixedArray (Array ws) shape = (shape, λ bytes low. refl)
-  lies_by k l n MutableArray (Array ws) shape = (shape, λ bytes low. refl)
-  lies_by k l n form arg shape = absurd shape
-
-  lies : (p : Param) (arg : Arg) → IsWithin p arg → Lies p arg
-  lies p arg within = lies_by p.kind p.label p.length p.form arg within.shape
-
-  -- its numbers lie in its slot
+  -- they lie in its slot
   argument_there : (p : Param) (bytes : ByteMap) (low : ℕ) (arg : Arg) (i : ℕ) → IsWithin p arg
       → i < numbers_in (declaration_of p).elements
       → number_at (with_argument frame bytes (record { param = p; offset = low }) arg) (bytes_of (declaration_of p))
       (frame + (low + bytes_of (declaration_of p) * i)) ≡ Some (slice_index (words_of arg) i)
   argument_there p bytes low arg i within below =
       let d = declaration_of p in
-      let h = lies p arg within in
-      let long = h.0 in
+      let held = argument_held p arg within in
       let at : frame + (low + bytes_of d * i) ≡ frame + low + bytes_of d * i = omega arith in
-      ap₂ (λ (b : ByteMap) a. number_at b (bytes_of d) a) (h.1 bytes low) at
+      ap₂ (λ (b : ByteMap) a. number_at b (bytes_of d) a)
+      (lies p.kind p.label p.length p.form arg within.shape bytes low) at
       ∙ numbers_there bytes (bytes_of d) (frame + low) (words_of arg) i
-      (λ j less. cut_number p.kind d.elements _
-      (greatest p.kind (slice_index (words_of arg) j) (within.values j 0 less)))
-      (omega (arith, below, long))
-
-  -- and end with its words
-  ends_in : (p : Param) (arg : Arg) → IsWithin p arg
-      → bytes_of (declaration_of p) * length (words_of arg) ≤ 4 * flat_size.words_of (declaration_of p)
-  ends_in p arg within =
-      let d = declaration_of p in
-      subst (λ n. bytes_of d * n ≤ 4 * flat_size.words_of d) (sym (lies p arg within).0) (in_words d.word d.elements)
+      (λ j less. cut_number p.kind d.elements _ (held.within j 0 less)) (omega (arith, below, held.count))
 
   -- bytes beside its slot are as they were
   argument_beside : (p : Param) (bytes : ByteMap) (low : ℕ) (arg : Arg) (x : ℕ) → IsWithin p arg
       → (x < frame + low) ⊎ (frame + low + 4 * flat_size.words_of (declaration_of p) ≤ x)
       → with_argument frame bytes (record { param = p; offset = low }) arg x ≡ bytes x
   argument_beside p bytes low arg x within side =
-      ap (λ (b : ByteMap). b x) ((lies p arg within).1 bytes low)
+      ap (λ (b : ByteMap). b x) (lies p.kind p.label p.length p.form arg within.shape bytes low)
       ∙ numbers_beside bytes (bytes_of (declaration_of p)) (frame + low) (words_of arg) x (by_side side)
     where
       by_side : (x < frame + low) ⊎ (frame + low + 4 * flat_size.words_of (declaration_of p) ≤ x)
           → (x < frame + low) ⊎ (frame + low + bytes_of (declaration_of p) * length (words_of arg) ≤ x)
       by_side (inl below) = inl below
-      by_side (inr above) = inr (omega (arith, above, ends_in p arg within))
+      by_side (inr above) =
+          let d = declaration_of p in
+          let few : bytes_of d * length (words_of arg) ≤ 4 * flat_size.words_of d =
+          rw (argument_held p arg within).count (in_words d.word d.elements) in
+          inr (omega (arith, above, few))
 
   -- All of them.
 
@@ -118,18 +143,6 @@ module _ (frame : ℕ) where
       (low + 4 * flat_size.words_of (declaration_of p)) ps args x
       (numbers_data bytes (element_bytes p.kind) (frame + low) ws x here)
 
-pub zero_at : (n i : ℕ) → slice_index (replicate n 0) i ≡ 0
-zero_at zero i = refl
-zero_at (suc n) zero = refl
-zero_at (suc n) (suc i) = zero_at n i
-
--- without arguments each variable holds zeros
-given_none : (declared : List FlatVariable) (x : ℕ) (d : FlatVariable) → slice_get declared x ≡ Some d
-    → given declared [] x ≡ replicate (numbers_in d.elements) 0
-given_none [] x d is = absurd (none-some d is)
-given_none (e ∷ ds) zero d is = ap (λ (f : FlatVariable). replicate (numbers_in f.elements) 0) (same_Some e d is)
-given_none (e ∷ ds) (suc x) d is = given_none ds x d is
-
 module _ (frame size : ℕ) where
   -- from an offset on each byte of the frame is 0
   abbrev IsBlank : ℕ → ByteMap → Type 0
@@ -140,94 +153,53 @@ module _ (frame size : ℕ) where
   blank_number low bytes n o blank above inside =
       zero_number bytes frame n o (λ b from to. blank b (omega (arith, from, above)) (omega (arith, to, inside)))
 
-  -- the arguments lie in their order, and zeros after them
-  laid : (bytes : ByteMap) (low : ℕ) (ps : List Param) (args : List Arg) (more : List FlatVariable) (x : ℕ)
+  -- the arguments lie in their order, and zeros after them; the parameters are the first variables
+  laid : (bytes : ByteMap) (low : ℕ) (ps : List Param) (args : List Arg) (ds : List FlatVariable) (x : ℕ)
       (d : FlatVariable) (i : ℕ)
-      → AreWithin ps args → IsBlank low bytes → slice_get (map declaration_of ps ++ more) x ≡ Some d
-      → i < numbers_in d.elements
-      → low + place_of (map declaration_of ps ++ more) x d i + bytes_of d ≤ size
+      → AreWithin ps args → take (length ps) ds ≡ map declaration_of ps → IsBlank low bytes
+      → slice_get ds x ≡ Some d → i < numbers_in d.elements → low + place_of ds x d i + bytes_of d ≤ size
       → number_at (with_arguments frame bytes (slots_from low ps) args) (bytes_of d)
-      (frame + (low + place_of (map declaration_of ps ++ more) x d i))
-      ≡ Some (slice_index (given (map declaration_of ps ++ more) args x) i)
-  laid bytes low [] [] more x d i within blank is below inside =
-      blank_number low bytes (bytes_of d) (low + place_of more x d i) blank (omega arith) (omega (arith, inside))
-      ∙ ap Some (sym (ap (λ (l : List ℕ). slice_index l i) (given_none more x d is)
-      ∙ zero_at (numbers_in d.elements) i))
-  laid bytes low (p ∷ ps) (arg ∷ args) more zero d i within blank is below inside =
-      let e = declaration_of p in
+      (frame + (low + place_of ds x d i)) ≡ Some (slice_index (given ds args x) i)
+  laid bytes low [] [] ds x d i within first blank is below inside =
+      blank_number low bytes (bytes_of d) (low + place_of ds x d i) blank (omega arith) (omega (arith, inside))
+      ∙ ap Some (sym (ap (λ (l : List ℕ). slice_index l i) (given_none ds x d is)
+      ∙ get_or-replicate (numbers_in d.elements) i 0 0 below))
+  laid bytes low (p ∷ ps) args [] x d i within first blank is below inside = absurd (none-some d is)
+  laid bytes low (p ∷ ps) (arg ∷ args) (e ∷ ds) zero d i within first blank is below inside =
+      let own = declaration_of p in
       let next = with_argument frame bytes (record { param = p; offset = low }) arg in
-      let at = low + 4 * flat_size.words_of e in
+      let at = low + 4 * flat_size.words_of own in
       let all = with_arguments frame next (slots_from at ps) args in
+      let same : own ≡ d = cc in
       subst (λ (f : FlatVariable). i < numbers_in f.elements
-      → number_at all (bytes_of f) (frame + (low + place_of (e ∷ map declaration_of ps ++ more) 0 f i))
-      ≡ Some (slice_index (words_of arg) i)) (same_Some e d is)
+      → number_at all (bytes_of f) (frame + (low + place_of (e ∷ ds) 0 f i)) ≡ Some (slice_index (words_of arg) i)) same
       (λ less.
-      let here : frame + (low + place_of (e ∷ map declaration_of ps ++ more) 0 e i) ≡ frame + (low + bytes_of e * i) =
-      omega arith in
-      let w = place_within (e ∷ []) 0 e i less in
-      ap (λ a. number_at all (bytes_of e) a) here
-      ∙ (number_at_same next all (bytes_of e) (frame + (low + bytes_of e * i))
+      let here : frame + (low + place_of (e ∷ ds) 0 own i) ≡ frame + (low + bytes_of own * i) = omega arith in
+      let w = place_within (own ∷ []) 0 own i less in
+      ap (λ a. number_at all (bytes_of own) a) here
+      ∙ (number_at_same next all (bytes_of own) (frame + (low + bytes_of own * i))
       (λ a from to. arguments_beside frame next at ps args a within.1 (inl (omega (arith, to, w))))
       ∙ argument_there frame p bytes low arg i within.0 less))
       below
-  laid bytes low (p ∷ ps) (arg ∷ args) more (suc x) d i within blank is below inside =
+  laid bytes low (p ∷ ps) (arg ∷ args) (e ∷ ds) (suc x) d i within first blank is below inside =
       let next = with_argument frame bytes (record { param = p; offset = low }) arg in
       let at = low + 4 * flat_size.words_of (declaration_of p) in
-      let rest = map declaration_of ps ++ more in
-      let there : frame + (low + place_of (declaration_of p ∷ rest) (suc x) d i)
-      ≡ frame + (at + place_of rest x d i) = omega arith in
+      let same : e ≡ declaration_of p = cc in
+      let words = ap flat_size.words_of same in
+      let there : frame + (low + place_of (e ∷ ds) (suc x) d i) ≡ frame + (at + place_of ds x d i) =
+      omega (arith, words) in
       ap (λ a. number_at (with_arguments frame next (slots_from at ps) args) (bytes_of d) a) there
-      ∙ laid next at ps args more x d i within.1
+      ∙ laid next at ps args ds x d i within.1 (ap (λ xs. drop 1 xs) first)
       (λ o above less. argument_beside frame p bytes low arg (frame + o) within.0 (inr (omega (arith, above)))
       ∙ blank o (omega (arith, above)) less)
-      is below (omega (arith, inside))
-  laid bytes low ps args more x d i within blank is below inside = absurd within
-
--- Values within their kinds.
-
-held_argument : (p : Param) (arg : Arg) → IsWithin p arg → IsHeld (declaration_of p) (words_of arg)
-held_argument p arg within = record {
-  count = (lies 0 p arg within).0;
-  within = λ j d less. greatest p.kind _ (within.values j d less);
-}
-
-zero_fits : (k : Kind) → 0 < 2 ^ bits_of k
-zero_fits Boolean = omega arith
-zero_fits kind = omega arith
-
-pub held_zeros : (d : FlatVariable) → IsHeld d (replicate (numbers_in d.elements) 0)
-held_zeros d = record {
-  count = length-replicate (numbers_in d.elements) 0;
-  within = All-replicate (IsWithinKind d.word.kind) (numbers_in d.elements) 0 (zero_fits d.word.kind);
-}
-
--- each variable holds what it is declared as in the beginning
-given_fits : (profile : Profile) (ps : List Param) (args : List Arg) (more : List FlatVariable) → AreWithin ps args
-    → Fits (types_of profile (map declaration_of ps ++ more)) (given (map declaration_of ps ++ more) args)
-given_fits profile [] [] more within x d is =
-    subst (λ (l : List ℕ). IsHeld d l) (sym (given_none more x d is)) (held_zeros d)
-given_fits profile (p ∷ ps) (arg ∷ args) more within zero d is =
-    subst (λ (f : FlatVariable). IsHeld f (words_of arg)) (same_Some (declaration_of p) d is)
-    (held_argument p arg within.0)
-given_fits profile (p ∷ ps) (arg ∷ args) more within (suc x) d is = given_fits profile ps args more within.1 x d is
-given_fits profile ps args more within x d is = absurd within
-
--- the parameters are the first variables
-pub parameters_first : (ps : List Param) (declared : List FlatVariable)
-    → take (length ps) declared ≡ map declaration_of ps
-    → map declaration_of ps ++ drop (length ps) declared ≡ declared
-parameters_first ps declared first =
-    ap (λ (front : List FlatVariable). front ++ drop (length ps) declared) (sym first)
-    ∙ take-append-drop (length ps) declared
+      is below (omega (arith, inside, words))
+  laid bytes low ps args ds x d i within first blank is below inside = absurd within
 
 module _ (z : Setting) (ps : List Param) (args : List Arg)
     (first : take (length ps) z.declared ≡ map declaration_of ps)
     (few : declared_words (map declaration_of ps) ≤ declared_words z.declared)
     (within : AreWithin ps args) (s : State) (base : s.regs 2 ≡ z.frame)
     (bytes : s.bytes ≡ with_arguments z.frame (zeros z.frame z.size) (slots_from 0 ps) args) where
-  abbrev more : List FlatVariable
-  more = drop (length ps) z.declared
-
   blank : (o : ℕ) → o < z.size → zeros z.frame z.size (z.frame + o) ≡ Some 0
   blank o inside = zero_byte z.frame z.size (z.frame + o) (omega arith) (omega (arith, inside))
 
@@ -237,19 +209,6 @@ module _ (z : Setting) (ps : List Param) (args : List Arg)
       ∙ (arguments_beside z.frame (zeros z.frame z.size) 0 ps args (z.frame + o) within
       (inr (omega (arith, few, above))) ∙ blank o inside)
 
-  laid_there : (x : ℕ) (d : FlatVariable) (i : ℕ) → slice_get z.declared x ≡ Some d → i < numbers_in d.elements
-      → place_of z.declared x d i + bytes_of d ≤ z.size
-      → number_at (with_arguments z.frame (zeros z.frame z.size) (slots_from 0 ps) args) (bytes_of d)
-      (z.frame + (0 + place_of z.declared x d i)) ≡ Some (slice_index (given z.declared args x) i)
-  laid_there x d i =
-      subst (λ (ds : List FlatVariable). slice_get ds x ≡ Some d → i < numbers_in d.elements
-      → place_of ds x d i + bytes_of d ≤ z.size
-      → number_at (with_arguments z.frame (zeros z.frame z.size) (slots_from 0 ps) args) (bytes_of d)
-      (z.frame + (0 + place_of ds x d i)) ≡ Some (slice_index (given ds args x) i))
-      (parameters_first ps z.declared first)
-      (λ is below inside. laid z.frame z.size (zeros z.frame z.size) 0 ps args more x d i within (λ o low. blank o) is
-      below (omega (arith, inside)))
-
   -- the beginning of a run
   pub loaded : Laid z (record { variables = given z.declared args; controls = λ c. false }) s
   loaded = record {
@@ -258,14 +217,12 @@ module _ (z : Setting) (ps : List Param) (args : List Arg)
       data_there = λ o inside. ap (λ (b : ByteMap). is_some (b (z.frame + o))) bytes
           ∙ arguments_data z.frame (zeros z.frame z.size) 0 ps args (z.frame + o) (ap is_some (blank o inside));
     };
-    fits = subst (λ (ds : List FlatVariable). Fits (types_of z.code.profile ds) (given ds args))
-        (parameters_first ps z.declared first) (given_fits z.code.profile ps args more within);
+    fits = given_fits ps z.declared args within first;
     slots_there = λ x d i is below.
         let from : place_of z.declared x d i ≡ 0 + place_of z.declared x d i = omega arith in
-        ap (λ (b : ByteMap). number_at b (bytes_of d) (z.frame + place_of z.declared x d i)) bytes
-        ∙ ap (λ o. number_at (with_arguments z.frame (zeros z.frame z.size) (slots_from 0 ps) args) (bytes_of d)
-        (z.frame + o)) from
-        ∙ laid_there x d i is below (place_ends z x d i is below);
+        ap₂ (λ (b : ByteMap) o. number_at b (bytes_of d) (z.frame + o)) bytes from
+        ∙ laid z.frame z.size (zeros z.frame z.size) 0 ps args z.declared x d i within first (λ o low. blank o) is below
+        (omega (arith, place_ends z x d i is below));
     controls_there = λ c below.
         zero_number s.bytes z.frame 4 (control_offset z.declared c)
         (λ b from to. behind b (omega (arith, from)) (omega (arith, to, below, z.room)));
@@ -308,27 +265,30 @@ array_is frame bytes kind label n low MutableArray vs lies =
     (ap (λ m. numbers_at bytes (element_bytes kind) (frame + low) m) (sym long)
     ∙ numbers_are bytes (element_bytes kind) (frame + low) vs (λ i less. here.1 i (omega (arith, less, long))))
 
--- The arrays, where each array's numbers lie in its slot: the first of them has this number and lies at this offset.
-pub arrays_are : (frame : ℕ) (bytes : ByteMap) (m : Values) (ps : List Param) (more : List FlatVariable) (x low : ℕ)
-    → ((y : ℕ) (d : FlatVariable) (size : ℕ) → slice_get (map declaration_of ps ++ more) y ≡ Some d
-    → d.elements ≡ Some size
-    → LiesAt bytes d (frame + (low + variable_offset (map declaration_of ps ++ more) y)) (m (x + y)))
+-- The arrays, where each array's numbers lie in its slot. The parameters are the first variables of these: the first of
+-- them has this number and lies at this offset.
+pub arrays_are : (frame : ℕ) (bytes : ByteMap) (m : Values) (ps : List Param) (ds : List FlatVariable) (x low : ℕ)
+    → take (length ps) ds ≡ map declaration_of ps
+    → ((y : ℕ) (d : FlatVariable) (size : ℕ) → slice_get ds y ≡ Some d → d.elements ≡ Some size
+    → LiesAt bytes d (frame + (low + variable_offset ds y)) (m (x + y)))
     → arrays_in frame bytes (slots_from low ps) ≡ arrays_from x ps m
-arrays_are frame bytes m [] more x low there = refl
-arrays_are frame bytes m (p ∷ ps) more x low there =
-    let d = declaration_of p in
-    let rest = map declaration_of ps ++ more in
-    let moved : (y : ℕ) (f : FlatVariable) (a b i j : ℕ) → a ≡ b → i ≡ j → LiesAt bytes f a (m i)
-    → LiesAt bytes f b (m j) = λ y f a b i j e k h.
-    subst (λ c. LiesAt bytes f c (m j)) e (subst (λ n. LiesAt bytes f a (m n)) k h) in
+arrays_are frame bytes m [] ds x low first there = refl
+arrays_are frame bytes m (p ∷ ps) [] x low first there = absurd cc
+arrays_are frame bytes m (p ∷ ps) (e ∷ ds) x low first there =
+    let own = declaration_of p in
+    let same : e ≡ own = cc in
+    let words = ap flat_size.words_of same in
+    let moved : (f : FlatVariable) (a b i j : ℕ) → a ≡ b → i ≡ j → LiesAt bytes f a (m i) → LiesAt bytes f b (m j) =
+    λ f a b i j here number h.
+    subst (λ c. LiesAt bytes f c (m j)) here (subst (λ n. LiesAt bytes f a (m n)) number h) in
     ap₂ (λ (one others : List (List ℕ)). one ++ others)
     (array_is frame bytes p.kind p.label p.length low p.form (m x)
-    (λ size is. moved 0 d (frame + (low + variable_offset (d ∷ rest) 0)) (frame + low) (x + 0) x (omega arith)
-    (omega arith) (there 0 d size refl is)))
-    (arrays_are frame bytes m ps more (x + 1) (low + 4 * flat_size.words_of d)
-    (λ y f size get is. moved y f (frame + (low + variable_offset (d ∷ rest) (suc y)))
-    (frame + (low + 4 * flat_size.words_of d + variable_offset rest y)) (x + suc y) (x + 1 + y) (omega arith)
-    (omega arith) (there (suc y) f size get is)))
+    (λ size is. moved own (frame + (low + variable_offset (e ∷ ds) 0)) (frame + low) (x + 0) x (omega arith)
+    (omega arith) (there 0 own size (ap Some same) is)))
+    (arrays_are frame bytes m ps ds (x + 1) (low + 4 * flat_size.words_of own) (ap (λ xs. drop 1 xs) first)
+    (λ y f size get is. moved f (frame + (low + variable_offset (e ∷ ds) (suc y)))
+    (frame + (low + 4 * flat_size.words_of own + variable_offset ds y)) (x + suc y) (x + 1 + y)
+    (omega (arith, words)) (omega arith) (there (suc y) f size get is)))
 
 -- where there is a result, its slot has it
 abbrev pub Left : ℕ → List FlatVariable → Option TermTree → Values → ByteMap → Type 0

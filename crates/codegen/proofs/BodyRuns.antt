@@ -1,6 +1,6 @@
 -- The code of a program, run: its body wherever its words stand, and the loaded image to its end. So the image is the
 -- code's.
-use Rattle.std.proofs.Common.{◌≡◌, ℕ, ◌+◌, ◌*◌, List, [], ◌∷◌, ◌++◌, length, map, drop, Some, slice_get, slice_index}
+use Rattle.std.proofs.Common.{◌≡◌, ℕ, ◌+◌, ◌*◌, List, [], ◌∷◌, ◌++◌, length, map, Some, slice_index}
 use Rattle.std.proofs.Common.{◌≤◌, length-append, is_some, refl, sym, ap, ap₂, ◌∙◌, subst, arith, None, Option}
 use Rattle.codegen.proofs.Language.{AreWithin, StraightProgram, StraightState, after_all, path_along, outcome_of}
 use Rattle.codegen.proofs.Language.{path_of, FlatVariable, types_of, Path, AreFine, seen, Arg, Profile, declaration_of}
@@ -14,7 +14,7 @@ use Rattle.codegen.proofs.Machine.{results_in, code_at, depth_in_all, most_words
 use Rattle.codegen.proofs.Machine.{HasRoom, variable_offset, slots_from, Instr, word_of, Observation, number_at, Leads}
 use Rattle.codegen.proofs.Machine.{Halts, Code, IsAt, IsInside, AreBases, Allocation, body_of, IsFitting, IsFollowed}
 use Rattle.codegen.proofs.Machine.{IsGenerated, Ecall, type_in, Slot}
-use Rattle.codegen.proofs.Arguments.{loaded, parameters_first, LiesAt, arrays_are, returned_is}
+use Rattle.codegen.proofs.Arguments.{loaded, arrays_are, returned_is}
 use Rattle.codegen.proofs.SetRuns.{steps_of_result}
 use Rattle.codegen.proofs.Standing.{words_alone, body_words_before, placed_alone, leads_among, stand_placed, placed}
 use Rattle.codegen.proofs.FreshRuns.{Ended, program_runs}
@@ -109,10 +109,7 @@ module _ (a : Allocation) (p : StraightProgram) (room : HasRoom p) (fitting : Is
       ap₂ (λ r arrays. record { returned = r; arrays = arrays })
       (returned_is frame p.declared (types_of p.profile p.declared) p.returned p.value m t.bytes
       room.typed.result done.left)
-      (arrays_are frame t.bytes m p.parameters (drop (length p.parameters) p.declared) 0 0
-      (subst (λ (ds : List FlatVariable). (y : ℕ) (d : FlatVariable) (size : ℕ) → slice_get ds y ≡ Some d
-      → d.elements ≡ Some size → LiesAt t.bytes d (frame + (0 + variable_offset ds y)) (m (0 + y)))
-      (sym (parameters_first p.parameters p.declared room.typed.parameters))
+      (arrays_are frame t.bytes m p.parameters p.declared 0 0 room.typed.parameters
       (λ y d size is array.
       let e : 0 + y ≡ y = omega arith in (
         ap (λ k. length (m k)) e ∙ (done.fits y d is).count,
@@ -122,7 +119,7 @@ module _ (a : Allocation) (p : StraightProgram) (room : HasRoom p) (fitting : Is
             ap (λ a. number_at t.bytes (bytes_of d) a) f
             ∙ (done.arrays_there y d size i is array below
             ∙ ap (λ k. Some (slice_index (m k) i)) (sym e)),
-      ))))
+      )))
 
   -- among the other words of the code
   among : {n : ℕ} {s t : machine.State} {seen : List Observation} → Leads setting.code n s seen t

@@ -1,13 +1,14 @@
 -- The code that makes an array of zeros.
 use Rattle.std.proofs.Common.{◌≡◌, ◌≢◌, ⊎_elim, ℕ, zero, suc, ◌+◌, ◌*◌, ◌%◌, ◌<◌, ◌≤◌, ◌⊎◌, inl, inr, true, List, []}
-use Rattle.std.proofs.Common.{◌∷◌, ◌++◌, length, replicate, Some, refl, sym, ap, ap₂, ◌∙◌, arith, length-append}
+use Rattle.std.proofs.Common.{◌∷◌, ◌++◌, ◌^◌, length, replicate, Some, refl, sym, ap, ap₂, ◌∙◌, arith, append_assoc}
+use Rattle.std.proofs.Common.{length-append}
 use Rattle.codegen.proofs.Machine.{clear_code, statement_code, loop_code, with_numbers, variable_offset, constant_code}
 use Rattle.codegen.proofs.Machine.{Instr, Addi, Add, Sub, Sw, ByteMap, number_at, with_number, sum_of, difference_of}
 use Rattle.codegen.proofs.Machine.{with_register}
 use Rattle.codegen.proofs.Language.{FlatVariable, array_as, path_of_turns, Path, array, StraightState, with_variable}
 use Rattle.codegen.proofs.Language.{after, IsFilled, Kind, Boolean, array_words, terms_nodes}
 use Rattle.codegen.proofs.Logic.{cases_eq, cases_lt, length-replicate, with_number-suc, with_byte_same, with_byte_other}
-use Rattle.codegen.proofs.Logic.{registers_after, only_computes, is_free, computing_within, frame_runs, plain_append}
+use Rattle.codegen.proofs.Logic.{lt-ltb, registers_after, is_free, computing_within, frame_runs, plain_append}
 use Rattle.codegen.proofs.Logic.{after_append, constant_plain, constant_after, constant_length, kind_known, HeldAt}
 use Rattle.codegen.proofs.Logic.{Held, held_regs, frame_there, bytes_of, place_of, place_within, ends_before_result}
 use Rattle.codegen.proofs.Logic.{Setting, setting, none, none_low, Runs, Still, looping, never, quiet, weaken, gives}
@@ -15,7 +16,8 @@ use Rattle.codegen.proofs.Logic.{cheaper, along, as_code, Ready, number_same, Ho
 use Rattle.codegen.proofs.Logic.{homes_then, is_scratch, scratch_low, unwritten}
 use Rattle.rv_code.specs.declared.instructions.Instr.TheVariants as instr
 use Rattle.rv_machine.specs.Machine as machine
-use Rattle.codegen.proofs.Arguments.{zero_at, held_zeros}
+use Rattle.std.proofs.lemmas.List.{get_or-replicate}
+use Rattle.codegen.proofs.Arguments.{held_zeros}
 use Rattle.codegen.proofs.Numbers.{numbers_beside, zero_number}
 use Rattle.codegen.proofs.Slots.{Shown, ready_changed}
 
@@ -75,60 +77,57 @@ module _ (z : Setting) (offset words : ℕ) (aligned : offset % 4 ≡ 0) (inside
     six : s.regs 6 ≡ z.frame + (offset + 4 * i)
     seven : s.regs 7 ≡ z.frame + (offset + 4 * words)
 
-  -- two numbers, to each of which a register is added
-  abbrev first_sum : List Instr
-  first_sum = instr.Register Add 6 6 2 ∷ []
-
-  abbrev last_sum : List Instr
-  last_sum = instr.Register Add 7 7 6 ∷ []
+  -- a number and a register are added into a register
+  summed : (d n base : ℕ) → is_scratch d ≡ true → 4 < d → d < 32 → base < 32 → n < 2 ^ 32
+      → Runs z 3 none (constant_code d n ++ instr.Register Add d d base ∷ []) (Held z)
+      (λ env s t. HeldAt z t
+      × (t.regs ≡ registers_after (instr.Register Add d d base ∷ []) (with_register s.regs d n))
+      × (t.bytes ≡ s.bytes) × HomesKept z s t)
+  summed d n base works low small small' fits =
+      let sum = instr.Register Add d d base ∷ [] in
+      let plain = plain_append is_scratch (constant_code d n) sum (constant_plain is_scratch d n works small)
+      (simp (works, lt-ltb d 32 small, lt-ltb base 32 small')) in
+      cheaper (simp length-append (omega (arith, constant_length d n)))
+      (gives
+      (λ env s t fine held done. (
+        done.held,
+        done.registers ∙ (after_append (constant_code d n) sum s.regs
+            ∙ ap (registers_after sum) (constant_after d n (λ e. omega (arith, low, e)) fits s.regs)),
+        done.same,
+        homes_computed z (constant_code d n ++ sum) s t plain done.registers,
+      ))
+      (computing_within z is_scratch (constant_code d n ++ sum) plain scratch_low))
 
   abbrev begin_code : List Instr
-  begin_code = constant_code 6 offset ++ first_sum ++ constant_code 7 (4 * words) ++ last_sum
+  begin_code = constant_code 6 offset ++ instr.Register Add 6 6 2 ∷ [] ++ constant_code 7 (4 * words)
+      ++ instr.Register Add 7 7 6 ∷ []
 
-  begin_plain : only_computes is_scratch begin_code ≡ true
-  begin_plain =
-      let six = constant_plain is_scratch 6 offset refl (omega arith) in
-      let seven = constant_plain is_scratch 7 (4 * words) refl (omega arith) in
-      let front = plain_append is_scratch (constant_code 6 offset) first_sum six refl in
-      plain_append is_scratch (constant_code 6 offset ++ first_sum ++ constant_code 7 (4 * words)) last_sum
-      (plain_append is_scratch (constant_code 6 offset ++ first_sum) (constant_code 7 (4 * words)) front seven)
-      refl
-
-  begin_length : length begin_code ≤ 6
-  begin_length = simp length-append (omega (arith, constant_length 6 offset, constant_length 7 (4 * words)))
-
-  begin_after : (regs : ℕ → ℕ) → registers_after begin_code regs
-      ≡ registers_after last_sum (with_register (registers_after first_sum (with_register regs 6 offset)) 7
-      (4 * words))
-  begin_after regs =
-      let six = after_append (constant_code 6 offset) first_sum regs
-      ∙ ap (registers_after first_sum)
-      (constant_after 6 offset (λ e. omega arith) (omega (arith, z.ends, inside)) regs) in
-      let seven = constant_after 7 (4 * words) (λ e. omega arith) (omega (arith, z.ends, inside))
-      (registers_after (constant_code 6 offset ++ first_sum) regs) in
-      after_append (constant_code 6 offset ++ first_sum ++ constant_code 7 (4 * words)) last_sum regs
-      ∙ ap (registers_after last_sum)
-      (after_append (constant_code 6 offset ++ first_sum) (constant_code 7 (4 * words)) regs
-      ∙ (seven ∙ ap (λ (all : ℕ → ℕ). with_register all 7 (4 * words)) six))
-
-  begin_runs : Runs z 6 none (begin_code) (Held z) (λ env s t. Bounded 0 env t × (t.bytes ≡ s.bytes)
-      × HomesKept z s t)
+  begin_runs : Runs z 6 none begin_code (Held z) (λ env s t. Bounded 0 env t × (t.bytes ≡ s.bytes) × HomesKept z s t)
   begin_runs =
-      cheaper begin_length
+      as_code
+      (append_assoc (constant_code 6 offset ++ instr.Register Add 6 6 2 ∷ []) (constant_code 7 (4 * words))
+      (instr.Register Add 7 7 6 ∷ []))
       (gives
       (λ env s t fine held done.
-      let all = done.registers ∙ begin_after s.regs in
-      let to = λ (n : ℕ). ap (λ base. sum_of n base) held.base in (
+      let m = done.middle in
+      let one = done.first in
+      let two = done.second in
+      let six : m.regs 6 ≡ z.frame + offset =
+      ap (λ (regs : ℕ → ℕ). regs 6) one.1
+      ∙ (ap (λ base. sum_of offset base) held.base ∙ omega (arith, z.ends, inside)) in (
         record {
-          held = done.held;
-          six = ap (λ (regs : ℕ → ℕ). regs 6) all ∙ (to offset ∙ omega (arith, z.ends, inside));
-          seven = ap (λ (regs : ℕ → ℕ). regs 7) all
-              ∙ (ap (λ a. sum_of (4 * words) a) (to offset) ∙ omega (arith, z.ends, inside));
+          held = two.0;
+          six = ap (λ (regs : ℕ → ℕ). regs 6) two.1 ∙ (six ∙ omega arith);
+          seven = ap (λ (regs : ℕ → ℕ). regs 7) two.1
+              ∙ (ap (λ a. sum_of (4 * words) a) six ∙ omega (arith, z.ends, inside));
         },
-        done.same,
-        homes_computed z begin_code s t begin_plain done.registers,
+        two.2 ∙ one.2,
+        homes_then z s m t one.3 two.3,
       ))
-      (computing_within z is_scratch begin_code begin_plain scratch_low))
+      (quiet
+      (summed 6 offset 2 refl (omega arith) (omega arith) (omega arith) (omega (arith, z.ends, inside)))
+      (summed 7 (4 * words) 6 refl (omega arith) (omega arith) (omega arith) (omega (arith, z.ends, inside)))
+      (λ env s t held done. done.0)))
 
   -- The loop.
 
@@ -292,19 +291,16 @@ module _ (z : Setting) (depth x size : ℕ) (typed : IsFilled z.code.profile z.d
       (λ b low high. ap (λ (m : ByteMap). m (z.frame + b)) cleared
       ∙ zeroed_there s.bytes (z.frame + place) count (z.frame + b) (omega (arith, low))
       (omega (arith, high, w)))
-      ∙ ap Some (sym (zero_at size j)))
+      ∙ ap Some (sym (get_or-replicate size j 0 0 less)))
       outside homes
     where
-      beside_at : (n o : ℕ) → ((b : ℕ) → o ≤ b → b < o + n
-          → (z.frame + b < z.frame + place) ⊎ (z.frame + place + 4 * count ≤ z.frame + b))
-          → number_at t.bytes n (z.frame + o) ≡ number_at s.bytes n (z.frame + o)
-      beside_at n o side = number_same z s t n o (λ b low high. ap (λ (m : ByteMap). m (z.frame + b)) cleared
-          ∙ zeroed_beside s.bytes (z.frame + place) count (z.frame + b) (side b low high))
-
       outside : (n o : ℕ) → (o + n ≤ place) ⊎ (place + 4 * count ≤ o)
           → number_at t.bytes n (z.frame + o) ≡ number_at s.bytes n (z.frame + o)
-      outside n o (inl h) = beside_at n o (λ b low high. inl (omega (arith, high, h)))
-      outside n o (inr h) = beside_at n o (λ b low high. inr (omega (arith, low, h)))
+      outside n o side =
+          number_same z s t n o (λ b low high. ap (λ (m : ByteMap). m (z.frame + b)) cleared
+          ∙ zeroed_beside s.bytes (z.frame + place) count (z.frame + b)
+          (⊎_elim (λ (h : o + n ≤ place). inl (omega (arith, high, h)))
+          (λ (h : place + 4 * count ≤ o). inr (omega (arith, low, h))) side))
 
   pub clear_runs : Runs z (32 * (1 + size + terms_nodes [])) none
       (statement_code z.declared z.allocation z.controls z.depths depth (array x size [])) (Ready z)
