@@ -1,11 +1,11 @@
 -- How long the code of a branch is, by that of its arms.
-use Rattle.std.proofs.Common.{ℕ, ◌+◌, ◌*◌, ◌≤◌, ◌&&◌, Bool, true, false, cond, List, [], ◌∷◌, ◌++◌, length, Option}
-use Rattle.std.proofs.Common.{None, Some, arith, length-append}
+use Rattle.std.proofs.Common.{ℕ, ◌+◌, ◌*◌, ◌≤◌, ◌&&◌, List, [], ◌∷◌, length, Option, None, Some, arith}
+use Rattle.std.proofs.Common.{length-append}
+use Rattle.codegen.proofs.Choices.{of_choice}
 use Rattle.codegen.proofs.Language.{FlatVariable, TermTree, term_nodes}
 use Rattle.codegen.proofs.Logic.{one_of}
-use Rattle.codegen.proofs.Machine.{Allocation, Instr, branch_code, branching_code, condition_code, failing, leave}
-use Rattle.codegen.proofs.Machine.{gives_zero, operands_code, operands_or, read_code, read_register, right_code}
-use Rattle.codegen.proofs.Machine.{test_of, unless_code}
+use Rattle.codegen.proofs.Machine.{Allocation, Instr, branching_code, condition_code, failing, leave, gives_zero}
+use Rattle.codegen.proofs.Machine.{operands_code, operands_or, read_code, right_code}
 use Rattle.codegen.proofs.WordLengths.{read_length}
 use Rattle.codegen.specs.declared.comparing.Comparison.{Comparison}
 use Rattle.codegen.specs.private.Compared.{is_short_arm}
@@ -40,17 +40,8 @@ module _ (declared : List FlatVariable) (allocation : Allocation) (free : ℕ) w
 
   pub branching_spans : (condition : TermTree) (xs ys : List Instr)
       → SpansBoth xs ys (16 * term_nodes condition + 3) (branching_code declared allocation free condition xs ys)
-  branching_spans condition xs ys = by_test (allocation.immediates && is_short_arm xs)
-    where
-      by_test : (b : Bool)
-          → SpansBoth xs ys (16 * term_nodes condition + 3)
-          (cond b (condition_code declared allocation free condition
-          ++ unless_code (test_of allocation condition) xs ys)
-          (read_code declared allocation free 5 0 condition
-          ++ branch_code (read_register allocation 5 condition) xs ys))
-      by_test true =
-          let e = length-append {A = Instr} in
-          (omega (arith, e), omega (arith, e, leave_length ys, condition_length condition))
-      by_test false =
-          let e = length-append {A = Instr} in
-          (omega (arith, e), omega (arith, e, read_length declared allocation free 5 0 condition))
+  branching_spans condition xs ys =
+      let e = length-append {A = Instr} in
+      of_choice (SpansBoth xs ys (16 * term_nodes condition + 3)) (allocation.immediates && is_short_arm xs)
+      (omega (arith, e), omega (arith, e, leave_length ys, condition_length condition))
+      (omega (arith, e), omega (arith, e, read_length declared allocation free 5 0 condition))

@@ -1,10 +1,11 @@
 -- How long the code of statements is. And well-typed statements that the frame has room for have their places.
 use Rattle.std.proofs.Common.{ℕ, ◌+◌, ◌*◌, ◌≤◌, nat_lt, List, [], ◌∷◌, ◌++◌, length, Option, None, Some, arith}
-use Rattle.std.proofs.Common.{length-append, ◌≡◌, ◌<◌, ◌==◌, Bool, true, false, slice_get, cond}
+use Rattle.std.proofs.Common.{length-append, ◌≡◌, ◌==◌, Bool, true, false, slice_get}
 use Rattle.codegen.proofs.Language.{statement_nodes, block_nodes, StraightTree, set, array, put, take, branch, repeats}
 use Rattle.codegen.proofs.Language.{StraightBlock, nothing, first, FlatVariable, TermTree, array_as, term_nodes}
 use Rattle.codegen.proofs.Language.{terms_nodes, declared_words, Kind, element_bytes, array_words, IsTyped, AreTyped}
 use Rattle.codegen.proofs.Language.{types_but, types_of, AllSuit, HasCount, HasType, Boolean, WordType, Profile}
+use Rattle.codegen.proofs.Choices.{when_not}
 use Rattle.codegen.proofs.BranchLengths.{branching_spans}
 use Rattle.codegen.proofs.LoopLengths.{repeat_spans}
 pub use Rattle.codegen.proofs.WordLengths.{assign_length}
@@ -23,7 +24,7 @@ use Rattle.codegen.proofs.Machine.{Allocation, InRegister, InSlot, Location, var
 use Rattle.codegen.specs.private.Placed.{IsPlaced}
 use Rattle.codegen.proofs.StoredValues.{stored_nodes}
 use Rattle.codegen.proofs.Logic.{code_length, fetch_length, height, one_of, load_length, store_length, constant_length}
-use Rattle.codegen.proofs.Logic.{address_length, ends_before_result, typed_within, typed_among, none-some}
+use Rattle.codegen.proofs.Logic.{address_length, ends_before_result, typed_within, typed_among}
 use Rattle.codegen.proofs.Logic.{slice_get_within}
 
 -- Pieces.
@@ -179,11 +180,6 @@ values_few : (size : ℕ) (es : List TermTree) → HasCount size es → length e
 values_few size [] count = omega arith
 values_few size (e ∷ es) count = omega (arith, count)
 
-known_but : (declared : List FlatVariable) (x y : ℕ) (d : FlatVariable) (b : Bool)
-    → cond b None (slice_get declared y) ≡ Some d → y < length declared
-known_but declared x y d true is = absurd (none-some d is)
-known_but declared x y d false is = slice_get_within declared y d is
-
 module _ (profile : Profile) (declared : List FlatVariable) (allocation : Allocation) (controls depths : ℕ)
     (small : 4 * declared_words declared ≤ 40768) where
   abbrev base : ℕ
@@ -200,8 +196,8 @@ module _ (profile : Profile) (declared : List FlatVariable) (allocation : Alloca
   values_placed x word [] suit room = tt
   values_placed x word (e ∷ es) suit room = (
     (
-      typed_within (length declared) (types_but profile declared x) (λ y d is. known_but declared x y d (y == x) is)
-          suit.0.has_type,
+      typed_within (length declared) (types_but profile declared x)
+          (λ y d is. slice_get_within declared y d (when_not (y == x) (slice_get declared y) d is)) suit.0.has_type,
       omega (arith, room),
     ),
     values_placed x word es suit.1 (omega (arith, room)),

@@ -175,23 +175,24 @@ module _ (z : Setting) where
       (has : HasType (types_of z.code.profile z.declared) left one)
       (more : HasType (types_of z.code.profile z.declared) right other)
       (room : base_of z + 4 * slots_to z.allocation.count (height_of (binary place operator width left right))
-      ≤ z.size)
-      (c : Comparison) (is : failing operator ≡ Some c) where
-    same_path : (env : StraightState) → path_in env.variables (binary place operator width left right)
-        ≡ path_in env.variables left ++ path_in env.variables right
-    same_path env =
-        ap (λ (p : Path). path_in env.variables left ++ path_in env.variables right ++ p)
-        ((fails operator c is).quiet place (value_in env.variables left) (value_in env.variables right))
-        ∙ append-nil (path_in env.variables left ++ path_in env.variables right)
+      ≤ z.size) where
+    abbrev e : TermTree
+    e = binary place operator width left right
 
-    compared_runs : Runs z (16 * term_nodes (binary place operator width left right))
-        (steps_of (binary place operator width left right))
-        (operands_code z.declared z.allocation (base_of z) left right) (Ready z)
-        (IsDecided (between c (read_register z.allocation 5 left) (right_register z.allocation right))
-        (binary place operator width left right))
-    compared_runs =
+    decided : {word : WordType} → HasType (types_of z.code.profile z.declared) e word → (c : Option Comparison)
+        → failing operator ≡ c
+        → Runs z (16 * term_nodes e) (steps_of e)
+        (operands_or c (read_code z.declared z.allocation (base_of z) 5 0 e)
+        (operands_code z.declared z.allocation (base_of z) left right)) (Ready z)
+        (IsDecided (test_or c (against_zero 5) (read_register z.allocation 5 left) (right_register z.allocation right)) e)
+    decided whole None is = whole_runs whole room
+    decided whole (Some c) is =
+        let comparison = fails operator c is in
         cheaper (omega arith)
-        (along same_path
+        (along
+        (λ env. ap (λ (p : Path). path_in env.variables left ++ path_in env.variables right ++ p)
+        (comparison.quiet place (value_in env.variables left) (value_in env.variables right))
+        ∙ append-nil (path_in env.variables left ++ path_in env.variables right))
         (gives
         (λ env s t fine ready done.
         let compared = done.second in
@@ -200,7 +201,7 @@ module _ (z : Setting) where
           decides =
               between_passes c (read_register z.allocation 5 left) (right_register z.allocation right) t.regs
               ∙ (ap₂ (are_passing c) compared.left_there compared.right_there
-              ∙ (fails operator c is).decides width (value_in env.variables left) (value_in env.variables right));
+              ∙ comparison.decides width (value_in env.variables left) (value_in env.variables right));
           kept = kept_then z (base_of z) s done.middle t done.first.kept compared.kept;
         })
         (seq (read_runs z has (omega (arith, room))) (right_runs left right more (omega (arith, room)))
@@ -214,18 +215,8 @@ module _ (z : Setting) where
       → Runs z (16 * term_nodes e) (steps_of e) (condition_code z.declared z.allocation (base_of z) e) (Ready z)
       (IsDecided (test_of z.allocation e) e)
   condition_runs (of_binary {place = place} {operator = operator} {width = width} {left = left} {right = right} {one =
-      one} {other = other} {whole = word} has more makes same) room = by_comparison (failing operator) refl
-    where
-      by_comparison : (c : Option Comparison) → failing operator ≡ c
-          → Runs z (16 * term_nodes (binary place operator width left right))
-          (steps_of (binary place operator width left right))
-          (operands_or c (read_code z.declared z.allocation (base_of z) 5 0
-          (binary place operator width left right)) (operands_code z.declared z.allocation (base_of z) left right))
-          (Ready z)
-          (IsDecided (test_or c (against_zero 5) (read_register z.allocation 5 left)
-          (right_register z.allocation right)) (binary place operator width left right))
-      by_comparison None is =
-          whole_runs (of_binary {place = place} {operator = operator} {width = width} {left = left} {right = right}
-          {one = one} {other = other} {whole = word} has more makes same) room
-      by_comparison (Some c) is = compared_runs place operator width has more room c is
+      one} {other = other} {whole = word} has more makes same) room =
+      decided place operator width has more room
+      (of_binary {place = place} {operator = operator} {width = width} {left = left} {right = right} {one = one}
+      {other = other} {whole = word} has more makes same) (failing operator) refl
   condition_runs has room = whole_runs has room

@@ -3,10 +3,9 @@ use Rattle.std.proofs.Common.{◌≡◌, ℕ, zero, suc, ◌+◌, ◌<◌, ◌�
 use Rattle.std.proofs.Common.{length, Option, None, Some, refl, sym, ap, ap₂, ◌∙◌, arith, eq-eqb, if◌then◌else◌}
 use Rattle.std.proofs.Common.{is_some}
 use Rattle.std.proofs.lemmas.Bool.{or_parts, true≢false}
-use Rattle.codegen.proofs.Choices.{of_choice}
+use Rattle.codegen.proofs.Choices.{of_choice, when_not}
 use Rattle.codegen.proofs.Language.{array, branch, first, FlatVariable, nothing, put, repeats, set, element_bytes}
 use Rattle.codegen.proofs.Language.{StraightBlock, StraightTree, take, TermTree}
-use Rattle.codegen.proofs.Logic.{none-some}
 use Rattle.codegen.proofs.Machine.{branching_code, condition_code, failing, home_count, operands_or, right_code}
 use Rattle.codegen.proofs.Machine.{right_register, test_of, test_or, Allocation, at_home, block_code, control_location}
 use Rattle.codegen.proofs.Machine.{home_of, InRegister, InSlot, into_code, Location, next_offset, put_element_code}
@@ -45,14 +44,10 @@ but a left_out = record {
   unread = a.unread;
 }
 
-same_none : (b : Bool) (h : Option ℕ) → h ≡ None → None ≡ (if b then None else h)
-same_none true h away = refl
-same_none false h away = sym away
-
 homes_behind : (left_out : ℕ → Bool) (k : ℕ) (homes : List (Option ℕ)) (x : ℕ)
     → home_of (homes_but left_out k homes) x ≡ (if left_out (k + x) then None else home_of homes x)
-homes_behind left_out k [] x = same_none (left_out (k + x)) None refl
-homes_behind left_out k (None ∷ homes) zero = same_none (left_out (k + 0)) None refl
+homes_behind left_out k [] x = of_choice (λ (o : Option ℕ). None ≡ o) (left_out (k + x)) refl refl
+homes_behind left_out k (None ∷ homes) zero = of_choice (λ (o : Option ℕ). None ≡ o) (left_out (k + 0)) refl refl
 homes_behind left_out k (Some home ∷ homes) zero =
     let here : k ≡ k + 0 = omega arith in
     ap (λ n. if left_out n then None else Some home) here
@@ -79,11 +74,8 @@ home_kept a left_out x stays = home_but a left_out x ∙ ap (λ b. if b then Non
 -- one that there is left is the one that there was
 pub home_was : (a : Allocation) (left_out : ℕ → Bool) (x home : ℕ) → home_of (but a left_out).homes x ≡ Some home
     → home_of a.homes x ≡ Some home
-home_was a left_out x home is = by_test (left_out x) (sym (home_but a left_out x) ∙ is)
-  where
-    by_test : (b : Bool) → (if b then None else home_of a.homes x) ≡ Some home → home_of a.homes x ≡ Some home
-    by_test true at = absurd (none-some home at)
-    by_test false at = at
+home_was a left_out x home is =
+    when_not (left_out x) (home_of a.homes x) home (sym (home_but a left_out x) ∙ is)
 
 -- there are no more homes, in a list as long
 pub homes_fewer : (out : ℕ → Bool) (k : ℕ) (homes : List (Option ℕ))

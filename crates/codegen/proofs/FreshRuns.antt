@@ -3,7 +3,8 @@
 use Rattle.std.proofs.Common.{◌≡◌, ℕ, ◌+◌, ◌-◌, ◌*◌, ◌<◌, ◌≤◌, ◌==◌, ◌&&◌, ◌||◌, not, Bool, true, false, List, ◌++◌}
 use Rattle.std.proofs.Common.{length, length-append, append_assoc, Option, None, Some, slice_get, slice_index, refl}
 use Rattle.std.proofs.Common.{sym, ap, ◌∙◌, subst, arith, ne_eqb, if◌then◌else◌, eq-eqb}
-use Rattle.std.proofs.lemmas.Bool.{and_left, or_from, or_parts, true≢false}
+use Rattle.std.proofs.lemmas.Bool.{and_left, not-true, or_from, true≢false}
+use Rattle.codegen.proofs.Choices.{of_choice}
 use Rattle.codegen.proofs.EntryRuns.{entry_runs}
 use Rattle.codegen.proofs.FewerHomes.{but, home_but, home_kept, home_was, homes_fewer, into_same, result_same}
 use Rattle.codegen.proofs.FewerHomes.{statement_same}
@@ -29,10 +30,6 @@ use Rattle.codegen.proofs.HomeWords.{with_homes, control_alike, ready_at_home}
 
 -- Fewer homes.
 
-none_left_out : (b : Bool) (h : Option ℕ) → h ≡ None → (if b then None else h) ≡ None
-none_left_out true h away = refl
-none_left_out false h away = away
-
 pub allocated_but : (declared : List FlatVariable) (a : Allocation) (out : ℕ → Bool) → IsAllocation declared a
     → IsAllocation declared (but a out)
 allocated_but declared a out allocated = record {
@@ -41,7 +38,7 @@ allocated_but declared a out allocated = record {
   allowed = λ x home at. allocated.allowed x home (home_was a out x home at);
   apart = λ x y home here there. allocated.apart x y home (home_was a out x home here) (home_was a out y home there);
   words = λ x d size known is. home_but a out x
-      ∙ none_left_out (out x) (home_of a.homes x) (allocated.words x d size known is);
+      ∙ of_choice (λ (h : Option ℕ). h ≡ None) (out x) refl (allocated.words x d size known is);
 }
 
 abbrev pub fewer : Setting → (ℕ → Bool) → Setting
@@ -62,12 +59,17 @@ both_true true c h = absurd (true≢false (sym h))
 two_ways : (a b c : Bool) → a ≡ false → (a || (not b && c)) ≡ true → (b ≡ false) × (c ≡ true)
 two_ways a b c off h = both_true b c (sym (ap (λ x. x || (not b && c)) off) ∙ h)
 
--- one that a statement sets so is not read there
-not_read : (x y : ℕ) (read fresh : Bool) → (x == y) ≡ true
-    → (((x == y) && not read) || (not ((x == y) || read) && fresh)) ≡ true → read ≡ false
-not_read x y false fresh same h = refl
-not_read x y true fresh same h = absurd (true≢false (sym (subst
-    (λ b. ((b && false) || (not (b || true) && fresh)) ≡ true) same h)))
+-- one that a statement sets so is not read there; one that it does not name is set so later
+not_read : (same read fresh : Bool) → ((same && not read) || (not (same || read) && fresh)) ≡ true → read ≡ false
+not_read same false fresh h = refl
+not_read true true fresh h = absurd (true≢false (sym h))
+not_read false true fresh h = absurd (true≢false (sym h))
+
+later : (same read fresh : Bool) → same ≡ false → ((same && not read) || (not (same || read) && fresh)) ≡ true
+    → fresh ≡ true
+later true read fresh other h = absurd (true≢false other)
+later false false fresh other h = h
+later false true fresh other h = absurd (true≢false (sym h))
 
 module _ (z : Setting) where
   abbrev a : Allocation
@@ -151,9 +153,29 @@ module _ (z : Setting) where
   module _ (out : ℕ → Bool) (variables : (y : ℕ) → out y ≡ true → y < length z.declared) (x : ℕ) (value : TermTree)
       (typed : IsSet z.code.profile z.declared x value) (unread : (y : ℕ) → out y ≡ true → names_in y value ≡ false)
       (room : base + 4 * slots_to a.count (height_of value) ≤ z.size) where
-    -- into its home
-    home_runs : (home : ℕ) → home_of a.homes x ≡ Some home → Steps_on out (without out x) (set None x value)
-    home_runs home at =
+    -- it has no home, or comes into it
+    fresh_runs : length (code_of (set None x value)) < far → (h : Option ℕ) → home_of a.homes x ≡ h
+        → Steps_on out (without out x) (set None x value)
+    fresh_runs few None away =
+        let rest = without out x in
+        weaken
+        (λ env s fine ready. ready_alike out rest (λ y. same_homes y (y == x) refl) env s ready)
+        (λ env s t fine ready done. done)
+        (kept_runs rest (λ y on. variables y (both_true (y == x) (out y) on).1) (set None x value)
+        (λ y on.
+        let both = both_true (y == x) (out y) on in
+        or_from (x == y) (names_in y value) (ne_eqb x y (λ e. eqb-false y x both.0 (sym e))) (unread y both.1))
+        (tt, typed) tt room (omega arith) few)
+      where
+        same_homes : (y : ℕ) (b : Bool) → (y == x) ≡ b
+            → home_of (but a out).homes y ≡ home_of (but a (without out x)).homes y
+        same_homes y true q =
+            let none_here : home_of a.homes y ≡ None = ap (λ n. home_of a.homes n) (eqb-true y x q) ∙ away in
+            let none_left : (left : ℕ → Bool) → home_of (but a left).homes y ≡ None =
+            λ left. home_but a left y ∙ of_choice (λ (h : Option ℕ). h ≡ None) (left y) refl none_here in
+            none_left out ∙ sym (none_left (without out x))
+        same_homes y false q = as_before out x y q
+    fresh_runs few (Some home) at =
         let is = z.allocated.allowed x home at in
         let same = into_same z.declared a out variables base home 0 value unread in
         as_code
@@ -172,37 +194,6 @@ module _ (z : Setting) where
         (kept_less z base (base + 4 * (0 - a.count)) s t (omega arith) done.kept) done.there
         (λ r other apart. done.lower r (home_beside a.count 0 home r other.0 other.1 apart)))
         (in_all out (homed_runs (fewer z out) home is typed.suits.has_type room))))
-
-    -- or it has none
-    slot_runs : length (code_of (set None x value)) < far → home_of a.homes x ≡ None
-        → Steps_on out (without out x) (set None x value)
-    slot_runs few away =
-        let rest = without out x in
-        let fewer_variables = λ (y : ℕ) (is : rest y ≡ true). variables y (both_true (y == x) (out y) is).1 in
-        weaken
-        (λ env s fine ready. ready_alike out rest (λ y. same_homes y (y == x) refl) env s ready)
-        (λ env s t fine ready done. done)
-        (kept_runs rest fewer_variables (set None x value)
-        (λ y is.
-        let both = both_true (y == x) (out y) is in
-        or_from (x == y) (names_in y value) (ne_eqb x y (λ e. eqb-false y x both.0 (sym e))) (unread y both.1))
-        (tt, typed) tt room (omega arith) few)
-      where
-        same_homes : (y : ℕ) (b : Bool) → (y == x) ≡ b
-            → home_of (but a out).homes y ≡ home_of (but a (without out x)).homes y
-        same_homes y true q =
-            let none_here : home_of a.homes y ≡ None = ap (λ n. home_of a.homes n) (eqb-true y x q) ∙ away in
-            home_but a out y
-            ∙ (none_left_out (out y) (home_of a.homes y) none_here
-            ∙ sym (home_but a (without out x) y ∙ none_left_out (without out x y) (home_of a.homes y) none_here))
-        same_homes y false q = as_before out x y q
-
-    fresh_runs : length (code_of (set None x value)) < far → Steps_on out (without out x) (set None x value)
-    fresh_runs few = by_home (home_of a.homes x) refl
-      where
-        by_home : (h : Option ℕ) → home_of a.homes x ≡ h → Steps_on out (without out x) (set None x value)
-        by_home None away = slot_runs few away
-        by_home (Some home) at = home_runs home at
 
   -- Statements, and the result behind them.
 
@@ -250,23 +241,17 @@ module _ (z : Setting) where
           → length (code_of s) < far → Stepped out s rest
       stepped (set None x e) rest fresh typed read room within few = by_test (out x) refl
         where
-          unread_by : (y : ℕ) → out y ≡ true → (b : Bool) → (x == y) ≡ b → names_in y e ≡ false
-          unread_by y on true same = not_read x y (names_in y e) (is_fresh y rest value) same (fresh y on)
-          unread_by y on false apart =
-              let ways = two_ways (sets_fresh y (set None x e)) (names y (set None x e)) (is_fresh y rest value)
-              (and_left (x == y) (not (names_in y e)) apart) (fresh y on) in
-              (or_parts (x == y) (names_in y e) ways.0).1
-
           by_test : (b : Bool) → out x ≡ b → Stepped out (set None x e) rest
           by_test true is = record {
             left = without out x;
             variables = λ y on. variables y (both_true (y == x) (out y) on).1;
             fresh = λ y on.
                 let both = both_true (y == x) (out y) on in
-                let apart = ne_eqb x y (λ same. eqb-false y x both.0 (sym same)) in
-                (two_ways (sets_fresh y (set None x e)) (names y (set None x e)) (is_fresh y rest value)
-                (and_left (x == y) (not (names_in y e)) apart) (fresh y both.1)).1;
-            runs = fresh_runs out variables x e typed.1 (λ y on. unread_by y on (x == y) refl) room few;
+                later (x == y) (names_in y e) (is_fresh y rest value)
+                (ne_eqb x y (λ same. eqb-false y x both.0 (sym same))) (fresh y both.1);
+            runs = fresh_runs out variables x e typed.1
+                (λ y on. not_read (x == y) (names_in y e) (is_fresh y rest value) (fresh y on)) room few
+                (home_of a.homes x) refl;
           }
           by_test false is =
               stepped_on (set None x e) rest fresh
@@ -275,10 +260,6 @@ module _ (z : Setting) where
               typed read room within few
       stepped s rest fresh typed read room within few =
           stepped_on s rest fresh (λ y on. refl) typed read room within few
-
-    not_named : (b : Bool) → not b ≡ true → b ≡ false
-    not_named false h = refl
-    not_named true h = absurd (true≢false (sym h))
 
     abbrev block_of : StraightBlock → List Instr
     block_of b = block_code z.declared a z.controls z.depths 0 b
@@ -290,17 +271,6 @@ module _ (z : Setting) where
         (block_of b ++ result_code z.declared a base value) (Ready (fewer z out))
         (λ env s t. Ended value (after_all env b) t)
 
-    one_before : (out : ℕ → Bool) (s : StraightTree) (rest : StraightBlock) (step : Stepped out s rest)
-        → Behind rest step.left → Behind (first s rest) out
-    one_before out s rest step behind =
-        as_code (append_assoc (code_of s) (block_of rest) (result_code z.declared a base value))
-        (along (λ env. append_assoc (path_at env s) (path_along (after env s) rest)
-        (steps_of_result value (after_all (after env s) rest)))
-        (cheaper (omega arith)
-        (gives
-        (λ env s' t fine ready done. done.second)
-        (seq step.runs (beside (λ env. after env s) behind) (λ env s' t ready done. done)))))
-
     behind_runs : (b : StraightBlock) (out : ℕ → Bool) → ((y : ℕ) → out y ≡ true → y < length z.declared)
         → ((y : ℕ) → out y ≡ true → is_fresh y b value ≡ true)
         → AreTyped z.code.profile z.declared z.controls b → AllReadKept a.unread b
@@ -309,7 +279,7 @@ module _ (z : Setting) where
     behind_runs nothing out variables fresh typed read room within few =
         as_code
         (sym (result_same z.declared a out variables base value
-        (λ y on. not_named (names_in_result y value) (fresh y on))))
+        (λ y on. not-true (names_in_result y value) (fresh y on))))
         (cheaper (omega arith)
         (gives
         (λ env s t fine ready given. record {
@@ -323,9 +293,17 @@ module _ (z : Setting) where
     behind_runs (first s rest) out variables fresh typed read room within few =
         let step = stepped out variables s rest fresh typed.0 read.0 (omega (arith, room)) (omega (arith, within))
         (omega (arith, length-append {A = Instr}, few)) in
-        one_before out s rest step
+        as_code (append_assoc (code_of s) (block_of rest) (result_code z.declared a base value))
+        (along (λ env. append_assoc (path_at env s) (path_along (after env s) rest)
+        (steps_of_result value (after_all (after env s) rest)))
+        (cheaper (omega arith)
+        (gives
+        (λ env s' t fine ready done. done.second)
+        (seq step.runs
+        (beside (λ env. after env s)
         (behind_runs rest step.left step.variables step.fresh typed.1 read.1 (omega (arith, room))
-        (omega (arith, within)) (omega (arith, length-append {A = Instr}, few)))
+        (omega (arith, within)) (omega (arith, length-append {A = Instr}, few))))
+        (λ env s' t ready done. done)))))
 
     -- A program: the homes but those of some words are filled first.
 

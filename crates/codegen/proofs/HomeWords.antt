@@ -1,8 +1,9 @@
 -- What is shown once a word is set that has a home, whether it has had that before or not.
-use Rattle.std.proofs.Common.{◌≡◌, ℕ, ◌+◌, ◌^◌, ◌<◌, ◌==◌, ◌≢◌, Bool, true, false, cond, List, [], ◌∷◌, length, None}
+use Rattle.std.proofs.Common.{◌≡◌, ℕ, ◌+◌, ◌^◌, ◌<◌, ◌==◌, ◌≢◌, Bool, false, List, [], ◌∷◌, length}
 use Rattle.std.proofs.Common.{Some, slice_get, slice_index, refl, sym, ap, ◌∙◌, subst, arith, Option, unwrap_or}
+use Rattle.std.proofs.lemmas.Bool.{cond_both}
 use Rattle.codegen.proofs.Machine.{control_offset, number_at, Allocation, control_location, home_of, at_home, InSlot}
-use Rattle.codegen.proofs.Language.{StraightState, with_variable, FlatVariable, numbers_in, word_as, WordType, types_of}
+use Rattle.codegen.proofs.Language.{StraightState, with_variable, word_as, WordType, types_of}
 use Rattle.codegen.proofs.Language.{bits_of}
 use Rattle.codegen.proofs.Logic.{none-some, same_Some, eqb-true, eqb-false, fits_assigned, one_held, Holds}
 use Rattle.codegen.proofs.Logic.{slice_get_within, HeldAt, mask_of, bytes_of, place_of, Setting, base_of, Kept, Ready}
@@ -50,28 +51,6 @@ module _ (z : Setting) where
       (env : StraightState) (s t : machine.State) (ready : Ready (with_homes z a allocated) env s) (held : HeldAt z t)
       (kept : Kept z (base_of z) s t) (there : t.regs home ≡ v)
       (others : (r : ℕ) → IsHome z.allocation.count r → r ≢ home → t.regs r ≡ s.regs r) where
-    own_at : (y other : ℕ) (e : FlatVariable) → slice_get z.declared y ≡ Some e
-        → home_of z.allocation.homes y ≡ Some other → (b : Bool) → (y == x) ≡ b
-        → t.regs other ≡ slice_index (cond b (v ∷ []) (env.variables y)) 0
-    own_at y other e is here true q =
-        let same = same_Some home other (sym at
-        ∙ (ap (λ n. home_of z.allocation.homes n) (sym (eqb-true y x q)) ∙ here)) in
-        ap t.regs (sym same) ∙ there
-    own_at y other e is here false q =
-        others other (z.allocated.allowed y other here)
-        (λ same. eqb-false y x q (z.allocated.apart y x home (here ∙ ap Some same) at))
-        ∙ ready.homes_there y other e is (alike y (eqb-false y x q) ∙ here)
-
-    away_at : (y : ℕ) (e : FlatVariable) (j : ℕ) → slice_get z.declared y ≡ Some e
-        → home_of z.allocation.homes y ≡ None → j < numbers_in e.elements → (b : Bool) → (y == x) ≡ b
-        → number_at t.bytes (bytes_of e) (z.frame + place_of z.declared y e j)
-        ≡ Some (slice_index (cond b (v ∷ []) (env.variables y)) j)
-    away_at y e j is out more true q =
-        absurd (none-some home (sym out ∙ (ap (λ n. home_of z.allocation.homes n) (eqb-true y x q) ∙ at)))
-    away_at y e j is out more false q =
-        variables_kept (with_homes z a allocated) (base_of z) env s t (omega arith) ready kept y e j is
-        (alike y (eqb-false y x q) ∙ out) more
-
     -- no variable lives where a control value does
     no_control : (c : ℕ) → length z.declared + c ≢ x
     no_control c e = let below = slice_get_within z.declared x _ known in omega (arith, below, e)
@@ -81,8 +60,21 @@ module _ (z : Setting) where
       held = held;
       fits = fits_assigned (types_of z.code.profile z.declared) env.variables x (v ∷ []) (word_as word mutable) known
           (one_held word mutable v fits) ready.fits;
-      homes_there = λ y other e is here. own_at y other e is here (y == x) refl;
-      variables_there = λ y e j is out more. away_at y e j is out more (y == x) refl;
+      homes_there = λ y other e is here.
+          cond_both (y == x) (v ∷ []) (env.variables y) (λ (l : List ℕ). t.regs other ≡ slice_index l 0)
+          (λ q.
+          let there' = ap (λ n. home_of z.allocation.homes n) (sym (eqb-true y x q)) ∙ here in
+          ap t.regs (sym (same_Some home other (sym at ∙ there'))) ∙ there)
+          (λ q.
+          others other (z.allocated.allowed y other here)
+          (λ same. eqb-false y x q (z.allocated.apart y x home (here ∙ ap Some same) at))
+          ∙ ready.homes_there y other e is (alike y (eqb-false y x q) ∙ here));
+      variables_there = λ y e j is out more.
+          cond_both (y == x) (v ∷ []) (env.variables y)
+          (λ (l : List ℕ). number_at t.bytes (bytes_of e) (z.frame + place_of z.declared y e j) ≡ Some (slice_index l j))
+          (λ q. absurd (none-some home (sym out ∙ (ap (λ n. home_of z.allocation.homes n) (eqb-true y x q) ∙ at))))
+          (λ q. variables_kept (with_homes z a allocated) (base_of z) env s t (omega arith) ready kept y e j is
+          (alike y (eqb-false y x q) ∙ out) more);
       controls_there = λ c among read. control_alike a allocated c (mask_of (env.controls c)) s t
           (alike (length z.declared + c) (no_control c))
           (λ other here. others other (z.allocated.allowed (length z.declared + c) other here)

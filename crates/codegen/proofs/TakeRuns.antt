@@ -9,10 +9,10 @@ use Rattle.codegen.proofs.Logic.{free_from, none, computing_within, unwritten, n
 use Rattle.codegen.proofs.Language.{TermTree, value_in, term_nodes, types_of, HasType, StraightState, holds, after}
 use Rattle.codegen.proofs.Language.{IsAmong, Boolean, Label, labelled}
 use Rattle.branch_removal.specs.Straight as straight
-use Rattle.codegen.proofs.Machine.{at_home, control_location, fetch_code, home_of, InSlot, Instr, masks_code}
+use Rattle.codegen.proofs.Machine.{at_home, home_of, InSlot, Instr, masks_code}
 use Rattle.codegen.proofs.Machine.{IsKeptWithin, is_unread, register_of, taken_code, unless_unread, statement_code}
 use Rattle.codegen.proofs.Machine.{read_code, read_register, control_offset, slots_to, height_of, And, sum_of}
-use Rattle.codegen.proofs.Machine.{difference_of, Addi, Sub, join_code}
+use Rattle.codegen.proofs.Machine.{difference_of, Addi, Sub}
 use Rattle.rv_code.specs.declared.instructions.Instr.TheVariants as instr
 use Rattle.rv_machine.specs.Machine as machine
 use Rattle.std.proofs.lemmas.Bool.{true≢false}
@@ -23,10 +23,6 @@ use Rattle.codegen.proofs.program_logic_lemmas.Computing.{computed_value, comput
 use Rattle.codegen.proofs.expression_code_lemmas.WorkRegisters.{IsFree}
 use Rattle.codegen.proofs.expression_code_lemmas.Moves.{register-at, written}
 use Rattle.rv_machine.specs.Registers.{register}
-
--- three lists behind one
-behind_two : (a b c d : List Instr) → (((a ++ b) ++ c) ++ d) ≡ a ++ ((b ++ c) ++ d)
-behind_two a b c d = ap (λ (x : List Instr). x ++ d) (append_assoc a b c) ∙ append_assoc a (b ++ c) d
 
 -- Two instructions that compute, each unless nothing reads what it writes.
 module _ (z : Setting) where
@@ -206,10 +202,8 @@ module _ (z : Setting) where
     masked_runs (Some d) among read =
         let k = mask_register z d 6 in
         let k_free = mask_free z d 6 (omega arith) (omega arith) in
-        let fetch = fetch_code (control_location z.declared z.allocation d) 6 in
         let is_source = source in
-        as_code
-        (sym (behind_two tested (masks_code unread unread' 7 5 r) fetch (join_code unread unread' a b k)))
+        as_code (simp append_assoc)
         (cheaper (omega arith)
         (gives
         (λ env s t fine ready done.

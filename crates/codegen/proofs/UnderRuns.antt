@@ -37,12 +37,6 @@ chosen_fits : (b : Bool) (v old n : ℕ) → v < n → old < n → (if b then v 
 chosen_fits true v old n h k = h
 chosen_fits false v old n h k = k
 
--- a front, and four lists behind it
-behind_one : (a b c d e : List Instr) → ((((a ++ b) ++ c) ++ d) ++ e) ≡ a ++ (((b ++ c) ++ d) ++ e)
-behind_one a b c d e =
-    ap (λ (x : List Instr). x ++ e) (ap (λ (x : List Instr). x ++ d) (append_assoc a b c) ∙ append_assoc a (b ++ c) d)
-    ∙ append_assoc a ((b ++ c) ++ d) e
-
 module _ (z : Setting) where
   -- where a word is set or kept
   under_alone : (b : Bool) (x v : ℕ) (env : StraightState) (t : machine.State) → length (env.variables x) ≡ 1
@@ -256,7 +250,7 @@ module _ (z : Setting) (depth : ℕ) (within : depth ≤ z.depths) (c : ℕ) (am
           let at : o ≡ place_of z.declared x d 0 = omega arith in
           let before = word_before z x typed.word typed.mutable typed.known in
           let inside : o + 4 ≤ z.size = omega (arith, before, z.room) in
-          as_code (sym (behind_one front (load_code 6 o) (fetch_code control 7) combine (store_code 5 o)))
+          as_code (simp append_assoc)
           (gives
           (λ env s t fine ready done. record {
             ready = under_alone z (env.controls c) x (new env) env t (ready.fits x d typed.known).count done.ready;

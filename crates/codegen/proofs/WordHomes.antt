@@ -5,6 +5,7 @@ use Rattle.codegen.proofs.Choices.{of_choice}
 use Rattle.codegen.proofs.Language.{FlatVariable, StraightProgram}
 use Rattle.codegen.proofs.Logic.{nat_tests, none-some, same_Some}
 use Rattle.codegen.proofs.Machine.{home_count, home_of, IsFitting}
+use Rattle.codegen.proofs.expression_code_lemmas.WorkRegisters.{when_some}
 use Rattle.codegen.proofs.ReadControls.{all_read_kept}
 use Rattle.codegen.proofs.WeightLengths.{word_weights_length}
 use Rattle.codegen.specs.private.Homes.{gets_home, home_after, home_at, homes_from, is_chosen, is_no_array, is_wanted}
@@ -18,12 +19,9 @@ left_by false n h = absurd cc
 -- a home that is given is the next register
 some_at : (wanted : Bool) (n home : ℕ) → home_at wanted n ≡ Some home
     → (n ≡ home) × (home_after wanted n ≡ n + 1) × (n < 28)
-some_at wanted n home is = by_test (gets_home wanted n) refl is
-  where
-    by_test : (b : Bool) → gets_home wanted n ≡ b → cond b (Some n) None ≡ Some home
-        → (n ≡ home) × (cond b (n + 1) n ≡ n + 1) × (n < 28)
-    by_test true e same = (same_Some n home same, refl, left_by wanted n e)
-    by_test false e same = absurd (none-some home same)
+some_at wanted n home is =
+    let both = when_some (gets_home wanted n) (Some n) home is in
+    (same_Some n home both.1, ap (λ b. cond b (n + 1) n) both.0, left_by wanted n both.0)
 
 after_least : (wanted : Bool) (n : ℕ) → n ≤ home_after wanted n
 after_least wanted n = of_choice (λ m. n ≤ m) (gets_home wanted n) (omega arith) (omega arith)
