@@ -80,7 +80,8 @@ module _ (a : Allocation) (p : StraightProgram) (room : HasRoom p) (fitting : Is
       cheaper (omega (arith, room.worked, fitting.few))
       (program_runs setting p.returned p.value room.typed.result (omega arith) p.body (starts_fresh p)
       (λ y on. ltb-true y (length p.declared) (and_parts _ _ on).0) (λ y on. (and_parts _ _ on).1) fitting.within
-      room.typed.body fitting.read (omega arith) (omega arith) (omega (arith, length-append {A = Instr}, short, room.nodes)))
+      room.typed.body fitting.read (omega arith) (omega arith)
+      (omega (arith, length-append {A = Instr}, short, room.nodes)))
 
   standing : Stand code start (map word_of (body_code a p))
   standing = subst (λ (ws : List ℕ). Stand code start ws) (body_words-image a p) there.words
@@ -162,7 +163,8 @@ pub followed_in : (a : Allocation) (p : StraightProgram) → HasRoom p → IsFit
     → IsPlaced (image_of a p) code start frame → IsFollowedIn p (image_of a p) code start frame
 followed_in a p room fitting short code start frame there = record {
   shown = λ path. ((straight a p room fitting short code start frame there).leak (path ++ [])).0;
-  runs = λ args s at laid within fine. runs_behind a p room fitting short code start frame there args s at laid within fine;
+  runs = λ args s at laid within fine.
+      runs_behind a p room fitting short code start frame there args s at laid within fine;
 }
 
 -- The whole image: its body, and then the end.

@@ -1,6 +1,6 @@
 -- The code of a branch on what is public.
-use Rattle.std.proofs.Common.{◌≡◌, ◌≢◌, ℕ, ◌+◌, ◌*◌, ◌^◌, ◌<◌, ◌≤◌, ◌==◌, ◌&&◌, Bool, true, false, cond, List, ◌++◌}
-use Rattle.std.proofs.Common.{length, refl, sym, ap, subst, arith, ne_eqb}
+use Rattle.std.proofs.Common.{◌≡◌, ◌≢◌, ℕ, ◌+◌, ◌*◌, ◌^◌, ◌<◌, ◌≤◌, ◌==◌, ◌&&◌, cond, List, ◌++◌}
+use Rattle.std.proofs.Common.{length, sym, ap, subst, arith, ne_eqb}
 use Rattle.std.proofs.lemmas.Bool.{and_parts, ltb-true}
 use Rattle.codegen.proofs.ComparedRuns.{condition_runs, passes, test_is}
 use Rattle.codegen.proofs.Language.{HasType, StraightBlock, StraightState, TermTree, WordType, after, after_all, branch}
@@ -12,6 +12,7 @@ use Rattle.codegen.proofs.Machine.{read_register, slots_to, test_of, unless_code
 use Rattle.codegen.proofs.PairRuns.{FirstRead, read_then}
 use Rattle.codegen.proofs.Slots.{hidden_by, hidden_kept, hidden_then, read_source, ready_still, Shown}
 use Rattle.codegen.specs.private.Compared.{is_short_arm}
+use Rattle.codegen.proofs.program_logic_lemmas.Pieces.{by_test}
 use Rattle.codegen.proofs.program_logic_lemmas.Tests.{unless_at}
 use Rattle.rv_machine.specs.Machine as machine
 
@@ -104,12 +105,6 @@ module _ (z : Setting) (depth : ℕ) (condition : TermTree) (word : WordType) (a
       (λ env s t ready done. record { ready = done.ready; decides = done.decides }))
 
   pub branching_runs : Branches (branching_code z.declared z.allocation (base_of z) condition xs ys)
-  branching_runs = by_test (z.allocation.immediates && is_short_arm xs) refl
-    where
-      by_test : (b : Bool) → (z.allocation.immediates && is_short_arm xs) ≡ b
-          → Branches (cond b (condition_code z.declared z.allocation (base_of z) condition
-          ++ unless_code (test_of z.allocation condition) xs ys)
-          (read_code z.declared z.allocation (base_of z) 5 0 condition
-          ++ branch_code (read_register z.allocation 5 condition) xs ys))
-      by_test true is = unless_runs (ltb-true (length xs) 1000 (and_parts _ _ is).1)
-      by_test false is = branch_runs
+  branching_runs =
+      by_test (z.allocation.immediates && is_short_arm xs)
+      (λ is. unless_runs (ltb-true (length xs) 1000 (and_parts _ _ is).1)) (λ is. branch_runs)

@@ -184,7 +184,8 @@ module _ (z : Setting) where
         → Runs z (16 * term_nodes e) (steps_of e)
         (operands_or c (read_code z.declared z.allocation (base_of z) 5 0 e)
         (operands_code z.declared z.allocation (base_of z) left right)) (Ready z)
-        (IsDecided (test_or c (against_zero 5) (read_register z.allocation 5 left) (right_register z.allocation right)) e)
+        (IsDecided
+        (test_or c (against_zero 5) (read_register z.allocation 5 left) (right_register z.allocation right)) e)
     decided whole None is = whole_runs whole room
     decided whole (Some c) is =
         let comparison = fails operator c is in

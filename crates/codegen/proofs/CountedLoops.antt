@@ -1,10 +1,10 @@
 -- The code of a loop that counts in its counter's home, by its bounds.
-use Rattle.std.proofs.Common.{◌≡◌, ◌≢◌, ℕ, zero, suc, ◌+◌, ◌-◌, ◌*◌, ◌^◌, ◌<◌, ◌≤◌, ◌==◌, Bool, true, false, cond}
+use Rattle.std.proofs.Common.{◌≡◌, ℕ, zero, suc, ◌+◌, ◌-◌, ◌*◌, ◌^◌, ◌<◌, ◌≤◌, ◌==◌, true, false}
 use Rattle.std.proofs.Common.{nat_lt, List, [], ◌∷◌, ◌++◌, length, Some, slice_get, slice_index, refl, sym, ap}
 use Rattle.std.proofs.Common.{◌∙◌, ap₂, subst, arith, ne_eqb, length-append, append-nil}
 use Rattle.std.proofs.lemmas.Bool.{ltb-true}
 use Rattle.std.proofs.lemmas.Nat.{mul-le}
-use Rattle.codegen.proofs.CountingRuns.{Guarded, guarded_runs, home_high, home_low, turns_runs}
+use Rattle.codegen.proofs.CountingRuns.{Guarded, Numbered, guarded_runs, home_high, home_low, one_computed, turns_runs}
 use Rattle.codegen.proofs.Language.{TermTree, word_as, value_in, path_in, turns, path_of_turns, Path, bounded}
 use Rattle.codegen.proofs.Language.{term_nodes, types_of, HasType, counter_type, StraightBlock, repeats, StraightState}
 use Rattle.codegen.proofs.Language.{counted, after, after_all, path_at, path_along, word_of, Values}
@@ -12,7 +12,7 @@ use Rattle.codegen.proofs.LoopRuns.{AtLoop, bounds_runs, is_left, next, next_ins
 use Rattle.codegen.proofs.Logic.{lt-ltb, nat_tests, none-some, same_Some, HeldAt, Setting, setting, base_of, Known}
 use Rattle.codegen.proofs.Logic.{by_bounds, none, Runs, along, along_fit, seq, quietly, weaken, gives, cheaper, never}
 use Rattle.codegen.proofs.Logic.{Ready, HomesKept, home_beside, homes_moved, number_or_zero, take, does, moves_run}
-use Rattle.codegen.proofs.Logic.{is_free, none_low, computing_within, kept_less, register-at, unwritten, written}
+use Rattle.codegen.proofs.Logic.{kept_less, register-at}
 use Rattle.codegen.proofs.Logic.{load_length}
 use Rattle.codegen.proofs.Machine.{bounds_code, test_code, home_of, height_of, read_code, read_register, Instr}
 use Rattle.codegen.proofs.Machine.{slots_to, ByteMap, number_at, into_code, Sltu}
@@ -23,11 +23,12 @@ use Rattle.codegen.specs.private.Loops.{any_sets, below_number_code, below_word_
 use Rattle.codegen.specs.private.Loops.{short_number, to_number_code, turns_code}
 use Rattle.inline.specs.Flat.{number}
 use Rattle.rv_code.specs.declared.instructions.Instr.TheVariants as instr
-use Rattle.rv_code.specs.declared.operations.ImmediateOperation.TheVariants.{Addi}
+use Rattle.rv_code.specs.declared.operations.ImmediateOperation.TheVariants.{Addi, Sltiu}
 use Rattle.rv_machine.specs.Effects.{sign_extended}
 use Rattle.rv_machine.specs.Machine as machine
 use Rattle.codegen.proofs.HomeWords.{ready_homed}
 use Rattle.codegen.proofs.expression_code_lemmas.WorkRegisters.{when_some}
+use Rattle.codegen.proofs.program_logic_lemmas.Pieces.{by_test}
 
 -- Numbers as bounds.
 
@@ -49,30 +50,20 @@ below_is e bound below m = absurd cc
 
 module _ (z : Setting) where
   -- whether a register is below a number comes into another
-  record Compared (d r bound : ℕ) (s t : machine.State) : Type 0 where
-    held : HeldAt z t
-    there : t.regs d ≡ word_of (nat_lt (s.regs r) bound)
-    same : t.bytes ≡ s.bytes
-    others : (q : ℕ) → q ≢ d → t.regs q ≡ s.regs q
-
   compared : (d r bound : ℕ) → 4 < d → d < 32 → 4 < r → r < 32 → bound < 2048
-      → Runs z 1 none (below_number_code d r bound) (λ env s. HeldAt z s) (λ env s t. Compared d r bound s t)
+      → Runs z 1 none (below_number_code d r bound) (λ env s. HeldAt z s)
+      (λ env s t. Numbered z d (word_of (nat_lt (s.regs r) bound)) s t)
   compared d r bound low high low' high' small =
       let same : sign_extended 12 bound ≡ bound = grind (arith, nat_tests, small) in
       gives
-      (λ env s t fine held done. record {
-        held = done.held;
-        there = ap (λ (regs : ℕ → ℕ). regs d) done.registers
-            ∙ (written s.regs d _ (λ e. omega (arith, low, e))
-            ∙ ap₂ (λ a v. word_of (nat_lt a v)) (register-at s.regs r (λ e. omega (arith, low', e))) same);
-        same = done.same;
-        others = λ q apart. ap (λ (regs : ℕ → ℕ). regs q) done.registers ∙ unwritten s.regs d _ q apart;
-      })
-      (computing_within z is_free (below_number_code d r bound)
-      (simp (lt-ltb 4 d low, lt-ltb d 32 high, lt-ltb r 32 high', lt-ltb bound 4096 (omega (arith, small)))) none_low)
+      (λ env s t fine held done. subst (λ v. Numbered z d v s t)
+      (ap₂ (λ a v. word_of (nat_lt a v)) (register-at s.regs r (λ e. omega (arith, low', e))) same) done)
+      (one_computed z (instr.Immediate Sltiu d r bound)
+      (simp (lt-ltb 4 d low, lt-ltb d 32 high, lt-ltb r 32 high', lt-ltb bound 4096 (omega (arith, small))))
+      (λ e. omega (arith, low, e)))
 
   -- homes stay where a temporary is written
-  homes_compared : {d r bound : ℕ} {s t : machine.State} → d < 8 → Compared d r bound s t → HomesKept z s t
+  homes_compared : {d v : ℕ} {s t : machine.State} → d < 8 → Numbered z d v s t → HomesKept z s t
   homes_compared low done q home = done.others q (λ e. omega (arith, z.allocated.some, home.0, e, low))
 
 module _ (z : Setting) (depth x h : ℕ) (within : depth < z.depths)
@@ -252,15 +243,6 @@ module _ (z : Setting) (depth x h : ℕ) (within : depth < z.depths)
         (omega (arith, less env.variables, is_short.small)) env s t ready done.held kept done.there
         (λ r other apart. done.lower r (home_beside z.allocation.count 0 h r other.0 other.1 apart))))
 
-    by_first : (b : Bool) → is_below bound low ≡ b
-        → Runs z (16 * term_nodes low + (1 + (2 + (1 + (turns_cost 1 + 1)) + 0)))
-        (λ env. path_in env.variables low ++ bounded x (bounds env).0 (bounds env).1 ∷ path_by env (bounds env))
-        (cond b
-        (into_code z.declared z.allocation (base_of z) h 0 low ++ turns_code h (below_number_code 5 h bound) ys)
-        (read_code z.declared z.allocation (base_of z) 5 0 low ++ guard_code)) (Ready z) Looped
-    by_first true below = cheaper (omega arith) (certain_runs below)
-    by_first false below = read_number_runs
-
     pub to_number_runs : Runs z (16 * term_nodes low + (1 + (2 + (1 + (turns_cost 1 + 1)) + 0)))
         (λ env. path_at env (repeats x low high body))
         (to_number_code z.declared z.allocation (base_of z) h low bound ys) (Ready z)
@@ -272,7 +254,7 @@ module _ (z : Setting) (depth x h : ℕ) (within : depth < z.depths)
         ap (λ (front : Path). front ++ rest)
         (ap (λ (p : Path). path_in env.variables low ++ p) (is_short.path env.variables)
         ∙ append-nil (path_in env.variables low)))
-        (by_first (is_below bound low) refl)
+        (by_test (is_below bound low) (λ below. cheaper (omega arith) (certain_runs below)) (λ some. read_number_runs))
 
   -- Up to a bound in the frame.
 

@@ -1,6 +1,6 @@
 -- The turns of a loop that counts in its counter's home. Before each turn the home has the turn's number, as the
 -- counter has it; behind the body, which sets the counter nowhere, it still does, and one more is the next number.
-use Rattle.std.proofs.Common.{◌≡◌, ◌≢◌, ℕ, zero, suc, ◌+◌, ◌-◌, ◌*◌, ◌^◌, ◌<◌, ◌≤◌, ◌==◌, Bool, true, false, cond}
+use Rattle.std.proofs.Common.{◌≡◌, ◌≢◌, ℕ, zero, suc, ◌+◌, ◌-◌, ◌*◌, ◌^◌, ◌<◌, ◌≤◌, ◌==◌, ◌&&◌, Bool, true, false, cond}
 use Rattle.std.proofs.Common.{nat_lt, List, [], ◌∷◌, ◌++◌, length, Some, slice_get, slice_index, refl, sym, ap, ◌∙◌}
 use Rattle.std.proofs.Common.{subst, arith, eq-eqb, length-append}
 use Rattle.std.proofs.lemmas.Nat.{mul-le}
@@ -17,8 +17,10 @@ use Rattle.codegen.proofs.Unset.{all_left_alone}
 use Rattle.codegen.specs.private.Jumps.{again_code}
 use Rattle.codegen.specs.private.Loops.{any_sets, guarded_code, turns_code}
 use Rattle.codegen.specs.expression_code.TermCode.{move_code}
+use Rattle.codegen.proofs.program_logic_lemmas.Computing.{computed_value, computes, written_register}
 use Rattle.codegen.proofs.program_logic_lemmas.Jumps.{first_runs, second_runs}
 use Rattle.codegen.proofs.program_logic_lemmas.Loops.{repeating}
+use Rattle.codegen.proofs.program_logic_lemmas.Pieces.{by_test}
 use Rattle.rv_code.specs.declared.instructions.Instr.TheVariants as instr
 use Rattle.rv_machine.specs.Machine as machine
 use Rattle.codegen.proofs.HomeWords.{ready_homed}
@@ -35,6 +37,21 @@ pub record Numbered (z : Setting) (h v : ℕ) (s t : machine.State) : Type 0 whe
   pub there : t.regs h ≡ v
   pub same : t.bytes ≡ s.bytes
   pub others : (q : ℕ) → q ≢ h → t.regs q ≡ s.regs q
+
+-- so it has after one instruction that computes
+pub one_computed : (z : Setting) (i : Instr) → computes is_free i ≡ true → written_register i ≢ 0
+    → Runs z 1 none (i ∷ []) (Held z) (λ env s t. Numbered z (written_register i) (computed_value i s.regs) s t)
+one_computed z i plain some =
+    gives
+    (λ env s t fine held done. record {
+      held = done.held;
+      there = ap (λ (regs : ℕ → ℕ). regs (written_register i)) done.registers
+          ∙ written s.regs (written_register i) _ some;
+      same = done.same;
+      others = λ q apart. ap (λ (regs : ℕ → ℕ). regs q) done.registers
+          ∙ unwritten s.regs (written_register i) _ q apart;
+    })
+    (computing_within z is_free (i ∷ []) (ap (λ b. b && true) plain) none_low)
 
 -- the turn of a number is next, and so many more, up to a limit that is found where it is
 pub record Next (z : Setting) (x limit : ℕ) (There : ByteMap → Type 0) (left i : ℕ) (env : StraightState)
@@ -72,44 +89,34 @@ module _ (z : Setting) (depth x h : ℕ) (known : slice_get z.declared x ≡ Som
       (λ env s t. Numbered z h (sum_of (s.regs r) (sign_extended 12 field)) s t)
   added r field low few small =
       gives
-      (λ env s t fine held done. record {
-        held = done.held;
-        there = ap (λ (regs : ℕ → ℕ). regs h) done.registers
-            ∙ (written s.regs h _ (λ e. omega (arith, home_low, e))
-            ∙ ap (λ a. sum_of a (sign_extended 12 field)) (register-at s.regs r (λ e. omega (arith, low, e))));
-        same = done.same;
-        others = λ q apart. ap (λ (regs : ℕ → ℕ). regs q) done.registers ∙ unwritten s.regs h _ q apart;
-      })
-      (computing_within z is_free (instr.Immediate Addi h r field ∷ [])
+      (λ env s t fine held done. subst (λ v. Numbered z h v s t)
+      (ap (λ a. sum_of a (sign_extended 12 field)) (register-at s.regs r (λ e. omega (arith, low, e)))) done)
+      (one_computed z (instr.Immediate Addi h r field)
       (simp (
         lt-ltb 4 h (omega (arith, home_low)),
         lt-ltb h 32 (omega (arith, home_high)),
         lt-ltb r 32 few,
         lt-ltb field 4096 small,
-      )) none_low)
+      )) (λ e. omega (arith, home_low, e)))
 
   -- the number in a register comes into the home
   pub moved_in : (r : ℕ) → 4 < r → r < 32
       → Runs z 1 none (move_code h r) (λ env s. HeldAt z s × (s.regs r < 2 ^ 32))
       (λ env s t. Numbered z h (s.regs r) s t)
-  moved_in r low few = by_same (h == r) refl
-    where
-      by_same : (b : Bool) → (h == r) ≡ b
-          → Runs z 1 none (cond b [] (instr.Immediate Addi h r 0 ∷ [])) (λ env s. HeldAt z s × (s.regs r < 2 ^ 32))
-          (λ env s t. Numbered z h (s.regs r) s t)
-      by_same true e = idle (λ env s given. record {
+  moved_in r low few =
+      by_test (h == r)
+      (λ e. idle (λ env s given. record {
         held = given.0;
         there = ap s.regs (eqb-true h r e);
         same = refl;
         others = λ q apart. refl;
-      })
-      by_same false e =
-          weaken
-          (λ env s fine given. given.0)
-          (λ env s t fine given done.
-          let sum : sum_of (s.regs r) 0 ≡ s.regs r = omega (arith, given.1) in
-          subst (λ v. Numbered z h v s t) sum done)
-          (added r 0 low few (omega arith))
+      }))
+      (λ e. weaken
+      (λ env s fine given. given.0)
+      (λ env s t fine given done.
+      let sum : sum_of (s.regs r) 0 ≡ s.regs r = omega (arith, given.1) in
+      subst (λ v. Numbered z h v s t) sum done)
+      (added r 0 low few (omega arith)))
 
   -- the home has the number that the counter has
   number_there : (i : ℕ) (env : StraightState) (s : machine.State) → env.variables x ≡ i ∷ [] → Ready z env s

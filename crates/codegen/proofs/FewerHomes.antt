@@ -2,7 +2,7 @@
 use Rattle.std.proofs.Common.{◌≡◌, ℕ, zero, suc, ◌+◌, ◌<◌, ◌≤◌, ◌==◌, ◌||◌, Bool, true, false, List, [], ◌∷◌, ◌++◌}
 use Rattle.std.proofs.Common.{length, Option, None, Some, refl, sym, ap, ap₂, ◌∙◌, arith, eq-eqb, if◌then◌else◌}
 use Rattle.std.proofs.Common.{is_some}
-use Rattle.std.proofs.lemmas.Bool.{or_parts, true≢false}
+use Rattle.std.proofs.lemmas.Bool.{false_from_ne_true, or_parts, true≢false}
 use Rattle.codegen.proofs.Choices.{of_choice, when_not}
 use Rattle.codegen.proofs.Language.{array, branch, first, FlatVariable, nothing, put, repeats, set, element_bytes}
 use Rattle.codegen.proofs.Language.{StraightBlock, StraightTree, take, TermTree}
@@ -102,22 +102,15 @@ module _ (declared : List FlatVariable) (a : Allocation) (left_out : ℕ → Boo
   Spares named = (y : ℕ) → left_out y ≡ true → named y ≡ false
 
   stays : (x : ℕ) → Spares (λ y. x == y) → left_out x ≡ false
-  stays x spares = by_test (left_out x) refl
-    where
-      by_test : (out : Bool) → left_out x ≡ out → left_out x ≡ false
-      by_test true is = absurd (true≢false (sym (eq-eqb x x refl) ∙ spares x is))
-      by_test false is = is
+  stays x spares = false_from_ne_true (left_out x) (λ is. true≢false (sym (eq-eqb x x refl) ∙ spares x is))
 
   same_home : (x : ℕ) → Spares (λ y. x == y) → home_of b.homes x ≡ home_of a.homes x
   same_home x spares = home_kept a left_out x (stays x spares)
 
   pub control_same : (c : ℕ) → control_location declared b c ≡ control_location declared a c
-  control_same c = by_test (left_out (length declared + c)) refl
-    where
-      by_test : (out : Bool) → left_out (length declared + c) ≡ out
-          → control_location declared b c ≡ control_location declared a c
-      by_test true is = absurd (omega (arith, variables (length declared + c) is))
-      by_test false is = rw (home_kept a left_out (length declared + c) is) refl
+  control_same c =
+      let x = length declared + c in
+      rw (home_kept a left_out x (false_from_ne_true (left_out x) (λ is. omega (arith, variables x is)))) refl
 
   location_same : (x : ℕ) → Spares (λ y. x == y) → variable_location declared b x ≡ variable_location declared a x
   location_same x spares = rw (same_home x spares) refl

@@ -71,7 +71,8 @@ module _ (z : Setting) where
           ∙ ready.homes_there y other e is (alike y (eqb-false y x q) ∙ here));
       variables_there = λ y e j is out more.
           cond_both (y == x) (v ∷ []) (env.variables y)
-          (λ (l : List ℕ). number_at t.bytes (bytes_of e) (z.frame + place_of z.declared y e j) ≡ Some (slice_index l j))
+          (λ (l : List ℕ). number_at t.bytes (bytes_of e) (z.frame + place_of z.declared y e j)
+          ≡ Some (slice_index l j))
           (λ q. absurd (none-some home (sym out ∙ (ap (λ n. home_of z.allocation.homes n) (eqb-true y x q) ∙ at))))
           (λ q. variables_kept (with_homes z a allocated) (base_of z) env s t (omega arith) ready kept y e j is
           (alike y (eqb-false y x q) ∙ out) more);

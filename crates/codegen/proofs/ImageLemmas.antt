@@ -1,13 +1,13 @@
 -- Straight code within the limits has room in a frame and in an image, and the fields of its image are allowed.
-use Rattle.std.proofs.Common.{◌≡◌, ℕ, suc, ◌+◌, ◌*◌, ◌%◌, ◌^◌, ◌<◌, ◌≤◌, true, List, [], ◌∷◌, length, map, All, Option}
+use Rattle.std.proofs.Common.{◌≡◌, ℕ, suc, ◌+◌, ◌*◌, ◌%◌, ◌^◌, ◌<◌, ◌≤◌, true, List, [], ◌∷◌, length, map, Option}
 use Rattle.std.proofs.Common.{None, Some, IfSome, refl, sym, ap, subst, ◌∙◌, arith, length-append, zero, take, Bool}
 use Rattle.std.proofs.Common.{if◌then◌else◌}
-use Rattle.codegen.proofs.Logic.{eq-eqb, le-leb, and_from, length-map, recursion_from_All, option_map, parameter_words}
+use Rattle.codegen.proofs.Logic.{eq-eqb, le-leb, and_from, length-map, option_map, parameter_words}
 use Rattle.codegen.proofs.Logic.{load_length, none-some, typed_among, same_Some}
 use Rattle.std.specs.List.{AllByRecursion}
 use Rattle.codegen.proofs.Machine.{word_of, IsImage, AreSlots, IsResultSlot, is_length, slot_end, result_end, slots_end}
-use Rattle.codegen.proofs.Machine.{Slot, ResultSlot, program_base, program_code, program_slots, result_slot, image_of}
-use Rattle.codegen.proofs.Machine.{image_within, most_words, step_limit, Fields, result_code, slots_from, result_offset}
+use Rattle.codegen.proofs.Machine.{program_base, program_code, program_slots, result_slot, image_of}
+use Rattle.codegen.proofs.Machine.{image_within, most_words, Fields, result_code, slots_from, result_offset}
 use Rattle.codegen.proofs.Machine.{HasRoom, Allocation, depth_in_all, entry_code, HavePlaces, home_count, IsAmong}
 use Rattle.codegen.proofs.Machine.{IsFitting, Instr, plain, word_offset}
 use Rattle.codegen.proofs.FewerHomes.{homes_fewer}
@@ -156,7 +156,7 @@ module _ (a : Allocation) (p : StraightProgram) where
       (omega (arith, words_of_code, short)))
 
 -- the fields that are generated for a program with room are allowed, whoever the observer is
-image_allowed : (a : Allocation) (p : StraightProgram) (profile : Profile) → HasRoom p → IsFitting p a
+pub image_allowed : (a : Allocation) (p : StraightProgram) (profile : Profile) → HasRoom p → IsFitting p a
     → length (program_code a p) ≤ most_words p.nodes
     → AllByRecursion (λ word. word < 2 ^ 32) (map word_of (program_code a p))
     → IsImage (record (image_of a p) { profile = profile })
@@ -179,27 +179,6 @@ image_allowed a p profile room fitting short fit =
       word_count = omega (arith, length-map {B = ℕ} (program_code a p) word_of, short, room.nodes);
       words = fit;
     }
-
--- so are fields that are equal to them, one by one
-pub fields_allowed : (a : Allocation) (p : StraightProgram) → HasRoom p → IsFitting p a
-    → length (program_code a p) ≤ most_words p.nodes
-    → (profile : Profile) (slots : List Slot) (returned : Option ResultSlot) (frame steps : ℕ) (words : List ℕ)
-    → slots ≡ slots_from 0 p.parameters → returned ≡ option_map (result_slot p.declared) p.returned
-    → frame ≡ program_base p + 4 * program_slots a p → steps ≡ step_limit p.work
-    → words ≡ map word_of (program_code a p) → All (λ word. word < 2 ^ 32) words
-    → IsImage (record {
-      profile = profile;
-      slots = slots;
-      returned = returned;
-      frame_bytes = frame;
-      max_steps = steps;
-      words = words;
-    })
-fields_allowed a p room fitting short profile slots returned frame steps words one two three four five fit =
-    let allowed = image_allowed a p profile room fitting short
-    (subst (AllByRecursion (λ word. word < 2 ^ 32)) five
-    (recursion_from_All (λ word. word < 2 ^ 32) words fit)) in
-    rw (one, two, three, four, five) allowed
 
 -- Room.
 

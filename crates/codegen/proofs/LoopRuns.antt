@@ -134,8 +134,8 @@ module _ (z : Setting) (depth : ℕ) (within : depth < z.depths) where
         homes = homes_moved z (put Sw 6 o ∷ []) env s t refl moved;
       } in
       record {
-        ready = ready_set z x i counter_type false known away (omega (arith, counts.bound_small, counts.left_is)) env s t
-            given.0.ready wrote;
+        ready = ready_set z x i counter_type false known away (omega (arith, counts.bound_small, counts.left_is)) env
+            s t given.0.ready wrote;
         six = ap (λ (regs : ℕ → ℕ). regs 6) moved.regs ∙ given.1;
         hidden = hidden_wrote z depth 4 o i s t (omega (arith, before)) wrote;
         bound = other_number z 4 o i 4 (next + 4) s t wrote (inr (omega (arith, before)));

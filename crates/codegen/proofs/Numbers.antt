@@ -54,12 +54,11 @@ numbers_there bytes size at (v ∷ vs) (suc i) fits below =
     ap (λ a. number_at (with_numbers next size (at + size) vs) size a) there
     ∙ numbers_there next size (at + size) vs i (λ j less. fits (suc j) (omega (arith, less))) (omega (arith, below))
 
-within_zeros : (base n a : ℕ) → base ≤ a → a < base + n → (nat_le base a && nat_lt a (base + n)) ≡ true
-within_zeros base n a low high = grind (arith, nat_tests)
-
 -- each byte in the zeros is 0
 pub zero_byte : (base n a : ℕ) → base ≤ a → a < base + n → zeros base n a ≡ Some 0
-zero_byte base n a low high = ap (λ b. cond b (Some 0) None) (within_zeros base n a low high)
+zero_byte base n a low high =
+    let inside : (nat_le base a && nat_lt a (base + n)) ≡ true = grind (arith, nat_tests) in
+    ap (λ b. cond b (Some 0) None) inside
 
 -- and a number is 0 where its bytes are, off a base
 pub zero_number : (bytes : ByteMap) (base n o : ℕ) → ((b : ℕ) → o ≤ b → b < o + n → bytes (base + b) ≡ Some 0)

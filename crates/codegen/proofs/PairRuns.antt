@@ -1,5 +1,5 @@
 -- Two operands that are read one after the other: where the second comes into its register, the first stays in its own.
-use Rattle.std.proofs.Common.{◌≡◌, ℕ, ◌+◌, ◌*◌, ◌≤◌, false, List, ◌++◌, ◌⊎◌, inl, inr, ap, ◌∙◌, arith}
+use Rattle.std.proofs.Common.{◌≡◌, ℕ, ◌+◌, ◌*◌, ◌≤◌, false, List, ◌++◌, ⊎_elim, ap, ◌∙◌, arith}
 use Rattle.codegen.proofs.Language.{HasType, StraightState, TermTree, WordType, path_in, term_nodes, types_of, value_in}
 use Rattle.codegen.proofs.Logic.{base_of, home_beside, HomesKept, IsHome, Kept, nat_tests, place_target, Ready, gives}
 use Rattle.codegen.proofs.Logic.{ready_after, Runs, seq, Setting, Steps, steps_of, weaken, works_at}
@@ -49,14 +49,12 @@ module _ (z : Setting) (first second : TermTree) where
   first_source = read_source z first 5 (omega arith) (omega arith)
 
   first_stays : works_at z.allocation.count 1 6 first_register ≡ false
-  first_stays = by_source first_source.is
-    where
-      by_source : (first_register ≡ 5) ⊎ IsHome z.allocation.count first_register
-          → works_at z.allocation.count 1 6 first_register ≡ false
-      by_source (inl is) = ap (works_at z.allocation.count 1 6) is ∙ first_beside z.allocation.count
-      by_source (inr home) =
-          let some = z.allocated.some in
-          home_beside z.allocation.count 1 6 first_register home.0 home.1 (λ e. omega (arith, some, home.0, e))
+  first_stays =
+      ⊎_elim
+      (λ (is : first_register ≡ 5). ap (works_at z.allocation.count 1 6) is ∙ first_beside z.allocation.count)
+      (λ (home : IsHome z.allocation.count first_register).
+      home_beside z.allocation.count 1 6 first_register home.0 home.1 (λ e. omega (arith, z.allocated.some, home.0, e)))
+      first_source.is
 
   pub second_runs : {word : WordType} → HasType (types_of z.code.profile z.declared) second word
       → base_of z + 4 * slots_to z.allocation.count (height_of second + 1) ≤ z.size

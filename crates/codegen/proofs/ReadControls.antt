@@ -1,12 +1,12 @@
 -- What a program reads is kept in its optimised code: each place that reads a control value gives it some weight.
-use Rattle.std.proofs.Common.{◌≡◌, ⊎_elim, ℕ, ◌+◌, ◌<◌, ◌≤◌, ◌==◌, Bool, true, false, List, [], length, map, Option}
+use Rattle.std.proofs.Common.{◌≡◌, ◌≢◌, ⊎_elim, ℕ, ◌+◌, ◌<◌, ◌≤◌, ◌==◌, Bool, false, List, [], length, map, Option}
 use Rattle.std.proofs.Common.{None, Some, slice_get, slice_index, min, ne_eqb, refl, ap, subst, ◌∙◌, arith, unwrap_or}
 use Rattle.std.proofs.Common.{replicate}
 use Rattle.std.proofs.lemmas.List.{get_or-set_other, get_or-set_same}
 use Rattle.std.proofs.lemmas.Option.{slice_get-map, slice_get-get_or, slice_get_past}
 use Rattle.branch_removal.specs.Straight as straight
 use Rattle.codegen.proofs.Language.{StraightBlock, StraightProgram, StraightTree, first, nothing}
-use Rattle.codegen.proofs.Logic.{cases_lt, eqb-true, eqb-false, option_map}
+use Rattle.codegen.proofs.Logic.{cases_eq, cases_lt, option_map}
 use Rattle.codegen.proofs.Machine.{AllReadKept, IsKeptWithin, ReadsKept}
 use Rattle.codegen.specs.private.Reads.{unread_of}
 use Rattle.branch_removal.specs.Uses.{greatest_weight, used, weight_inside}
@@ -24,19 +24,14 @@ used_weighs n x weights some below =
     omega (arith, some, get_or-set_same weights x (min (slice_index weights x + n) greatest_weight) 0 below)
 
 used_stays : (n x c : ℕ) (weights : List ℕ) → c < length weights → Weighs weights c → Weighs (used n x weights) c
-used_stays n x c weights below weighs = by_test (c == x) refl
-  where
-    by_test : (b : Bool) → (c == x) ≡ b → Weighs (used n x weights) c
-    by_test true same =
-        let e = eqb-true c x same in
-        let own = get_or-set_same weights c (min (slice_index weights c + n) greatest_weight) 0 below in
-        subst (λ y. Weighs (used n y weights) c) e (omega (arith, weighs, own))
-    by_test false other =
-        omega (
-          arith,
-          weighs,
-          get_or-set_other weights x c (min (slice_index weights x + n) greatest_weight) 0 (eqb-false c x other),
-        )
+used_stays n x c weights below weighs =
+    let more = min (slice_index weights c + n) greatest_weight in
+    ⊎_elim
+    (λ (same : c ≡ x).
+    subst (λ y. Weighs (used n y weights) c) same (omega (arith, weighs, get_or-set_same weights c more 0 below)))
+    (λ (apart : c ≢ x).
+    omega (arith, weighs, get_or-set_other weights x c (min (slice_index weights x + n) greatest_weight) 0 apart))
+    (cases_eq c x)
 
 -- so what has weight, where it has a number at all, has weight behind each use
 abbrev HasWeight : ℕ → List ℕ → Type 0

@@ -1,11 +1,12 @@
 -- The words of an image, from its base on, and words that stand among others: they run as they do alone.
-use Rattle.std.proofs.Common.{◌≡◌, ℕ, zero, suc, ◌+◌, ◌-◌, ◌*◌, ◌/◌, ◌%◌, ◌^◌, ◌<◌, ◌==◌, ◌&&◌, Bool, true, false, cond}
-use Rattle.std.proofs.Common.{nat_le, List, [], ◌∷◌, ◌++◌, length, map, None, Some, slice_get, refl, sym, ap, ◌∙◌}
+use Rattle.std.proofs.Common.{◌≡◌, ℕ, zero, suc, ◌+◌, ◌-◌, ◌*◌, ◌/◌, ◌%◌, ◌^◌, ◌<◌, ◌==◌, ◌&&◌, true}
+use Rattle.std.proofs.Common.{nat_le, List, [], ◌∷◌, ◌++◌, length, map, Some, slice_get, refl, sym, ap, ◌∙◌}
 use Rattle.std.proofs.Common.{subst, arith, ◌≤◌, length-append, append_assoc}
 use Rattle.codegen.proofs.Language.{Profile}
 use Rattle.codegen.proofs.Machine.{body_words, Stand, Instr, word_of, Observation, Leads, stays, turns, State, Code}
 use Rattle.codegen.proofs.Machine.{goes_on, word_at, Turn, executes}
 use Rattle.codegen.proofs.Logic.{nat_tests, none-some, Placed}
+use Rattle.codegen.proofs.expression_code_lemmas.WorkRegisters.{when_some}
 
 -- The words of an image.
 
@@ -93,14 +94,11 @@ pub record IsWordAt (start : ℕ) (words : List ℕ) (q w : ℕ) : Type 0 where
   pub there : q ≡ start + 4 * number
   pub is : slice_get words number ≡ Some w
 
-word_by : (start : ℕ) (words : List ℕ) (q w : ℕ) (b : Bool) → (nat_le start q && ((q - start) % 4 == 0)) ≡ b
-    → cond b (slice_get words ((q - start) / 4)) None ≡ Some w → IsWordAt start words q w
-word_by start words q w true on is = record { number = (q - start) / 4; there = grind (arith, nat_tests); is = is }
-word_by start words q w false on is = absurd (none-some w is)
-
 pub word_alone : (profile : Profile) (start : ℕ) (words : List ℕ) (q w : ℕ)
     → word_at (words_alone profile start words) q ≡ Some w → IsWordAt start words q w
-word_alone profile start words q w is = word_by start words q w (nat_le start q && ((q - start) % 4 == 0)) refl is
+word_alone profile start words q w is =
+    let both = when_some (nat_le start q && ((q - start) % 4 == 0)) (slice_get words ((q - start) / 4)) w is in
+    record { number = (q - start) / 4; there = grind (arith, nat_tests, both.0); is = both.1 }
 
 -- Turns.
 

@@ -1,6 +1,6 @@
 -- What is put into an element for an expression: it is read as that expression is, and its store makes the same of it.
-use Rattle.std.proofs.Common.{◌∙◌, ◌≡◌, ℕ, ◌%◌, ◌^◌, ◌<◌, ◌≤◌, Bool, true, false, if◌then◌else◌, refl, sym, arith}
-use Rattle.std.proofs.lemmas.Bool.{false≢true}
+use Rattle.std.proofs.Common.{◌∙◌, ◌≡◌, ℕ, ◌%◌, ◌^◌, ◌<◌, ◌≤◌, true, refl, sym, arith}
+use Rattle.std.proofs.lemmas.Bool.{cond_both, false≢true}
 use Rattle.codegen.proofs.Choices.{of_choice}
 use Rattle.codegen.proofs.Language.{bits_of, element_bytes, HasType, Kind, labelled, path_in, term_nodes, TermTree}
 use Rattle.codegen.proofs.Language.{Types, value_in, Values, WordType}
@@ -67,16 +67,13 @@ cut_alike element kind is v = absurd (false≢true is)
 uncut_cut : {types : Types} {e : TermTree} {word : WordType} (element : Kind) → HasType types e word
     → IsCutTo types element e (uncut element e)
 uncut_cut {types = types} element (of_conversion {kind = kind} {other = other} {operand = e} {label = label} has number) =
-    by_test (cuts element kind) refl
-  where
-    by_test : (b : Bool) → cuts element kind ≡ b
-        → IsCutTo types element (convert kind e) (if b then e else convert kind e)
-    by_test true is = record {
+    cond_both (cuts element kind) e (convert kind e) (IsCutTo types element (convert kind e))
+    (λ is. record {
       word = labelled other label;
       has_type = has;
       cut = λ m fits. cut_alike element kind is (value_in m e);
-    }
-    by_test false is = itself element (of_conversion {kind = kind} {label = label} has number)
+    })
+    (λ is. itself element (of_conversion {kind = kind} {label = label} has number))
 uncut_cut element has = itself element has
 
 pub stored_cut : {types : Types} {e : TermTree} {word : WordType} (a : Allocation) (element : Kind)

@@ -5,7 +5,8 @@ use Rattle.std.proofs.Common.{arith, bit_and, append_assoc, cond}
 use Rattle.codegen.proofs.Logic.{lt-ltb, value_fits, steps_of, mask_of, mask_when, mask_otherwise, masks_join, Setting}
 use Rattle.codegen.proofs.Logic.{base_of, Runs, gives, cheaper, as_code, Ready, eqb-true, eqb-false, IsHome, is_free}
 use Rattle.codegen.proofs.Logic.{kept_by, at_control, HeldAt, Kept, kept_then, mask_fits, quiet, ready_after, Held}
-use Rattle.codegen.proofs.Logic.{free_from, none, computing_within, unwritten, none_low, idle}
+use Rattle.codegen.proofs.Logic.{free_from, none, idle}
+use Rattle.codegen.proofs.CountingRuns.{one_computed}
 use Rattle.codegen.proofs.Language.{TermTree, value_in, term_nodes, types_of, HasType, StraightState, holds, after}
 use Rattle.codegen.proofs.Language.{IsAmong, Boolean, Label, labelled}
 use Rattle.branch_removal.specs.Straight as straight
@@ -21,7 +22,7 @@ use Rattle.codegen.proofs.Masks.{mask_apart, mask_register, mask_runs, mask_free
 use Rattle.codegen.proofs.Masks.{ready_taken, mask_beside}
 use Rattle.codegen.proofs.program_logic_lemmas.Computing.{computed_value, computes, written_register}
 use Rattle.codegen.proofs.expression_code_lemmas.WorkRegisters.{IsFree}
-use Rattle.codegen.proofs.expression_code_lemmas.Moves.{register-at, written}
+use Rattle.codegen.proofs.expression_code_lemmas.Moves.{register-at}
 use Rattle.rv_machine.specs.Registers.{register}
 
 -- Two instructions that compute, each unless nothing reads what it writes.
@@ -42,14 +43,8 @@ module _ (z : Setting) where
       idle (λ env s held. (held, refl, λ q other. refl, λ read. absurd (true≢false read)))
   one_runs false i plain some =
       gives
-      (λ env s t fine held done. (
-        done.held,
-        done.same,
-        λ q other. ap (λ (regs : ℕ → ℕ). regs q) done.registers ∙ unwritten s.regs (written_register i) _ q other,
-        λ read. ap (λ (regs : ℕ → ℕ). regs (written_register i)) done.registers
-            ∙ written s.regs (written_register i) _ some,
-      ))
-      (computing_within z is_free (i ∷ []) (ap (λ b. b && true) plain) none_low)
+      (λ env s t fine held done. (done.held, done.same, done.others, λ read. done.there))
+      (one_computed z i plain some)
 
   -- the second does not read what the first writes
   both_run : (x y : Bool) (i j : Instr) → computes is_free i ≡ true → computes is_free j ≡ true
@@ -208,11 +203,10 @@ module _ (z : Setting) where
         (gives
         (λ env s t fine ready done.
         let m0 = done.first.middle in
-        let m = done.middle in
         let one = done.first.first in
         let fetched = done.first.second in
         let two = done.second in
-        let mask = register-at m.regs k k_free.nonzero ∙ fetched.there in
+        let mask = register-at done.middle.regs k k_free.nonzero ∙ fetched.there in
         record {
           held = two.held;
           kept = kept_then z (base_of z) s m0 t one.kept (kept_by z (base_of z) m0 t (two.same ∙ fetched.same));

@@ -12,7 +12,7 @@ use Rattle.codegen.proofs.Language.{TermTree, word_as, value_in, term_nodes, typ
 use Rattle.codegen.proofs.Language.{with_variable, with_element, after, IsSet, WordType, bits_of, FlatVariable, HasType}
 use Rattle.codegen.proofs.Language.{numbers_in}
 use Rattle.codegen.proofs.Machine.{at_home, control_location, fetch_code, home_of, InSlot, Instr, is_unread, merge_code}
-use Rattle.codegen.proofs.Machine.{set_under_code, read_code, read_register, variable_location, variable_offset}
+use Rattle.codegen.proofs.Machine.{set_under_code, read_code, read_register, variable_offset}
 use Rattle.codegen.proofs.Machine.{slots_to, load_code, store_code, height_of, Sw, number_at, statement_code, Location}
 use Rattle.rv_machine.specs.Machine as machine
 use Rattle.codegen.proofs.Slots.{Shown, alone, ready_same, suits_fits, read_runs, read_source, source_apart}
@@ -26,6 +26,7 @@ use Rattle.std.specs.Int.Bits.{and_zero_r}
 use Rattle.codegen.specs.private.Erased.{erase_code, erase_under_code}
 use Rattle.codegen.specs.private.Words.{gives_zero}
 use Rattle.codegen.proofs.program_logic_lemmas.Computing.{register_left}
+use Rattle.codegen.proofs.program_logic_lemmas.Pieces.{by_test}
 use Rattle.codegen.proofs.expression_code_lemmas.Moves.{Computed}
 use Rattle.codegen.proofs.expression_code_lemmas.NumberCode.{zero_known}
 use Rattle.codegen.proofs.expression_code_lemmas.WorkRegisters.{IsFree}
@@ -403,16 +404,11 @@ module _ (z : Setting) (depth : ℕ) (within : depth ≤ z.depths) (c : ℕ) (am
 
       pub set_under_runs : Sets (32 * (1 + term_nodes value)) (steps_of value)
           (statement_code z.declared z.allocation z.controls z.depths depth (set (Some c) x value))
-      set_under_runs = by_zero (gives_zero z.allocation value) refl
-        where
-          by_zero : (b : Bool) → gives_zero z.allocation value ≡ b
-              → Sets (32 * (1 + term_nodes value)) (steps_of value)
-              (if b then erase_under_code (variable_location z.declared z.allocation x) control
-              else read_code z.declared z.allocation (base_of z) 5 0 value
-              ++ set_under_code r (variable_location z.declared z.allocation x) control)
-          by_zero true is =
-              let zero = zero_known z.allocation value is in
-              along (λ env. (known value 0 zero env.variables).1)
-              (cheaper (omega arith)
-              (erased_at (λ env. (known value 0 zero env.variables).0) (home_of z.allocation.homes x) refl))
-          by_zero false is = merged_at (home_of z.allocation.homes x) refl
+      set_under_runs =
+          by_test (gives_zero z.allocation value)
+          (λ is.
+          let zero = zero_known z.allocation value is in
+          along (λ env. (known value 0 zero env.variables).1)
+          (cheaper (omega arith)
+          (erased_at (λ env. (known value 0 zero env.variables).0) (home_of z.allocation.homes x) refl)))
+          (λ is. merged_at (home_of z.allocation.homes x) refl)

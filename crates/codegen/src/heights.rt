@@ -88,7 +88,8 @@ fn extent_of_all(statements: &[StraightStatement]) -> Extent
     Extent { height, depth }
 }
 
-/// The extent of a program: its result is computed like a statement.
+/// The extent of a program: that of its statements, and how many temporaries its result takes. The program is well
+/// typed, and within the limits.
 pub fn program_extent(straight: &Straight<'_>) -> Extent
     ensures height { result.height ≡ program_height straight.now }
     ensures depth { result.depth ≡ depth_in_all straight.now.body }

@@ -1,7 +1,9 @@
-use Rattle.std.proofs.Common.{◌≡◌, ◌+◌, ◌*◌, ◌≤◌, List, length, map, ap, ap₂, subst, ◌∙◌}
+use Rattle.std.proofs.Common.{◌≡◌, ◌+◌, ◌*◌, ◌^◌, ◌<◌, ◌≤◌, List, length, map, ap, ap₂, subst, ◌∙◌}
 use Rattle.codegen.proofs.Machine.{program_base, program_slots, step_limit, Frame, slots_from, temporaries_offset}
 use Rattle.codegen.proofs.Machine.{most_words, word_of, Instr, slots_to}
-use Rattle.codegen.proofs.ImageLemmas.{fields_allowed}
+use Rattle.codegen.proofs.ImageLemmas.{image_allowed}
+use Rattle.codegen.proofs.Logic.{recursion_from_All}
+use Rattle.std.specs.List.{AllByRecursion}
 use Rattle.codegen.proofs.generator.listed.Goals as goal
 
 pub new-requires : goal.new-requires
@@ -16,6 +18,7 @@ new-requires c =
     let steps = c.step_limit-max_steps.ensures ∙ ap step_limit c.work.ensures in
     let words = c.in_ok-words.ensures.words ∙ ap (λ code. map word_of code) c.requires.code in
     let short = subst (λ (code : List Instr). length code ≤ most_words p.nodes) c.requires.code c.requires.within in
-    fields_allowed a p c.requires.room c.requires.fitting short _ c.in_ok-slots.slots.items c.result_slot-returned.result
-    (c.temporaries.result + 4 * c.temporary_slots.result) c.step_limit-max_steps.result c.in_ok-words.words.items
-    slots c.result_slot-returned.ensures frame steps words c.in_ok-words.ensures.fit
+    let fit = recursion_from_All (λ word. word < 2 ^ 32) c.in_ok-words.words.items c.in_ok-words.ensures.fit in
+    rw (slots, c.result_slot-returned.ensures, frame, steps, words)
+    (image_allowed a p _ c.requires.room c.requires.fitting short
+    (subst (AllByRecursion (λ word. word < 2 ^ 32)) words fit))
