@@ -1,20 +1,19 @@
 -- The arguments, loaded: what the variables hold, and what lies in the slots; and what the slots hold in the end.
 use Rattle.std.proofs.Common.{◌≡◌, ◌⊎◌, inl, inr, ℕ, zero, suc, ◌+◌, ◌*◌, ◌<◌, ◌≤◌, true, List, [], ◌∷◌, ◌++◌, length}
-use Rattle.std.proofs.Common.{map, take, drop, replicate, Option, None, Some, is_some, slice_get, slice_index, refl}
+use Rattle.std.proofs.Common.{map, take, drop, Option, None, Some, is_some, slice_get, slice_index, refl}
 use Rattle.std.proofs.Common.{sym, ap, ap₂, ◌∙◌, subst, arith, unwrap_or, false}
 use Rattle.std.proofs.lemmas.List.{get_or-replicate}
-use Rattle.inline.proofs.Fitting.{some_bit}
-use Rattle.inline.proofs.Parameters.{argument_count}
+use Rattle.inline.proofs.FittingBodies.{argument_held, given_fits, given_none}
 use Rattle.codegen.proofs.Machine.{result_offset, control_offset, slots_from, variable_offset, with_numbers}
 use Rattle.codegen.proofs.Machine.{with_argument, with_arguments, word_in, numbers_at, array_in, arrays_in, ByteMap}
 use Rattle.codegen.proofs.Machine.{number_at, with_number, zeros, State, result_slot}
-use Rattle.codegen.proofs.Language.{AreWithin, IsWithin, HasShape, greatest_of, words_of, FlatVariable, IsHeld}
-use Rattle.codegen.proofs.Language.{IsWithinKind, numbers_in, declaration_of}
+use Rattle.codegen.proofs.Language.{AreWithin, IsWithin, HasShape, words_of, FlatVariable}
+use Rattle.codegen.proofs.Language.{numbers_in, declaration_of}
 use Rattle.codegen.proofs.Language.{TermTree, given, Values, value_in, array_of, arrays_from, declared_words, Types}
 use Rattle.codegen.proofs.Language.{IsResult, Form, SingleWord, FixedArray, MutableArray, Kind, Boolean, Label, Param}
 use Rattle.codegen.proofs.Language.{WordType, Arg, Word, Array, element_bytes, array_words}
 use Rattle.codegen.proofs.Logic.{number_at_same, place_within, none-some, bytes_by, bytes_of, place_of, Setting}
-use Rattle.codegen.proofs.Logic.{place_ends, option_map, length-replicate, All-replicate, same_Some}
+use Rattle.codegen.proofs.Logic.{place_ends, option_map}
 use Rattle.codegen.proofs.Slots.{Laid, cut_number}
 use Rattle.inline.specs.FlatSize as flat_size
 use Rattle.codegen.proofs.Numbers.{numbers_beside, number_data, numbers_data, numbers_there, zero_byte, zero_number}
@@ -27,45 +26,6 @@ in_words word (Some n) = in_array word.kind
     in_array : (kind : Kind) → element_bytes kind * n ≤ 4 * array_words kind n
     in_array Boolean = omega arith
     in_array kind = omega arith
-
--- The beginning.
-
-within_kind : (kind : Kind) (v : ℕ) → v ≤ greatest_of kind → IsWithinKind kind v
-within_kind Boolean v h = omega (arith, h)
-within_kind other v h = omega (arith, h)
-
-argument_held : (p : Param) (arg : Arg) → IsWithin p arg → IsHeld (declaration_of p) (words_of arg)
-argument_held p arg within = record {
-  count = argument_count p.form p.length arg within.shape;
-  within = λ k d less. within_kind p.kind _ (within.values k d less);
-}
-
-pub held_zeros : (d : FlatVariable) → IsHeld d (replicate (numbers_in d.elements) 0)
-held_zeros d = record {
-  count = length-replicate (numbers_in d.elements) 0;
-  within = All-replicate (IsWithinKind d.word.kind) (numbers_in d.elements) 0 (some_bit d.word.kind);
-}
-
--- without arguments each variable holds zeros
-given_none : (declared : List FlatVariable) (x : ℕ) (d : FlatVariable) → slice_get declared x ≡ Some d
-    → given declared [] x ≡ replicate (numbers_in d.elements) 0
-given_none [] x d is = absurd (none-some d is)
-given_none (e ∷ ds) zero d is = ap (λ (f : FlatVariable). replicate (numbers_in f.elements) 0) (same_Some e d is)
-given_none (e ∷ ds) (suc x) d is = given_none ds x d is
-
--- with arguments for the parameters, which are the first variables, each holds what it is declared as
-given_fits : (ps : List Param) (ds : List FlatVariable) (args : List Arg) → AreWithin ps args
-    → take (length ps) ds ≡ map declaration_of ps → (x : ℕ) (d : FlatVariable) → slice_get ds x ≡ Some d
-    → IsHeld d (given ds args x)
-given_fits [] ds [] within front x d is =
-    subst (λ (l : List ℕ). IsHeld d l) (sym (given_none ds x d is)) (held_zeros d)
-given_fits (p ∷ ps) [] args within front x d is = absurd (none-some d is)
-given_fits (p ∷ ps) (e ∷ ds) (arg ∷ args) within front zero d is =
-    let same : declaration_of p ≡ d = cc in
-    subst (λ (t : FlatVariable). IsHeld t (words_of arg)) same (argument_held p arg within.0)
-given_fits (p ∷ ps) (e ∷ ds) (arg ∷ args) within front (suc x) d is =
-    given_fits ps ds args within.1 (ap (λ xs. drop 1 xs) front) x d is
-given_fits ps ds args within front x d is = absurd within
 
 -- One argument.
 

@@ -17,7 +17,7 @@ use Rattle.codegen.proofs.Logic.{homes_then, is_scratch, scratch_low, unwritten}
 use Rattle.rv_code.specs.declared.instructions.Instr.TheVariants as instr
 use Rattle.rv_machine.specs.Machine as machine
 use Rattle.std.proofs.lemmas.List.{get_or-replicate}
-use Rattle.codegen.proofs.Arguments.{held_zeros}
+use Rattle.inline.proofs.FittingBodies.{held_zeros}
 use Rattle.codegen.proofs.Numbers.{numbers_beside, zero_number}
 use Rattle.codegen.proofs.Slots.{Shown, ready_changed}
 
@@ -104,9 +104,7 @@ module _ (z : Setting) (offset words : ℕ) (aligned : offset % 4 ≡ 0) (inside
 
   begin_runs : Runs z 6 none begin_code (Held z) (λ env s t. Bounded 0 env t × (t.bytes ≡ s.bytes) × HomesKept z s t)
   begin_runs =
-      as_code
-      (append_assoc (constant_code 6 offset ++ instr.Register Add 6 6 2 ∷ []) (constant_code 7 (4 * words))
-      (instr.Register Add 7 7 6 ∷ []))
+      as_code (simp append_assoc)
       (gives
       (λ env s t fine held done.
       let m = done.middle in

@@ -1,8 +1,8 @@
 -- A well-typed body keeps each variable in scope as it is declared.
-use Rattle.std.proofs.Common.{◌≡◌, ℕ, zero, suc, ◌-◌, ◌^◌, ◌<◌, ◌≤◌, ◌==◌, Bool, true, false, List, [], ◌∷◌, length}
-use Rattle.std.proofs.Common.{map, take, drop, All, slice_get, slice_set, Some, sym, ap, ◌∙◌, refl, arith, eqb-true}
+use Rattle.std.proofs.Common.{◌≡◌, ℕ, zero, suc, ◌-◌, ◌^◌, ◌<◌, ◌≤◌, ◌==◌, Bool, true, false}
+use Rattle.std.proofs.Common.{List, [], ◌∷◌, length, map, take, drop, replicate, All, slice_get, slice_set, Some, sym}
+use Rattle.std.proofs.Common.{ap, ◌∙◌, subst, refl, arith, eqb-true, inl, inr}
 use Rattle.std.proofs.lemmas.Bool.{cases_Bool, cond_both}
-use Rattle.std.proofs.Common.{inl, inr}
 use Rattle.std.proofs.lemmas.List.{length-set, length-replicate, length-map}
 use Rattle.std.proofs.lemmas.List.Elements.{All-nil, All-cons, All-set, All-replicate}
 use Rattle.std.proofs.lemmas.Option.{none-some, same_Some}
@@ -10,7 +10,7 @@ use Rattle.language.specs.arguments.Within.{AreWithin, IsWithin, greatest_of, wo
 use Rattle.inline.specs.declared.flat.FlatVariable.{FlatVariable}
 use Rattle.inline.specs.Fitting.{IsWithinKind, IsHeld, Fits}
 use Rattle.inline.specs.Flat.{TermTree, FlatTree, declare, array, assign, put, hold, skip, branch, loop, FlatBlock}
-use Rattle.inline.specs.Flat.{nothing, first, FlatProgram, word_as, array_as, declaration_of}
+use Rattle.inline.specs.Flat.{nothing, first, FlatProgram, word_as, array_as, declaration_of, numbers_in}
 use Rattle.inline.specs.FlatMeaning.{Values, with_value, value_in, elements, after, after_all, given, end_of}
 use Rattle.inline.specs.FlatTyping.{Types, with_type, AllSuit, HasCount, IsTyped, AreTyped, IsTypedProgram}
 use Rattle.inline.specs.FlatTyping.{counter_type, types_after, types_after_all, parameter_types, end_types}
@@ -128,33 +128,58 @@ module _ (all : List FlatVariable) where
         fits_after_all rest (types_after types s) control typed.1 (after m s)
         (fits_after s types control typed.0 m fits)
 
--- Parameters.
+-- The beginning.
 
 within_kind : (kind : Kind) (v : ℕ) → v ≤ greatest_of kind → IsWithinKind kind v
 within_kind Boolean v h = omega (arith, h)
 within_kind other v h = omega (arith, h)
 
-argument_held : (p : Param) (arg : Arg) → IsWithin p arg → IsHeld (declaration_of p) (words_of arg)
+pub argument_held : (p : Param) (arg : Arg) → IsWithin p arg → IsHeld (declaration_of p) (words_of arg)
 argument_held p arg within = record {
   count = argument_count p.form p.length arg within.shape;
   within = λ k d less. within_kind p.kind _ (within.values k d less);
 }
 
-fits_given : (ps : List Param) (ds : List FlatVariable) (args : List Arg) → AreWithin ps args
-    → take (length ps) ds ≡ map declaration_of ps → (x : ℕ) (d : FlatVariable)
-    → slice_get (map declaration_of ps) x ≡ Some d → IsHeld d (given ds args x)
-fits_given [] ds args within front x d is = absurd (none-some d is)
-fits_given (p ∷ ps) [] args within front x d is = absurd cc
-fits_given (p ∷ ps) (e ∷ ds) [] within front x d is = absurd within
-fits_given (p ∷ ps) (e ∷ ds) (arg ∷ args) within front zero d is =
-    rw (← same_Some (declaration_of p) d is) (argument_held p arg within.0)
-fits_given (p ∷ ps) (e ∷ ds) (arg ∷ args) within front (suc x) d is =
-    fits_given ps ds args within.1 (ap (λ xs. drop 1 xs) front) x d is
+pub held_zeros : (d : FlatVariable) → IsHeld d (replicate (numbers_in d.elements) 0)
+held_zeros d = record {
+  count = length-replicate (numbers_in d.elements) 0;
+  within = All-replicate (IsWithinKind d.word.kind) (numbers_in d.elements) 0 (some_bit d.word.kind);
+}
+
+-- without arguments each variable holds zeros
+pub given_none : (declared : List FlatVariable) (x : ℕ) (d : FlatVariable) → slice_get declared x ≡ Some d
+    → given declared [] x ≡ replicate (numbers_in d.elements) 0
+given_none [] x d is = absurd (none-some d is)
+given_none (e ∷ ds) zero d is = ap (λ (f : FlatVariable). replicate (numbers_in f.elements) 0) (same_Some e d is)
+given_none (e ∷ ds) (suc x) d is = given_none ds x d is
+
+-- with arguments for the parameters, which are the first variables, each holds what it is declared as
+pub given_fits : (ps : List Param) (ds : List FlatVariable) (args : List Arg) → AreWithin ps args
+    → take (length ps) ds ≡ map declaration_of ps → (x : ℕ) (d : FlatVariable) → slice_get ds x ≡ Some d
+    → IsHeld d (given ds args x)
+given_fits [] ds [] within front x d is =
+    subst (λ (l : List ℕ). IsHeld d l) (sym (given_none ds x d is)) (held_zeros d)
+given_fits (p ∷ ps) [] args within front x d is = absurd (none-some d is)
+given_fits (p ∷ ps) (e ∷ ds) (arg ∷ args) within front zero d is =
+    let same : declaration_of p ≡ d = cc in
+    subst (λ (t : FlatVariable). IsHeld t (words_of arg)) same (argument_held p arg within.0)
+given_fits (p ∷ ps) (e ∷ ds) (arg ∷ args) within front (suc x) d is =
+    given_fits ps ds args within.1 (ap (λ xs. drop 1 xs) front) x d is
+given_fits ps ds args within front x d is = absurd within
+
+first_there : (n : ℕ) (ds : List FlatVariable) (x : ℕ) (d : FlatVariable) → slice_get (take n ds) x ≡ Some d
+    → slice_get ds x ≡ Some d
+first_there zero ds x d is = absurd (none-some d is)
+first_there (suc n) [] x d is = absurd (none-some d is)
+first_there (suc n) (e ∷ ds) zero d is = is
+first_there (suc n) (e ∷ ds) (suc x) d is = first_there n ds x d is
 
 -- in a well-typed program
 pub parameters_fit : (p : FlatProgram) (args : List Arg) → IsTypedProgram p → AreWithin p.parameters args
     → Fits (parameter_types p.profile p.parameters) (given p.declared args)
-parameters_fit p args typed within x d is = fits_given p.parameters p.declared args within typed.parameters x d is
+parameters_fit p args typed within x d is =
+    given_fits p.parameters p.declared args within typed.parameters x d
+    (first_there (length p.parameters) p.declared x d (ap (λ ds. slice_get ds x) typed.parameters ∙ is))
 
 pub end_fits : (p : FlatProgram) (args : List Arg) → IsTypedProgram p → AreWithin p.parameters args
     → Fits (end_types p) (end_of p args)

@@ -5,6 +5,7 @@ use Rattle.inline.specs.Flat.{TermTree}
 use Rattle.inline.specs.FlatMeaning.{Values, value_in, results_of, path_of_result}
 use Rattle.inline.specs.FlatTyping.{Types, types_of, IsResult}
 use Rattle.inline.specs.Path.{AreFine}
+use Rattle.inline.proofs.FittingBodies.{given_fits}
 use Rattle.language.specs.arguments.Within.{AreWithin}
 use Rattle.language.specs.declared.typing.WordType.{WordType}
 use Rattle.language.specs.declared.values.Arg.{Arg}
@@ -20,7 +21,7 @@ use Rattle.optimisation.specs.constants.private.Known.{Words}
 use Rattle.optimisation.specs.constants.private.Simplification.{knowing_all, simplified_all, nothing_known}
 use Rattle.optimisation.specs.constants.private.Simplification.{simplified_program}
 use Rattle.optimisation.proofs.constants_lemmas.KnownLemmas.{nothing_first, Holds}
-use Rattle.optimisation.proofs.constants_lemmas.Held.{fits_after_all, start_fits}
+use Rattle.optimisation.proofs.constants_lemmas.Held.{fits_after_all}
 use Rattle.optimisation.proofs.constants_lemmas.TermLemmas.{same_suited, fine_parts, fine_suited}
 use Rattle.optimisation.proofs.constants_lemmas.TermTypes.{still_result}
 use Rattle.optimisation.proofs.constants_lemmas.Same.{LeadsTo, all_lead}
@@ -67,7 +68,7 @@ module _ (copies : List ℕ) (p : StraightProgram) where
       first_holds = record {
         agrees = λ f is. absurd (nothing_first (length p.declared) f is);
         kinds = first_kinds;
-        fits = start_fits p.profile p.parameters p.declared args typed.parameters within;
+        fits = given_fits p.parameters p.declared args within typed.parameters;
       }
 
       leads : LeadsTo p.turns (start p args) (simplified_all copies p.declared (nothing_known p) p.body) last_words
