@@ -1,7 +1,7 @@
 -- The code that begins a program: each home gets what lies in its word's slot.
 use Rattle.std.proofs.Common.{◌≡◌, ℕ, zero, suc, ◌+◌, ◌-◌, ◌*◌, ◌%◌, ◌<◌, ◌≤◌, Bool, true, false, cond, nat_lt}
 use Rattle.std.proofs.Common.{below_more, List, [], ◌∷◌, length, get_or, Option, None, Some, slice_get, slice_index}
-use Rattle.std.proofs.Common.{refl, sym, ap, ◌∙◌, subst, arith}
+use Rattle.std.proofs.Common.{refl, sym, ap, ap₂, ◌∙◌, subst, arith}
 use Rattle.std.proofs.lemmas.Option.{slice_get-get_or}
 use Rattle.codegen.proofs.Language.{counter_type, FlatVariable, numbers_in, StraightState, word_as}
 use Rattle.codegen.proofs.Logic.{at_control, bytes_by, bytes_of, cheaper, gives, Holds, idle, lt-ltb, mask_of}
@@ -42,36 +42,29 @@ module _ (z : Setting) (within : length z.allocation.homes ≤ length z.declared
       → number_at s.bytes 4 (z.frame + o) ≡ Some (v env))
 
   -- that of a variable that has a home
-  module _ (x home : ℕ) (below : x < variables) (at : home_of homes x ≡ Some home) where
-    declaration : FlatVariable
-    declaration = get_or z.declared x (word_as counter_type false)
-
-    known : slice_get z.declared x ≡ Some declaration
-    unfolding declaration
-    known = slice_get-get_or z.declared x (word_as counter_type false) below
-
-    one_word : (elements : Option ℕ) → declaration.elements ≡ elements → declaration.elements ≡ None
+  module _ (x home : ℕ) (d : FlatVariable) (known : slice_get z.declared x ≡ Some d)
+      (at : home_of homes x ≡ Some home) where
+    one_word : (elements : Option ℕ) → d.elements ≡ elements → d.elements ≡ None
     one_word None is = is
-    one_word (Some size) is = absurd (none-some home (sym (z.allocated.words x declaration size known is) ∙ at))
+    one_word (Some size) is = absurd (none-some home (sym (z.allocated.words x d size known is) ∙ at))
 
-    is_word : declaration.elements ≡ None
-    is_word = one_word declaration.elements refl
+    is_word : d.elements ≡ None
+    is_word = one_word d.elements refl
 
-    four_bytes : bytes_of declaration ≡ 4
-    four_bytes = ap (bytes_by declaration.word.kind) is_word
+    four_bytes : bytes_of d ≡ 4
+    four_bytes = ap (bytes_by d.word.kind) is_word
 
-    has_one : 0 < numbers_in declaration.elements
+    has_one : 0 < numbers_in d.elements
     has_one = subst (λ (elements : Option ℕ). 0 < numbers_in elements) (sym is_word) (omega arith)
 
     variable_word : HasWord (variable_offset z.declared x) (λ env. slice_index (env.variables x) 0)
     variable_word = (
       omega arith,
-      omega (arith, place_ends z x declaration 0 known has_one, four_bytes),
+      omega (arith, place_ends z x d 0 known has_one, four_bytes),
       λ env s laid.
-          let first : place_of z.declared x declaration 0 ≡ variable_offset z.declared x = omega arith in
-          ap (λ n. number_at s.bytes n (z.frame + variable_offset z.declared x)) (sym four_bytes)
-          ∙ (ap (λ o. number_at s.bytes (bytes_of declaration) (z.frame + o)) (sym first)
-          ∙ laid.slots_there x declaration 0 known has_one),
+          let first : variable_offset z.declared x ≡ place_of z.declared x d 0 = omega arith in
+          ap₂ (λ n o. number_at s.bytes n (z.frame + o)) (sym four_bytes) first
+          ∙ laid.slots_there x d 0 known has_one,
     )
 
   -- and that of a control value
@@ -87,7 +80,10 @@ module _ (z : Setting) (within : length z.allocation.homes ≤ length z.declared
       by_test : (b : Bool) → nat_lt x variables ≡ b
           → HasWord (cond b (variable_offset z.declared x) (control_offset z.declared (x - variables)))
           (λ env. cond b (slice_index (env.variables x) 0) (mask_of (env.controls (x - variables))))
-      by_test true test = variable_word x home (grind (arith, nat_tests, test)) at
+      by_test true test =
+          let any = word_as counter_type false in
+          variable_word x home (get_or z.declared x any)
+          (slice_get-get_or z.declared x any (grind (arith, nat_tests, test))) at
       by_test false test =
           let above : variables ≤ x = grind (arith, nat_tests, test) in
           control_word (x - variables) (omega (arith, above, home_within homes x home at, within))
@@ -158,17 +154,13 @@ module _ (z : Setting) (within : length z.allocation.homes ≤ length z.declared
 
   variable_value : (env : StraightState) (x : ℕ) → x < variables
       → word_value env x ≡ slice_index (env.variables x) 0
-  variable_value env x below =
-      ap (λ b. cond b (slice_index (env.variables x) 0) (mask_of (env.controls (x - variables))))
-      (lt-ltb x variables below)
+  variable_value env x below = rw (lt-ltb x variables below)
 
   control_value : (env : StraightState) (c : ℕ) → word_value env (variables + c) ≡ mask_of (env.controls c)
   control_value env c =
       let behind : nat_lt (variables + c) variables ≡ false = grind (arith, nat_tests) in
       let same : variables + c - variables ≡ c = omega arith in
-      ap (λ b. cond b (slice_index (env.variables (variables + c)) 0)
-      (mask_of (env.controls (variables + c - variables)))) behind
-      ∙ ap (λ i. mask_of (env.controls i)) same
+      rw (behind, same)
 
   -- all homes are filled: so what is laid is shown
   pub entry_runs : Runs z (3 * home_count homes) none (entry_code z.declared 0 homes) (Laid z)

@@ -132,7 +132,7 @@ module _ (z : Setting) where
         let v = value_in env.variables condition in
         let truth = value_fits (types_of z.code.profile z.declared) env.variables ready.fits has in
         let there : register m.regs r ≡ v =
-        register-at m.regs r (λ h. let low = source.low in omega (arith, low, h)) ∙ done.first.there in
+        register-at m.regs r (λ h. omega (arith, source.low, h)) ∙ done.first.there in
         record {
           held = done.second.held;
           kept = kept_then z (base_of z) s m t done.first.kept (kept_by z (base_of z) m t done.second.same);
@@ -159,10 +159,10 @@ module _ (z : Setting) where
       few = lt-ltb k 32 k_free.small
 
       one_plain : computes is_free one ≡ true
-      one_plain = let free = a_free in simp (lt-ltb 4 a free.low, lt-ltb a 32 free.small, few)
+      one_plain = simp (lt-ltb 4 a a_free.low, lt-ltb a 32 a_free.small, few)
 
       other_plain : computes is_free other ≡ true
-      other_plain = let free = b_free in simp (lt-ltb 4 b free.low, lt-ltb b 32 free.small, few)
+      other_plain = simp (lt-ltb 4 b b_free.low, lt-ltb b 32 b_free.small, few)
 
       joins : (last : Bool) → (a == k) ≡ last
           → Runs z 2 none
@@ -178,14 +178,13 @@ module _ (z : Setting) where
             first = done.second;
             second = done.first;
           })
-          (both_run z unread' unread other one other_plain one_plain (let free = b_free in free.nonzero)
-          (let free = a_free in free.nonzero) (λ e. a_beside (sym e))
+          (both_run z unread' unread other one other_plain one_plain b_free.nonzero a_free.nonzero
+          (λ e. a_beside (sym e))
           (λ regs after left. ap₂ bit_and
           (left 7 (λ e. mask_apart z (c + 1) 5 7 (omega arith) (λ e. omega (arith, e)) (sym e)))
           (left k (λ e. a_beside (eqb-true a k same ∙ e)))))
       joins false apart =
-          both_run z unread unread' one other one_plain other_plain (let free = a_free in free.nonzero)
-          (let free = b_free in free.nonzero) a_beside
+          both_run z unread unread' one other one_plain other_plain a_free.nonzero b_free.nonzero a_beside
           (λ regs after left. ap₂ bit_and
           (left 5 (λ e. mask_apart z c 7 5 (omega arith) (λ e. omega (arith, e)) (sym e)))
           (left k (λ e. eqb-false a k apart (sym e))))
@@ -197,7 +196,6 @@ module _ (z : Setting) where
     masked_runs (Some d) among read =
         let k = mask_register z d 6 in
         let k_free = mask_free z d 6 (omega arith) (omega arith) in
-        let is_source = source in
         as_code (simp append_assoc)
         (cheaper (omega arith)
         (gives
@@ -223,7 +221,7 @@ module _ (z : Setting) where
         (quiet
         (quiet
         (masks_in 7 5 (free_from 7 (omega arith) (omega arith)) (free_from 5 (omega arith) (omega arith))
-        (λ e. omega (arith, e)) (source_apart z is_source 7 (omega arith) (λ e. omega (arith, e))))
+        (λ e. omega (arith, e)) (source_apart z source 7 (omega arith) (λ e. omega (arith, e))))
         (mask_runs z d 6 among read (omega arith) (omega arith))
         (λ env s t ready done. ready_after z env s t ready done.held done.kept
         (λ q home. done.homes q home (home_apart z q 7 home (omega arith)) (home_apart z q 5 home (omega arith)))))

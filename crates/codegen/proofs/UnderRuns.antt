@@ -381,7 +381,7 @@ module _ (z : Setting) (depth : ℕ) (within : depth ≤ z.depths) (c : ℕ) (am
       source = read_source z value 5 (omega arith) (omega arith)
 
       r_free : IsFree r
-      r_free = let is = source in free_from r is.low (omega (arith, is.high))
+      r_free = free_from r source.low (omega (arith, source.high))
 
       stays : (regs after : ℕ → ℕ) (v : ℕ) → ((q : ℕ) → q ≢ 6 → q ≢ 7 → after q ≡ regs q) → regs r ≡ v → after r ≡ v
       stays regs after v same there =
