@@ -145,44 +145,33 @@ module _ (declared : List FlatVariable) (a : Allocation) (left_out : ℕ → Boo
   into_same free d place (flat.rotate width e amount) spares =
       rw (at_home_same e spares, operand_same free place e spares, into_same free (own place) place e spares) refl
   into_same free d place (flat.convert kind e) spares =
-      rw (
-        at_home_same e spares,
-        operand_same free place e spares,
-        into_same free (own place) place e spares,
-        into_same free d place e spares,
-      ) refl
+      simp (at_home_same, operand_same, into_same free (own place) place e spares, into_same free d place e spares)
   into_same free d place (flat.element source x size index) spares =
       let one = λ (y : ℕ) (out : left_out y ≡ true). (or_parts _ _ (spares y out)).1 in
       rw (at_home_same index one, operand_same free place index one, into_same free (own place) place index one) refl
   into_same free d place (flat.binary source operator width left right) spares =
-      let one = λ (y : ℕ) (out : left_out y ≡ true). (or_parts _ _ (spares y out)).0 in
-      let two = λ (y : ℕ) (out : left_out y ≡ true). (or_parts _ _ (spares y out)).1 in
-      rw (
-        at_home_same left one,
-        at_home_same right two,
-        operand_same free place left one,
-        operand_same free place right two,
-        operand_same free (place + 1) right two,
+      let parts = λ (y : ℕ) (out : left_out y ≡ true). or_parts _ _ (spares y out) in
+      let one : Spares (λ y. names_in y left) = λ y out. (parts y out).0 in
+      let two : Spares (λ y. names_in y right) = λ y out. (parts y out).1 in
+      simp (
+        at_home_same,
+        operand_same,
         into_same free (own place) place left one,
         into_same free (own place) place right two,
         into_same free (own (place + 1)) (place + 1) right two,
-      ) refl
+      )
   into_same free d place (flat.select condition accepted otherwise) spares =
       let parts = λ (y : ℕ) (out : left_out y ≡ true). neither_of_three _ _ _ (spares y out) in
-      let one = λ (y : ℕ) (out : left_out y ≡ true). (parts y out).0 in
-      let two = λ (y : ℕ) (out : left_out y ≡ true). (parts y out).1 in
-      let three = λ (y : ℕ) (out : left_out y ≡ true). (parts y out).2 in
-      rw (
-        at_home_same condition one,
-        at_home_same accepted two,
-        at_home_same otherwise three,
-        operand_same free place condition one,
-        operand_same free (place + 1) accepted two,
-        operand_same free (place + 2) otherwise three,
+      let one : Spares (λ y. names_in y condition) = λ y out. (parts y out).0 in
+      let two : Spares (λ y. names_in y accepted) = λ y out. (parts y out).1 in
+      let three : Spares (λ y. names_in y otherwise) = λ y out. (parts y out).2 in
+      simp (
+        at_home_same,
+        operand_same,
         into_same free (own place) place condition one,
         into_same free (own (place + 1)) (place + 1) accepted two,
         into_same free (own (place + 2)) (place + 2) otherwise three,
-      ) refl
+      )
 
   read_same : (free r place : ℕ) (e : TermTree) → Spares (λ y. names_in y e)
       → read_code declared b free r place e ≡ read_code declared a free r place e
@@ -232,25 +221,10 @@ module _ (declared : List FlatVariable) (a : Allocation) (left_out : ℕ → Boo
       → put_element_code declared b free within x index value ≡ put_element_code declared a free within x index value
   put_same free None x index value one two =
       let other = stored_value a (kind_at declared x) value in
-      let three = stored_spares (kind_at declared x) value two in
-      rw (
-        read_same free 5 0 index one,
-        read_same free 6 1 other three,
-        read_same free 5 0 other three,
-        register_same 5 index one,
-        register_same 6 other three,
-        register_same 5 other three,
-      ) refl
+      let three : Spares (λ y. names_in y other) = stored_spares (kind_at declared x) value two in
+      simp (read_same, register_same)
   put_same free (Some c) x index value one two =
-      rw (
-        control_same c,
-        read_same free 5 0 index one,
-        read_same free 6 1 value two,
-        read_same free 5 0 value two,
-        register_same 5 index one,
-        register_same 6 value two,
-        register_same 5 value two,
-      ) refl
+      simp (control_same, read_same, register_same)
 
   taken_same : (x y : Bool) (p q r : ℕ) (within : Option ℕ)
       → taken_code declared b x y p q r within ≡ taken_code declared a x y p q r within
@@ -286,12 +260,7 @@ module _ (declared : List FlatVariable) (a : Allocation) (left_out : ℕ → Boo
   branching_same : (free : ℕ) (condition : TermTree) (xs ys : List Instr) → Spares (λ y. names_in y condition)
       → branching_code declared b free condition xs ys ≡ branching_code declared a free condition xs ys
   branching_same free condition xs ys spares =
-      rw (
-        condition_same free condition spares,
-        test_same condition spares,
-        read_same free 5 0 condition spares,
-        register_same 5 condition spares,
-      ) refl
+      simp (condition_same, test_same, read_same, register_same)
 
   -- Loops.
 
@@ -327,13 +296,7 @@ module _ (declared : List FlatVariable) (a : Allocation) (left_out : ℕ → Boo
           put_same (temporaries_offset declared controls depths) within x index value (λ y out. (parts y out).1)
           (λ y out. (parts y out).2)
       statement_same depth (take c within condition) spares =
-          rw (
-            read_same (temporaries_offset declared controls depths) 5 0 condition spares,
-            register_same 5 condition spares,
-            control_same c,
-            control_same (c + 1),
-            taken_same _ _ _ _ _ within,
-          ) refl
+          simp (read_same, register_same, control_same, taken_same)
       statement_same depth (branch condition accepted otherwise) spares =
           let parts = λ (y : ℕ) (out : left_out y ≡ true). neither_of_three _ _ _ (spares y out) in
           let free = temporaries_offset declared controls depths in

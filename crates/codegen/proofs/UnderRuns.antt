@@ -70,12 +70,6 @@ module _ (works : ℕ → Bool) (d t old k : ℕ) (wd : works d ≡ true) (wt : 
   not_zero : {r : ℕ} → IsFree r → (r == 0) ≡ false
   not_zero {r = r} free = ne_eqb r 0 free.nonzero
 
-  old_t : (old == t) ≡ false
-  old_t = ne_eqb old t apart
-
-  k_t : (k == t) ≡ false
-  k_t = ne_eqb k t beside
-
   same : (r : ℕ) → (r == r) ≡ true
   same r = eq-eqb r r refl
 
@@ -88,7 +82,16 @@ module _ (works : ℕ → Bool) (d t old k : ℕ) (wd : works d ≡ true) (wt : 
     plain = simp (wd, wt, few d d_free, few t t_free, few old old_free, few k k_free, few r free);
     makes = λ b v w regs fits old_fits new there mask.
         let mixed : registers_after (merge_code d t r old k) regs d ≡ merged (regs k) (regs old) (regs r) =
-        simp (not_zero d_free, not_zero t_free, not_zero old_free, not_zero k_free, not_zero free, old_t, k_t, same) in
+        simp (
+          not_zero d_free,
+          not_zero t_free,
+          not_zero old_free,
+          not_zero k_free,
+          not_zero free,
+          ne_eqb old t apart,
+          ne_eqb k t beside,
+          same,
+        ) in
         mixed ∙ (ap₂ (λ p q. merged p q (regs r)) mask there
         ∙ (ap (λ q. merged (mask_of b) w q) new ∙ merge b w v old_fits fits));
   }
@@ -103,7 +106,7 @@ module _ (works : ℕ → Bool) (d t old k : ℕ) (wd : works d ≡ true) (wt : 
     plain = simp (wd, wt, few d d_free, few t t_free, few old old_free, few k k_free);
     makes = λ b v w regs fits old_fits zero there mask.
         let mixed : registers_after (erase_code d t old k) regs d ≡ bit_and (regs old) (bit_xor (regs k) 4294967295) =
-        simp (not_zero d_free, not_zero t_free, not_zero old_free, not_zero k_free, old_t, same) in
+        simp (not_zero d_free, not_zero t_free, not_zero old_free, not_zero k_free, ne_eqb old t apart, same) in
         mixed ∙ (ap₂ (λ p q. bit_and p (bit_xor q 4294967295)) there mask ∙ erased b w v zero old_fits);
   }
 
