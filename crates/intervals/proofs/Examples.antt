@@ -4,13 +4,14 @@ use Rattle.inline.specs.declared.flat.FlatVariable.{FlatVariable}
 use Rattle.inline.specs.Flat.{TermTree, number, truth, variable, binary, rotate, convert, select, element, nothing}
 use Rattle.inline.specs.Flat.{first, declare, put, hold, skip, loop, FlatBlock, FlatProgram, word_as, array_as}
 use Rattle.intervals.specs.declared.interval.Interval.{Interval}
-use Rattle.intervals.specs.Intervals.{Bounds, between, interval, operated_interval, prefix_interval}
-use Rattle.intervals.specs.Intervals.{converted_interval}
+use Rattle.intervals.specs.Intervals.{Bounds, between, interval, operated_interval, prefix_interval, converted_interval}
 use Rattle.intervals.specs.Narrowing.{where_false, where_true}
 use Rattle.intervals.specs.Ranges.{counter_interval, most_turns, range_violations, turns_of}
 use Rattle.intervals.specs.Work.{work_of, work_violations}
 use Rattle.language.specs.declared.signature.Kind.TheVariants.{Uint8, Uint16, Uint32}
+use Rattle.language.specs.declared.signature.Label.{Label}
 use Rattle.language.specs.declared.signature.Label.TheVariants.{Public, Secret}
+use Rattle.language.specs.declared.operators.BinaryOperator.{BinaryOperator}
 use Rattle.language.specs.declared.operators.BinaryOperator.TheVariants.{Both, Equal, Less, LessOrEqual, Greater, BitOr}
 use Rattle.language.specs.declared.operators.BinaryOperator.TheVariants.{BitXor, BitAnd, ShiftLeft, ShiftRight, Add}
 use Rattle.language.specs.declared.operators.BinaryOperator.TheVariants.{Subtract, Multiply, Divide, Remainder}
@@ -18,60 +19,35 @@ use Rattle.language.specs.declared.operators.PrefixOperator.TheVariants.{Complem
 use Rattle.language.specs.WellTyped.{labelled}
 use Rattle.word.specs.Places.{origin}
 use Rattle.word.specs.declared.profile.Profile.TheVariants.{P1}
+use Rattle.word.specs.declared.width.Width.{Width}
 use Rattle.word.specs.declared.width.Width.TheVariants.{W8, W32}
 
--- Operators.
+-- Operators: what an operator gives on operands between two bounds, where it wraps, and where it does not.
 
-sum : operated_interval Add W8 (between 3 5) (between 2 4) ≡ between 5 9
-sum = refl
+data Operated : Type 0 where
+  gives : (operator : BinaryOperator) (width : Width) (left right result : Interval)
+      → operated_interval operator width left right ≡ result → Operated
 
-sum_to_the_top : operated_interval Add W8 (between 0 200) (between 0 55) ≡ between 0 255
-sum_to_the_top = refl
-
-sum_that_wraps : operated_interval Add W8 (between 10 200) (between 10 56) ≡ between 0 255
-sum_that_wraps = refl
-
-difference : operated_interval Subtract W32 (between 4 9) (between 1 4) ≡ between 0 8
-difference = refl
-
-difference_that_wraps : operated_interval Subtract W8 (between 3 9) (between 1 4) ≡ between 0 255
-difference_that_wraps = refl
-
-product : operated_interval Multiply W8 (between 2 3) (between 4 85) ≡ between 8 255
-product = refl
-
-product_that_wraps : operated_interval Multiply W8 (between 2 4) (between 4 64) ≡ between 0 255
-product_that_wraps = refl
-
-quotient : operated_interval Divide W8 (between 10 20) (between 3 4) ≡ between 2 6
-quotient = refl
-
-quotient_by_zero : operated_interval Divide W8 (between 10 20) (between 0 4) ≡ between 0 255
-quotient_by_zero = refl
-
-remainder : operated_interval Remainder W32 (between 0 100) (between 1 8) ≡ between 0 7
-remainder = refl
-
-remainder_of_less : operated_interval Remainder W32 (between 0 3) (between 1 8) ≡ between 0 3
-remainder_of_less = refl
-
-mask : operated_interval BitAnd W32 (between 5 4294967295) (between 31 31) ≡ between 0 31
-mask = refl
-
-shift : operated_interval ShiftRight W32 (between 16 40) (between 34 34) ≡ between 4 10
-shift = refl
-
-shift_by_some : operated_interval ShiftRight W32 (between 16 40) (between 1 2) ≡ between 0 40
-shift_by_some = refl
-
-left_shift : operated_interval ShiftLeft W8 (between 1 1) (between 1 1) ≡ between 0 255
-left_shift = refl
-
-bits_set : operated_interval BitOr W8 (between 1 1) (between 2 2) ≡ between 0 255
-bits_set = refl
-
-bits_changed : operated_interval BitXor W8 (between 1 1) (between 2 2) ≡ between 0 255
-bits_changed = refl
+operators : List Operated
+operators =
+    gives Add W8 (between 3 5) (between 2 4) (between 5 9) refl
+    ∷ gives Add W8 (between 0 200) (between 0 55) (between 0 255) refl
+    ∷ gives Add W8 (between 10 200) (between 10 56) (between 0 255) refl
+    ∷ gives Subtract W32 (between 4 9) (between 1 4) (between 0 8) refl
+    ∷ gives Subtract W8 (between 3 9) (between 1 4) (between 0 255) refl
+    ∷ gives Multiply W8 (between 2 3) (between 4 85) (between 8 255) refl
+    ∷ gives Multiply W8 (between 2 4) (between 4 64) (between 0 255) refl
+    ∷ gives Divide W8 (between 10 20) (between 3 4) (between 2 6) refl
+    ∷ gives Divide W8 (between 10 20) (between 0 4) (between 0 255) refl
+    ∷ gives Remainder W32 (between 0 100) (between 1 8) (between 0 7) refl
+    ∷ gives Remainder W32 (between 0 3) (between 1 8) (between 0 3) refl
+    ∷ gives BitAnd W32 (between 5 4294967295) (between 31 31) (between 0 31) refl
+    ∷ gives ShiftRight W32 (between 16 40) (between 34 34) (between 4 10) refl
+    ∷ gives ShiftRight W32 (between 16 40) (between 1 2) (between 0 40) refl
+    ∷ gives ShiftLeft W8 (between 1 1) (between 1 1) (between 0 255) refl
+    ∷ gives BitOr W8 (between 1 1) (between 2 2) (between 0 255) refl
+    ∷ gives BitXor W8 (between 1 1) (between 2 2) (between 0 255) refl
+    ∷ []
 
 complement : prefix_interval Complement W8 ≡ between 0 255
 complement = refl
@@ -102,26 +78,21 @@ i = variable 0
 abbrev byte : ℕ → TermTree
 byte v = number v Uint8
 
-number_alone : interval variables (facts (between 0 255)) (byte 7) ≡ between 7 7
-number_alone = refl
+-- an expression where the first variable is within an interval
+data Expression : Type 0 where
+  lies : (known : Interval) (expression : TermTree) (result : Interval)
+      → interval variables (facts known) expression ≡ result → Expression
 
-known_variable : interval variables (facts (between 3 4)) i ≡ between 3 4
-known_variable = refl
-
-changing_variable : interval variables (facts (between 3 4)) (variable 2) ≡ between 0 65535
-changing_variable = refl
-
-array_element : interval variables (facts (between 3 4)) (element origin 3 4 i) ≡ between 0 255
-array_element = refl
-
-rotation : interval variables (facts (between 3 4)) (rotate W8 i 1) ≡ between 0 255
-rotation = refl
-
-choice : interval variables (facts (between 3 4)) (select (truth true) (byte 9) i) ≡ between 3 9
-choice = refl
-
-truth_as_number : interval variables (facts (between 3 4)) (convert Uint8 (truth true)) ≡ between 0 1
-truth_as_number = refl
+expressions : List Expression
+expressions =
+    lies (between 0 255) (byte 7) (between 7 7) refl
+    ∷ lies (between 3 4) i (between 3 4) refl
+    ∷ lies (between 3 4) (variable 2) (between 0 65535) refl
+    ∷ lies (between 3 4) (element origin 3 4 i) (between 0 255) refl
+    ∷ lies (between 3 4) (rotate W8 i 1) (between 0 255) refl
+    ∷ lies (between 3 4) (select (truth true) (byte 9) i) (between 3 9) refl
+    ∷ lies (between 3 4) (convert Uint8 (truth true)) (between 0 1) refl
+    ∷ []
 
 -- Narrowing.
 
@@ -140,55 +111,29 @@ both a b = binary origin Both W8 a b
 abbrev free : Bounds
 free = facts (between 0 255)
 
-less : where_true variables free Public (below i (byte 10)) ≡ facts (between 0 9)
-less = refl
+-- what is known where a condition with a label is true, and where it is false
+data Narrowed : Type 0 where
+  learned : (label : Label) (condition : TermTree) (accepted otherwise : Bounds)
+      → where_true variables free label condition ≡ accepted → where_false variables free label condition ≡ otherwise
+      → Narrowed
 
-less_or_equal : where_true variables free Public (at_most i (byte 10)) ≡ facts (between 0 10)
-less_or_equal = refl
-
-same : where_true variables free Public (equal i (variable 1)) ≡ facts (between 2 9)
-same = refl
-
-nothing_below_zero : where_true variables free Public (below i (byte 0)) ≡ free
-nothing_below_zero = refl
-
--- each part is met with what those before it left
-parts : where_true variables free Public (both (at_most i (byte 5)) (below i (byte 10))) ≡ facts (between 0 5)
-parts = refl
-
-three_parts : where_true variables free Public (both (both (below i (byte 10)) (truth true)) (equal i (byte 3)))
-    ≡ facts (between 3 3)
-three_parts = refl
-
-empty_meet : where_true variables free Public (both (below i (byte 10)) (equal i (byte 20))) ≡ facts (between 0 9)
-empty_meet = refl
-
-not_less : where_false variables free Public (below i (byte 10)) ≡ facts (between 10 255)
-not_less = refl
-
-above : where_false variables free Public (at_most i (byte 10)) ≡ facts (between 11 255)
-above = refl
-
-nothing_above_the_top : where_false variables free Public (at_most i (byte 255)) ≡ free
-nothing_above_the_top = refl
-
-parts_where_false : where_false variables free Public (both (below i (byte 10)) (below i (byte 20))) ≡ free
-parts_where_false = refl
-
-unequal : where_false variables free Public (equal i (byte 10)) ≡ free
-unequal = refl
-
-other_comparison : where_true variables free Public (binary origin Greater W8 (byte 10) i) ≡ free
-other_comparison = refl
-
-changing_is_not_narrowed : where_true variables free Public (below (variable 2) (byte 10)) ≡ free
-changing_is_not_narrowed = refl
-
-secret_condition : where_true variables free Secret (below i (byte 10)) ≡ free
-secret_condition = refl
-
-secret_where_false : where_false variables free Secret (below i (byte 10)) ≡ free
-secret_where_false = refl
+narrowed : List Narrowed
+narrowed =
+    learned Public (below i (byte 10)) (facts (between 0 9)) (facts (between 10 255)) refl refl
+    ∷ learned Public (at_most i (byte 10)) (facts (between 0 10)) (facts (between 11 255)) refl refl
+    ∷ learned Public (equal i (variable 1)) (facts (between 2 9)) free refl refl
+    -- nothing is below 0 or above the top
+    ∷ learned Public (below i (byte 0)) free free refl refl
+    ∷ learned Public (at_most i (byte 255)) free free refl refl
+    -- each part is met with what those before it left, unless nothing is left; where both together are false, either may be
+    ∷ learned Public (both (at_most i (byte 5)) (below i (byte 10))) (facts (between 0 5)) free refl refl
+    ∷ learned Public (both (both (below i (byte 10)) (truth true)) (equal i (byte 3))) (facts (between 3 3)) free refl refl
+    ∷ learned Public (both (below i (byte 10)) (equal i (byte 20))) (facts (between 0 9)) free refl refl
+    -- by other comparisons, by what may change, and by what is secret nothing is learned
+    ∷ learned Public (binary origin Greater W8 (byte 10) i) free free refl refl
+    ∷ learned Public (below (variable 2) (byte 10)) free free refl refl
+    ∷ learned Secret (below i (byte 10)) free free refl refl
+    ∷ []
 
 -- Loops.
 

@@ -1,7 +1,7 @@
 -- What a public condition tells holds in a loose run.
 use Rattle.std.proofs.Common.{◌≡◌, ◌≢◌, ◌⊎◌, ⊎_elim, inl, inr, ℕ, zero, suc, ◌+◌, ◌-◌, ◌<◌, ◌≤◌, ◌==◌, ◌&&◌, min, max, nat_lt}
 use Rattle.std.proofs.Common.{nat_le, Bool, true, false, if◌then◌else◌, List, [], ◌∷◌, ◌++◌, Option, Some, None}
-use Rattle.std.proofs.Common.{slice_index, refl, sym, ap, subst, arith}
+use Rattle.std.proofs.Common.{slice_index, refl, sym, ap, arith}
 use Rattle.std.specs.Option.{option_to_list}
 use Rattle.std.proofs.Math.Nat.{le-min, max-le}
 use Rattle.std.proofs.lemmas.Bool.{and_parts, cases_Bool}
@@ -15,8 +15,7 @@ use Rattle.inline.specs.Path.{Path}
 use Rattle.intervals.specs.declared.interval.Interval.{Interval}
 use Rattle.intervals.specs.declared.said.Said.{Said}
 use Rattle.intervals.specs.Intervals.{Bounds, known, with_bound, between, full_at, interval}
-use Rattle.intervals.specs.Loose.{Comes, to_variable, to_binary}
-use Rattle.intervals.specs.Loose.{to_anything}
+use Rattle.intervals.specs.Loose.{Comes, to_variable, to_binary, to_anything}
 use Rattle.intervals.specs.Narrowing.{is_both, meet, met, met_all, met_at, named, said_where_false, said_where_true}
 use Rattle.intervals.specs.Narrowing.{says, told_false, told_true, told_where_false, told_where_true, where_false}
 use Rattle.intervals.specs.Narrowing.{where_true, with_meet}
@@ -78,8 +77,8 @@ module _ (types : Types) (m : Values) where
           }
 
       learned : Kept types m (with_bound bounds x both)
-      learned y j h = ⊎_elim (λ new. subst (λ z. IsKept types m z j) (sym new.0)
-          (subst (λ k. IsKept types m x k) new.1 here)) (λ old. kept y j old) (at_number bounds x both y j h)
+      learned y j h = ⊎_elim (λ new. rw (sym new.0) at (rw new.1 at here)) (λ old. kept y j old)
+          (at_number bounds x both y j h)
 
       by : (b : Bool) → Kept types m (with_meet bounds x (if b then Some both else None))
       by true = learned
@@ -174,8 +173,7 @@ module _ (declared : List FlatVariable) (types : Types) (bounds : Bounds) (m : V
       → v ≡ slice_index (m x) 0
   named_value {profile = profile} {e = e} {v = v} {p = p} {w = w} c t public x is =
       let same = named_variable e x is in
-      public_value (subst (λ f. Comes (types_of profile declared) m f v p) same c)
-      (subst (λ f. HasType types f w) same t) public
+      public_value (rw same at c) (rw same at t) public
 
   greatest_value : {x : ℕ} {w : WordType} → HasType types (variable x) w
       → slice_index (m x) 0 ≤ (full_at declared x).high
@@ -188,7 +186,7 @@ module _ (declared : List FlatVariable) (types : Types) (bounds : Bounds) (m : V
       → operated operator w a b ≢ 0 → AreSo m (option_to_list (told_where_true operator o e))
   comparison_true operator w None e a b value inside h = tt
   comparison_true operator w (Some x) e a b value inside h =
-      true_so m x b e inside operator w (subst (λ v. operated operator w v b ≢ 0) (value x refl) h)
+      true_so m x b e inside operator w (rw (value x refl) at h)
 
   comparison_false : (operator : BinaryOperator) (w : _) (o : Option ℕ) (e : Interval) (a b : ℕ)
       → ((x : ℕ) → o ≡ Some x → (a ≡ slice_index (m x) 0) × (slice_index (m x) 0 ≤ (full_at declared x).high))
@@ -197,7 +195,7 @@ module _ (declared : List FlatVariable) (types : Types) (bounds : Bounds) (m : V
   comparison_false operator w None e a b value inside h = tt
   comparison_false operator w (Some x) e a b value inside h =
       false_so m x b e inside operator w (full_at declared x).high (value x refl).1
-      (subst (λ v. operated operator w v b ≡ 0) (value x refl).0 h)
+      (rw (value x refl).0 at h)
 
   condition_true : {profile : Profile} {e : TermTree} {v : ℕ} {p : Path} {w : WordType}
       → Comes (types_of profile declared) m e v p → HasType types e w → w.label ≡ Public → v ≢ 0
@@ -208,7 +206,7 @@ module _ (declared : List FlatVariable) (types : Types) (bounds : Bounds) (m : V
       elim (cases_Bool (is_both operator)) [
         | inl is ↦ (
             let truths = and_parts (truth_of a) (truth_of b) (is_true (truth_of a && truth_of b)
-            (subst (λ f. operated f width a b ≢ 0) (is_both_alone operator is) h)) in
+            (rw (is_both_alone operator is) at h)) in
             rw is (so_both m (told_true declared bounds left) (told_true declared bounds right)
             (condition_true c t labels.0 (not_zero a truths.0)) (condition_true d u labels.1 (not_zero b truths.1))))
         | inr other ↦ rw other (comparison_true operator width (named left) (interval declared bounds right) a b
@@ -227,7 +225,7 @@ module _ (declared : List FlatVariable) (types : Types) (bounds : Bounds) (m : V
       comparison_false operator width (named left) (interval declared bounds right) a b
       (λ x is. (
         named_value c t labels.0 x is,
-        greatest_value (subst (λ f. HasType types f one) (named_variable left x is) t),
+        greatest_value (rw (named_variable left x is) at t),
       ))
       (loose_in declared types bounds m holds d u labels.1) h
   condition_false {w = w} (to_anything {word = word} c t secret within) u public h =

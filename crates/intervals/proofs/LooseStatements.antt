@@ -10,8 +10,7 @@ use Rattle.std.proofs.lemmas.List.Elements.{All-nil, All-cons, All-set, All-repl
 use Rattle.std.proofs.lemmas.Option.{same_Some}
 use Rattle.inline.specs.declared.flat.FlatVariable.{FlatVariable}
 use Rattle.inline.specs.Fitting.{IsWithinKind, IsHeld}
-use Rattle.inline.specs.Flat.{TermTree, FlatTree, branch, loop, FlatBlock}
-use Rattle.inline.specs.Flat.{nothing, first, word_as, array_as}
+use Rattle.inline.specs.Flat.{TermTree, FlatTree, branch, loop, FlatBlock, nothing, first, word_as, array_as}
 use Rattle.inline.specs.FlatMeaning.{Values, with_value}
 use Rattle.inline.specs.FlatTyping.{Types, types_of, with_type, Suits, AllSuit, HasCount, IsNew, IsTyped, AreTyped}
 use Rattle.inline.specs.FlatTyping.{counter_type, types_after, types_after_all}
@@ -26,12 +25,10 @@ use Rattle.intervals.specs.Loose.{puts, holds as holding, skips, chooses, repeat
 use Rattle.intervals.specs.Loose.{ends, goes_on}
 use Rattle.intervals.specs.Narrowing.{where_true, where_false}
 use Rattle.intervals.specs.Ranges.{bounds_after, bounds_after_all, counter_interval, in_loop, index_violations}
-use Rattle.intervals.specs.Ranges.{is_steady, most_turns, term_violations, terms_violations, violations}
-use Rattle.intervals.specs.Ranges.{violations_all}
+use Rattle.intervals.specs.Ranges.{is_steady, most_turns, term_violations, terms_violations, violations, violations_all}
 use Rattle.intervals.proofs.LooseIntervals.{IsIn}
 use Rattle.intervals.proofs.LooseNarrowing.{at_number, holds_where_false, holds_where_true}
-use Rattle.intervals.proofs.LooseTerms.{Holds, IsKept, loose_below, loose_fine, loose_fits, loose_in}
-use Rattle.intervals.proofs.LooseTerms.{none_in}
+use Rattle.intervals.proofs.LooseTerms.{Holds, IsKept, loose_below, loose_fine, loose_fits, loose_in, none_in}
 use Rattle.intervals.proofs.LooseTypes.{IsListed, listed_beside}
 use Rattle.language.specs.Types.{is_secret, joined}
 use Rattle.language.specs.declared.signature.Label.{Label}
@@ -103,7 +100,7 @@ module _ (declared : List FlatVariable) (turns : List ℕ) where
             word = old.word;
             typed = old.typed;
             public = old.public;
-            within = subst (λ v. IsIn i (slice_index v 0)) (sym (done.same x old.word old.typed)) old.within;
+            within = rw (sym (done.same x old.word old.typed)) at old.within;
           };
       listed = holds.listed;
     };
@@ -121,7 +118,7 @@ module _ (declared : List FlatVariable) (turns : List ℕ) where
     suited : {profile : Profile} {e : TermTree} {v : ℕ} {p : Path} (word : WordType) → Suits types word e
         → Comes (types_of profile declared) m e v p → IsWithinKind word.kind v
     suited {v = v} word suits c =
-        subst (λ k. IsWithinKind k v) suits.kind (loose_fits declared types bounds m holds c suits.has_type)
+        rw suits.kind at (loose_fits declared types bounds m holds c suits.has_type)
 
     -- a new variable
     module _ (x : ℕ) (d : FlatVariable) (numbers : List ℕ) (new : IsNew declared types x d)
@@ -139,7 +136,7 @@ module _ (declared : List FlatVariable) (turns : List ℕ) where
             word = old.word;
             typed = with_type-other types x y d other ∙ old.typed;
             public = old.public;
-            within = subst (λ v. IsIn i (slice_index v 0)) (sym (with_value-other m x y numbers other)) old.within;
+            within = rw (sym (with_value-other m x y numbers other)) at old.within;
           }
 
       listed_too : IsListed declared (with_type types x d)
@@ -191,7 +188,7 @@ module _ (declared : List FlatVariable) (turns : List ℕ) where
               word = old.word;
               typed = old.typed;
               public = old.public;
-              within = subst (λ v. IsIn i (slice_index v 0)) (sym (assigned_same y old.word old.typed)) old.within;
+              within = rw (sym (assigned_same y old.word old.typed)) at old.within;
             };
         listed = holds.listed;
       }

@@ -20,8 +20,7 @@ use Rattle.intervals.specs.Ranges.{index_violations, term_violations}
 use Rattle.intervals.proofs.LooseIntervals.{IsIn, truth_in, word_in, kind_in, prefix_in, operated_in, converted_in}
 use Rattle.intervals.proofs.LooseIntervals.{hull_in, word_of_kind}
 use Rattle.intervals.proofs.LooseTypes.{IsListed, one_type, joined_public}
-use Rattle.language.specs.Operators.{operation_of}
-use Rattle.language.specs.Operators.{divides, multiplies, operated, prefix_value, width_of}
+use Rattle.language.specs.Operators.{operation_of, divides, multiplies, operated, prefix_value, width_of}
 use Rattle.language.specs.Types.{at, joined, when}
 use Rattle.language.specs.declared.rule.Rule.TheVariants.{DivisorMayBeZero, IndexOutOfRange}
 use Rattle.language.specs.declared.signature.Kind.{Kind}
@@ -30,7 +29,7 @@ use Rattle.language.specs.declared.signature.Label.TheVariants.{Public, Secret}
 use Rattle.language.specs.declared.operators.BinaryOperator.{BinaryOperator}
 use Rattle.language.specs.declared.operators.BinaryOperator.TheVariants.{Divide, Remainder}
 use Rattle.language.specs.declared.typing.WordType.{WordType}
-use Rattle.language.specs.WellTyped.{labelled, Makes, arithmetic, multiplication, shift, equality, order, logic}
+use Rattle.language.specs.WellTyped.{Makes, equality, order, logic}
 use Rattle.language.specs.WellTyped as typing
 use Rattle.word.specs.Operators.{rotated_left}
 use Rattle.word.specs.Widths.{IsWord}
@@ -134,11 +133,10 @@ module _ (declared : List FlatVariable) (types : Types) (bounds : Bounds) (m : V
   loose_in (to_binary {place = place} {operator = operator} {width = width} {left = left} {right = right} {a = a} {b =
       b} c d) (of_binary {one = one} t u makes same) public =
       let labels = both_public makes public in
-      let word : IsWord width a = subst (λ w. IsWord w a) (sym same) (word_of_kind one.kind a (loose_fits c t)) in
+      let word : IsWord width a = rw (sym same) at (word_of_kind one.kind a (loose_fits c t)) in
       operated_in width (interval declared bounds left) (interval declared bounds right) a b (loose_in c t labels.0)
       (loose_in d u labels.1) word operator
-      (subst (λ w. IsWord w (operated operator width a b)) (sym same)
-      (made_word makes (operated operator width a b)
+      (rw (sym same) at (made_word makes (operated operator width a b)
       (loose_fits (to_binary {place = place} {operator = operator} {width = width} c d)
       (of_binary t u makes same))))
   loose_in (to_rotation {width = width} {a = a} c) t public = word_in width _ (wrapped_fits width _)
@@ -168,7 +166,7 @@ module _ (declared : List FlatVariable) (types : Types) (bounds : Bounds) (m : V
     divisor_some : (operator : BinaryOperator) (low : ℕ) (place : Place) → divides operator ≡ true
         → at place (when (divides operator && low == 0) DivisorMayBeZero) ≡ [] → 0 < low
     divisor_some operator low place is none =
-        by (low == 0) refl (subst (λ b. at place (when (b && low == 0) DivisorMayBeZero) ≡ []) is none)
+        by (low == 0) refl (rw is at none)
       where
         by : (b : Bool) → (low == 0) ≡ b → at place (when b DivisorMayBeZero) ≡ [] → 0 < low
         by true e n = absurd cc
