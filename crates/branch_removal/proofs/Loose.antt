@@ -307,8 +307,7 @@ module _ (profile : Profile) (declared : List FlatVariable) (most : List ℕ) wh
           end = made.end;
           path = bounds ++ mark ∷ made.path;
           runs = repeats (comes all m low) (comes all m high) made.runs;
-          agree = subst (λ (t : StraightState). Agree what_is_public types t.variables made.end)
-              (sym (ap₂ (λ l h. turns (h - l) l turn s) from to)) made.agree;
+          agree = rw (sym (ap₂ (λ l h. turns (h - l) l turn s) from to)) at made.agree;
           fine = λ safe.
               let whole = safe made.end _ (repeats (comes all m low) (comes all m high) made.runs) in
               let ends = fine_front most bounds (mark ∷ made.path) whole in

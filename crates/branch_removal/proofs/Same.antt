@@ -173,9 +173,7 @@ module _ (declared : List FlatVariable) where
         (flat.after_all m body)
     same_all types label nothing typed within control below s m on agree = agree
     same_all types label (first statement rest) typed within control below s m on agree =
-        subst (λ (t : StraightState). Agree everything (types_after_all (types_after types statement) rest)
-        t.variables (flat.after_all (flat.after m statement) rest))
-        (sym (after-chain s (removed within control statement) (removed_all within control rest)))
+        rw (sym (after-chain s (removed within control statement) (removed_all within control rest))) at
         (same_all (types_after types statement) label rest typed.1 within control below
         (after_all s (removed within control statement)) (flat.after m statement)
         (still_holds within control s (after_all s (removed within control statement)) below

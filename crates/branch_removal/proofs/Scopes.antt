@@ -1,11 +1,9 @@
 -- What is in scope stays in scope, as it is declared, and is declared so in the list of all variables.
-use Rattle.std.proofs.Common.{◌≡◌, ℕ, ◌==◌, false, List, [], ◌∷◌, Option, None, Some, slice_get}
-use Rattle.std.proofs.Common.{inl, inr, refl, ◌∙◌, subst}
+use Rattle.std.proofs.Common.{◌≡◌, ℕ, ◌==◌, false, List, [], ◌∷◌, Option, None, Some, slice_get, inl, inr, refl, ◌∙◌}
 use Rattle.std.proofs.lemmas.Bool.{cases_Bool, ne_eqb, cond-false}
 use Rattle.std.proofs.lemmas.Option.{none-some}
 use Rattle.inline.specs.declared.flat.FlatVariable.{FlatVariable}
-use Rattle.inline.specs.Flat.{TermTree, FlatTree, declare, array, hold, FlatBlock}
-use Rattle.inline.specs.Flat.{nothing, first}
+use Rattle.inline.specs.Flat.{TermTree, FlatTree, declare, array, hold, FlatBlock, nothing, first}
 use Rattle.inline.specs.FlatTyping.{Types, with_type, types_of, HasType, of_number, of_truth, of_variable, of_prefix}
 use Rattle.inline.specs.FlatTyping.{of_binary, of_rotation, of_conversion, of_selection, of_element, Suits, AllSuit}
 use Rattle.inline.specs.FlatTyping.{IsResult, IsTyped, AreTyped, types_after, types_after_all}
@@ -14,8 +12,6 @@ use Rattle.intervals.proofs.LooseTypes.{listed_beside}
 use Rattle.branch_removal.specs.StraightTyping.{types_but}
 use Rattle.language.specs.declared.signature.Label.{Label}
 use Rattle.language.specs.declared.typing.WordType.{WordType}
-use Rattle.language.specs.Operators.{operation_of}
-use Rattle.language.specs.WellTyped.{Makes}
 use Rattle.word.specs.declared.profile.Profile.{Profile}
 
 -- a new variable is none of those in scope
@@ -42,7 +38,7 @@ module _ (types all : Types) (among : AreAmong types all) where
   has_type_among (of_prefix has takes even) = of_prefix (has_type_among has) takes even
   has_type_among (of_binary {operator = operator} {one = one} {other = other} {whole = whole} has more makes even) =
       of_binary (has_type_among has) (has_type_among more)
-      (subst (λ profile. Makes profile (operation_of operator) one other whole) among.profile makes) even
+      (rw among.profile at makes) even
   has_type_among (of_rotation has numeric low high even) = of_rotation (has_type_among has) numeric low high even
   has_type_among (of_conversion has numeric) = of_conversion (has_type_among has) numeric
   has_type_among (of_selection chooser has more) =

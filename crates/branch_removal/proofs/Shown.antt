@@ -1,5 +1,5 @@
 -- What a run of well-typed straight code shows, and its public results, are decided by what is public.
-use Rattle.std.proofs.Common.{◌≡◌, List, ◌∙◌, subst}
+use Rattle.std.proofs.Common.{◌≡◌, List, ◌∙◌}
 use Rattle.language.specs.arguments.Agreement as arguments
 use Rattle.language.specs.arguments.PublicResults.{AgreeInPublic}
 use Rattle.language.specs.arguments.Within.{AreWithin}
@@ -8,7 +8,6 @@ use Rattle.inline.specs.FlatMeaning.{given, path_of_result}
 use Rattle.inline.specs.FlatTyping.{types_of, parameter_types}
 use Rattle.inline.specs.Path.{seen}
 use Rattle.intervals.specs.Ranged.{RangedProgram}
-use Rattle.language.specs.declared.signature.Param.{Param}
 use Rattle.language.specs.declared.values.Arg.{Arg}
 use Rattle.branch_removal.specs.Removed.{IsRemoved}
 use Rattle.branch_removal.specs.Replaced.{IsReplaced}
@@ -17,8 +16,7 @@ use Rattle.branch_removal.specs.StraightMeaning.{start, end_of, after_all, path_
 use Rattle.branch_removal.specs.StraightTyping.{IsTypedStraight}
 use Rattle.branch_removal.proofs.Agreement.{Agree, what_is_public}
 use Rattle.branch_removal.proofs.Public.{Alike, in_step_all}
-use Rattle.branch_removal.proofs.Results.{parameters_among, parameter_at, given_in_step, all_public_arrays}
-use Rattle.branch_removal.proofs.Results.{same_return}
+use Rattle.branch_removal.proofs.Results.{parameters_among, parameter_at, given_in_step, all_public_arrays, same_return}
 use Rattle.branch_removal.proofs.Scopes.{AreAmong}
 use Rattle.branch_removal.proofs.SeenLemmas.{both_seen}
 use Rattle.branch_removal.proofs.Values.{result_seen}
@@ -62,7 +60,7 @@ module _ (p : StraightProgram) (typed : IsTypedStraight p) where
 module _ (ranged : RangedProgram) (before after : StraightProgram) (removed : IsRemoved ranged before)
     (replaced : IsReplaced before after) where
   within : (args : List Arg) → AreWithin after.parameters args → AreWithin before.parameters args
-  within args fits = subst (λ (params : List Param). AreWithin params args) replaced.parameters fits
+  within args fits = rw replaced.parameters at fits
 
   pub still_removed : IsRemoved ranged after
   still_removed = record {

@@ -1,6 +1,5 @@
 -- Straight code of a well-typed body is well typed, and what it sets under a control value is secret.
-use Rattle.std.proofs.Common.{◌≡◌, ℕ, ◌+◌, ◌≤◌, false, List, Option, None, Some, refl}
-use Rattle.std.proofs.Common.{sym, ◌∙◌, subst, arith}
+use Rattle.std.proofs.Common.{◌≡◌, ℕ, ◌+◌, ◌≤◌, false, List, Option, None, Some, refl, sym, ◌∙◌, arith}
 use Rattle.std.proofs.lemmas.Option.{same_Some}
 use Rattle.std.proofs.Math.Nat.{le-max_left, le-max_right}
 use Rattle.inline.specs.declared.flat.FlatVariable.{FlatVariable}
@@ -48,8 +47,7 @@ module _ (profile : Profile) (declared : List FlatVariable) (controls : ℕ) whe
       → (within : Option ℕ) → IsUnder within label → IsSecretWithin declared within x
   set_secret types label x new among known secret None under = tt
   set_secret types label x new among known secret (Some control) under = λ d listed.
-      subst (λ (e : FlatVariable). e.word.label ≡ Secret)
-      (same_Some new d (sym (among.at x new known) ∙ listed)) (secret under)
+      rw (same_Some new d (sym (among.at x new known) ∙ listed)) at (secret under)
 
   mutual
     pub are_straight : (types : Types) (label : Label) (statement : FlatTree)

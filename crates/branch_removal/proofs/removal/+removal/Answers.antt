@@ -1,4 +1,4 @@
-use Rattle.std.proofs.Common.{◌≡◌, ◌+◌, ◌*◌, ◌∷◌, ◌<◌, drop, rules, arith, refl, sym, subst, ap, OnOk, ◌∙◌}
+use Rattle.std.proofs.Common.{◌≡◌, ◌+◌, ◌*◌, ◌∷◌, ◌<◌, drop, rules, arith, refl, sym, ap, ◌∙◌}
 use Rattle.std.proofs.lemmas.List.{at_drop_all, drop_more}
 use Rattle.inline.specs.Flat.{flat_block, flat_tree, term_tree}
 use Rattle.inline.specs.FlatSize.{body_nodes, tree_nodes}
@@ -42,10 +42,9 @@ push_removed-push_secret-requires t c =
 
 pub push_removed-returns-in-Secret : goal.push_removed-returns-in-Secret
 push_removed-returns-in-Secret t c =
-    subst (λ b. OnOk c.push_secret.result (straight_block c.push_secret.new.code.items
-    ≡ chain (straight_block c.args.code.now.items) b)) (code_of_branch c.args.statement.now c.in-Branch.label
-    c.in-Branch.condition c.in-Branch.accepted c.in-Branch.otherwise c.in-Branch.is Secret c.in-Secret.is c.args.within
-    c.args.control _ _ c.deref-in-Secret.ensures.value c.deref-in-Secret-2.ensures.value) c.push_secret.ensures
+    rw (code_of_branch c.args.statement.now c.in-Branch.label c.in-Branch.condition c.in-Branch.accepted
+    c.in-Branch.otherwise c.in-Branch.is Secret c.in-Secret.is c.args.within c.args.control _ _
+    c.deref-in-Secret.ensures.value c.deref-in-Secret-2.ensures.value) at c.push_secret.ensures
 
 pub push_removed-push_public-requires : goal.push_removed-push_public-requires
 push_removed-push_public-requires t c =
@@ -69,10 +68,9 @@ push_removed-push_public-requires t c =
 
 pub push_removed-returns-in-Public : goal.push_removed-returns-in-Public
 push_removed-returns-in-Public t c =
-    subst (λ b. OnOk c.push_public.result (straight_block c.push_public.new.code.items
-    ≡ chain (straight_block c.args.code.now.items) b)) (code_of_branch c.args.statement.now c.in-Branch.label
-    c.in-Branch.condition c.in-Branch.accepted c.in-Branch.otherwise c.in-Branch.is Public c.in-Public.is c.args.within
-    c.args.control _ _ c.deref-in-Public.ensures.value c.deref-in-Public-2.ensures.value) c.push_public.ensures
+    rw (code_of_branch c.args.statement.now c.in-Branch.label c.in-Branch.condition c.in-Branch.accepted
+    c.in-Branch.otherwise c.in-Branch.is Public c.in-Public.is c.args.within c.args.control _ _
+    c.deref-in-Public.ensures.value c.deref-in-Public-2.ensures.value) at c.push_public.ensures
 
 pub push_removed-part-requires : goal.push_removed-part-requires
 push_removed-part-requires t c =
@@ -89,18 +87,15 @@ push_removed-part-requires t c =
 
 pub push_removed-returns-in_ok-repeat-in-Loop : goal.push_removed-returns-in_ok-repeat-in-Loop
 push_removed-returns-in_ok-repeat-in-Loop t c =
-    subst (λ b. OnOk c.push-in-Loop.result (straight_block c.push-in-Loop.new.code.items
-    ≡ chain (straight_block c.args.code.now.items) b)) (code_of_loop c.args.statement.now c.in-Loop.counter
-    c.in-Loop.low c.in-Loop.high c.in-Loop.body c.in-Loop.is c.args.within c.args.control _ _
-    c.deref-in-Loop.result.now c.deref-in-Loop.ensures.value c.in_ok-turn-in-Loop.ensures
-    c.in_ok-repeat-in-Loop.ensures) c.push-in-Loop.ensures
+    rw (code_of_loop c.args.statement.now c.in-Loop.counter c.in-Loop.low c.in-Loop.high c.in-Loop.body c.in-Loop.is
+    c.args.within c.args.control _ _ c.deref-in-Loop.result.now c.deref-in-Loop.ensures.value
+    c.in_ok-turn-in-Loop.ensures c.in_ok-repeat-in-Loop.ensures) at c.push-in-Loop.ensures
 
 pub push_secret-returns : goal.push_secret-returns
 push_secret-returns t c =
-    subst (λ b. OnOk c.push_removed_all-2.result (straight_block c.push_removed_all-2.new.code.items ≡ b))
-    (code_of_secret c.args.within c.args.control (term_tree c.args.condition.now) _ (flat_block c.args.accepted.now)
+    rw (code_of_secret c.args.within c.args.control (term_tree c.args.condition.now) _ (flat_block c.args.accepted.now)
     (flat_block c.args.otherwise.now) (straight_block c.args.code.now.items) _ _ c.in_ok-condition.ensures
-    c.in_ok-push.ensures c.in_ok-push_removed_all.ensures) c.push_removed_all-2.ensures
+    c.in_ok-push.ensures c.in_ok-push_removed_all.ensures) at c.push_removed_all-2.ensures
 
 pub push_removed_all-push_removed-requires : goal.push_removed_all-push_removed-requires
 push_removed_all-push_removed-requires t c =

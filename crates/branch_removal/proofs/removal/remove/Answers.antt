@@ -3,7 +3,6 @@ use Rattle.inline.specs.Kept.{IsFlat}
 use Rattle.branch_removal.specs.private.Removal.{controls_in_all, straightened}
 use Rattle.branch_removal.specs.Bounds.{IsCounted}
 use Rattle.branch_removal.specs.Exact.{straight_of}
-use Rattle.branch_removal.specs.Removed.{IsRemoved}
 use Rattle.branch_removal.specs.Kept.{IsStraight}
 use Rattle.branch_removal.specs.Straight.{StraightProgram}
 use Rattle.branch_removal.proofs.BoundLemmas.{few_controls}
@@ -44,8 +43,7 @@ returns-clause-removed c =
     c.controls_in_all-controls.ensures c.new-code.ensures.items c.in_ok-push_removed_all.ensures c.value.ensures
     c.in_ok-value.ensures in
     let whole : c.new.result ≡ straightened r = c.new.ensures ∙ listed in
-    subst (λ (p : StraightProgram). IsRemoved r p) (sym whole)
-    (removed_as_promised r (subst IsFlat c.flat-flat.ensures.flat c.body-body.ensures.kept)
+    rw (sym whole) at (removed_as_promised r (subst IsFlat c.flat-flat.ensures.flat c.body-body.ensures.kept)
     c.flat-flat.ensures.kept)
 
 pub returns-clause-counted : goal.returns-clause-counted
