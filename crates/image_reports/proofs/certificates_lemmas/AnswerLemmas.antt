@@ -1,10 +1,11 @@
 -- What is answered to what is given, case by case.
-use Rattle.std.proofs.Common.{◌≡◌, ℕ, List, Option, None, Some, Result, Ok, Err, sym, subst}
+use Rattle.std.proofs.Common.{◌≡◌, ℕ, List, Option, None, Some, Result, Ok, Err, sym, ap, ◌∙◌, subst}
 use Rattle.language.specs.declared.arguments.fault.ArgumentFault.{ArgumentFault}
 use Rattle.certified_runs.specs.Certified.{RunEnding, CertifiedRun}
 use Rattle.certified_runs.specs.End.{end_of}
 use Rattle.certified_runs.specs.Known.{Known}
 use Rattle.certified_runs.specs.declared.shifts.Shifts.{Shifts}
+use Rattle.codegen.specs.declared.image_fields.slot.Slot.{Slot}
 use Rattle.codegen.specs.Loaded.{params_of, code_at}
 use Rattle.hepurita.specs.Bases.{code_base, frame_base}
 use Rattle.hepurita.specs.declared.fault.RunFault.{RunFault}
@@ -16,7 +17,14 @@ use Rattle.rv_machine.specs.declared.observation.Observation.{Observation}
 use Rattle.image_reports.specs.certificates.Certified.{Certified, refused, out_of_memory, certified}
 use Rattle.image_reports.specs.certificates.Given.{fault_of_given}
 use Rattle.image_reports.specs.certificates.KnownImage.{known_at}
+use Rattle.image_reports.proofs.certificates_lemmas.LoadedLemmas.{params_in}
 use Rattle.certified_runs.specs.declared.certifying.CertifiedEnd.{CertifiedEnd}
+
+-- what is first of what is given for an image's slots
+pub first_is : {slots slots' : List Slot} (given : List (Option Arg)) {first answer : Option ArgumentFault}
+    → slots ≡ slots' → first ≡ fault_of_given (params_in slots) given → first ≡ answer
+    → fault_of_given (params_in slots') given ≡ answer
+first_is given are first is = ap (λ slots. fault_of_given (params_in slots) given) (sym are) ∙ (sym first ∙ is)
 
 -- the first fault
 pub refused_certified : (image : Fields) (given : List (Option Arg)) (shifts : Shifts) (fault : ArgumentFault)

@@ -1,14 +1,15 @@
 use Rattle.std.proofs.Common.{ap, subst}
-use Rattle.std.proofs.lemmas.Result.{err_from_is_err_and, IfOk-weaker, IfErr-weaker}
+use Rattle.std.proofs.lemmas.Result.{IfOk-weaker, IfErr-weaker}
 use Rattle.language.specs.Tree.{ProgramTree, program_tree}
 use Rattle.word.specs.declared.profile.Profile.{Profile}
+use Rattle.image_reports.proofs.Handed.{handed_on}
 use Rattle.image_reports.proofs.source_statistics_lemmas.Below.{IsAllowedFlat, IsLargeFor, refusal_of_types, refusal_of_export, small_flat}
 use Rattle.image_reports.proofs.source_statistics.flat_of.Goals as goal
 
 pub returns-in_err-checked-clause-refused : goal.returns-in_err-checked-clause-refused
 returns-in_err-checked-clause-refused c =
-    let p = err_from_is_err_and c.from_residual.result c.from_residual.ensures.1 in
-    rw (p.1, p.2) (refusal_of_types c.args.profile (program_tree c.args.program.now) c.in_err-checked.field-0.0
+    handed_on _ _ c.from_residual.ensures.1
+    (refusal_of_types c.args.profile (program_tree c.args.program.now) c.in_err-checked.field-0.0
     c.in_err-checked.ensures.refused)
 
 pub returns-clause-accepted : goal.returns-clause-accepted

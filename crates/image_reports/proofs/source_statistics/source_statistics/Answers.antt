@@ -1,5 +1,5 @@
 use Rattle.std.proofs.Common.{ap, subst, ◌∙◌, ◌≡◌, List, [], ◌++◌, length, inl, IfOk, IfSome, Option, sym}
-use Rattle.std.proofs.lemmas.Result.{err_from_is_err_and, IfOk-weaker, IfErr-weaker}
+use Rattle.std.proofs.lemmas.Result.{IfOk-weaker, IfErr-weaker}
 use Rattle.std.specs.String.{string_bytes}
 use Rattle.branch_removal.specs.Exact.{straight_of}
 use Rattle.codegen.specs.Exact.{fields_of}
@@ -13,6 +13,7 @@ use Rattle.language.specs.Tree.{ProcedureTree, program_tree}
 use Rattle.hepurita.specs.Built.{fine, readable}
 use Rattle.hepurita.specs.Exact.{image_for}
 use Rattle.word.specs.declared.profile.Profile.{Profile}
+use Rattle.image_reports.proofs.Handed.{handed_on}
 use Rattle.image_reports.proofs.source_statistics_lemmas.Below.{refusal_of_text, refusal_of_program, refusal_of_ranges, grammatical_export}
 use Rattle.image_reports.proofs.source_statistics_lemmas.Below.{same_violations}
 use Rattle.image_reports.specs.source_statistics.SourceText.{costs_text, export_lines}
@@ -20,25 +21,24 @@ use Rattle.image_reports.proofs.source_statistics.source_statistics.Goals as goa
 
 pub returns-in_err-program-clause-refused : goal.returns-in_err-program-clause-refused
 returns-in_err-program-clause-refused c =
-    let p = err_from_is_err_and c.from_residual.result c.from_residual.ensures.1 in
-    rw (p.1, p.2) (refusal_of_text c.args.profile c.args.source.now c.in_err-program.field-0.0
+    handed_on _ _ c.from_residual.ensures.1 (refusal_of_text c.args.profile c.args.source.now c.in_err-program.field-0.0
     c.in_err-program.ensures.refused)
 
 pub returns-in_err-flat-clause-refused : goal.returns-in_err-flat-clause-refused
 returns-in_err-flat-clause-refused c =
-    let p = err_from_is_err_and c.from_residual-in_err-flat.result c.from_residual-in_err-flat.ensures.1 in
-    rw (p.1, p.2) (refusal_of_program c.args.profile c.args.source.now (program_tree c.in_ok-program.program)
+    handed_on _ _ c.from_residual-in_err-flat.ensures.1
+    (refusal_of_program c.args.profile c.args.source.now (program_tree c.in_ok-program.program)
     c.in_err-flat.field-0.0 c.in_ok-program.ensures.accepted c.in_err-flat.ensures.refused)
 
 pub returns-in_err-ranged-clause-refused : goal.returns-in_err-ranged-clause-refused
 returns-in_err-ranged-clause-refused c =
-    let p = err_from_is_err_and c.from_residual-in_err-ranged.result c.from_residual-in_err-ranged.ensures.1 in
     let made = c.in_ok-flat.ensures.accepted in
     let refused = refusal_of_ranges c.args.profile (program_tree c.in_ok-program.program) made.0 made.1
     c.in_ok-flat.flat c.in_err-ranged.field-0.0
     (grammatical_export c.args.source.now (program_tree c.in_ok-program.program)
     c.in_ok-program.ensures.accepted) made.2 made.3 c.in_err-ranged.ensures.refused in
-    rw (p.1, p.2) (refusal_of_program c.args.profile c.args.source.now (program_tree c.in_ok-program.program)
+    handed_on _ _ c.from_residual-in_err-ranged.ensures.1
+    (refusal_of_program c.args.profile c.args.source.now (program_tree c.in_ok-program.program)
     c.in_err-ranged.field-0.0 c.in_ok-program.ensures.accepted refused)
 
 pub returns-clause-refused : goal.returns-clause-refused

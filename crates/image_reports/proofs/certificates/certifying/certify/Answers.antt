@@ -1,55 +1,40 @@
-use Rattle.std.proofs.Common.{List, Err, ap, sym, ◌∙◌, arith}
-use Rattle.std.proofs.lemmas.Result.{err_from_is_err_and}
+use Rattle.std.proofs.Common.{arith}
 use Rattle.certified_runs.specs.Parts.{known_of}
-use Rattle.codegen.specs.declared.image_fields.slot.Slot.{Slot}
 use Rattle.rv_machine.specs.Harts.{state_of}
 use Rattle.rv_machine.specs.Paged.{paged_bytes}
 use Rattle.rv_machine.specs.Regions.{code_of}
-use Rattle.image_reports.specs.certificates.Given.{fault_of_given}
-use Rattle.image_reports.proofs.certificates_lemmas.AnswerLemmas.{refused_certified, memory_certified, run_certified}
-use Rattle.image_reports.proofs.certificates_lemmas.LoadedLemmas.{params_in}
+use Rattle.image_reports.proofs.Handed.{err_is}
+use Rattle.image_reports.proofs.certificates_lemmas.AnswerLemmas.{first_is, refused_certified, memory_certified, run_certified}
 use Rattle.image_reports.proofs.certificates.certifying.certify.Goals as goal
 
 pub returns-in-Some : goal.returns-in-Some
 returns-in-Some c =
-    let given = c.args.given.now in
-    refused_certified c.args.image.now given c.args.shifts c.in-Some.fault c.from.result c.from.ensures
-    (ap (λ (slots : List Slot). fault_of_given (params_in slots) given) (sym c.slots.ensures.slots)
-    ∙ (sym c.first_fault.ensures ∙ c.in-Some.is))
+    refused_certified c.args.image.now c.args.given.now c.args.shifts c.in-Some.fault c.from.result c.from.ensures
+    (first_is _ c.slots.ensures.slots c.first_fault.ensures c.in-Some.is)
 
 pub load_given-requires : goal.load_given-requires
 load_given-requires c =
-    let given = c.args.given.now in
-    ap (λ (slots : List Slot). fault_of_given (params_in slots) given) (sym c.slots.ensures.slots)
-    ∙ (sym c.first_fault.ensures ∙ c.in_default.is)
+    first_is _ c.slots.ensures.slots c.first_fault.ensures c.in_default.is
 
 pub returns-in_err-code : goal.returns-in_err-code
 returns-in_err-code c =
-    let given = c.args.given.now in
-    let none = ap (λ (slots : List Slot). fault_of_given (params_in slots) given) (sym c.slots.ensures.slots)
-    ∙ (sym c.first_fault.ensures ∙ c.in_default.is) in
-    let p = err_from_is_err_and c.from_residual.result c.from_residual.ensures.1 in
-    memory_certified c.args.image.now given c.args.shifts c.from_residual.result none (p.1 ∙ ap Err p.2)
+    memory_certified _ _ _ _ (first_is _ c.slots.ensures.slots c.first_fault.ensures c.in_default.is)
+    (err_is _ c.from_residual.ensures.1)
 
 pub returns-in_err-loaded : goal.returns-in_err-loaded
 returns-in_err-loaded c =
-    let given = c.args.given.now in
-    let none = ap (λ (slots : List Slot). fault_of_given (params_in slots) given) (sym c.slots.ensures.slots)
-    ∙ (sym c.first_fault.ensures ∙ c.in_default.is) in
-    let p = err_from_is_err_and c.from_residual-in_err-loaded.result c.from_residual-in_err-loaded.ensures.1 in
-    memory_certified c.args.image.now given c.args.shifts c.from_residual-in_err-loaded.result none (p.1 ∙ ap Err p.2)
+    memory_certified _ _ _ _ (first_is _ c.slots.ensures.slots c.first_fault.ensures c.in_default.is)
+    (err_is _ c.from_residual-in_err-loaded.ensures.1)
 
 pub certify-requires-clause-few : goal.certify-requires-clause-few
 certify-requires-clause-few c = omega (arith, c.in_ok-loaded.ensures.steps, c.slots.ensures.allowed.steps)
 
 pub returns : goal.returns
 returns c =
-    let given = c.args.given.now in
     let loaded = c.in_ok-loaded.loaded in
-    let none = ap (λ (slots : List Slot). fault_of_given (params_in slots) given) (sym c.slots.ensures.slots)
-    ∙ (sym c.first_fault.ensures ∙ c.in_default.is) in
+    let none = first_is _ c.slots.ensures.slots c.first_fault.ensures c.in_default.is in
     let run = c.certify.ensures.certified in
-    run_certified c.args.image.now given c.args.shifts (code_of c.in_ok-code.code) loaded.run.turns_left
+    run_certified c.args.image.now c.args.given.now c.args.shifts (code_of c.in_ok-code.code) loaded.run.turns_left
     (known_of (state_of loaded.run.hart (paged_bytes loaded.run.memory)) loaded.known.registers
     (paged_bytes loaded.known.marks) loaded.known.shifts) run.0 run.1 c.certify.result
     none c.in_ok-code.ensures c.in_ok-loaded.ensures.steps c.in_ok-loaded.ensures.known run.2 run.3
