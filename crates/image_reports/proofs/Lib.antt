@@ -1,4 +1,3 @@
-pub mod Handed
 pub mod certificates_lemmas
 pub mod image_pictures_lemmas
 pub mod pair_explanations_lemmas

@@ -5,3 +5,4 @@ pub mod typing_laws_lemmas
 pub mod BlockLemmas
 pub mod KnownLemmas
 pub mod SoonerLemmas
+pub mod Handed

@@ -2,7 +2,7 @@ use Rattle.std.proofs.Common.{ap, subst}
 use Rattle.std.proofs.lemmas.Result.{IfOk-weaker, IfErr-weaker}
 use Rattle.language.specs.Tree.{ProgramTree, program_tree}
 use Rattle.word.specs.declared.profile.Profile.{Profile}
-use Rattle.image_reports.proofs.Handed.{handed_on}
+use Rattle.language.proofs.Handed.{handed_on}
 use Rattle.image_reports.proofs.source_statistics_lemmas.Below.{IsAllowedFlat, IsLargeFor, refusal_of_types, refusal_of_export, small_flat}
 use Rattle.image_reports.proofs.source_statistics.flat_of.Goals as goal
 

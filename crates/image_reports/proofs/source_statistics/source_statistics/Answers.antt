@@ -13,7 +13,7 @@ use Rattle.language.specs.Tree.{ProcedureTree, program_tree}
 use Rattle.hepurita.specs.Built.{fine, readable}
 use Rattle.hepurita.specs.Exact.{image_for}
 use Rattle.word.specs.declared.profile.Profile.{Profile}
-use Rattle.image_reports.proofs.Handed.{handed_on}
+use Rattle.language.proofs.Handed.{handed_on}
 use Rattle.image_reports.proofs.source_statistics_lemmas.Below.{refusal_of_text, refusal_of_program, refusal_of_ranges, grammatical_export}
 use Rattle.image_reports.proofs.source_statistics_lemmas.Below.{same_violations}
 use Rattle.image_reports.specs.source_statistics.SourceText.{costs_text, export_lines}

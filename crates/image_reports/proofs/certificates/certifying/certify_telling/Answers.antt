@@ -13,7 +13,7 @@ use Rattle.image_reports.specs.certificates.KnownImage.{known_at}
 use Rattle.rv_machine.specs.Harts.{state_of}
 use Rattle.rv_machine.specs.Paged.{paged_bytes}
 use Rattle.rv_machine.specs.Regions.{code_of}
-use Rattle.image_reports.proofs.Handed.{err_is}
+use Rattle.language.proofs.Handed.{err_is}
 use Rattle.image_reports.proofs.certificates_lemmas.AnswerLemmas.{first_is, refused_certified, memory_certified, run_certified}
 use Rattle.image_reports.proofs.certificates.certifying.certify_telling.Goals as goal
 
