@@ -6,5 +6,4 @@ pub mod Held
 pub mod Given
 pub mod Runs
 pub mod Typed
-pub mod Bounds
 pub mod Whole

@@ -1,10 +1,10 @@
 pub mod HeldLemmas
 pub mod TermLemmas
 pub mod Grown
+pub mod Rules
 pub mod Same
 pub mod Typed
 pub mod Allowed
-pub mod Bounds
 pub mod Copied
 pub mod Whole
 pub mod Backwards

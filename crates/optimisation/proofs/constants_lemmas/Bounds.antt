@@ -6,7 +6,7 @@ use Rattle.inline.specs.Flat.{TermTree, counter_type, number}
 use Rattle.inline.specs.FlatSize.{term_nodes, value_nodes}
 use Rattle.branch_removal.specs.Bounds.{statement_work, block_work, set_work}
 use Rattle.branch_removal.specs.Heights.{depth_in, depth_in_all, height_in, height_in_all, result_height}
-use Rattle.branch_removal.specs.Straight.{StraightTree, set, StraightBlock, nothing, first, chain}
+use Rattle.branch_removal.specs.Straight.{StraightTree, set, StraightBlock, first}
 use Rattle.optimisation.specs.constants.private.Choice.{AreAllowed}
 use Rattle.optimisation.specs.constants.private.Folding.{simple}
 use Rattle.optimisation.specs.constants.private.Known.{Words}
@@ -14,38 +14,18 @@ use Rattle.optimisation.proofs.constants_lemmas.StatementRules.{Simplifies, sets
 use Rattle.optimisation.proofs.constants_lemmas.StatementRules.{chooses, unrolls, loops, TurnsSimplify, no_turn, a_turn}
 use Rattle.optimisation.proofs.constants_lemmas.StatementRules.{AllSimplify, ends, goes_on}
 use Rattle.optimisation.proofs.constants_lemmas.TermSizes.{fewer_nodes_all, lower_all, no_larger}
-
-set_at_most : (within : Option ℕ) (e : TermTree) → set_work within e ≤ 1 + term_nodes e
-set_at_most None (number value kind) = omega arith
-set_at_most within e = omega arith
+use Rattle.optimisation.proofs.over_lemmas.Sizes.{IsWithin, chained, set_at_most}
 
 set_less : (words : Words) (within : Option ℕ) (e : TermTree) → set_work within (simple words e) ≤ set_work within e
 set_less words None (number value kind) = omega arith
 set_less words within e = omega (arith, set_at_most within (simple words e), (no_larger words e).nodes)
 
 module _ (counts : List ℕ) where
-  -- statements are no more work than this, need no more temporaries, and stand in no more loops
-  pub record IsWithin (code : StraightBlock) (work height depth : ℕ) : Type 0 where
-    pub worked : block_work counts code ≤ work
-    pub low : height_in_all code ≤ height
-    pub shallow : depth_in_all code ≤ depth
-
-  -- so two blocks, one after the other
-  record AreChained (these those : StraightBlock) : Type 0 where
-    worked : block_work counts (chain these those) ≡ block_work counts these + block_work counts those
-    low : height_in_all (chain these those) ≤ max (height_in_all these) (height_in_all those)
-    shallow : depth_in_all (chain these those) ≤ max (depth_in_all these) (depth_in_all those)
-
-  chained : (these those : StraightBlock) → AreChained these those
-  chained nothing those = record { worked = omega arith; low = omega arith; shallow = omega arith }
-  chained (first statement these) those =
-      let rest = chained these those in record { worked = omega arith; low = omega arith; shallow = omega arith }
-
   module _ (copies : List ℕ) (declared : List FlatVariable) (allowed : AreAllowed copies counts) where
     mutual
       less : {words after : Words} {statement : StraightTree} {code : StraightBlock}
           → Simplifies copies declared words statement code after
-          → IsWithin code (statement_work counts statement) (height_in statement) (depth_in statement)
+          → IsWithin counts code (statement_work counts statement) (height_in statement) (depth_in statement)
       less (sets {words = words} {within = within} {value = value}) =
           let e = no_larger words value in
           record { worked = omega (arith, set_less words within value); low = omega arith; shallow = omega arith }
@@ -90,22 +70,22 @@ module _ (counts : List ℕ) where
 
       less_turns : {x n i : ℕ} {body code : StraightBlock} {words after : Words}
           → TurnsSimplify copies declared x body n i words code after
-          → IsWithin code (n * (1 + block_work counts body)) (height_in_all body) (depth_in_all body)
+          → IsWithin counts code (n * (1 + block_work counts body)) (height_in_all body) (depth_in_all body)
       less_turns no_turn = record { worked = omega arith; low = omega arith; shallow = omega arith }
       less_turns (a_turn {x = x} {i = i} {code = code} {more = more} one others) =
           let a = less_all one in
           let b = less_turns others in
-          let both = chained (first (set None x (number i counter_type.kind)) code) more in
+          let both = chained counts (first (set None x (number i counter_type.kind)) code) more in
           record { worked = omega arith; low = omega arith; shallow = omega arith }
 
       pub less_all : {words after : Words} {body code : StraightBlock}
           → AllSimplify copies declared words body code after
-          → IsWithin code (block_work counts body) (height_in_all body) (depth_in_all body)
+          → IsWithin counts code (block_work counts body) (height_in_all body) (depth_in_all body)
       less_all ends = record { worked = omega arith; low = omega arith; shallow = omega arith }
       less_all (goes_on {code = code} {more = more} one others) =
           let a = less one in
           let b = less_all others in
-          let both = chained code more in
+          let both = chained counts code more in
           record { worked = omega arith; low = omega arith; shallow = omega arith }
 
 -- The result.

@@ -6,20 +6,16 @@ use Rattle.std.proofs.lemmas.Option.{none-some, same_Some}
 use Rattle.inline.specs.declared.flat.FlatVariable.{FlatVariable}
 use Rattle.inline.specs.Flat.{TermTree, variable, word_as}
 use Rattle.inline.specs.FlatMeaning.{Values, value_in}
-use Rattle.language.specs.declared.signature.Kind.{Kind}
-use Rattle.language.specs.declared.signature.Kind.TheVariants.{Boolean, Uint8, Uint16, Uint32}
-use Rattle.language.specs.declared.signature.Label.{Label}
-use Rattle.language.specs.declared.signature.Label.TheVariants.{Public, Secret}
 use Rattle.language.specs.declared.typing.WordType.{WordType}
-use Rattle.language.specs.Types.{same_kind, same_label}
 use Rattle.optimisation.specs.declared.constants.known.Constant.{Constant}
 use Rattle.optimisation.specs.declared.constants.known.WordCopy.{WordCopy}
 use Rattle.optimisation.specs.constants.private.Folding.{constant_of}
 use Rattle.optimisation.specs.constants.private.Known.{Words, with_word}
-use Rattle.optimisation.specs.constants.private.Simplification.{are_alike, copied, copied_where, is_word}
+use Rattle.optimisation.specs.constants.private.Simplification.{are_alike, copied, copied_where}
 use Rattle.optimisation.specs.constants.private.Simplification.{may_be_read_as}
 use Rattle.optimisation.specs.constants.private.Simplification.{set_to, variable_of}
 use Rattle.optimisation.proofs.constants_lemmas.KnownLemmas.{Fact, valued, copy, IsFree, Knows, in_more, word_by}
+use Rattle.optimisation.proofs.over_lemmas.SameWords.{are_words, as_word}
 
 -- the value of what is a variable
 pub read_value : (m : Values) (e : TermTree) (y : ℕ) → variable_of e ≡ Some y → value_in m e ≡ slice_index (m y) 0
@@ -32,41 +28,12 @@ two_variables declared x y is =
     eqb-false x y (not-true (x == y)
     (and_parts (not (x == y)) (are_alike (slice_get declared x) (slice_get declared y)) is).0)
 
-one_kind : (k l : Kind) → same_kind k l ≡ true → l ≡ k
-one_kind Boolean Boolean h = refl
-one_kind Uint8 Uint8 h = refl
-one_kind Uint16 Uint16 h = refl
-one_kind Uint32 Uint32 h = refl
-one_kind k l h = absurd (false≢true h)
-
-one_label : (k l : Label) → same_label k l ≡ true → l ≡ k
-one_label Public Public h = refl
-one_label Secret Secret h = refl
-one_label k l h = absurd (false≢true h)
-
-no_elements : (o : Option ℕ) → is_word o ≡ true → o ≡ None
-no_elements None h = refl
-no_elements (Some size) h = absurd (false≢true h)
-
 -- what is declared alike to a word is a word of its type
 alike : (d : FlatVariable) (o : Option FlatVariable) → are_alike (Some d) o ≡ true
     → (other : Bool) × (o ≡ Some (word_as d.word other))
 alike d None is = absurd (false≢true is)
 alike d (Some e) is =
-    let third = and_parts (is_word d.elements && is_word e.elements && same_kind d.word.kind e.word.kind)
-    (same_label d.word.label e.word.label) is in
-    let second = and_parts (is_word d.elements && is_word e.elements) (same_kind d.word.kind e.word.kind) third.0 in
-    let first = and_parts (is_word d.elements) (is_word e.elements) second.0 in
-    let kinds = one_kind d.word.kind e.word.kind second.1 in
-    let labels = one_label d.word.label e.word.label third.1 in
-    let none = no_elements e.elements first.1 in (
-      e.mutable,
-      λ i. Some (record {
-        word = record { kind = kinds i; label = labels i };
-        mutable = e.mutable;
-        elements = none i;
-      }),
-    )
+    let words = are_words d e is in (e.mutable, ap Some (as_word e d.word words.word words.other))
 
 pub source_alike : (declared : List FlatVariable) (x y : ℕ) (word : WordType) (mutable : Bool)
     → may_be_read_as declared x y ≡ true → slice_get declared x ≡ Some (word_as word mutable)

@@ -15,6 +15,7 @@ use Rattle.optimisation.proofs.constants_lemmas.TermRules.{Becomes, and_then, co
 use Rattle.optimisation.proofs.constants_lemmas.TermRules.{shifted_up, shifted_down, masked, bits_moved, around}
 use Rattle.optimisation.proofs.constants_lemmas.TermRules.{simpler}
 use Rattle.optimisation.proofs.constants_lemmas.TwoShifts.{lifted_by}
+use Rattle.optimisation.proofs.over_lemmas.Sizes.{IsNoLarger}
 
 pub some_node : (e : TermTree) → 1 ≤ term_nodes e
 some_node (number value kind) = omega arith
@@ -31,11 +32,6 @@ number_height : (e : TermTree) (c : Constant) → constant_of e ≡ Some c → h
 number_height (number value kind) c is = omega arith
 number_height (truth value) c is = omega arith
 number_height e c is = absurd (none-some c is)
-
--- an expression is no larger than another one
-pub record IsNoLarger (e whole : TermTree) : Type 0 where
-  pub nodes : term_nodes e ≤ term_nodes whole
-  pub height : height_of e ≤ height_of whole
 
 through : {e f g : TermTree} → IsNoLarger f e → IsNoLarger g f → IsNoLarger g e
 through one other = record { nodes = omega arith; height = omega arith }

@@ -2,12 +2,12 @@
 use Rattle.std.proofs.Common.{◌≡◌, ℕ, ◌==◌, Bool, false, List, [], ◌∷◌, map, Option, None, Some, slice_get}
 use Rattle.std.proofs.Common.{◌+◌, ◌-◌, ◌≤◌, ◌<◌, refl, sym, ap, ◌∙◌, arith}
 use Rattle.std.proofs.lemmas.Bool.{cond-false, ne_eqb}
-use Rattle.std.proofs.lemmas.List.{length-map}
 use Rattle.std.proofs.lemmas.Option.{none-some, same_Some}
 use Rattle.language.specs.declared.typing.WordType.{WordType}
 use Rattle.inline.specs.declared.flat.FlatVariable.{FlatVariable}
 use Rattle.inline.specs.Flat.{TermTree, number, counter_type, word_as, array_as}
 use Rattle.inline.specs.FlatTyping.{Types, types_of, HasType, HasCount, of_number}
+use Rattle.inline.proofs.Face.{still_counted}
 use Rattle.word.specs.declared.profile.Profile.{Profile}
 use Rattle.branch_removal.specs.Straight.{StraightTree, set, StraightBlock, nothing, first, chain}
 use Rattle.branch_removal.specs.StraightTyping.{IsSet, IsFilled, IsPut, types_but, IsTyped, AreTyped, IsHidden}
@@ -26,12 +26,7 @@ use Rattle.optimisation.proofs.constants_lemmas.StatementRules.{AllSimplify, end
 use Rattle.optimisation.proofs.constants_lemmas.Suiting.{number_below, suited_number}
 use Rattle.optimisation.proofs.constants_lemmas.TermTypes.{all_still_suit, still_public, still_suits, still_typed}
 use Rattle.optimisation.proofs.constants_lemmas.Unset.{behind_part, within_loop}
-
-hidden-chain : (declared : List FlatVariable) (these those : StraightBlock) → AreHidden declared these
-    → AreHidden declared those → AreHidden declared (chain these those)
-hidden-chain declared nothing those one other = other
-hidden-chain declared (first statement these) those one other =
-    (one.0, hidden-chain declared these those one.1 other)
+use Rattle.optimisation.proofs.over_lemmas.Types.{hidden-chain, typed-chain}
 
 module _ {copies : List ℕ} {declared : List FlatVariable} where
   mutual
@@ -61,12 +56,6 @@ module _ {copies : List ℕ} {declared : List FlatVariable} where
     still_hidden_all ends hidden = tt
     still_hidden_all (goes_on {code = code} {more = more} one others) hidden =
         hidden-chain declared code more (still_hidden one hidden.0) (still_hidden_all others hidden.1)
-
--- as many values as elements, or none
-still_counted : (words : Words) (size : ℕ) (values : List TermTree) → HasCount size values
-    → HasCount size (map (simple words) values)
-still_counted words size [] count = tt
-still_counted words size (e ∷ es) count = length-map (e ∷ es) (simple words) ∙ count
 
 module _ (profile : Profile) (declared : List FlatVariable) where
   abbrev types : Types
@@ -186,15 +175,10 @@ module _ (profile : Profile) (declared : List FlatVariable) where
       known = is.known;
       suit = all_still_suit (types_but profile declared x) words
           (but_kinds words x is.word is.mutable size is.known kinds) is.word values is.suit;
-      count = still_counted words size values is.count;
+      count = still_counted (simple words) size values is.count;
     }
 
   module _ (controls : ℕ) where
-    typed-chain : (these those : StraightBlock) → AreTyped profile declared controls these
-        → AreTyped profile declared controls those → AreTyped profile declared controls (chain these those)
-    typed-chain nothing those one other = other
-    typed-chain (first statement these) those one other = (one.0, typed-chain these those one.1 other)
-
     -- code is well typed, and what is then known is of its kind
     pub record IsStillTyped (code : StraightBlock) (words : Words) : Type 0 where
       pub typed : AreTyped profile declared controls code
@@ -248,7 +232,7 @@ module _ (profile : Profile) (declared : List FlatVariable) where
             let a = typed_after_all one (turn_kinds words x i kinds there here) is in
             let b = typed_after_turns others (omega (arith, below)) there is a.kinds in
             record {
-              typed = typed-chain (first (set None x (number i counter_type.kind)) code) more
+              typed = typed-chain profile declared controls (first (set None x (number i counter_type.kind)) code) more
                   ((tt, counter_set x i there here), a.typed) b.typed;
               kinds = b.kinds;
             }
@@ -260,4 +244,4 @@ module _ (profile : Profile) (declared : List FlatVariable) where
         typed_after_all (goes_on {code = code} {more = more} one others) kinds is =
             let a = typed_after one kinds is.0 in
             let b = typed_after_all others a.kinds is.1 in
-            record { typed = typed-chain code more a.typed b.typed; kinds = b.kinds }
+            record { typed = typed-chain profile declared controls code more a.typed b.typed; kinds = b.kinds }

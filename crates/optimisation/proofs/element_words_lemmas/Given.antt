@@ -1,5 +1,5 @@
 -- The words of a new array get its first values, which do not go by what the array held.
-use Rattle.std.proofs.Common.{◌≡◌, ℕ, zero, suc, ◌+◌, ◌<◌, ◌≤◌, ◌==◌, Bool, true, false, if◌then◌else◌, List, [], ◌∷◌}
+use Rattle.std.proofs.Common.{◌≡◌, ℕ, zero, suc, ◌+◌, ◌<◌, ◌≤◌, ◌==◌, List, [], ◌∷◌}
 use Rattle.std.proofs.Common.{map, drop, length, Option, None, Some, slice_get, slice_index, refl, sym, ap, ◌∙◌}
 use Rattle.std.proofs.Common.{arith}
 use Rattle.std.proofs.lemmas.Bool.{eq-eqb, cond-true}
@@ -8,21 +8,20 @@ use Rattle.std.proofs.lemmas.Option.{none-some}
 use Rattle.inline.specs.declared.flat.FlatVariable.{FlatVariable}
 use Rattle.inline.specs.Flat.{TermTree}
 use Rattle.inline.specs.FlatMeaning.{Values, with_value, value_in, elements, path_in, path_in_all}
-use Rattle.inline.specs.FlatTyping.{AllSuit, HasCount}
-use Rattle.inline.specs.Path.{AreFine}
+use Rattle.inline.specs.FlatTyping.{HasCount}
+use Rattle.branch_removal.specs.Straight.{StraightBlock}
 use Rattle.branch_removal.specs.StraightMeaning.{StraightState, with_variable, value_at, after_all, path_along}
-use Rattle.branch_removal.specs.StraightTyping.{types_but}
 use Rattle.language.specs.declared.signature.Kind.{Kind}
-use Rattle.language.specs.declared.typing.WordType.{WordType}
-use Rattle.word.specs.declared.profile.Profile.{Profile}
 use Rattle.optimisation.specs.declared.element_words.parts.Part.{Part}
 use Rattle.optimisation.specs.element_words.private.Parts.{Parts, part_of}
-use Rattle.optimisation.specs.element_words.private.Splitting.{split, first_value, given_words}
+use Rattle.optimisation.specs.element_words.private.Splitting.{first_value, given_words}
 use Rattle.optimisation.proofs.element_words_lemmas.PartLemmas.{IsSplitting}
-use Rattle.optimisation.proofs.element_words_lemmas.Known.{AllHaveKnown}
-use Rattle.branch_removal.proofs.Sequences.{fine_both, fine_front, fine_back}
-use Rattle.optimisation.proofs.element_words_lemmas.Values.{AreAlike, same_value, still_fine}
+use Rattle.optimisation.proofs.element_words_lemmas.Known.{places_in}
+use Rattle.optimisation.proofs.element_words_lemmas.Values.{AreAlike, held_in}
 use Rattle.optimisation.proofs.element_words_lemmas.Held.{beside, here, no_word, zeros_at}
+use Rattle.optimisation.proofs.over_lemmas.Rules.{AreOver, no_values, a_value}
+use Rattle.optimisation.proofs.over_lemmas.Types.{but, but_within}
+use Rattle.optimisation.proofs.over_lemmas.Values.{IsNoWorse, both, alike as value_alike}
 
 -- The elements of a new array.
 
@@ -35,18 +34,6 @@ pub elements_at : (m : Values) (size i : ℕ) (values : List TermTree)
     → slice_index (map (value_in m) values) i ≡ slice_index (elements m size values) i
 elements_at m size i [] = sym (zeros_at size i)
 elements_at m size i (e ∷ es) = refl
-
--- the variables but for one
-abbrev pub but : List FlatVariable → ℕ → ℕ → Option FlatVariable
-but declared x y = if y == x then None else slice_get declared y
-
-pub but_within : (declared : List FlatVariable) (x y : ℕ) (d : FlatVariable) → but declared x y ≡ Some d
-    → slice_get declared y ≡ Some d
-but_within declared x y d there = by_number (y == x) there
-  where
-    by_number : (b : Bool) → (if b then None else slice_get declared y) ≡ Some d → slice_get declared y ≡ Some d
-    by_number true h = absurd (none-some d h)
-    by_number false h = h
 
 but_apart : (declared : List FlatVariable) (x y : ℕ) (d : FlatVariable) → but declared x y ≡ Some d → y ≡ x → ⊥
 but_apart declared x y d there same =
@@ -77,7 +64,7 @@ words_controls (suc n) base kind values t =
     (with_variable t base (value_at t (first_value kind values) ∷ []))
 
 module _ (declared new : List FlatVariable) (parts : Parts) (is_splitting : IsSplitting declared new parts)
-    (profile : Profile) (x : ℕ) (part : Part) (is : part_of parts x ≡ Some part) (m : Values) where
+    (x : ℕ) (part : Part) (is : part_of parts x ≡ Some part) (m : Values) where
   -- setting a word of the array leaves the other variables
   undisturbed : (k : Values) (base i : ℕ) (v : List ℕ) → AreAlike (but declared x) parts m k → base ≡ part.base + i
       → i < part.size → AreAlike (but declared x) parts m (with_value k base v)
@@ -97,48 +84,52 @@ module _ (declared new : List FlatVariable) (parts : Parts) (is_splitting : IsSp
         };
   }
 
-  pub words_inside : (word : WordType) (values : List TermTree) → AllSuit (types_but profile declared x) word values
-      → AllHaveKnown parts values → (n base : ℕ) (kind : Kind) (t : StraightState)
-      → AreAlike (but declared x) parts m t.variables → (o : ℕ) → base ≡ part.base + o → o + n ≤ part.size
-      → (i z : ℕ) → i < n → z ≡ base + i
-      → (after_all t (given_words base n kind (map (split parts) values))).variables z
-      ≡ slice_index (map (value_in m) values) i ∷ []
-  words_inside word values suit known zero base kind t alike o at room i z below place =
-      absurd (omega (arith, below))
-  words_inside word [] suit known (suc n) base kind t alike o at room zero z below place =
-      words_outside n (base + 1) kind [] (with_variable t base (0 ∷ [])) z (λ i inside same. omega (arith, same, place))
-      ∙ here t.variables base z (0 ∷ []) (omega (arith, place))
-  words_inside word [] suit known (suc n) base kind t alike o at room (suc i) z below place =
-      words_inside word [] suit known n (base + 1) kind (with_variable t base (0 ∷ []))
-      (undisturbed t.variables base o (0 ∷ []) alike at (omega (arith, room))) (o + 1) (omega (arith, at))
-      (omega (arith, room)) i z (omega (arith, below)) (omega (arith, place))
-  words_inside word (e ∷ es) suit known (suc n) base kind t alike o at room zero z below place =
-      words_outside n (base + 1) kind (map (split parts) es)
-      (with_variable t base (value_at t (split parts e) ∷ [])) z (λ i inside same. omega (arith, same, place))
-      ∙ (here t.variables base z (value_at t (split parts e) ∷ []) (omega (arith, place))
-      ∙ ap (λ v. v ∷ []) (same_value declared new parts is_splitting profile (but declared x) (but_within declared x)
-      m t.variables alike suit.0.has_type known.0))
-  words_inside word (e ∷ es) suit known (suc n) base kind t alike o at room (suc i) z below place =
-      words_inside word es suit.1 known.1 n (base + 1) kind (with_variable t base (value_at t (split parts e) ∷ []))
-      (undisturbed t.variables base o (value_at t (split parts e) ∷ []) alike at (omega (arith, room))) (o + 1)
-      (omega (arith, at)) (omega (arith, room)) i z (omega (arith, below)) (omega (arith, place))
+  -- so many words that get values hold them, and the path is fine where the values' path is
+  pub record AreGiven (most : List ℕ) (values : List TermTree) (n base : ℕ) (t : StraightState) (code : StraightBlock)
+      : Type 0 where
+    pub each : (i z : ℕ) → i < n → z ≡ base + i
+        → (after_all t code).variables z ≡ slice_index (map (value_in m) values) i ∷ []
+    pub path : IsNoWorse most (path_in_all m values) (path_along t code)
 
-  pub words_fine : (word : WordType) (values : List TermTree) → AllSuit (types_but profile declared x) word values
-      → AllHaveKnown parts values → (n base : ℕ) (kind : Kind) (t : StraightState)
+  -- the first word, and those behind it
+  first_given : (n base : ℕ) (kind : Kind) (es : List TermTree) (t : StraightState) (v w : ℕ) (numbers : List ℕ)
+      → w ≡ v
+      → ((i z : ℕ) → i < n → z ≡ base + 1 + i
+      → (after_all (with_variable t base (w ∷ [])) (given_words (base + 1) n kind es)).variables z
+      ≡ slice_index numbers i ∷ [])
+      → (i z : ℕ) → i < suc n → z ≡ base + i
+      → (after_all (with_variable t base (w ∷ [])) (given_words (base + 1) n kind es)).variables z
+      ≡ slice_index (v ∷ numbers) i ∷ []
+  first_given n base kind es t v w numbers same rest zero z below place =
+      words_outside n (base + 1) kind es (with_variable t base (w ∷ [])) z (λ i inside equal. omega (arith, equal, place))
+      ∙ (here t.variables base z (w ∷ []) (omega (arith, place)) ∙ ap (λ n. n ∷ []) same)
+  first_given n base kind es t v w numbers same rest (suc i) z below place =
+      rest i z (omega (arith, below)) (omega (arith, place))
+
+  pub words_given : (most : List ℕ) {values es : List TermTree}
+      → AreOver (places_in (but declared x) parts) values es → (n base : ℕ) (kind : Kind) (t : StraightState)
       → AreAlike (but declared x) parts m t.variables → (o : ℕ) → base ≡ part.base + o → o + n ≤ part.size
-      → (most : List ℕ) → AreFine most (path_in_all m values)
-      → AreFine most (path_along t (given_words base n kind (map (split parts) values)))
-  words_fine word values suit known zero base kind t alike o at room most fine = tt
-  words_fine word [] suit known (suc n) base kind t alike o at room most fine =
-      words_fine word [] suit known n (base + 1) kind (with_variable t base (0 ∷ []))
+      → AreGiven most values n base t (given_words base n kind es)
+  words_given most all zero base kind t alike o at room = record {
+    each = λ i z below place. absurd (omega (arith, below));
+    path = record { fine = λ fine. tt };
+  }
+  words_given most no_values (suc n) base kind t alike o at room =
+      let rest = words_given most no_values n (base + 1) kind (with_variable t base (0 ∷ []))
       (undisturbed t.variables base o (0 ∷ []) alike at (omega (arith, room))) (o + 1) (omega (arith, at))
-      (omega (arith, room)) most fine
-  words_fine word (e ∷ es) suit known (suc n) base kind t alike o at room most fine =
-      let next = with_variable t base (value_at t (split parts e) ∷ []) in
-      fine_both most (path_in t.variables (split parts e))
-      (path_along next (given_words (base + 1) n kind (map (split parts) es)))
-      (still_fine declared new parts is_splitting profile (but declared x) (but_within declared x) m t.variables alike
-      most suit.0.has_type known.0 (fine_front most (path_in m e) (path_in_all m es) fine))
-      (words_fine word es suit.1 known.1 n (base + 1) kind next
-      (undisturbed t.variables base o (value_at t (split parts e) ∷ []) alike at (omega (arith, room))) (o + 1)
-      (omega (arith, at)) (omega (arith, room)) most (fine_back most (path_in m e) (path_in_all m es) fine))
+      (omega (arith, room)) in
+      record {
+        each = λ i z below place.
+            first_given n base kind [] t 0 0 [] refl rest.each i z below place ∙ ap (λ n. n ∷ []) (zeros_at 1 i);
+        path = record { fine = rest.path.fine };
+      }
+  words_given most (a_value {f = f} {es = values} {fs = es} one others) (suc n) base kind t alike o at room =
+      let a = value_alike most
+      (held_in declared new parts is_splitting (but declared x) (but_within declared x) alike) one in
+      let rest = words_given most others n (base + 1) kind (with_variable t base (value_at t f ∷ []))
+      (undisturbed t.variables base o (value_at t f ∷ []) alike at (omega (arith, room))) (o + 1) (omega (arith, at))
+      (omega (arith, room)) in
+      record {
+        each = first_given n base kind es t _ (value_at t f) (map (value_in m) values) a.value rest.each;
+        path = both most a.path rest.path;
+      }

@@ -1,123 +1,103 @@
--- Where arrays become words, they are used by known indices alone.
-use Rattle.std.proofs.Common.{◌≡◌, ℕ, ◌+◌, ◌<◌, Bool, true, false, if◌then◌else◌, List, [], ◌∷◌, Option, None, Some}
-use Rattle.std.proofs.Common.{option_map, refl, sym, ap, ◌∙◌, subst}
+-- Where arrays become words, they are used by known indices alone: what becomes of code is code over other variables, in
+-- which the words stand in the places of the elements.
+use Rattle.std.proofs.Common.{◌≡◌, ℕ, ◌+◌, ◌<◌, Bool, true, false, if◌then◌else◌, List, [], ◌∷◌, map, Option, None}
+use Rattle.std.proofs.Common.{Some, option_map, slice_get, ◌⊎◌, inl, inr, refl, sym, ap, ◌∙◌, subst}
 use Rattle.std.specs.Prelude.{nat_lt}
 use Rattle.std.proofs.lemmas.Bool.{ltb-true}
 use Rattle.std.proofs.lemmas.Option.{none-some}
-use Rattle.inline.specs.Flat.{TermTree, number, truth, variable, prefix, binary, rotate, convert, select, element}
+use Rattle.inline.specs.declared.flat.FlatVariable.{FlatVariable}
+use Rattle.inline.specs.Flat.{TermTree, number, element, counter_type, word_as, array_as}
+use Rattle.inline.specs.FlatTyping.{types_of, HasType, of_number, of_truth, of_variable, of_prefix, of_binary}
+use Rattle.inline.specs.FlatTyping.{of_rotation, of_conversion, of_selection, of_element, AllSuit, IsResult}
 use Rattle.branch_removal.specs.Straight.{StraightTree, set, array, put, take, branch, repeats, StraightBlock, nothing}
 use Rattle.branch_removal.specs.Straight.{first}
+use Rattle.branch_removal.specs.StraightTyping.{IsFilled, IsPut, types_but, IsTyped, AreTyped}
 use Rattle.language.specs.declared.signature.Kind.{Kind}
+use Rattle.language.specs.declared.typing.WordType.{WordType}
+use Rattle.word.specs.declared.place.Place.{Place}
+use Rattle.word.specs.declared.profile.Profile.{Profile}
 use Rattle.optimisation.specs.declared.element_words.parts.Part.{Part}
 use Rattle.optimisation.specs.element_words.private.Parts.{Parts, part_of, whole, known_index, word_in, word_of}
 use Rattle.optimisation.specs.element_words.private.Narrowing.{unless_word, narrowed_at, narrowed, all_narrowed}
-use Rattle.optimisation.specs.element_words.private.Narrowing.{narrowed_put}
 use Rattle.optimisation.specs.element_words.private.Narrowing.{narrowed_by, narrowed_by_all, narrowed_result}
+use Rattle.optimisation.specs.element_words.private.Splitting.{word_or, split, single, new_array, put_in, split_in}
+use Rattle.optimisation.specs.element_words.private.Splitting.{split_all}
 use Rattle.optimisation.proofs.element_words_lemmas.PartLemmas.{whole_same, whole_none, IsBelow}
+use Rattle.optimisation.proofs.over_lemmas.Rules.{Places, IsOver, a_number, a_truth, a_variable, prefixed, operated}
+use Rattle.optimisation.proofs.over_lemmas.Rules.{rotated, converted, selected, an_element, a_word}
+use Rattle.optimisation.proofs.over_lemmas.Rules.{AreOver, no_values, a_value, IsResultOver, no_result, a_result}
+use Rattle.optimisation.proofs.over_lemmas.Rules.{Layout, Becomes, sets, fills, gives, puts, puts_word, takes, chooses}
+use Rattle.optimisation.proofs.over_lemmas.Rules.{loops, AllBecome, ends, goes_on}
+use Rattle.optimisation.proofs.over_lemmas.Types.{but}
+
+-- Where the variables are.
+
+-- a variable in scope that stays: a word, or an array that stays whole
+pub record IsStaying (at : ℕ → Option FlatVariable) (parts : Parts) (x : ℕ) : Type 0 where
+  pub listed : FlatVariable
+  pub there : at x ≡ Some listed
+  pub stays : (listed.elements ≡ None) ⊎ (part_of parts x ≡ None)
+
+-- an element in scope that is this word
+pub record IsElement (at : ℕ → Option FlatVariable) (parts : Parts) (x i w : ℕ) : Type 0 where
+  pub listed : FlatVariable
+  pub there : at x ≡ Some listed
+  pub part : Part
+  pub is : part_of parts x ≡ Some part
+  pub below : i < part.size
+  pub word : w ≡ part.base + i
+
+-- an array that becomes words
+pub record IsSplitArray (declared : List FlatVariable) (parts : Parts) (x size : ℕ) (part : Part) : Type 0 where
+  pub word : WordType
+  pub mutable : Bool
+  pub known : slice_get declared x ≡ Some (array_as word mutable size)
+  pub is : part_of parts x ≡ Some part
+
+abbrev pub places_in : (ℕ → Option FlatVariable) → Parts → Places
+places_in at parts = record { at = λ x. x; Stays = IsStaying at parts; IsWord = IsElement at parts }
+
+abbrev pub layout_in : List FlatVariable → Parts → Layout
+layout_in declared parts = record {
+  outer = places_in (λ y. slice_get declared y) parts;
+  inner = λ x. places_in (but declared x) parts;
+  IsSplit = IsSplitArray declared parts;
+  IsLeftOut = λ value. ⊥;
+}
+
+-- Known indices.
 
 -- an index is a number below the size
-pub record IsKnownIndex (size : ℕ) (index : TermTree) : Type 0 where
-  pub value : ℕ
-  pub kind : Kind
-  pub is : index ≡ number value kind
-  pub below : value < size
-  pub found : known_index size index ≡ Some value
+data IsKnownIndex (size : ℕ) : TermTree → Type 0 where
+  is_number : {value : ℕ} {kind : Kind} → value < size → known_index size (number value kind) ≡ Some value
+      → IsKnownIndex size (number value kind)
 
-known_here : (size value : ℕ) (kind : Kind) (i : ℕ) → known_index size (number value kind) ≡ Some i
-    → IsKnownIndex size (number value kind)
-known_here size value kind i is = by_size (nat_lt value size) refl is
-  where
-    by_size : (b : Bool) → nat_lt value size ≡ b → (if b then Some value else None) ≡ Some i
-        → IsKnownIndex size (number value kind)
-    by_size true h is = record {
-      value = value;
-      kind = kind;
-      is = refl;
-      below = ltb-true value size h;
-      found = ap (λ (b : Bool). if b then Some value else None) h;
-    }
-    by_size false h is = absurd (none-some i is)
+known_here : (size value : ℕ) (kind : Kind) (i : ℕ) (b : Bool) → nat_lt value size ≡ b
+    → (if b then Some value else None) ≡ Some i → IsKnownIndex size (number value kind)
+known_here size value kind i true h is =
+    is_number (ltb-true value size h) (ap (λ (b : Bool). if b then Some value else None) h)
+known_here size value kind i false h is = absurd (none-some i is)
 
-pub known_index_is : (size : ℕ) (index : TermTree) (i : ℕ) → known_index size index ≡ Some i
+known_index_is : (size : ℕ) (index : TermTree) (i : ℕ) → known_index size index ≡ Some i
     → IsKnownIndex size index
-known_index_is size (number value kind) i is = known_here size value kind i is
-known_index_is size (truth value) i is = absurd (none-some i is)
-known_index_is size (variable x) i is = absurd (none-some i is)
-known_index_is size (prefix operator width operand) i is = absurd (none-some i is)
-known_index_is size (binary place operator width left right) i is = absurd (none-some i is)
-known_index_is size (rotate width operand amount) i is = absurd (none-some i is)
-known_index_is size (convert kind operand) i is = absurd (none-some i is)
-known_index_is size (select condition accepted otherwise) i is = absurd (none-some i is)
-known_index_is size (element place x other index) i is = absurd (none-some i is)
+known_index_is size (number value kind) i is = known_here size value kind i (nat_lt value size) refl is
+known_index_is size index i is = absurd (none-some i is)
 
 -- an array that becomes words has a known index
-abbrev pub IsKnown : Option Part → TermTree → Type 0
+abbrev IsKnown : Option Part → TermTree → Type 0
 IsKnown None index = Unit {0}
 IsKnown (Some part) index = IsKnownIndex part.size index
 
-abbrev pub HasKnown : Parts → TermTree → Type 0
-HasKnown parts (number value kind) = Unit {0}
-HasKnown parts (truth value) = Unit {0}
-HasKnown parts (variable x) = Unit {0}
-HasKnown parts (prefix operator width operand) = HasKnown parts operand
-HasKnown parts (binary place operator width left right) = HasKnown parts left × HasKnown parts right
-HasKnown parts (rotate width operand amount) = HasKnown parts operand
-HasKnown parts (convert kind operand) = HasKnown parts operand
-HasKnown parts (select condition accepted otherwise) =
-    HasKnown parts condition × HasKnown parts accepted × HasKnown parts otherwise
-HasKnown parts (element place x size index) = IsKnown (part_of parts x) index × HasKnown parts index
-
-abbrev pub AllHaveKnown : Parts → List TermTree → Type 0
-AllHaveKnown parts [] = Unit {0}
-AllHaveKnown parts (e ∷ es) = HasKnown parts e × AllHaveKnown parts es
-
-abbrev pub IsPutKnown : Parts → ℕ → TermTree → TermTree → Type 0
-IsPutKnown parts x index value = IsKnown (part_of parts x) index × HasKnown parts index × HasKnown parts value
-
-abbrev mutual
-  pub StatementHasKnown : Parts → StraightTree → Type 0
-  StatementHasKnown parts (set within x value) = HasKnown parts value
-  StatementHasKnown parts (array x size values) = AllHaveKnown parts values
-  StatementHasKnown parts (put within place x size index value) = IsPutKnown parts x index value
-  StatementHasKnown parts (take control within condition) = HasKnown parts condition
-  StatementHasKnown parts (branch condition accepted otherwise) =
-      HasKnown parts condition × BlockHasKnown parts accepted × BlockHasKnown parts otherwise
-  StatementHasKnown parts (repeats x low high body) =
-      HasKnown parts low × HasKnown parts high × BlockHasKnown parts body
-
-  pub BlockHasKnown : Parts → StraightBlock → Type 0
-  BlockHasKnown parts nothing = Unit {0}
-  BlockHasKnown parts (first statement rest) = StatementHasKnown parts statement × BlockHasKnown parts rest
-
-abbrev pub ResultHasKnown : Parts → Option TermTree → Type 0
-ResultHasKnown parts None = Unit {0}
-ResultHasKnown parts (Some value) = HasKnown parts value
-
--- Narrowing.
+known_word : (part : Part) (index : TermTree) (word : ℕ) → word_in (Some part) index ≡ Some word
+    → IsKnownIndex part.size index
+known_word part index word = by_index (known_index part.size index) refl
+  where
+    by_index : (o : Option ℕ) → known_index part.size index ≡ o → option_map (λ i. part.base + i) o ≡ Some word
+        → IsKnownIndex part.size index
+    by_index None same h = absurd (none-some word h)
+    by_index (Some i) same h = known_index_is part.size index i same
 
 module _ (last : Parts) where
-  known_by : (part other : Part) (index : TermTree) (word : ℕ) → part.size ≡ other.size
-      → word_in (Some other) index ≡ Some word → IsKnownIndex part.size index
-  known_by part other index word size is = by_index (known_index other.size index) refl is
-    where
-      by_index : (o : Option ℕ) → known_index other.size index ≡ o → option_map (λ i. other.base + i) o ≡ Some word
-          → IsKnownIndex part.size index
-      by_index None same h = absurd (none-some word h)
-      by_index (Some i) same h =
-          subst (λ n. IsKnownIndex n index) (sym size) (known_index_is other.size index i same)
-
-  -- what became of an array where its use is a word
-  known_at : (parts : Parts) (x : ℕ) (index : TermTree) (word : ℕ) → word_of parts x index ≡ Some word
-      → IsBelow last parts → IsKnown (part_of last x) index
-  known_at parts x index word is below = by_part (part_of last x) refl
-    where
-      by_part : (o : Option Part) → part_of last x ≡ o → IsKnown o index
-      by_part None same = tt
-      by_part (Some part) same =
-          let found = below x part same in
-          known_by part found.other index word found.size
-          (ap (λ (o : Option Part). word_in o index) (sym found.there) ∙ is)
-
   still_below : (parts : Parts) (x : ℕ) → IsBelow last (whole parts x) → IsBelow last parts
   still_below parts x below y part is =
       let found = below y part is in
@@ -128,86 +108,165 @@ module _ (last : Parts) where
         word = found.word;
       }
 
+  -- a use of an array that stays whole, or is a word
   use_known : (parts : Parts) (x : ℕ) (index : TermTree) → IsBelow last (narrowed_at parts x index)
       → IsBelow last parts × IsKnown (part_of last x) index
-  use_known parts x index below = by_word (word_of parts x index) refl below
+  use_known parts x index = by_word (word_of parts x index) refl
     where
       by_word : (o : Option ℕ) → word_of parts x index ≡ o → IsBelow last (unless_word o parts x)
           → IsBelow last parts × IsKnown (part_of last x) index
-      by_word None same h = (still_below parts x h, by_part (part_of last x) refl)
+      by_word None same below = (still_below parts x below, by_part (part_of last x) refl)
         where
           by_part : (o : Option Part) → part_of last x ≡ o → IsKnown o index
-          by_part None e = tt
-          by_part (Some part) e =
-              let found = h x part e in
-              absurd (whole_none parts x found.other found.there)
-      by_word (Some word) same h = (h, known_at parts x index word same h)
+          by_part None is = tt
+          by_part (Some part) is =
+              let found = below x part is in absurd (whole_none parts x found.other found.there)
+      by_word (Some word) same below = (below, by_part (part_of last x) refl)
+        where
+          by_part : (o : Option Part) → part_of last x ≡ o → IsKnown o index
+          by_part None is = tt
+          by_part (Some part) is =
+              let found = below x part is in
+              subst (λ n. IsKnownIndex n index) (sym found.size)
+              (known_word found.other index word
+              (ap (λ (o : Option Part). word_in o index) (sym found.there) ∙ same))
 
-  pub known : (parts : Parts) (e : TermTree) → IsBelow last (narrowed parts e)
-      → IsBelow last parts × HasKnown last e
-  known parts (number value kind) below = (below, tt)
-  known parts (truth value) below = (below, tt)
-  known parts (variable x) below = (below, tt)
-  known parts (prefix operator width operand) below = known parts operand below
-  known parts (binary place operator width left right) below =
-      let second = known (narrowed parts left) right below in
-      let one = known parts left second.0 in
-      (one.0, (one.1, second.1))
-  known parts (rotate width operand amount) below = known parts operand below
-  known parts (convert kind operand) below = known parts operand below
-  known parts (select condition accepted otherwise) below =
-      let third = known (narrowed (narrowed parts condition) accepted) otherwise below in
-      let second = known (narrowed parts condition) accepted third.0 in
-      let one = known parts condition second.0 in
-      (one.0, (one.1, second.1, third.1))
-  known parts (element place x size index) below =
-      let inner = known (narrowed_at parts x index) index below in
-      let here = use_known parts x index inner.0 in
-      (here.0, (here.1, inner.1))
+  -- Expressions.
 
-  pub all_known : (parts : Parts) (es : List TermTree) → IsBelow last (all_narrowed parts es)
-      → IsBelow last parts × AllHaveKnown last es
-  all_known parts [] below = (below, tt)
-  all_known parts (e ∷ es) below =
-      let rest = all_known (narrowed parts e) es below in
-      let one = known parts e rest.0 in
-      (one.0, (one.1, rest.1))
+  module _ (profile : Profile) (at : ℕ → Option FlatVariable) where
+    element_over : (place : Place) (x size : ℕ) (index : TermTree) (d : FlatVariable) → at x ≡ Some d
+        → IsOver (places_in at last) index (split last index) → (o : Option Part) → part_of last x ≡ o
+        → IsKnown o index
+        → IsOver (places_in at last) (element place x size index)
+        (word_or (word_in o index) (element place x size (split last index)))
+    element_over place x size index d there inner None is used =
+        an_element (record { listed = d; there = there; stays = inr is }) inner
+    element_over place x size index d there inner (Some part) is (is_number below found) =
+        rw found
+        (a_word (record { listed = d; there = there; part = part; is = is; below = below; word = refl }))
 
-  put_known : (parts : Parts) (x : ℕ) (index value : TermTree) → IsBelow last (narrowed_put parts x index value)
-      → IsBelow last parts × IsPutKnown last x index value
-  put_known parts x index value below =
-      let third = known (narrowed (narrowed_at parts x index) index) value below in
-      let second = known (narrowed_at parts x index) index third.0 in
-      let one = use_known parts x index second.0 in
-      (one.0, (one.1, second.1, third.1))
+    pub known : {e : TermTree} {word : WordType} → HasType (record { profile = profile; at = at }) e word
+        → (parts : Parts) → IsBelow last (narrowed parts e)
+        → IsBelow last parts × IsOver (places_in at last) e (split last e)
+    known (of_number below) parts h = (h, a_number)
+    known of_truth parts h = (h, a_truth)
+    known (of_variable {word = word} {mutable = mutable} there) parts h =
+        (h, a_variable (record { listed = word_as word mutable; there = there; stays = inl refl }))
+    known (of_prefix has may even) parts h = let one = known has parts h in (one.0, prefixed one.1)
+    known (of_binary {left = left} has more makes even) parts h =
+        let second = known more (narrowed parts left) h in
+        let one = known has parts second.0 in
+        (one.0, operated one.1 second.1)
+    known (of_rotation has numeric low high even) parts h = let one = known has parts h in (one.0, rotated one.1)
+    known (of_conversion has numeric) parts h = let one = known has parts h in (one.0, converted one.1)
+    known (of_selection {condition = condition} {accepted = accepted} chooser has more) parts h =
+        let third = known more (narrowed (narrowed parts condition) accepted) h in
+        let second = known has (narrowed parts condition) third.0 in
+        let one = known chooser parts second.0 in
+        (one.0, selected one.1 second.1 third.1)
+    known (of_element {place = place} {x = x} {size = size} {index = index} {word = word} {mutable = mutable}
+        there has) parts h =
+        let inner = known has (narrowed_at parts x index) h in
+        let here = use_known parts x index inner.0 in (
+          here.0,
+          element_over place x size index (array_as word mutable size) there inner.1 (part_of last x) refl here.1,
+        )
 
-  mutual
-    pub statement_known : (parts : Parts) (statement : StraightTree) → IsBelow last (narrowed_by parts statement)
-        → IsBelow last parts × StatementHasKnown last statement
-    statement_known parts (set within x value) below = known parts value below
-    statement_known parts (array x size values) below = all_known parts values below
-    statement_known parts (put within place x size index value) below = put_known parts x index value below
-    statement_known parts (take control within condition) below = known parts condition below
-    statement_known parts (branch condition accepted otherwise) below =
-        let third = block_known (narrowed_by_all (narrowed parts condition) accepted) otherwise below in
-        let second = block_known (narrowed parts condition) accepted third.0 in
-        let one = known parts condition second.0 in
-        (one.0, (one.1, second.1, third.1))
-    statement_known parts (repeats x low high body) below =
-        let third = block_known (narrowed (narrowed parts low) high) body below in
-        let second = known (narrowed parts low) high third.0 in
-        let one = known parts low second.0 in
-        (one.0, (one.1, second.1, third.1))
+    pub all_known : (word : WordType) (es : List TermTree) → AllSuit (record { profile = profile; at = at }) word es
+        → (parts : Parts) → IsBelow last (all_narrowed parts es)
+        → IsBelow last parts × AreOver (places_in at last) es (map (split last) es)
+    all_known word [] suit parts h = (h, no_values)
+    all_known word (e ∷ es) suit parts h =
+        let rest = all_known word es suit.1 (narrowed parts e) h in
+        let one = known suit.0.has_type parts rest.0 in
+        (one.0, a_value one.1 rest.1)
 
-    pub block_known : (parts : Parts) (body : StraightBlock) → IsBelow last (narrowed_by_all parts body)
-        → IsBelow last parts × BlockHasKnown last body
-    block_known parts nothing below = (below, tt)
-    block_known parts (first statement rest) below =
-        let more = block_known (narrowed_by parts statement) rest below in
-        let one = statement_known parts statement more.0 in
-        (one.0, (one.1, more.1))
+    pub result_known : (returned : Option WordType) (value : Option TermTree)
+        → IsResult (record { profile = profile; at = at }) returned value
+        → (parts : Parts) → IsBelow last (narrowed_result parts value)
+        → IsBelow last parts × IsResultOver (places_in at last) value (option_map (split last) value)
+    result_known None None is parts h = (h, no_result)
+    result_known (Some word) (Some value) is parts h =
+        let one = known is.has_type parts h in (one.0, a_result one.1)
+    result_known returned value is parts h = absurd is
 
-  pub result_known : (parts : Parts) (value : Option TermTree) → IsBelow last (narrowed_result parts value)
-      → IsBelow last parts × ResultHasKnown last value
-  result_known parts None below = (below, tt)
-  result_known parts (Some value) below = known parts value below
+  -- Statements.
+
+  module _ (profile : Profile) (declared : List FlatVariable) (controls : ℕ) where
+    abbrev at : ℕ → Option FlatVariable
+    at = λ y. slice_get declared y
+
+    array_becomes : (x size : ℕ) (values es : List TermTree) → IsFilled profile declared x size values
+        → AreOver (places_in (but declared x) last) values es → (o : Option Part) → part_of last x ≡ o
+        → Becomes (layout_in declared last) (array x size values) (new_array o x size es)
+    array_becomes x size values es is all None same =
+        fills (record { listed = array_as is.word is.mutable size; there = is.known; stays = inr same }) all
+    array_becomes x size values es is all (Some part) same =
+        gives (record { word = is.word; mutable = is.mutable; known = is.known; is = same }) is.count all
+
+    put_becomes : (within : Option ℕ) (place : Place) (x size : ℕ) (index value e : TermTree)
+        → IsPut profile declared x size index value → IsOver (places_in at last) index (split last index)
+        → IsOver (places_in at last) value e
+        → (o : Option Part) → part_of last x ≡ o → IsKnown o index
+        → Becomes (layout_in declared last) (put within place x size index value)
+        (single (put_in (word_in o index) within place x size (split last index) e))
+    put_becomes within place x size index value e is inner one None same used =
+        puts (record { listed = array_as is.word is.mutable size; there = is.known; stays = inr same }) inner one
+    put_becomes within place x size index value e is inner one (Some part) same (is_number below found) =
+        rw found
+        (puts_word (record {
+          listed = array_as is.word is.mutable size;
+          there = is.known;
+          part = part;
+          is = same;
+          below = below;
+          word = refl;
+        }) one)
+
+    mutual
+      pub statement_known : (statement : StraightTree) → IsTyped profile declared controls statement
+          → (parts : Parts) → IsBelow last (narrowed_by parts statement)
+          → IsBelow last parts × Becomes (layout_in declared last) statement (split_in last statement)
+      statement_known (set within x value) is parts h =
+          let one = known profile at is.1.suits.has_type parts h in (
+            one.0,
+            sets (record {
+              listed = word_as is.1.word is.1.mutable;
+              there = is.1.known;
+              stays = inl refl;
+            }) one.1,
+          )
+      statement_known (array x size values) is parts h =
+          let all = all_known profile (but declared x) is.word values is.suit parts h in
+          (all.0, array_becomes x size values (map (split last) values) is all.1 (part_of last x) refl)
+      statement_known (put within place x size index value) is parts h =
+          let third = known profile at is.1.suits.has_type (narrowed (narrowed_at parts x index) index) h in
+          let second = known profile at is.1.index_type (narrowed_at parts x index) third.0 in
+          let one = use_known parts x index second.0 in (
+            one.0,
+            put_becomes within place x size index value (split last value) is.1 second.1 third.1 (part_of last x) refl
+                one.1,
+          )
+      statement_known (take control within condition) is parts h =
+          let one = known profile at is.2.1 parts h in (one.0, takes one.1)
+      statement_known (branch condition accepted otherwise) is parts h =
+          let third = block_known otherwise is.2 (narrowed_by_all (narrowed parts condition) accepted) h in
+          let second = block_known accepted is.1 (narrowed parts condition) third.0 in
+          let one = known profile at is.0 parts second.0 in
+          (one.0, chooses one.1 second.1 third.1)
+      statement_known (repeats x low high body) is parts h =
+          let third = block_known body is.3 (narrowed (narrowed parts low) high) h in
+          let second = known profile at is.1 (narrowed parts low) third.0 in
+          let one = known profile at is.0 parts second.0 in (
+            one.0,
+            loops (record { listed = word_as counter_type false; there = is.2; stays = inl refl }) one.1 second.1 third.1,
+          )
+
+      pub block_known : (body : StraightBlock) → AreTyped profile declared controls body
+          → (parts : Parts) → IsBelow last (narrowed_by_all parts body)
+          → IsBelow last parts × AllBecome (layout_in declared last) body (split_all last body)
+      block_known nothing is parts h = (h, ends)
+      block_known (first statement rest) is parts h =
+          let more = block_known rest is.1 (narrowed_by parts statement) h in
+          let one = statement_known statement is.0 parts more.0 in
+          (one.0, goes_on one.1 more.1)

@@ -1,9 +1,9 @@
 -- Which arrays become words, and which words these are.
 use Rattle.std.proofs.Common.{◌≡◌, ℕ, zero, suc, ◌+◌, ◌-◌, ◌≤◌, ◌<◌, Bool, true, false, if◌then◌else◌, List, [], ◌∷◌}
-use Rattle.std.proofs.Common.{◌++◌, map, drop, length, replicate, Option, None, Some, slice_get, refl, sym}
+use Rattle.std.proofs.Common.{◌++◌, map, length, replicate, Option, None, Some, slice_get, ◌⊎◌, inl, inr, refl, sym}
 use Rattle.std.proofs.Common.{ap, ap₂, ◌∙◌, subst, append_assoc, arith}
-use Rattle.std.specs.Prelude.{nat_le, nat_lt}
-use Rattle.std.proofs.lemmas.Bool.{leb-true, ltb-true, ltb-false}
+use Rattle.std.specs.Prelude.{nat_le}
+use Rattle.std.proofs.lemmas.Bool.{cases_lt, cond_both, leb-true}
 use Rattle.std.proofs.lemmas.List.{length-replicate, length-append}
 use Rattle.std.proofs.lemmas.Option.{none-some, same_Some}
 use Rattle.inline.specs.declared.flat.FlatVariable.{FlatVariable}
@@ -41,12 +41,24 @@ pub record IsFound (parts : Parts) (x : ℕ) (part : Part) : Type 0 where
 abbrev pub IsBelow : Parts → Parts → Type 0
 IsBelow less more = (x : ℕ) (part : Part) → part_of less x ≡ Some part → IsFound more x part
 
+pub below_itself : {parts : Parts} → IsBelow parts parts
+below_itself x part is = record { other = part; there = is; size = refl; word = refl }
+
 -- Candidates.
 
 -- an array of so many elements of this type, behind so many parameters
 pub record IsArray (declared : List FlatVariable) (x : ℕ) (part : Part) : Type 0 where
   pub mutable : Bool
   pub known : slice_get declared x ≡ Some (array_as part.word mutable part.size)
+
+-- so where it becomes words of another number
+pub found_array : (declared : List FlatVariable) {parts : Parts} (x : ℕ) (part : Part) (found : IsFound parts x part)
+    → IsArray declared x found.other → IsArray declared x part
+found_array declared x part found array = record {
+  mutable = array.mutable;
+  known = array.known
+      ∙ ap₂ (λ (w : WordType) (n : ℕ). Some (array_as w array.mutable n)) (sym found.word) (sym found.size);
+}
 
 sized_as : (word : WordType) (elements : Option ℕ) (part : Part) → sized word elements ≡ Some part
     → (word ≡ part.word) × (elements ≡ Some part.size)
@@ -66,54 +78,27 @@ candidate_as d part is =
     let both = sized_as d.word d.elements part is in
     ap₂ (λ (w : WordType) (e : Option ℕ). record { word = w; mutable = d.mutable; elements = e }) both.0 both.1
 
-record IsBehind (rest : Parts) (n x : ℕ) (part : Part) : Type 0 where
-  at : ℕ
-  place : x ≡ n + at
-  there : part_of rest at ≡ Some part
+candidate_array : (declared : List FlatVariable) (x : ℕ) (part : Part) → part_of (map candidate declared) x ≡ Some part
+    → IsArray declared x part
+candidate_array [] x part is = absurd (none-some part is)
+candidate_array (d ∷ ds) zero part is = record { mutable = d.mutable; known = ap Some (candidate_as d part is) }
+candidate_array (d ∷ ds) (suc x) part is =
+    let array = candidate_array ds x part is in record { mutable = array.mutable; known = array.known }
 
-behind_none : (n x : ℕ) (rest : Parts) (part : Part) → part_of (replicate n None ++ rest) x ≡ Some part
-    → IsBehind rest n x part
-behind_none zero x rest part is = record { at = x; place = omega arith; there = is }
-behind_none (suc n) zero rest part is = absurd (none-some part is)
-behind_none (suc n) (suc x) rest part is =
-    let found = behind_none n x rest part is in
-    record { at = found.at; place = omega (arith, found.place); there = found.there }
-
-record IsMapped (declared : List FlatVariable) (x : ℕ) (part : Part) : Type 0 where
-  variable : FlatVariable
-  there : slice_get declared x ≡ Some variable
-  made : candidate variable ≡ Some part
-
-mapped : (declared : List FlatVariable) (x : ℕ) (part : Part) → part_of (map candidate declared) x ≡ Some part
-    → IsMapped declared x part
-mapped [] x part is = absurd (none-some part is)
-mapped (d ∷ ds) zero part is = record { variable = d; there = refl; made = is }
-mapped (d ∷ ds) (suc x) part is =
-    let found = mapped ds x part is in
-    record { variable = found.variable; there = found.there; made = found.made }
-
-dropped : (n : ℕ) (declared : List FlatVariable) (at x : ℕ) (d : FlatVariable) → x ≡ n + at
-    → slice_get (drop n declared) at ≡ Some d → slice_get declared x ≡ Some d
-dropped zero declared at x d place is =
-    let same : at ≡ x = omega (arith, place) in
-    subst (λ y. slice_get declared y ≡ Some d) same is
-dropped (suc n) [] at x d place is = absurd (none-some d is)
-dropped (suc n) (e ∷ declared) at zero d place is = absurd (omega (arith, place))
-dropped (suc n) (e ∷ declared) at (suc x) d place is = dropped n declared at x d (omega (arith, place)) is
+no_candidate : (n x : ℕ) (part : Part) → part_of (replicate n None ++ []) x ≡ Some part → ⊥
+no_candidate zero x part is = none-some part is
+no_candidate (suc n) zero part is = none-some part is
+no_candidate (suc n) (suc x) part is = no_candidate n x part is
 
 pub candidate_is : (parameters : ℕ) (declared : List FlatVariable) (x : ℕ) (part : Part)
     → part_of (candidates parameters declared) x ≡ Some part
     → (parameters ≤ x) × IsArray declared x part
-candidate_is parameters declared x part is =
-    let behind = behind_none parameters x (map candidate (drop parameters declared)) part is in
-    let found = mapped (drop parameters declared) behind.at part behind.there in (
-      omega (arith, behind.place),
-      record {
-        mutable = found.variable.mutable;
-        known = dropped parameters declared behind.at x found.variable behind.place found.there
-            ∙ ap Some (candidate_as found.variable part found.made);
-      },
-    )
+candidate_is zero declared x part is = (omega arith, candidate_array declared x part is)
+candidate_is (suc n) declared zero part is = absurd (none-some part is)
+candidate_is (suc n) [] (suc x) part is = absurd (no_candidate n x part is)
+candidate_is (suc n) (d ∷ ds) (suc x) part is =
+    let found = candidate_is n ds x part is in
+    (omega (arith, found.0), record { mutable = found.1.mutable; known = found.1.known })
 
 -- Words.
 
@@ -137,6 +122,25 @@ get_same zero i d rest below = absurd (omega (arith, below))
 get_same (suc n) zero d rest below = refl
 get_same (suc n) (suc i) d rest below = get_same n i d rest (omega (arith, below))
 
+-- arrays that get words from this number on, as long as there is room for so many
+pub data AreNumbered : ℕ → ℕ → Parts → Parts → Type 0 where
+  no_parts : {base room : ℕ} → AreNumbered base room [] []
+  stays_whole : {base room : ℕ} {part : Option Part} {parts made : Parts} → AreNumbered base room parts made
+      → AreNumbered base room (part ∷ parts) (None ∷ made)
+  gets_words : {base room : ℕ} {part : Part} {parts made : Parts} → part.size ≤ room
+      → AreNumbered (base + part.size) (room - part.size) parts made
+      → AreNumbered base room (Some part ∷ parts) (Some (part_at base part.size part.word) ∷ made)
+
+pub are_numbered : (base room : ℕ) (parts : Parts) → AreNumbered base room parts (numbered base room parts)
+are_numbered base room [] = no_parts
+are_numbered base room (None ∷ parts) = stays_whole (are_numbered base room parts)
+are_numbered base room (Some part ∷ parts) =
+    cond_both (nat_le part.size room)
+    (Some (part_at base part.size part.word) ∷ numbered (base + part.size) (room - part.size) parts)
+    (None ∷ numbered base room parts) (AreNumbered base room (Some part ∷ parts))
+    (λ fits. gets_words (leb-true part.size room fits) (are_numbered (base + part.size) (room - part.size) parts))
+    (λ full. stays_whole (are_numbered base room parts))
+
 -- an array that becomes words, the first from this number on
 pub record IsMade (base : ℕ) (parts made : Parts) (x : ℕ) (part : Part) : Type 0 where
   pub found : IsFound parts x part
@@ -144,141 +148,66 @@ pub record IsMade (base : ℕ) (parts made : Parts) (x : ℕ) (part : Part) : Ty
   pub words : (front : List FlatVariable) (i y : ℕ) → length front ≡ base → i < part.size → y ≡ part.base + i
       → slice_get (front ++ all_words made) y ≡ Some (word_as part.word true)
 
--- an array that gets words from this number on, or stays whole
-abbrev numbered_next : ℕ → ℕ → Part → Parts → Bool → Parts
-numbered_next base room part parts b = if b
-    then Some (part_at base part.size part.word) ∷ numbered (base + part.size) (room - part.size) parts
-    else None ∷ numbered base room parts
+found_next : {parts : Parts} {x : ℕ} {part : Part} (p : Option Part) → IsFound parts x part
+    → IsFound (p ∷ parts) (suc x) part
+found_next p found = record { other = found.other; there = found.there; size = found.size; word = found.word }
 
-made_first : (base room : ℕ) (p : Part) (parts : Parts) (part : Part) (b : Bool)
-    → part_of (numbered_next base room p parts b) zero ≡ Some part
-    → IsMade base (Some p ∷ parts) (numbered_next base room p parts b) zero part
-made_first base room p parts part true is =
-    subst (IsMade base (Some p ∷ parts) (numbered_next base room p parts true) zero) (same_Some _ part is)
+pub made : {base room : ℕ} {parts those : Parts} → AreNumbered base room parts those → (x : ℕ) (part : Part)
+    → part_of those x ≡ Some part → IsMade base parts those x part
+made no_parts x part is = absurd (none-some part is)
+made (stays_whole rest) zero part is = absurd (none-some part is)
+made (stays_whole {part = p} rest) (suc x) part is =
+    let later = made rest x part is in
+    record { found = found_next p later.found; from = later.from; words = later.words }
+made (gets_words {base = base} {part = p} {parts = parts} {made = more} fits rest) zero part is =
+    let those = Some (part_at base p.size p.word) ∷ more in
+    subst (IsMade base (Some p ∷ parts) those zero) (same_Some _ part is)
     record {
       found = record { other = p; there = refl; size = refl; word = refl };
       from = omega arith;
       words = λ front i y long below place.
-          get_behind front (all_words (numbered_next base room p parts true)) base i y long place
-          ∙ get_same p.size i (word_as p.word true) _ below;
+          get_behind front (all_words those) base i y long place ∙ get_same p.size i (word_as p.word true) _ below;
     }
-made_first base room p parts part false is = absurd (none-some part is)
-
-made_next : (base room : ℕ) (p : Part) (parts : Parts) (x : ℕ) (part : Part)
-    → (part_of (numbered (base + p.size) (room - p.size) parts) x ≡ Some part
-    → IsMade (base + p.size) parts (numbered (base + p.size) (room - p.size) parts) x part)
-    → (part_of (numbered base room parts) x ≡ Some part → IsMade base parts (numbered base room parts) x part)
-    → (b : Bool) → part_of (numbered_next base room p parts b) (suc x) ≡ Some part
-    → IsMade base (Some p ∷ parts) (numbered_next base room p parts b) (suc x) part
-made_next base room p parts x part behind_it behind_none true is =
-    let rest = behind_it is in
-    let word = word_as p.word true in
+made (gets_words {base = base} {part = p} {made = more} fits rest) (suc x) part is =
+    let later = made rest x part is in
+    let words = replicate p.size (word_as p.word true) in
     record {
-      found = record {
-        other = rest.found.other;
-        there = rest.found.there;
-        size = rest.found.size;
-        word = rest.found.word;
-      };
-      from = omega (arith, rest.from);
+      found = found_next (Some p) later.found;
+      from = omega (arith, later.from);
       words = λ front i y long below place.
-          subst (λ xs. slice_get xs y ≡ Some (word_as part.word true))
-          (append_assoc front (replicate p.size word)
-          (all_words (numbered (base + p.size) (room - p.size) parts)))
-          (rest.words (front ++ replicate p.size word) i y
-          (length-append front (replicate p.size word) ∙ ap₂ (λ a b. a + b) long (length-replicate p.size word))
+          subst (λ xs. slice_get xs y ≡ Some (word_as part.word true)) (append_assoc front words (all_words more))
+          (later.words (front ++ words) i y
+          (length-append front words ∙ ap₂ (λ a b. a + b) long (length-replicate p.size (word_as p.word true)))
           below place);
     }
-made_next base room p parts x part behind_it behind_none false is =
-    let rest = behind_none is in
-    record {
-      found = record {
-        other = rest.found.other;
-        there = rest.found.there;
-        size = rest.found.size;
-        word = rest.found.word;
-      };
-      from = rest.from;
-      words = rest.words;
-    }
-
-pub made : (base room : ℕ) (parts : Parts) (x : ℕ) (part : Part) → part_of (numbered base room parts) x ≡ Some part
-    → IsMade base parts (numbered base room parts) x part
-made base room [] x part is = absurd (none-some part is)
-made base room (None ∷ parts) zero part is = absurd (none-some part is)
-made base room (None ∷ parts) (suc x) part is =
-    let rest = made base room parts x part is in
-    record {
-      found = record {
-        other = rest.found.other;
-        there = rest.found.there;
-        size = rest.found.size;
-        word = rest.found.word;
-      };
-      from = rest.from;
-      words = rest.words;
-    }
-made base room (Some p ∷ parts) zero part is = made_first base room p parts part (nat_le p.size room) is
-made base room (Some p ∷ parts) (suc x) part is =
-    made_next base room p parts x part (λ h. made (base + p.size) (room - p.size) parts x part h)
-    (λ h. made base room parts x part h) (nat_le p.size room) is
-
-before_rest : (base room : ℕ) (p : Part) (parts : Parts) (y : ℕ) (part other : Part) (b : Bool)
-    → part_of (numbered_next base room p parts b) zero ≡ Some part
-    → part_of (numbered_next base room p parts b) (suc y) ≡ Some other → part.base + part.size ≤ other.base
-before_rest base room p parts y part other true is also =
-    let same = ap (λ (q : Part). q.base + q.size) (same_Some (part_at base p.size p.word) part is) in
-    let rest = (made (base + p.size) (room - p.size) parts y other also).from in
-    omega (arith, same, rest)
-before_rest base room p parts y part other false is also = absurd (none-some part is)
-
-in_rest : (base room : ℕ) (p : Part) (parts : Parts) (x y : ℕ) (part other : Part)
-    → (part_of (numbered (base + p.size) (room - p.size) parts) x ≡ Some part
-    → part_of (numbered (base + p.size) (room - p.size) parts) y ≡ Some other → part.base + part.size ≤ other.base)
-    → (part_of (numbered base room parts) x ≡ Some part → part_of (numbered base room parts) y ≡ Some other
-    → part.base + part.size ≤ other.base)
-    → (b : Bool) → part_of (numbered_next base room p parts b) (suc x) ≡ Some part
-    → part_of (numbered_next base room p parts b) (suc y) ≡ Some other → part.base + part.size ≤ other.base
-in_rest base room p parts x y part other f g true is also = f is also
-in_rest base room p parts x y part other f g false is also = g is also
 
 -- the words of one array lie before those of a later one
-pub ordered : (base room : ℕ) (parts : Parts) (x y : ℕ) (part other : Part)
-    → part_of (numbered base room parts) x ≡ Some part → part_of (numbered base room parts) y ≡ Some other → x < y
-    → part.base + part.size ≤ other.base
-ordered base room [] x y part other is also before = absurd (none-some part is)
-ordered base room (p ∷ parts) x zero part other is also before = absurd (omega (arith, before))
-ordered base room (None ∷ parts) zero (suc y) part other is also before = absurd (none-some part is)
-ordered base room (None ∷ parts) (suc x) (suc y) part other is also before =
-    ordered base room parts x y part other is also (omega (arith, before))
-ordered base room (Some p ∷ parts) zero (suc y) part other is also before =
-    before_rest base room p parts y part other (nat_le p.size room) is also
-ordered base room (Some p ∷ parts) (suc x) (suc y) part other is also before =
-    let closer : x < y = omega (arith, before) in
-    in_rest base room p parts x y part other
-    (λ h k. ordered (base + p.size) (room - p.size) parts x y part other h k closer)
-    (λ h k. ordered base room parts x y part other h k closer) (nat_le p.size room) is also
-
-room_next : (base room : ℕ) (p : Part) (parts : Parts)
-    → length (all_words (numbered (base + p.size) (room - p.size) parts)) ≤ room - p.size
-    → length (all_words (numbered base room parts)) ≤ room
-    → (b : Bool) → nat_le p.size room ≡ b → length (all_words (numbered_next base room p parts b)) ≤ room
-room_next base room p parts behind_it behind_none true h =
-    let word = word_as p.word true in
-    let rest = all_words (numbered (base + p.size) (room - p.size) parts) in
-    let below = leb-true p.size room h in
-    let both = length-append (replicate p.size word) rest in
-    let one = length-replicate p.size word in
-    omega (arith, below, both, one, behind_it)
-room_next base room p parts behind_it behind_none false h = behind_none
+ordered : {base room : ℕ} {parts those : Parts} → AreNumbered base room parts those → (x y : ℕ) (part other : Part)
+    → part_of those x ≡ Some part → part_of those y ≡ Some other → x < y → part.base + part.size ≤ other.base
+ordered no_parts x y part other is also before = absurd (none-some part is)
+ordered all x zero part other is also before = absurd (omega (arith, before))
+ordered (stays_whole rest) zero (suc y) part other is also before = absurd (none-some part is)
+ordered (gets_words fits rest) zero (suc y) part other is also before =
+    omega (arith, ap (λ (q : Part). q.base + q.size) (same_Some _ part is), (made rest y other also).from)
+ordered (stays_whole rest) (suc x) (suc y) part other is also before =
+    ordered rest x y part other is also (omega (arith, before))
+ordered (gets_words fits rest) (suc x) (suc y) part other is also before =
+    ordered rest x y part other is also (omega (arith, before))
 
 -- there is room for all words
-pub within_room : (base room : ℕ) (parts : Parts) → length (all_words (numbered base room parts)) ≤ room
-within_room base room [] = omega arith
-within_room base room (None ∷ parts) = within_room base room parts
-within_room base room (Some p ∷ parts) =
-    room_next base room p parts (within_room (base + p.size) (room - p.size) parts) (within_room base room parts)
-    (nat_le p.size room) refl
+pub within_room : {base room : ℕ} {parts those : Parts} → AreNumbered base room parts those
+    → length (all_words those) ≤ room
+within_room no_parts = omega arith
+within_room (stays_whole rest) = within_room rest
+within_room (gets_words {part = p} {made = more} fits rest) =
+    let words = replicate p.size (word_as p.word true) in
+    omega (
+      arith,
+      fits,
+      length-append words (all_words more),
+      length-replicate p.size (word_as p.word true),
+      within_room rest,
+    )
 
 pub words-append : (xs ys : List FlatVariable) → declared_words (xs ++ ys) ≡ declared_words xs + declared_words ys
 words-append [] ys = omega arith
@@ -325,39 +254,31 @@ no_splitting declared = record {
 }
 
 -- two arrays with a word in common are one
-apart_by : (base room : ℕ) (parts : Parts) (x y : ℕ) (part other : Part) (i j : ℕ)
-    → part_of (numbered base room parts) x ≡ Some part → part_of (numbered base room parts) y ≡ Some other
-    → i < part.size → j < other.size → part.base + i ≡ other.base + j
-    → (b c : Bool) → nat_lt x y ≡ b → nat_lt y x ≡ c → x ≡ y
-apart_by base room parts x y part other i j is also below within same true c h k =
-    let before = ordered base room parts x y part other is also (ltb-true x y h) in
-    absurd (omega (arith, before, same, below))
-apart_by base room parts x y part other i j is also below within same false true h k =
-    let before = ordered base room parts y x other part also is (ltb-true y x k) in
-    absurd (omega (arith, before, same, within))
-apart_by base room parts x y part other i j is also below within same false false h k =
-    let one = ltb-false x y h in
-    let two = ltb-false y x k in
-    omega (arith, one, two)
+apart_by : {base room : ℕ} {parts those : Parts} → AreNumbered base room parts those → (x y : ℕ) (part other : Part)
+    (i j : ℕ) → part_of those x ≡ Some part → part_of those y ≡ Some other → i < part.size → j < other.size
+    → part.base + i ≡ other.base + j → x ≡ y
+apart_by all x y part other i j is also below within same =
+    elim (cases_lt x y) [
+      | inl before ↦ absurd (omega (arith, ordered all x y part other is also before, same, below))
+      | inr from ↦ elim (cases_lt y x) [
+        | inl behind ↦ absurd (omega (arith, ordered all y x other part also is behind, same, within))
+        | inr to ↦ omega (arith, from, to)
+      ]
+    ]
 
 pub splitting : (declared : List FlatVariable) (room : ℕ) (parts : Parts)
     → ((x : ℕ) (part : Part) → part_of parts x ≡ Some part → IsArray declared x part)
     → IsSplitting declared (declared ++ all_words (numbered (length declared) room parts))
     (numbered (length declared) room parts)
-splitting declared room parts arrays = record {
-  kept = λ y d is. get_front declared (all_words (numbered (length declared) room parts)) y d is;
-  arrays = λ x part is.
-      let found = (made (length declared) room parts x part is).found in
-      let array = arrays x found.other found.there in
-      record {
-        mutable = array.mutable;
-        known = array.known
-            ∙ ap₂ (λ (w : WordType) (n : ℕ). Some (array_as w array.mutable n)) (sym found.word) (sym found.size);
-      };
-  words = λ x part i is below.
-      (made (length declared) room parts x part is).words declared i (part.base + i) refl below refl;
-  behind = λ x part is. (made (length declared) room parts x part is).from;
-  apart = λ x y part other i j is also below within same.
-      apart_by (length declared) room parts x y part other i j is also below within same (nat_lt x y) (nat_lt y x)
-      refl refl;
-}
+splitting declared room parts arrays =
+    let all = are_numbered (length declared) room parts in
+    record {
+      kept = λ y d is. get_front declared (all_words (numbered (length declared) room parts)) y d is;
+      arrays = λ x part is.
+          let found = (made all x part is).found in
+          found_array declared x part found (arrays x found.other found.there);
+      words = λ x part i is below. (made all x part is).words declared i (part.base + i) refl below refl;
+      behind = λ x part is. (made all x part is).from;
+      apart = λ x y part other i j is also below within same.
+          apart_by all x y part other i j is also below within same;
+    }

@@ -9,19 +9,16 @@ use Rattle.std.proofs.lemmas.Option.{none-some, slice_get_within}
 use Rattle.language.specs.arguments.Within.{AreWithin}
 use Rattle.inline.specs.declared.flat.FlatVariable.{FlatVariable}
 use Rattle.inline.specs.Flat.{TermTree, word_as, array_as, declaration_of, numbers_in}
-use Rattle.inline.specs.FlatMeaning.{Values, given, array_of, arrays_from, value_in, path_of_result}
+use Rattle.inline.specs.FlatMeaning.{Values, given, array_of, arrays_from}
 use Rattle.inline.specs.FlatSize.{declared_words}
-use Rattle.inline.specs.FlatTyping.{types_of, IsResult}
 use Rattle.inline.specs.Limits.{most_variable_bytes}
-use Rattle.inline.specs.Path.{AreFine}
 use Rattle.language.specs.declared.signature.Param.{Param}
 use Rattle.language.specs.declared.typing.WordType.{WordType}
 use Rattle.language.specs.declared.values.Arg.{Arg}
 use Rattle.branch_removal.specs.Kept.{IsStraight}
 use Rattle.branch_removal.specs.Replaced.{IsReplaced}
 use Rattle.branch_removal.specs.Straight.{StraightBlock, StraightProgram, with_variables}
-use Rattle.branch_removal.specs.StraightMeaning.{start, end_of, outcome_of, path_of, path_along}
-use Rattle.branch_removal.specs.StraightMeaning.{after_all}
+use Rattle.branch_removal.specs.StraightMeaning.{start, end_of, outcome_of}
 use Rattle.optimisation.specs.declared.element_words.parts.Part.{Part}
 use Rattle.optimisation.specs.element_words.Limits.{most_variable_words}
 use Rattle.optimisation.specs.element_words.private.Narrowing.{narrowed_by_all}
@@ -29,17 +26,19 @@ use Rattle.optimisation.specs.element_words.private.Parts.{Parts, part_of, candi
 use Rattle.optimisation.specs.element_words.private.Plan.{WordPlan, room_beside, used_parts, plan_of, split_by}
 use Rattle.optimisation.specs.element_words.private.Plan.{split_program}
 use Rattle.optimisation.specs.element_words.private.Splitting.{split, split_all}
-use Rattle.optimisation.proofs.element_words_lemmas.PartLemmas.{IsBelow, IsArray, candidate_is, made, within_room}
-use Rattle.optimisation.proofs.element_words_lemmas.PartLemmas.{words-append}
-use Rattle.optimisation.proofs.element_words_lemmas.PartLemmas.{one_word_each, IsSplitting, no_splitting, splitting}
-use Rattle.optimisation.proofs.element_words_lemmas.Known.{BlockHasKnown, ResultHasKnown, block_known, result_known}
-use Rattle.branch_removal.proofs.Sequences.{fine_both, fine_front, fine_back}
-use Rattle.optimisation.proofs.element_words_lemmas.Values.{same_value, still_fine, still_result}
+use Rattle.optimisation.proofs.element_words_lemmas.PartLemmas.{IsBelow, below_itself, IsArray, found_array}
+use Rattle.optimisation.proofs.element_words_lemmas.PartLemmas.{candidate_is, are_numbered, made, within_room}
+use Rattle.optimisation.proofs.element_words_lemmas.PartLemmas.{words-append, one_word_each, IsSplitting, no_splitting, splitting}
+use Rattle.optimisation.proofs.element_words_lemmas.Known.{places_in, layout_in, block_known, result_known}
+use Rattle.optimisation.proofs.element_words_lemmas.Values.{part_word}
 use Rattle.optimisation.proofs.element_words_lemmas.Held.{zeros_at}
-use Rattle.optimisation.proofs.element_words_lemmas.Runs.{AreInStep, all_in_step, all_fine_in_step}
-use Rattle.optimisation.proofs.element_words_lemmas.Typed.{still_all_typed, still_all_hidden}
-use Rattle.optimisation.proofs.element_words_lemmas.Bounds.{all_less, fewer_in_value, all_no_higher, all_no_deeper}
-use Rattle.optimisation.proofs.element_words_lemmas.Bounds.{lower_result}
+use Rattle.optimisation.proofs.element_words_lemmas.Runs.{InStep, seen, all_follow}
+use Rattle.optimisation.proofs.element_words_lemmas.Typed.{keeps_declared}
+use Rattle.optimisation.proofs.over_lemmas.Rules.{AllBecome, IsResultOver}
+use Rattle.optimisation.proofs.over_lemmas.Sizes.{less_all, result_no_larger}
+use Rattle.optimisation.proofs.over_lemmas.Types.{still_all, still_result}
+use Rattle.optimisation.proofs.over_lemmas.Values.{both, IsResultAlike, result_alike}
+use Rattle.optimisation.proofs.over_lemmas.Beside.{AreBeside, Follows}
 
 -- What the variables hold at first.
 
@@ -91,7 +90,9 @@ front_there (suc n) (d ∷ declared) (suc y) below = front_there n declared y (o
 
 module _ (p : StraightProgram) (is_straight : IsStraight p) (parts : Parts)
     (is_splitting : IsSplitting p.declared (p.declared ++ all_words parts) parts)
-    (body_known : BlockHasKnown parts p.body) (value_known : ResultHasKnown parts p.value)
+    (body_becomes : AllBecome (layout_in p.declared parts) p.body (split_all parts p.body))
+    (value_becomes : IsResultOver (places_in (λ y. slice_get p.declared y) parts) p.value
+    (option_map (split parts) p.value))
     (behind : (x : ℕ) (part : Part) → part_of parts x ≡ Some part → length p.parameters ≤ x)
     (room : 4 * declared_words (p.declared ++ all_words parts) ≤ most_variable_bytes) where
   abbrev new : List FlatVariable
@@ -110,42 +111,37 @@ module _ (p : StraightProgram) (is_straight : IsStraight p) (parts : Parts)
       take-append-le (length p.parameters) p.declared (all_words parts) within ∙ is_straight.typed.parameters
 
   pub still_straight : IsStraight made_of
-  still_straight = record {
-    typed = record {
-      parameters = still_first;
-      body = still_all_typed p.declared new parts is_splitting p.profile p.controls p.body is_straight.typed.body
-          body_known;
-      hidden = still_all_hidden p.declared new parts is_splitting p.profile p.controls p.body is_straight.typed.body
-          body_known is_straight.typed.hidden;
-      result = still_result p.declared new parts is_splitting p.profile (λ y. slice_get p.declared y)
-          (λ y d there. there) (λ y. slice_get new y) is_splitting.kept
-          (λ y part i is below. is_splitting.words y part i is below) p.returned p.value is_straight.typed.result
-          value_known;
-    };
-    bounded = record {
-      lengths = is_straight.bounded.lengths;
-      parameters = is_straight.bounded.parameters;
-      declared = room;
-      nodes = is_straight.bounded.nodes;
-      worked =
-          let body = all_less p.turns p.declared new parts is_splitting p.profile p.controls p.body
-          is_straight.typed.body in
-          let value = fewer_in_value parts p.value in
-          omega (arith, body, value, is_straight.bounded.worked);
-      work_fits = is_straight.bounded.work_fits;
-      framed =
-          let deep = all_no_deeper parts p.body in
-          let body = all_no_higher parts p.body in
-          let value = lower_result parts p.value in
-          omega (arith, deep, body, value, is_straight.bounded.framed);
-    };
-  }
+  still_straight =
+      let keeps = keeps_declared p.declared new parts is_splitting in
+      let code = still_all p.profile new p.controls p.declared keeps body_becomes is_straight.typed.body
+      is_straight.typed.hidden in
+      let size = less_all p.turns
+      (λ x size part split. (part_word p.declared new parts is_splitting (λ y. slice_get p.declared y)
+      (λ y d there. there) x split.word split.mutable size part split.known split.is).1) body_becomes in
+      let value = result_no_larger value_becomes in
+      record {
+        typed = record {
+          parameters = still_first;
+          body = code.typed;
+          hidden = code.hidden;
+          result = still_result p.profile keeps.outer p.returned value_becomes is_straight.typed.result;
+        };
+        bounded = record {
+          lengths = is_straight.bounded.lengths;
+          parameters = is_straight.bounded.parameters;
+          declared = room;
+          nodes = is_straight.bounded.nodes;
+          worked = omega (arith, is_straight.bounded.worked);
+          work_fits = is_straight.bounded.work_fits;
+          framed = omega (arith, is_straight.bounded.framed);
+        };
+      }
 
   module _ (args : List Arg) (within : AreWithin p.parameters args) where
     few : length args ≡ length p.parameters
     few = within_count p.parameters args within
 
-    starts : AreInStep p.declared new parts is_splitting p.profile p.controls (start p args) (start made_of args)
+    starts : AreBeside (InStep p.declared new parts is_splitting) (start p args) (start made_of args)
     starts = record {
       variables = record {
         plain = λ y d there stays. given_front p.declared (all_words parts) args y d there;
@@ -169,63 +165,29 @@ module _ (p : StraightProgram) (is_straight : IsStraight p) (parts : Parts)
                   ∙ ap (λ n. n ∷ []) (sym (ap (λ numbers. slice_index numbers i) first ∙ zeros_at part.size i));
             };
       };
-      equal = refl;
+      controls = refl;
     }
 
-    ends : AreInStep p.declared new parts is_splitting p.profile p.controls (after_all (start p args) p.body)
-        (after_all (start made_of args) (split_all parts p.body))
-    ends = all_in_step p.declared new parts is_splitting p.profile p.controls p.body is_straight.typed.body body_known
-        (start p args) (start made_of args) starts
+    ends : Follows (InStep p.declared new parts is_splitting) p.turns (start p args) (start made_of args) p.body
+        (split_all parts p.body)
+    ends = all_follow p.declared new parts is_splitting p.turns body_becomes starts
 
-    same_result : (returned : Option WordType) (value : Option TermTree)
-        → IsResult (types_of p.profile p.declared) returned value → ResultHasKnown parts value
-        → option_map (value_in (end_of made_of args)) (option_map (split parts) value)
-        ≡ option_map (value_in (end_of p args)) value
-    same_result None None is known = refl
-    same_result None (Some value) is known = absurd is
-    same_result (Some word) None is known = absurd is
-    same_result (Some word) (Some value) is known =
-        ap Some (same_value p.declared new parts is_splitting p.profile (λ y. slice_get p.declared y)
-        (λ y d there. there) (end_of p args) (end_of made_of args) ends.variables is.has_type known)
+    result : IsResultAlike p.turns (end_of p args) (end_of made_of args) p.value made_of.value
+    result = result_alike p.turns (seen p.declared new parts is_splitting ends.beside) value_becomes
 
-    fine_result : (returned : Option WordType) (value : Option TermTree)
-        → IsResult (types_of p.profile p.declared) returned value → ResultHasKnown parts value
-        → AreFine p.turns (path_of_result (end_of p args) value)
-        → AreFine p.turns (path_of_result (end_of made_of args) (option_map (split parts) value))
-    fine_result None None is known fine = fine
-    fine_result None (Some value) is known fine = absurd is
-    fine_result (Some word) None is known fine = absurd is
-    fine_result (Some word) (Some value) is known fine =
-        still_fine p.declared new parts is_splitting p.profile (λ y. slice_get p.declared y) (λ y d there. there)
-        (end_of p args) (end_of made_of args) ends.variables p.turns is.has_type known fine
-
-    parameter_stays : (y : ℕ) → y < length p.parameters → part_of parts y ≡ None
-    parameter_stays y below = by_part (part_of parts y) refl
-      where
-        by_part : (o : Option Part) → part_of parts y ≡ o → o ≡ None
-        by_part None same = refl
-        by_part (Some part) same = absurd (omega (arith, behind y part same, below))
+    parameter_stays : (y : ℕ) → y < length p.parameters → (o : Option Part) → part_of parts y ≡ o → o ≡ None
+    parameter_stays y below None same = refl
+    parameter_stays y below (Some part) same = absurd (omega (arith, behind y part same, below))
 
     same_parameters : (y : ℕ) → 0 ≤ y → y < 0 + length p.parameters → end_of made_of args y ≡ end_of p args y
     same_parameters y from to =
         let there = front_there (length p.parameters) p.declared y (omega (arith, to, parameters_there)) in
-        ends.variables.plain y there.0 there.1 (parameter_stays y (omega (arith, to)))
+        ends.beside.variables.plain y there.0 there.1 (parameter_stays y (omega (arith, to)) (part_of parts y) refl)
 
     same_outcome : outcome_of made_of args ≡ outcome_of p args
     same_outcome =
-        ap₂ (λ (v : Option ℕ) (a : List (List ℕ)). record { returned = v; arrays = a })
-        (same_result p.returned p.value is_straight.typed.result value_known)
+        ap₂ (λ (v : Option ℕ) (a : List (List ℕ)). record { returned = v; arrays = a }) result.value
         (same_arrays 0 p.parameters (end_of p args) (end_of made_of args) same_parameters)
-
-    still_fine_path : AreFine p.turns (path_of p args) → AreFine p.turns (path_of made_of args)
-    still_fine_path fine =
-        let front = path_along (start p args) p.body in
-        let back = path_of_result (end_of p args) p.value in
-        fine_both p.turns (path_along (start made_of args) (split_all parts p.body))
-        (path_of_result (end_of made_of args) (option_map (split parts) p.value))
-        (all_fine_in_step p.declared new parts is_splitting p.profile p.controls p.turns p.body is_straight.typed.body
-        body_known (start p args) (start made_of args) starts (fine_front p.turns front back fine))
-        (fine_result p.returned p.value is_straight.typed.result value_known (fine_back p.turns front back fine))
 
   pub replaced_by : IsReplaced p made_of
   replaced_by = record {
@@ -237,51 +199,38 @@ module _ (p : StraightProgram) (is_straight : IsStraight p) (parts : Parts)
     turns = refl;
     straight = still_straight;
     outcome = λ args within. same_outcome args within;
-    fine = λ args within fine. still_fine_path args within fine;
+    fine = λ args within. (both p.turns (ends args within).path (result args within).path).fine;
   }
 
 -- The arrays that are chosen.
 
--- an array that is used as words was a candidate
-used_array : (p : StraightProgram) (x : ℕ) (part : Part) → part_of (used_parts p) x ≡ Some part
-    → IsArray p.declared x part
-used_array p x part is =
-    let all = used_parts p in
-    let first = candidates (length p.parameters) p.declared in
-    let itself : IsBelow all all = λ y other there. record {
-      other = other;
-      there = there;
-      size = refl;
-      word = refl;
-    } in
-    let after_body = (result_known all (narrowed_by_all first p.body) p.value itself).0 in
-    let found = (block_known all first p.body after_body).0 x part is in
-    let array = (candidate_is (length p.parameters) p.declared x found.other found.there).1 in
-    record {
-      mutable = array.mutable;
-      known = array.known
-          ∙ ap₂ (λ (w : WordType) (n : ℕ). Some (array_as w array.mutable n)) (sym found.word) (sym found.size);
-    }
-
-module _ (p : StraightProgram) (parts : Parts) (below : IsBelow parts (used_parts p)) where
-  abbrev after_result : IsBelow parts (narrowed_by_all (candidates (length p.parameters) p.declared) p.body)
-      × ResultHasKnown parts p.value
+-- what becomes of a program, and which of its arrays were candidates
+module _ (p : StraightProgram) (is_straight : IsStraight p) (last : Parts) (below : IsBelow last (used_parts p)) where
+  abbrev after_result : IsBelow last (narrowed_by_all (candidates (length p.parameters) p.declared) p.body)
+      × IsResultOver (places_in (λ y. slice_get p.declared y) last) p.value (option_map (split last) p.value)
   after_result =
-      result_known parts (narrowed_by_all (candidates (length p.parameters) p.declared) p.body) p.value below
+      result_known last p.profile (λ y. slice_get p.declared y) p.returned p.value is_straight.typed.result
+      (narrowed_by_all (candidates (length p.parameters) p.declared) p.body) below
 
-  abbrev after_body : IsBelow parts (candidates (length p.parameters) p.declared) × BlockHasKnown parts p.body
-  after_body = block_known parts (candidates (length p.parameters) p.declared) p.body after_result.0
+  abbrev after_body : IsBelow last (candidates (length p.parameters) p.declared)
+      × AllBecome (layout_in p.declared last) p.body (split_all last p.body)
+  after_body =
+      block_known last p.profile p.declared p.controls p.body is_straight.typed.body
+      (candidates (length p.parameters) p.declared) after_result.0
 
-  behind_parameters : (x : ℕ) (part : Part) → part_of parts x ≡ Some part → length p.parameters ≤ x
-  behind_parameters x part is =
+  was_candidate : (x : ℕ) (part : Part) → part_of last x ≡ Some part
+      → (length p.parameters ≤ x) × IsArray p.declared x part
+  was_candidate x part is =
       let found = after_body.0 x part is in
-      (candidate_is (length p.parameters) p.declared x found.other found.there).0
+      let was = candidate_is (length p.parameters) p.declared x found.other found.there in
+      (was.0, found_array p.declared x part found was.1)
 
-  pub replaced_of : IsStraight p → IsSplitting p.declared (p.declared ++ all_words parts) parts
-      → 4 * declared_words (p.declared ++ all_words parts) ≤ most_variable_bytes
-      → IsReplaced p (split_by (record { declared = p.declared ++ all_words parts; parts = parts }) p)
-  replaced_of is_straight is_splitting room =
-      replaced_by p is_straight parts is_splitting after_body.1 after_result.1 behind_parameters room
+  pub replaced_of : IsSplitting p.declared (p.declared ++ all_words last) last
+      → 4 * declared_words (p.declared ++ all_words last) ≤ most_variable_bytes
+      → IsReplaced p (split_by (record { declared = p.declared ++ all_words last; parts = last }) p)
+  replaced_of is_splitting room =
+      replaced_by p is_straight last is_splitting after_body.1 after_result.1 (λ x part is. (was_candidate x part is).0)
+      room
 
 replaced_chosen : (p : StraightProgram) → IsStraight p → (b : Bool)
     → IsReplaced p (split_by (record {
@@ -290,16 +239,18 @@ replaced_chosen : (p : StraightProgram) → IsStraight p → (b : Bool)
       parts = if b then [] else numbered (length p.declared) (room_beside p.declared) (used_parts p);
     }) p)
 replaced_chosen p is_straight true =
-    replaced_of p [] (λ x part is. absurd (none-some part is)) is_straight (no_splitting p.declared)
+    replaced_of p is_straight [] (λ x part is. absurd (none-some part is)) (no_splitting p.declared)
     (omega (arith, words-append p.declared [], is_straight.bounded.declared))
 replaced_chosen p is_straight false =
     let room = room_beside p.declared in
     let all = numbered (length p.declared) room (used_parts p) in
     let one = words-append p.declared (all_words all) in
     let two = one_word_each all in
-    let three = within_room (length p.declared) room (used_parts p) in
-    replaced_of p all (λ x part is. (made (length p.declared) room (used_parts p) x part is).found) is_straight
-    (splitting p.declared room (used_parts p) (λ x part is. used_array p x part is))
+    let numbers = are_numbered (length p.declared) room (used_parts p) in
+    let three = within_room numbers in
+    replaced_of p is_straight all (λ x part is. (made numbers x part is).found)
+    (splitting p.declared room (used_parts p)
+    (λ x part is. (was_candidate p is_straight (used_parts p) below_itself x part is).1))
     (omega (arith, one, two, three, is_straight.bounded.declared))
 
 pub replaced : (p : StraightProgram) → IsStraight p → IsReplaced p (split_program p)

@@ -12,7 +12,7 @@ use Rattle.optimisation.specs.live_words.private.Terms.{renamed, is_dead}
 use Rattle.optimisation.specs.live_words.private.Gathering.{at_head}
 use Rattle.optimisation.specs.live_words.private.Sharing.{before_all, in_front, shared, shared_all}
 use Rattle.optimisation.proofs.live_words_lemmas.Grown.{grows_head}
-use Rattle.optimisation.proofs.live_words_lemmas.Same.{fits_before_all}
+use Rattle.optimisation.proofs.live_words_lemmas.Rules.{all_become}
 
 -- what fits only where something does
 pub unfit : (b c : Bool) → (c ≡ true → b ≡ true) → b ≡ false → c ≡ false
@@ -58,7 +58,7 @@ mutual
       let second = before_all [] held otherwise in
       ap₂ (λ a b. Some (branch (renamed [] condition) a b))
       (same_block (anew second held.holders) accepted
-      (unfit held.fits second.fits (fits_before_all [] held otherwise) is))
+      (unfit held.fits second.fits (λ f. (all_become [] held otherwise f).0) is))
       (same_block held otherwise is)
       ∙ ap (λ e. Some (branch e accepted otherwise)) (same_term condition)
   same_statement held (repeats x low high body) is =
@@ -72,5 +72,5 @@ mutual
   same_block held (first statement rest) is =
       let behind = before_all [] held rest in
       ap₂ in_front
-      (same_statement behind statement (unfit held.fits behind.fits (fits_before_all [] held rest) is))
+      (same_statement behind statement (unfit held.fits behind.fits (λ f. (all_become [] held rest f).0) is))
       (same_block held rest is)

@@ -4,9 +4,7 @@ use Rattle.std.proofs.Common.{[], ◌∷◌, length, map, Option, None, Some, op
 use Rattle.std.proofs.Common.{subst, arith}
 use Rattle.std.proofs.lemmas.Bool.{and_parts, eqb-true}
 use Rattle.inline.specs.Flat.{TermTree, declaration_of, elements_by}
-use Rattle.inline.specs.FlatMeaning.{Values, value_in, array_of, arrays_from, path_of_result}
-use Rattle.inline.specs.FlatTyping.{types_of}
-use Rattle.inline.specs.Path.{Path, AreFine}
+use Rattle.inline.specs.FlatMeaning.{array_of, arrays_from}
 use Rattle.language.specs.declared.signature.Form.{Form}
 use Rattle.language.specs.declared.signature.Form.TheVariants.{SingleWord, FixedArray, MutableArray}
 use Rattle.language.specs.declared.signature.Param.{Param}
@@ -18,12 +16,10 @@ use Rattle.language.specs.declared.signature.Kind.TheVariants.{Boolean, Uint8, U
 use Rattle.language.specs.declared.typing.WordType.{WordType}
 use Rattle.std.specs.List.{AllByRecursion}
 use Rattle.inline.specs.FlatSize.{HasLength, words_by, declared_words}
-use Rattle.branch_removal.specs.Bounds.{IsBounded}
-use Rattle.branch_removal.specs.Heights.{height_in_all, result_height}
 use Rattle.branch_removal.specs.Kept.{IsStraight}
 use Rattle.branch_removal.specs.Replaced.{IsReplaced}
-use Rattle.branch_removal.specs.Straight.{StraightProgram, with_body}
-use Rattle.branch_removal.specs.StraightMeaning.{start, end_of, outcome_of, path_of}
+use Rattle.branch_removal.specs.Straight.{StraightBlock, StraightProgram, with_body}
+use Rattle.branch_removal.specs.StraightMeaning.{StraightState, start, end_of, outcome_of, after_all}
 use Rattle.optimisation.specs.live_words.private.Held.{Table, Held, share, fitting, living, hold_own}
 use Rattle.optimisation.specs.live_words.private.Terms.{renamed}
 use Rattle.optimisation.specs.live_words.private.Sharing.{shared_all}
@@ -34,13 +30,23 @@ use Rattle.optimisation.specs.live_words.private.Choice.{all_allowed}
 use Rattle.optimisation.proofs.live_words_lemmas.Allowed.{allowed_kept}
 use Rattle.optimisation.proofs.live_words_lemmas.HeldLemmas.{Grows, grows_same, grows_on, grows_holding, alike_living}
 use Rattle.optimisation.proofs.live_words_lemmas.HeldLemmas.{alike_first}
-use Rattle.optimisation.proofs.live_words_lemmas.TermLemmas.{grows_reading, IsRead, read_before, same_value, same_path}
-use Rattle.optimisation.proofs.live_words_lemmas.Same.{AreReady, fits_before_all, keeps_all}
-use Rattle.optimisation.proofs.live_words_lemmas.Typed.{IsKept, are_kept, still_all_typed, still_hidden_all}
-use Rattle.optimisation.proofs.live_words_lemmas.Typed.{still_result}
-use Rattle.optimisation.proofs.live_words_lemmas.Bounds.{less_all, lower_all, flatter_all, same_value_nodes}
-use Rattle.optimisation.proofs.live_words_lemmas.Bounds.{same_result_height, max_both}
+use Rattle.optimisation.proofs.live_words_lemmas.TermLemmas.{grows_reading}
+use Rattle.optimisation.proofs.live_words_lemmas.Rules.{layout, over_result, all_become}
+use Rattle.optimisation.proofs.live_words_lemmas.Same.{AreReady, Alike, ready_before, reads, all_follow}
+use Rattle.optimisation.proofs.live_words_lemmas.Typed.{IsKept, keeps_declared}
 use Rattle.optimisation.proofs.live_words_lemmas.Copied.{same_term, same_block, unfit}
+use Rattle.optimisation.proofs.over_lemmas.Rules.{AllBecome}
+use Rattle.optimisation.proofs.over_lemmas.Sizes.{less_all, result_no_larger}
+use Rattle.optimisation.proofs.over_lemmas.Types.{still_all, still_result}
+use Rattle.optimisation.proofs.over_lemmas.Values.{same_path, both, IsResultAlike}
+use Rattle.optimisation.proofs.over_lemmas.Beside.{Follows}
+
+-- an array is a result where it may be changed
+same_array : (form : Form) (one other : List ℕ) → (is_mutable form ≡ true → one ≡ other)
+    → array_of form other ≡ array_of form one
+same_array SingleWord one other same = refl
+same_array FixedArray one other same = refl
+same_array MutableArray one other same = ap (λ w. w ∷ []) (sym (same refl))
 
 module _ (table : Table) where
   -- Results.
@@ -74,112 +80,93 @@ module _ (table : Table) where
       grows_on held results (reading_any table results p.value) (grows_results 0 p.parameters held)
       (grows_any results p.value)
 
-  module _ (m n : Values) where
+  module _ {s u : StraightState} where
     kept_alike : (b : Bool) (held : Held) (x : ℕ) → b ≡ true
-        → IsRead table m n (if b then kept table held x else held) → m x ≡ n x
-    kept_alike true held x is read =
-        let parts = and_parts (living table held x).fits (share table x == x) read.fits in
-        alike_living table held x m n parts.0 read.alike ∙ ap n (eqb-true (share table x) x parts.1)
-    kept_alike false held x is read = cc
+        → AreReady table (if b then kept table held x else held) s u → s.variables x ≡ u.variables x
+    kept_alike true held x is ready =
+        let parts = and_parts (living table held x).fits (share table x == x) ready.fits in
+        alike_living table held x s.variables u.variables parts.0 ready.beside.variables
+        ∙ ap u.variables (eqb-true (share table x) x parts.1)
+    kept_alike false held x is ready = cc
 
-    same_array : (form : Form) (x : ℕ) → (is_mutable form ≡ true → m x ≡ n x)
-        → array_of form (n x) ≡ array_of form (m x)
-    same_array SingleWord x same = refl
-    same_array FixedArray x same = refl
-    same_array MutableArray x same = ap (λ w. w ∷ []) (sym (same refl))
-
-    same_arrays : (x : ℕ) (ps : List Param) (held : Held) → IsRead table m n (with_results table x ps held)
-        → arrays_from x ps n ≡ arrays_from x ps m
-    same_arrays x [] held read = refl
-    same_arrays x (p ∷ ps) held read =
+    same_arrays : (x : ℕ) (ps : List Param) (held : Held) → AreReady table (with_results table x ps held) s u
+        → arrays_from x ps u.variables ≡ arrays_from x ps s.variables
+    same_arrays x [] held ready = refl
+    same_arrays x (p ∷ ps) held ready =
         let next = if is_mutable p.form then kept table held x else held in
-        let here = read_before table m n next (with_results table (x + 1) ps next)
-        (grows_results (x + 1) ps next) read in
+        let here = ready_before table next (with_results table (x + 1) ps next) (grows_results (x + 1) ps next)
+        ready in
         ap₂ (λ (a b : List (List ℕ)). a ++ b)
-        (same_array p.form x (λ is. kept_alike (is_mutable p.form) held x is here))
-        (same_arrays (x + 1) ps next read)
+        (same_array p.form (s.variables x) (u.variables x) (λ is. kept_alike (is_mutable p.form) held x is here))
+        (same_arrays (x + 1) ps next ready)
 
-    same_any : (held : Held) (value : Option TermTree) → IsRead table m n (reading_any table held value)
-        → option_map (value_in n) (option_map (renamed table) value) ≡ option_map (value_in m) value
-    same_any held None read = refl
-    same_any held (Some value) read = ap Some (same_value table m n held value read)
-
-    same_any_path : (held : Held) (value : Option TermTree) → IsRead table m n (reading_any table held value)
-        → path_of_result n (option_map (renamed table) value) ≡ path_of_result m value
-    same_any_path held None read = refl
-    same_any_path held (Some value) read = same_path table m n held value read
+    any_alike : (most : List ℕ) (held : Held) (value : Option TermTree)
+        → AreReady table (reading_any table held value) s u
+        → IsResultAlike most s.variables u.variables value (option_map (renamed table) value)
+    any_alike most held None ready = record { value = refl; path = same_path most }
+    any_alike most held (Some value) ready =
+        let one = (reads table most held value ready).0 in record { value = ap Some one.value; path = one.path }
 
   -- Where sharing fits.
 
   module _ (held : Held) (p : StraightProgram) (fits : (at_start table held p).fits ≡ true)
       (own : hold_own 0 (at_start table held p).holders ≡ true) where
-    end_fits : (at_end table held p).fits ≡ true
-    end_fits = fits_before_all table (at_end table held p) p.body fits
+    abbrev code : StraightBlock
+    code = shared_all table (at_end table held p) p.body
+
+    end_fits : ((at_end table held p).fits ≡ true) × AllBecome (layout table) p.body code
+    end_fits = all_become table (at_end table held p) p.body fits
 
     module _ (args : List Arg) where
-      ready : AreReady table (at_start table held p) (start p args) (start p args)
-      ready = record {
-        fits = fits;
-        at = record {
-          alike = alike_first table (at_start table held p).holders own (start p args).variables;
-          controls = refl;
-        };
-      }
+      runs : Follows (Alike table (at_end table held p).holders) p.turns (start p args) (start p args) p.body code
+      runs =
+          all_follow table p.turns (at_end table held p) p.body (record {
+            fits = fits;
+            beside = record {
+              variables = alike_first table (at_start table held p).holders own (start p args).variables;
+              controls = refl;
+            };
+          })
 
-      last : IsRead table (end_of p args) (end_of (over table held p) args) (at_end table held p)
-      last = record {
-        fits = end_fits;
-        alike = (keeps_all table (at_end table held p) p.body (start p args) (start p args) ready).0.alike;
-      }
+      last : AreReady table (at_end table held p) (after_all (start p args) p.body) (after_all (start p args) code)
+      last = record { fits = end_fits.0; beside = runs.beside }
 
-      pub same_outcome : outcome_of (over table held p) args ≡ outcome_of p args
+      result : IsResultAlike p.turns (end_of p args) (end_of (over table held p) args) p.value
+          (option_map (renamed table) p.value)
+      result = any_alike p.turns (with_results table 0 p.parameters held) p.value last
+
+      same_outcome : outcome_of (over table held p) args ≡ outcome_of p args
       same_outcome =
           let results = with_results table 0 p.parameters held in
-          let m = end_of p args in
-          let n = end_of (over table held p) args in
-          ap₂ (λ (r : Option ℕ) (a : List (List ℕ)). record { returned = r; arrays = a })
-          (same_any m n results p.value last)
-          (same_arrays m n 0 p.parameters held
-          (read_before table m n results (at_end table held p) (grows_any results p.value) last))
+          ap₂ (λ (r : Option ℕ) (a : List (List ℕ)). record { returned = r; arrays = a }) result.value
+          (same_arrays 0 p.parameters held
+          (ready_before table results (at_end table held p) (grows_any results p.value) last))
 
-      pub same_whole_path : path_of (over table held p) args ≡ path_of p args
-      same_whole_path =
-          ap₂ (λ (a b : Path). a ++ b)
-          (keeps_all table (at_end table held p) p.body (start p args) (start p args) ready).1
-          (same_any_path (end_of p args) (end_of (over table held p) args) (with_results table 0 p.parameters held)
-          p.value last)
-
-    module _ (straight : IsStraight p) (declared : IsKept table p.declared) where
-      still_bounded : IsBounded (over table held p)
-      still_bounded =
-          let b = straight.bounded in
-          let end = at_end table held p in
-          let room = max_both (height_in_all (shared_all table end p.body))
-          (result_height (option_map (renamed table) p.value)) (height_in_all p.body) (result_height p.value)
-          (lower_all table end p.body) (omega (arith, same_result_height table p.value)) in
+    module _ (straight : IsStraight p) (words_kept : IsKept table p.declared) where
+      still_straight : IsStraight (over table held p)
+      still_straight =
+          let keeps = keeps_declared table p.declared words_kept in
+          let typed = still_all p.profile p.declared p.controls p.declared keeps end_fits.1 straight.typed.body
+          straight.typed.hidden in
+          let size = less_all p.turns (λ x size part never. absurd never) end_fits.1 in
+          let value = result_no_larger (over_result table p.value) in
           record {
-            lengths = b.lengths;
-            parameters = b.parameters;
-            declared = b.declared;
-            nodes = b.nodes;
-            worked = omega (arith, less_all table p.turns end p.body fits, same_value_nodes table p.value, b.worked);
-            work_fits = b.work_fits;
-            framed = omega (arith, flatter_all table end p.body, room, b.framed);
+            typed = record {
+              parameters = straight.typed.parameters;
+              body = typed.typed;
+              hidden = typed.hidden;
+              result = still_result p.profile keeps.outer p.returned (over_result table p.value) straight.typed.result;
+            };
+            bounded = record {
+              lengths = straight.bounded.lengths;
+              parameters = straight.bounded.parameters;
+              declared = straight.bounded.declared;
+              nodes = straight.bounded.nodes;
+              worked = omega (arith, straight.bounded.worked);
+              work_fits = straight.bounded.work_fits;
+              framed = omega (arith, straight.bounded.framed);
+            };
           }
-
-      pub still_straight : IsStraight (over table held p)
-      still_straight = record {
-        typed = record {
-          parameters = straight.typed.parameters;
-          body = still_all_typed table p.profile p.declared p.controls declared (at_end table held p) p.body fits
-              straight.typed.body;
-          hidden = still_hidden_all table p.profile p.declared p.controls declared (at_end table held p) p.body
-              straight.typed.hidden;
-          result = still_result table (types_of p.profile p.declared)
-              (are_kept table p.profile p.declared p.controls declared) p.returned p.value straight.typed.result;
-        };
-        bounded = still_bounded;
-      }
 
       pub shared_replaced : IsReplaced p (over table held p)
       shared_replaced = record {
@@ -191,7 +178,7 @@ module _ (table : Table) where
         turns = refl;
         straight = still_straight;
         outcome = λ args within. same_outcome args;
-        fine = λ args within fine. subst (AreFine p.turns) (sym (same_whole_path args)) fine;
+        fine = λ args within. (both p.turns (runs args).path (result args).path).fine;
       }
 
 -- Where it does not, the program stays as it is.

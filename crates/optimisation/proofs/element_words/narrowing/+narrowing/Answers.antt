@@ -9,56 +9,46 @@ use Rattle.optimisation.proofs.element_words.narrowing.+narrowing.Goals as goal
 
 pub narrow_by-narrow_by_all-requires : goal.narrow_by-narrow_by_all-requires
 narrow_by-narrow_by_all-requires t c =
-    let smaller : 2 * block_nodes (straight_block c.deref-in-Branch.result.now) + 1
-    < 2 * statement_nodes (straight_tree c.args.statement.now) =
-    omega (
-      arith,
+    search (
+      rules,
       accepted_smaller c.in-Branch.accepted c.in-Branch.otherwise c.in-Branch.is
           c.deref-in-Branch.ensures.value refl,
-    ) in
-    search (rules, smaller)
+    )
 
 pub narrow_by-narrow_by_all-requires-in-Branch : goal.narrow_by-narrow_by_all-requires-in-Branch
 narrow_by-narrow_by_all-requires-in-Branch t c =
-    let smaller : 2 * block_nodes (straight_block c.deref-in-Branch-2.result.now) + 1
-    < 2 * statement_nodes (straight_tree c.args.statement.now) =
-    omega (
-      arith,
+    search (
+      rules,
       otherwise_smaller c.in-Branch.accepted c.in-Branch.otherwise c.in-Branch.is refl
           c.deref-in-Branch-2.ensures.value,
-    ) in
-    search (rules, smaller)
+    )
 
 pub narrow_by-narrow_by_all-requires-in-Repeat : goal.narrow_by-narrow_by_all-requires-in-Repeat
 narrow_by-narrow_by_all-requires-in-Repeat t c =
-    let smaller : 2 * block_nodes (straight_block c.deref-in-Repeat.result.now) + 1
-    < 2 * statement_nodes (straight_tree c.args.statement.now) =
-    omega (arith, body_smaller c.in-Repeat.body c.in-Repeat.is c.deref-in-Repeat.ensures.value) in
-    search (rules, smaller)
+    search (rules, body_smaller c.in-Repeat.body c.in-Repeat.is c.deref-in-Repeat.ensures.value)
 
 pub narrow_by-returns-in-Branch : goal.narrow_by-returns-in-Branch
 narrow_by-returns-in-Branch t c =
-    c.narrow_by_all-in-Branch.ensures
-    ∙ (ap (λ w. narrowed_by_all w (straight_block c.deref-in-Branch-2.result.now))
-    (c.narrow_by_all.ensures
-    ∙ ap (λ w. narrowed_by_all w (straight_block c.deref-in-Branch.result.now)) c.narrow.ensures)
-    ∙ sym (ap (narrowed_by c.args.parts.now.arrays.items)
-    (tree_of_branch c.in-Branch.accepted c.in-Branch.otherwise c.in-Branch.is c.deref-in-Branch.ensures.value
-    c.deref-in-Branch-2.ensures.value)))
+    rw (
+      tree_of_branch c.in-Branch.accepted c.in-Branch.otherwise c.in-Branch.is c.deref-in-Branch.ensures.value
+          c.deref-in-Branch-2.ensures.value,
+      c.narrow_by_all-in-Branch.ensures,
+      c.narrow_by_all.ensures,
+      c.narrow.ensures,
+    )
 
 pub narrow_by-returns-in-Repeat : goal.narrow_by-returns-in-Repeat
 narrow_by-returns-in-Repeat t c =
-    c.narrow_by_all-in-Repeat.ensures
-    ∙ (ap (λ w. narrowed_by_all w (straight_block c.deref-in-Repeat.result.now))
-    (c.narrow-in-Repeat-2.ensures ∙ ap (λ w. narrowed w (term_tree c.in-Repeat.high)) c.narrow-in-Repeat.ensures)
-    ∙ sym (ap (narrowed_by c.args.parts.now.arrays.items)
-    (tree_of_loop c.in-Repeat.body c.in-Repeat.is c.deref-in-Repeat.ensures.value)))
+    rw (
+      tree_of_loop c.in-Repeat.body c.in-Repeat.is c.deref-in-Repeat.ensures.value,
+      c.narrow_by_all-in-Repeat.ensures,
+      c.narrow-in-Repeat-2.ensures,
+      c.narrow-in-Repeat.ensures,
+    )
 
 pub narrow_by_all-narrow_by-requires : goal.narrow_by_all-narrow_by-requires
 narrow_by_all-narrow_by-requires t c =
     let s = c.statement-item.result in
     let l = c.loop-statement in
     let here = item_here c.args.body.now l.statement-index s c.loop-statement-test.true c.statement-item.is in
-    let smaller : 2 * statement_nodes (straight_tree s) < 2 * block_nodes (straight_block c.args.body.now) + 1 =
-    omega (arith, smaller_here c.args.body.now l.statement-index s here) in
-    search (rules, smaller)
+    search (rules, smaller_here c.args.body.now l.statement-index s here)

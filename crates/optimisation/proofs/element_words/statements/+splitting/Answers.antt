@@ -14,38 +14,27 @@ block-statement-requires t c =
     let s = c.each-item.result in
     let l = c.loop-each in
     let here = item_here c.args.body.now l.each-index s c.loop-each-test.true c.each-item.is in
-    let smaller : 2 * statement_nodes (straight_tree s) < 2 * block_nodes (straight_block c.args.body.now) + 1 =
-    omega (arith, smaller_here c.args.body.now l.each-index s here) in
-    search (rules, smaller)
+    search (rules, smaller_here c.args.body.now l.each-index s here)
 
 pub statement-block-requires : goal.statement-block-requires
 statement-block-requires t c =
-    let smaller : 2 * block_nodes (straight_block c.deref-in-Branch.result.now) + 1
-    < 2 * statement_nodes (straight_tree c.args.statement.now) =
-    omega (
-      arith,
+    search (
+      rules,
       accepted_smaller c.in-Branch.accepted c.in-Branch.otherwise c.in-Branch.is
           c.deref-in-Branch.ensures.value refl,
-    ) in
-    search (rules, smaller)
+    )
 
 pub statement-block-requires-in-Branch : goal.statement-block-requires-in-Branch
 statement-block-requires-in-Branch t c =
-    let smaller : 2 * block_nodes (straight_block c.deref-in-Branch-2.result.now) + 1
-    < 2 * statement_nodes (straight_tree c.args.statement.now) =
-    omega (
-      arith,
+    search (
+      rules,
       otherwise_smaller c.in-Branch.accepted c.in-Branch.otherwise c.in-Branch.is refl
           c.deref-in-Branch-2.ensures.value,
-    ) in
-    search (rules, smaller)
+    )
 
 pub statement-block-requires-in-Repeat : goal.statement-block-requires-in-Repeat
 statement-block-requires-in-Repeat t c =
-    let smaller : 2 * block_nodes (straight_block c.deref-in-Repeat.result.now) + 1
-    < 2 * statement_nodes (straight_tree c.args.statement.now) =
-    omega (arith, body_smaller c.in-Repeat.body c.in-Repeat.is c.deref-in-Repeat.ensures.value) in
-    search (rules, smaller)
+    search (rules, body_smaller c.in-Repeat.body c.in-Repeat.is c.deref-in-Repeat.ensures.value)
 
 pub statement-returns-in_ok-other-in-Branch : goal.statement-returns-in_ok-other-in-Branch
 statement-returns-in_ok-other-in-Branch t c =

@@ -31,41 +31,30 @@ gather-gather_all-requires-in-Repeat t c =
 
 pub gather-returns-in_ok-gather_all-in-Branch-2 : goal.gather-returns-in_ok-gather_all-in-Branch-2
 gather-returns-in_ok-gather_all-in-Branch-2 t c =
-    let table = c.args.table.now in
-    let done = c.args.done.now in
-    let held = held_by c.args.live.now in
-    let condition = term_tree c.in-Branch.condition in
-    let one = straight_block c.deref-in-Branch.result.now in
-    let other = straight_block c.deref-in-Branch-2.result.now in
-    c.in_ok-gather_all-in-Branch-2.ensures
-    ∙ (ap₂ (λ (d : Done) (h : Held). gathered_all table d h other) c.in_ok-from_slice-in-Branch-2.ensures.items
-    (c.in_ok-gather_all-in-Branch.ensures
-    ∙ ap₂ (λ (d : Done) (h : Held). gathered_all table d h one) c.in_ok-from_slice-in-Branch.ensures.items
-    c.read-in-Branch.ensures)
-    ∙ sym (ap (λ (s : StraightTree). gathered table done held s)
-    (tree_of_branch c.in-Branch.accepted c.in-Branch.otherwise c.in-Branch.is c.deref-in-Branch.ensures.value
-    c.deref-in-Branch-2.ensures.value)))
+    rw (
+      tree_of_branch c.in-Branch.accepted c.in-Branch.otherwise c.in-Branch.is c.deref-in-Branch.ensures.value
+          c.deref-in-Branch-2.ensures.value,
+      c.in_ok-gather_all-in-Branch-2.ensures,
+      c.in_ok-from_slice-in-Branch-2.ensures.items,
+      c.in_ok-gather_all-in-Branch.ensures,
+      c.in_ok-from_slice-in-Branch.ensures.items,
+      c.read-in-Branch.ensures,
+    )
 
 pub gather-returns-in_ok-gather_all-in-Repeat : goal.gather-returns-in_ok-gather_all-in-Repeat
 gather-returns-in_ok-gather_all-in-Repeat t c =
-    let table = c.args.table.now in
-    let done = c.args.done.now in
-    let held = held_by c.args.live.now in
-    let x = c.in-Repeat.counter in
-    let low = term_tree c.in-Repeat.low in
-    let body = straight_block c.deref-in-Repeat.result.now in
-    c.in_ok-gather_all-in-Repeat.ensures
-    ∙ (ap₂ (λ (d : Done) (h : Held). gathered_all table d h body)
-    (c.note_done.ensures ∙ ap (λ (d : Done). with_done d x) c.in_ok-inside-in-Repeat.ensures.items)
-    (c.read-in-Repeat-2.ensures ∙ ap (λ (h : Held). reading table done h low) c.read-in-Repeat.ensures)
-    ∙ sym (ap (λ (s : StraightTree). gathered table done held s)
-    (tree_of_loop c.in-Repeat.body c.in-Repeat.is c.deref-in-Repeat.ensures.value)))
+    rw (
+      tree_of_loop c.in-Repeat.body c.in-Repeat.is c.deref-in-Repeat.ensures.value,
+      c.in_ok-gather_all-in-Repeat.ensures,
+      c.note_done.ensures,
+      c.in_ok-inside-in-Repeat.ensures.items,
+      c.read-in-Repeat-2.ensures,
+      c.read-in-Repeat.ensures,
+    )
 
 pub gather_all-gather-requires : goal.gather_all-gather-requires
 gather_all-gather-requires t c =
     let s = c.statement-item.result in
     let l = c.loop-statement in
     let here = item_here c.args.body.now l.statement-index s c.loop-statement-test.true c.statement-item.is in
-    let smaller : 2 * statement_nodes (straight_tree s) < 2 * block_nodes (straight_block c.args.body.now) + 1 =
-    omega (arith, smaller_here c.args.body.now l.statement-index s here) in
-    search (rules, smaller)
+    search (rules, smaller_here c.args.body.now l.statement-index s here)

@@ -1,0 +1,6 @@
+pub mod Rules
+pub mod Sizes
+pub mod Types
+pub mod Values
+pub mod Beside
+pub mod SameWords

@@ -1,0 +1,124 @@
+-- Two runs side by side: what their variables hold goes together, and the path of the second is fine where that of the
+-- first is.
+use Rattle.std.proofs.Common.{◌≡◌, ℕ, zero, suc, ◌+◌, ◌-◌, ◌==◌, ◌&&◌, not, Bool, true, false, if◌then◌else◌, List, []}
+use Rattle.std.proofs.Common.{◌∷◌, ◌++◌, Option, None, Some, refl, sym, ap, ap₂, ◌∙◌, subst}
+use Rattle.inline.specs.Flat.{TermTree}
+use Rattle.inline.specs.FlatMeaning.{Values, path_in, turns, path_of_turns}
+use Rattle.inline.specs.Path.{Path, AreFine, decided, bounded}
+use Rattle.branch_removal.specs.Straight.{StraightTree, branch, repeats, StraightBlock, nothing, first, chain}
+use Rattle.branch_removal.specs.StraightMeaning.{StraightState, holds, with_controls, value_at, counted, after}
+use Rattle.branch_removal.specs.StraightMeaning.{after_all, path_at, path_along}
+use Rattle.branch_removal.proofs.Sequences.{after-chain, path-chain}
+use Rattle.optimisation.specs.element_words.private.Splitting.{single}
+use Rattle.optimisation.proofs.over_lemmas.Values.{IsNoWorse, same_path, both, alone, IsAlike}
+
+-- two states, where this relates what their variables hold
+pub record AreBeside (R : Values → Values → Type 0) (s t : StraightState) : Type 0 where
+  pub variables : R s.variables t.variables
+  pub controls : t.controls ≡ s.controls
+
+module _ (R : Values → Values → Type 0) where
+  pub same_hold : (within : Option ℕ) {s t : StraightState} → AreBeside R s t → holds t within ≡ holds s within
+  same_hold None beside = refl
+  same_hold (Some control) beside = ap (λ (f : ℕ → Bool). f control) beside.controls
+
+  both_sides : (b : Bool) {s t u v : StraightState} → AreBeside R s u → AreBeside R t v
+      → AreBeside R (if b then s else t) (if b then u else v)
+  both_sides true one other = one
+  both_sides false one other = other
+
+  -- what is set within a control value
+  pub within_beside : (within : Option ℕ) {s t u v : StraightState} → AreBeside R s u → AreBeside R t v
+      → AreBeside R (if holds s within then t else s) (if holds u within then v else u)
+  within_beside within {s = s} beside set = rw (same_hold within beside) (both_sides (holds s within) set beside)
+
+  -- a condition is taken in both
+  pub taken_beside : (control : ℕ) (within : Option ℕ) {s t : StraightState} {v w : ℕ} → AreBeside R s t → w ≡ v
+      → AreBeside R (with_controls s control (holds s within && not (v == 0)) (holds s within && (v == 0)))
+      (with_controls t control (holds t within && not (w == 0)) (holds t within && (w == 0)))
+  taken_beside control within {s = s} {t = t} {v = v} beside same =
+      let taken : Bool → ℕ → (ℕ → Bool) → ℕ → Bool =
+      λ h n others c. if c == control then h && not (n == 0)
+      else (if c == control + 1 then h && (n == 0) else others c) in
+      record {
+        variables = beside.variables;
+        controls = ap₂ (λ (h : Bool) (n : ℕ). taken h n t.controls) (same_hold within beside) same
+            ∙ ap (taken (holds s within) v) beside.controls;
+      }
+
+  module _ (most : List ℕ) where
+    -- a block beside another one
+    pub record Follows (s t : StraightState) (body code : StraightBlock) : Type 0 where
+      pub beside : AreBeside R (after_all s body) (after_all t code)
+      pub path : IsNoWorse most (path_along s body) (path_along t code)
+
+    -- and beside one statement
+    pub record FollowsAt (s t : StraightState) (statement : StraightTree) (code : StraightBlock) : Type 0 where
+      pub beside : AreBeside R (after s statement) (after_all t code)
+      pub path : IsNoWorse most (path_at s statement) (path_along t code)
+
+    either_path : (v : ℕ) (b : Bool) {p q p' q' : Path} → IsNoWorse most p p' → IsNoWorse most q q'
+        → IsNoWorse most (decided v ∷ (if b then p else q)) (decided v ∷ (if b then p' else q'))
+    either_path v true one other = record { fine = λ fine. (tt, one.fine fine.1) }
+    either_path v false one other = record { fine = λ fine. (tt, other.fine fine.1) }
+
+    pub branch_follows : {s t : StraightState} {condition c : TermTree} {accepted otherwise one other : StraightBlock}
+        → IsAlike most s.variables t.variables condition c → Follows s t accepted one → Follows s t otherwise other
+        → FollowsAt s t (branch condition accepted otherwise) (single (branch c one other))
+    branch_follows {s} {t} {condition} {c} {accepted} {otherwise} {one} {other} chooser first_arm second_arm =
+        let arm : IsNoWorse most (decided (value_at s condition)
+        ∷ (if value_at s condition == 0 then path_along s otherwise else path_along s accepted))
+        (decided (value_at t c) ∷ (if value_at t c == 0 then path_along t other else path_along t one)) =
+        rw chooser.value
+        (either_path (value_at s condition) (value_at s condition == 0) second_arm.path first_arm.path) in
+        record {
+          beside = rw chooser.value (both_sides (value_at s condition == 0) second_arm.beside first_arm.beside);
+          path = alone most (both most chooser.path arm);
+        }
+
+    -- turns of two loops
+    turns_follow : (f g : ℕ → StraightState → StraightState) (p q : ℕ → StraightState → Path)
+        → ((i : ℕ) (s t : StraightState) → AreBeside R s t
+        → AreBeside R (f i s) (g i t) × IsNoWorse most (p i s) (q i t))
+        → (n i : ℕ) (s t : StraightState) → AreBeside R s t
+        → AreBeside R (turns n i f s) (turns n i g t)
+        × IsNoWorse most (path_of_turns n i f p s) (path_of_turns n i g q t)
+    turns_follow f g p q each zero i s t beside = (beside, same_path most)
+    turns_follow f g p q each (suc n) i s t beside =
+        let here = each i s t beside in
+        let rest = turns_follow f g p q each n (i + 1) (f i s) (g i t) here.0 in
+        (rest.0, both most here.1 rest.1)
+
+    pub loop_follows : {s t : StraightState} (x : ℕ) {low high a b : TermTree} {body code : StraightBlock}
+        → AreBeside R s t → IsAlike most s.variables t.variables low a → IsAlike most s.variables t.variables high b
+        → ((i : ℕ) (u v : StraightState) → AreBeside R u v → Follows (counted x i u) (counted x i v) body code)
+        → FollowsAt s t (repeats x low high body) (single (repeats x a b code))
+    loop_follows {s} {t} x {low} {high} {a} {b} {body} {code} beside from to each =
+        let l = value_at s low in
+        let h = value_at s high in
+        let f : ℕ → StraightState → StraightState = λ i u. after_all (counted x i u) body in
+        let g : ℕ → StraightState → StraightState = λ i u. after_all (counted x i u) code in
+        let p : ℕ → StraightState → Path = λ i u. path_along (counted x i u) body in
+        let q : ℕ → StraightState → Path = λ i u. path_along (counted x i u) code in
+        let run = turns_follow f g p q (λ i u v at. let turn = each i u v at in (turn.beside, turn.path)) (h - l) l s t
+        beside in
+        let path : IsNoWorse most (bounded x l h ∷ path_of_turns (h - l) l f p s)
+        (bounded x l h ∷ path_of_turns (h - l) l g q t) =
+        record { fine = λ fine. (fine.0, run.1.fine fine.1) } in
+        let loop : IsNoWorse most (bounded x l h ∷ path_of_turns (h - l) l f p s)
+        (bounded x (value_at t a) (value_at t b)
+        ∷ path_of_turns (value_at t b - value_at t a) (value_at t a) g q t) = rw (from.value, to.value) path in
+        record {
+          beside = rw (from.value, to.value) run.0;
+          path = alone most (both most (both most from.path to.path) loop);
+        }
+
+-- a statement, and others behind it
+pub then_follows : {Q R : Values → Values → Type 0} {most : List ℕ} {s t : StraightState} {statement : StraightTree}
+    {rest code more : StraightBlock} → FollowsAt Q most s t statement code
+    → Follows R most (after s statement) (after_all t code) rest more
+    → Follows R most s t (first statement rest) (chain code more)
+then_follows {most = most} {t = t} {code = code} {more = more} one others = record {
+  beside = rw (after-chain t code more) others.beside;
+  path = rw (path-chain t code more) (both most one.path others.path);
+}

@@ -1,0 +1,99 @@
+-- An expression over other variables has the value that the expression has, where they hold the same, and its path is
+-- fine where that one's is.
+use Rattle.std.proofs.Common.{◌≡◌, ℕ, ◌<◌, ◌==◌, if◌then◌else◌, List, [], ◌∷◌, ◌++◌, map, Option, None, Some}
+use Rattle.std.proofs.Common.{option_map, slice_index, refl, sym, ap, ap₂, subst}
+use Rattle.inline.specs.Flat.{TermTree}
+use Rattle.inline.specs.FlatMeaning.{Values, value_in, elements, path_in, path_in_all, marks_of, path_of_result}
+use Rattle.inline.specs.Path.{Path, AreFine, indexed}
+use Rattle.word.specs.declared.place.Place.{Place}
+use Rattle.branch_removal.proofs.Sequences.{fine_both, fine_front, fine_back, fine_alone}
+use Rattle.optimisation.proofs.over_lemmas.Rules.{Places, IsOver, a_number, a_truth, a_variable, prefixed, operated}
+use Rattle.optimisation.proofs.over_lemmas.Rules.{rotated, converted, selected, an_element, a_word}
+use Rattle.optimisation.proofs.over_lemmas.Rules.{AreOver, no_values, a_value, IsResultOver, no_result, a_result}
+
+module _ (most : List ℕ) where
+  -- a path is fine where another one is
+  pub record IsNoWorse (p q : Path) : Type 0 where
+    pub fine : AreFine most p → AreFine most q
+
+  pub same_path : {p : Path} → IsNoWorse p p
+  same_path = record { fine = λ fine. fine }
+
+  pub both : {p q r t : Path} → IsNoWorse p r → IsNoWorse q t → IsNoWorse (p ++ q) (r ++ t)
+  both {p} {q} {r} {t} one other = record {
+    fine = λ fine. fine_both most r t (one.fine (fine_front most p q fine)) (other.fine (fine_back most p q fine));
+  }
+
+  -- one statement, and nothing behind it
+  pub alone : {p q : Path} → IsNoWorse p q → IsNoWorse p (q ++ [])
+  alone {q = q} one = record { fine = λ fine. fine_alone most q (one.fine fine) }
+
+  -- at the same index
+  pub at_index : {p q : Path} {i j : ℕ} (place : Place) (size : ℕ) → j ≡ i → IsNoWorse p q
+      → IsNoWorse (indexed place size i ∷ p) (indexed place size j ∷ q)
+  at_index place size same one = record { fine = λ fine. (rw same fine.0, one.fine fine.1) }
+
+-- what variables hold, the others hold
+pub record AreHeld (p : Places) (m k : Values) : Type 0 where
+  pub stays : (x : ℕ) → p.Stays x → k (p.at x) ≡ m x
+  pub words : (x i w : ℕ) → p.IsWord x i w → k w ≡ slice_index (m x) i ∷ []
+
+-- an expression has the value of another one, and its path is fine where that one's is
+pub record IsAlike (most : List ℕ) (m k : Values) (e f : TermTree) : Type 0 where
+  pub value : value_in k f ≡ value_in m e
+  pub path : IsNoWorse most (path_in m e) (path_in k f)
+
+-- so do first values
+pub record AreAllAlike (most : List ℕ) (m k : Values) (es fs : List TermTree) : Type 0 where
+  pub values : map (value_in k) fs ≡ map (value_in m) es
+  pub filled : (size : ℕ) → elements k size fs ≡ elements m size es
+  pub path : IsNoWorse most (path_in_all m es) (path_in_all k fs)
+
+-- and a result
+pub record IsResultAlike (most : List ℕ) (m k : Values) (whole other : Option TermTree) : Type 0 where
+  pub value : option_map (value_in k) other ≡ option_map (value_in m) whole
+  pub path : IsNoWorse most (path_of_result m whole) (path_of_result k other)
+
+module _ (most : List ℕ) {p : Places} {m k : Values} (held : AreHeld p m k) where
+  pub alike : {e f : TermTree} → IsOver p e f → IsAlike most m k e f
+  alike a_number = record { value = refl; path = same_path most }
+  alike a_truth = record { value = refl; path = same_path most }
+  alike (a_variable {x} stays) =
+      record { value = ap (λ numbers. slice_index numbers 0) (held.stays x stays); path = same_path most }
+  alike (prefixed one) = let a = alike one in record { value = rw a.value refl; path = a.path }
+  alike (operated {place} {operator} one other) =
+      let a = alike one in
+      let b = alike other in
+      record {
+        value = rw (a.value, b.value) refl;
+        path = both most (both most a.path b.path)
+            (subst (IsNoWorse most _) (sym (ap₂ (marks_of place operator) a.value b.value)) (same_path most));
+      }
+  alike (rotated one) = let a = alike one in record { value = rw a.value refl; path = a.path }
+  alike (converted one) = let a = alike one in record { value = rw a.value refl; path = a.path }
+  alike (selected chooser one other) =
+      let c = alike chooser in
+      let a = alike one in
+      let b = alike other in
+      record { value = rw (c.value, a.value, b.value) refl; path = both most (both most c.path a.path) b.path }
+  alike (an_element {place = place} {x = x} {size = size} stays index) =
+      let i = alike index in
+      record {
+        value = rw (held.stays x stays, i.value) refl;
+        path = both most i.path (at_index most place size i.value (same_path most));
+      }
+  alike (a_word {x = x} {value = i} {w = w} is) =
+      record { value = ap (λ numbers. slice_index numbers 0) (held.words x i w is); path = record { fine = λ fine. tt } }
+
+  pub all_alike : {es fs : List TermTree} → AreOver p es fs → AreAllAlike most m k es fs
+  all_alike no_values = record { values = refl; filled = λ size. refl; path = same_path most }
+  all_alike (a_value one others) =
+      let a = alike one in
+      let b = all_alike others in
+      let values = ap₂ (λ v vs. v ∷ vs) a.value b.values in
+      record { values = values; filled = λ size. values; path = both most a.path b.path }
+
+  pub result_alike : {value other : Option TermTree} → IsResultOver p value other
+      → IsResultAlike most m k value other
+  result_alike no_result = record { value = refl; path = same_path most }
+  result_alike (a_result one) = let a = alike one in record { value = ap Some a.value; path = a.path }
