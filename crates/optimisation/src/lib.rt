@@ -7,3 +7,4 @@
 pub mod constants;
 pub mod element_words;
 pub mod live_words;
+mod same_words;

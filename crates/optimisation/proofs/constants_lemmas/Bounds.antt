@@ -13,7 +13,7 @@ use Rattle.optimisation.specs.constants.private.Known.{Words}
 use Rattle.optimisation.proofs.constants_lemmas.StatementRules.{Simplifies, sets, fills, puts, takes, accepts, declines}
 use Rattle.optimisation.proofs.constants_lemmas.StatementRules.{chooses, unrolls, loops, TurnsSimplify, no_turn, a_turn}
 use Rattle.optimisation.proofs.constants_lemmas.StatementRules.{AllSimplify, ends, goes_on}
-use Rattle.optimisation.proofs.constants_lemmas.TermSizes.{fewer_nodes_all, lower_all, no_larger}
+use Rattle.optimisation.proofs.constants_lemmas.TermSizes.{no_larger, no_larger_all}
 use Rattle.optimisation.proofs.over_lemmas.Sizes.{IsWithin, chained, set_at_most}
 
 set_less : (words : Words) (within : Option ℕ) (e : TermTree) → set_work within (simple words e) ≤ set_work within e
@@ -29,11 +29,9 @@ module _ (counts : List ℕ) where
       less (sets {words = words} {within = within} {value = value}) =
           let e = no_larger words value in
           record { worked = omega (arith, set_less words within value); low = omega arith; shallow = omega arith }
-      less (fills {words = words} {values = values}) = record {
-        worked = omega (arith, fewer_nodes_all words values);
-        low = omega (arith, lower_all words values);
-        shallow = omega arith;
-      }
+      less (fills {words = words} {values = values}) =
+          let a = no_larger_all words values in
+          record { worked = omega arith; low = omega arith; shallow = omega arith }
       less (puts {words = words} {index = index} {value = value}) =
           let i = no_larger words index in
           let e = no_larger words value in
@@ -87,15 +85,3 @@ module _ (counts : List ℕ) where
           let b = less_all others in
           let both = chained counts code more in
           record { worked = omega arith; low = omega arith; shallow = omega arith }
-
--- The result.
-
-pub lower_result : (words : Words) (value : Option TermTree)
-    → result_height (option_map (simple words) value) ≤ result_height value
-lower_result words None = omega arith
-lower_result words (Some value) = (no_larger words value).height
-
-pub fewer_in_value : (words : Words) (value : Option TermTree)
-    → value_nodes (option_map (simple words) value) ≤ value_nodes value
-fewer_in_value words None = omega arith
-fewer_in_value words (Some value) = omega (arith, (no_larger words value).nodes)

@@ -7,11 +7,12 @@ use Rattle.inline.specs.declared.flat.FlatVariable.{FlatVariable}
 use Rattle.inline.specs.Flat.{TermTree, variable, word_as}
 use Rattle.inline.specs.FlatMeaning.{Values, value_in}
 use Rattle.language.specs.declared.typing.WordType.{WordType}
+use Rattle.optimisation.specs.private.SameWords.{are_alike}
 use Rattle.optimisation.specs.declared.constants.known.Constant.{Constant}
 use Rattle.optimisation.specs.declared.constants.known.WordCopy.{WordCopy}
 use Rattle.optimisation.specs.constants.private.Folding.{constant_of}
 use Rattle.optimisation.specs.constants.private.Known.{Words, with_word}
-use Rattle.optimisation.specs.constants.private.Simplification.{are_alike, copied, copied_where}
+use Rattle.optimisation.specs.constants.private.Simplification.{copied, copied_where}
 use Rattle.optimisation.specs.constants.private.Simplification.{may_be_read_as}
 use Rattle.optimisation.specs.constants.private.Simplification.{set_to, variable_of}
 use Rattle.optimisation.proofs.constants_lemmas.KnownLemmas.{Fact, valued, copy, IsFree, Knows, in_more, word_by}

@@ -4,6 +4,7 @@ use Rattle.std.proofs.Common.{slice_index, sym, ap, ◌∙◌}
 use Rattle.std.proofs.lemmas.Option.{same_Some}
 use Rattle.word.specs.declared.profile.Profile.{Profile}
 use Rattle.language.specs.declared.typing.WordType.{WordType}
+use Rattle.inline.proofs.Face.{with_value-other, with_value-same}
 use Rattle.inline.specs.declared.flat.FlatVariable.{FlatVariable}
 use Rattle.inline.specs.Flat.{TermTree, counter_type}
 use Rattle.inline.specs.FlatMeaning.{Values, with_value, value_in}
@@ -22,7 +23,7 @@ use Rattle.optimisation.proofs.constants_lemmas.KnownLemmas.{Holds}
 use Rattle.optimisation.proofs.constants_lemmas.StatementRules.{AllSimplify}
 use Rattle.optimisation.proofs.constants_lemmas.TermLemmas.{constant_value, decided_value, same_value}
 use Rattle.optimisation.proofs.constants_lemmas.Typed.{IsCounter, inside_kinds, part_kinds, turn_kinds}
-use Rattle.optimisation.proofs.constants_lemmas.Unset.{IsUnset, at_itself, behind_part, beside, left_alone}
+use Rattle.optimisation.proofs.constants_lemmas.Unset.{IsUnset, behind_part, left_alone}
 use Rattle.optimisation.proofs.constants_lemmas.Unset.{left_alone_all, within_loop}
 
 -- Conditions and bounds that are numbers.
@@ -45,14 +46,14 @@ module _ (types : Types) (words : Words) (s : StraightState) (holds : Holds type
 still_true : (words : Words) (m : Values) (x v : ℕ) → Agrees words m → (f : Fact) → IsFree x f → Knows words f
     → IsTrue f (with_value m x (v ∷ []))
 still_true words m x v agrees f free is =
-    same_truth f m (with_value m x (v ∷ [])) (λ y about. beside m x y (v ∷ []) (free y about)) (agrees f is)
+    same_truth f m (with_value m x (v ∷ [])) (λ y about. with_value-other m x y (v ∷ []) (free y about)) (agrees f is)
 
 pub noted : (words : Words) (m : Values) (x v : ℕ) (word : Option Constant) → Agrees words m
     → ((c : Constant) → word ≡ Some c → v ≡ c.value)
     → Agrees (with_word words x word) (with_value m x (v ∷ []))
 noted words m x v word agrees right =
     word_by words x word (λ f. IsTrue f (with_value m x (v ∷ [])))
-    (λ c is. ap (λ numbers. slice_index numbers 0) (at_itself m x (v ∷ [])) ∙ right c is)
+    (λ c is. ap (λ numbers. slice_index numbers 0) (with_value-same m x (v ∷ [])) ∙ right c is)
     (still_true words m x v agrees)
 
 -- and where it is a copy, that too
@@ -60,11 +61,11 @@ pub noted_copy : (declared : List FlatVariable) (words : Words) (m : Values) (x 
     → v ≡ value_in m e
     → Agrees (set_to declared words None x e) (with_value m x (v ∷ []))
 noted_copy declared words m x v e agrees same =
-    let here = ap (λ numbers. slice_index numbers 0) (at_itself m x (v ∷ [])) in
+    let here = ap (λ numbers. slice_index numbers 0) (with_value-same m x (v ∷ [])) in
     set_by declared words x e (λ f. IsTrue f (with_value m x (v ∷ [])))
     (λ c is. here ∙ (same ∙ constant_value m e c is))
     (λ y is may. here ∙ (same ∙ (read_value m e y is ∙ ap (λ numbers. slice_index numbers 0)
-    (sym (beside m x y (v ∷ []) (λ h. two_variables declared x y may (sym h)))))))
+    (sym (with_value-other m x y (v ∷ []) (λ h. two_variables declared x y may (sym h)))))))
     (still_true words m x v agrees)
 
 -- what was known before, of variables that a statement leaves alone
@@ -114,7 +115,7 @@ module _ (profile : Profile) (declared : List FlatVariable) where
     pub turn_start : AllHolds (in_loop words x body) (counted x i t)
     turn_start = record {
       agrees = λ f is. same_truth f t.variables (counted x i t).variables
-          (λ y about. beside t.variables x y (i ∷ []) ((within_loop words x body f is).1.0 y about))
+          (λ y about. with_value-other t.variables x y (i ∷ []) ((within_loop words x body f is).1.0 y about))
           (holds.agrees f is);
       kinds = holds.kinds;
       fits = counted_fits profile declared x i there below t holds.fits;

@@ -17,7 +17,7 @@ use Rattle.branch_removal.specs.Straight.{StraightBlock, first, chain}
 use Rattle.branch_removal.specs.StraightMeaning.{StraightState, holds as holds_under, with_variable, with_element}
 use Rattle.branch_removal.specs.StraightMeaning.{value_at, counted, after, after_all, path_at, path_along}
 use Rattle.branch_removal.specs.StraightTyping.{types_but, IsFilled, IsPut, IsSet, IsTyped, AreTyped}
-use Rattle.branch_removal.proofs.Sequences.{after-chain, path-chain, fine_back, fine_alone}
+use Rattle.branch_removal.proofs.Sequences.{after-chain, path-chain, fine_back}
 use Rattle.optimisation.specs.constants.private.Folding.{simple}
 use Rattle.optimisation.specs.constants.private.Known.{Words, behind, in_loop, without}
 use Rattle.optimisation.specs.constants.private.Simplification.{set_to}
@@ -29,63 +29,49 @@ use Rattle.optimisation.proofs.constants_lemmas.Learned.{turn_known, turn_start}
 use Rattle.optimisation.proofs.constants_lemmas.StatementRules.{Simplifies, sets, fills, puts, takes, accepts, declines}
 use Rattle.optimisation.proofs.constants_lemmas.StatementRules.{chooses, unrolls, loops, TurnsSimplify, no_turn, a_turn}
 use Rattle.optimisation.proofs.constants_lemmas.StatementRules.{AllSimplify, ends, goes_on}
-use Rattle.optimisation.proofs.constants_lemmas.TermLemmas.{same_value, same_suited, same_values, fine_parts, fine_path}
-use Rattle.optimisation.proofs.constants_lemmas.TermLemmas.{fine_suited, fine_path_all}
+use Rattle.optimisation.proofs.constants_lemmas.TermLemmas.{same_value, still_alike, suited_alike, all_alike}
 use Rattle.optimisation.proofs.constants_lemmas.Typed.{IsCounter, but_kinds, typed_after, typed_after_all, within_limit}
 use Rattle.optimisation.proofs.constants_lemmas.Unset.{behind_part, within_loop}
+use Rattle.optimisation.proofs.over_lemmas.Values.{IsNoWorse, same_path, both, through, alone, at_index}
+use Rattle.optimisation.proofs.over_lemmas.Beside.{branch_path, loop_path}
 
 module _ (most : List ℕ) where
-  -- of two arms the one that runs
-  either_fine : (b : Bool) (one other one' other' : Path) → (AreFine most one → AreFine most one')
-      → (AreFine most other → AreFine most other')
-      → AreFine most (if b then one else other) → AreFine most (if b then one' else other')
-  either_fine true one other one' other' f g fine = f fine
-  either_fine false one other one' other' f g fine = g fine
-
   -- two loops whose turns do the same, of numbers below a limit
   turns_alike : {S : Type 0} (P : S → Type 0) (f g : ℕ → S → S) (p q : ℕ → S → Path) (limit : ℕ)
-      → ((i : ℕ) (s : S) → i < limit → P s
-      → (f i s ≡ g i s) × (AreFine most (q i s) → AreFine most (p i s)) × P (g i s))
+      → ((i : ℕ) (s : S) → i < limit → P s → (f i s ≡ g i s) × IsNoWorse most (q i s) (p i s) × P (g i s))
       → (n i : ℕ) (s : S) → i + n ≤ limit → P s
-      → (turns n i f s ≡ turns n i g s)
-      × (AreFine most (path_of_turns n i g q s) → AreFine most (path_of_turns n i f p s))
-  turns_alike P f g p q limit each zero i s below holds = (refl, λ fine. fine)
+      → (turns n i f s ≡ turns n i g s) × IsNoWorse most (path_of_turns n i g q s) (path_of_turns n i f p s)
+  turns_alike P f g p q limit each zero i s below holds = (refl, same_path most)
   turns_alike P f g p q limit each (suc n) i s below holds =
       let one = each i s (omega (arith, below)) holds in
-      let rest = turns_alike P f g p q limit each n (i + 1) (g i s) (omega (arith, below)) one.2 in (
-        ap (turns n (i + 1) f) one.0 ∙ rest.0,
-        fine_parts most (q i s) (path_of_turns n (i + 1) g q (g i s)) (p i s) (path_of_turns n (i + 1) f p (f i s))
-            one.1 (λ fine. subst (λ t. AreFine most (path_of_turns n (i + 1) f p t)) (sym one.0) (rest.1 fine)),
-      )
+      let rest = turns_alike P f g p q limit each n (i + 1) (g i s) (omega (arith, below)) one.2 in
+      (ap (turns n (i + 1) f) one.0 ∙ rest.0, rw one.0 (both most one.1 rest.1))
 
   -- from a state code leads to that one, where these words are known, and its path is fine where this one is
-  pub record LeadsTo (s : StraightState) (code : StraightBlock) (words : Words) (t : StraightState) (path : Path)
+  pub record LeadsTo (s : StraightState) (code : StraightBlock) (words : Words) (t : StraightState) (whole : Path)
       : Type 0 where
     pub same : after_all s code ≡ t
     pub agrees : Agrees words t.variables
-    pub fine : AreFine most path → AreFine most (path_along s code)
+    pub path : IsNoWorse most whole (path_along s code)
 
   both_lead : {s t u : StraightState} {code more : StraightBlock} {words next : Words} {p q : Path}
       → LeadsTo s code words t p → LeadsTo t more next u q → LeadsTo s (chain code more) next u (p ++ q)
-  both_lead {s = s} {code = code} {more = more} {p = p} {q = q} one other = record {
-    same = after-chain s code more ∙ (ap (λ (r : StraightState). after_all r more) one.same ∙ other.same);
+  both_lead {s = s} {code = code} {more = more} one other = record {
+    same = rw (after-chain s code more, one.same) other.same;
     agrees = other.agrees;
-    fine = λ fine. subst (AreFine most) (sym (path-chain s code more))
-        (fine_parts most p q (path_along s code) (path_along (after_all s code) more) one.fine
-        (λ rest. subst (λ (r : StraightState). AreFine most (path_along r more)) (sym one.same) (other.fine rest))
-        fine);
+    path = rw (path-chain s code more, one.same) (both most one.path other.path);
   }
 
   -- so where a turn begins
   turn_leads : (x i : ℕ) (s : StraightState) {t : StraightState} {code : StraightBlock} {words : Words} {p : Path}
       → LeadsTo (counted x i s) code words t p
       → LeadsTo s (first (set None x (number i counter_type.kind)) code) words t p
-  turn_leads x i s one = record { same = one.same; agrees = one.agrees; fine = one.fine }
+  turn_leads x i s one = record { same = one.same; agrees = one.agrees; path = one.path }
 
   -- so on a longer path
-  along : {s t : StraightState} {code : StraightBlock} {words : Words} {p q : Path}
-      → (AreFine most q → AreFine most p) → LeadsTo s code words t p → LeadsTo s code words t q
-  along shorter one = record { same = one.same; agrees = one.agrees; fine = λ fine. one.fine (shorter fine) }
+  along : {s t : StraightState} {code : StraightBlock} {words : Words} {p q : Path} → IsNoWorse most q p
+      → LeadsTo s code words t p → LeadsTo s code words t q
+  along shorter one = record { same = one.same; agrees = one.agrees; path = through most shorter one.path }
 
   module _ (profile : Profile) (declared : List FlatVariable) (controls : ℕ) where
     abbrev types : Types
@@ -96,7 +82,7 @@ module _ (most : List ℕ) where
           → Agrees (set_to declared words within x (simple words value)) (after s (set within x value)).variables
       set_agrees None x value is =
           noted_copy declared words s.variables x (value_at s value) (simple words value) holds.agrees
-          (sym (same_suited types words s.variables holds is.suits))
+          (sym (same_value types words s.variables holds is.suits.has_type))
       set_agrees (Some control) x value is =
           kept words (without words x) (set (Some control) x value) s holds.agrees
           (without_known words x)
@@ -110,29 +96,6 @@ module _ (most : List ℕ) where
         fits = fewer_fit profile declared x s.variables holds.fits;
       }
 
-      same_elements : (x size : ℕ) (values : List TermTree) → IsFilled profile declared x size values
-          → elements s.variables size (map (simple words) values) ≡ elements s.variables size values
-      same_elements x size [] is = refl
-      same_elements x size (e ∷ es) is =
-          same_values (types_but profile declared x) words s.variables (holds_but x size (e ∷ es) is) is.word (e ∷ es)
-          is.suit
-
-      put_fine : (place : Place) (x size : ℕ) (index value : TermTree) → IsPut profile declared x size index value
-          → AreFine most (path_in s.variables index ++ indexed place size (value_at s index)
-          ∷ path_in s.variables value)
-          → AreFine most (path_in s.variables (simple words index)
-          ++ indexed place size (value_at s (simple words index)) ∷ path_in s.variables (simple words value))
-      put_fine place x size index value is =
-          fine_parts most (path_in s.variables index)
-          (indexed place size (value_at s index) ∷ path_in s.variables value)
-          (path_in s.variables (simple words index))
-          (indexed place size (value_at s (simple words index)) ∷ path_in s.variables (simple words value))
-          (fine_path most types words s.variables holds is.index_type)
-          (λ rest. (
-            subst (λ n. n < size) (sym (same_value types words s.variables holds is.index_type)) rest.0,
-            fine_suited most types words s.variables holds is.suits rest.1,
-          ))
-
     -- a branch that is decided leads where its arm does
     arm_leads : (s : StraightState) (condition : TermTree) (accepted otherwise : StraightBlock)
         {code : StraightBlock} {words : Words} (z : Bool) → (value_at s condition == 0) ≡ z
@@ -141,8 +104,10 @@ module _ (most : List ℕ) where
         → LeadsTo s code words (after s (branch condition accepted otherwise))
         (path_at s (branch condition accepted otherwise))
     arm_leads s condition accepted otherwise {code = code} {words = words} z is one =
-        along (λ fine. (fine_back most (path_in s.variables condition) (decided_mark (value_at s condition)
-        ∷ (if value_at s condition == 0 then path_along s otherwise else path_along s accepted)) fine).1)
+        along (record {
+          fine = λ fine. (fine_back most (path_in s.variables condition) (decided_mark (value_at s condition)
+              ∷ (if value_at s condition == 0 then path_along s otherwise else path_along s accepted)) fine).1;
+        })
         (subst (λ y. LeadsTo s code words (if y then after_all s otherwise else after_all s accepted)
         (if y then path_along s otherwise else path_along s accepted)) (sym is) one)
 
@@ -157,8 +122,10 @@ module _ (most : List ℕ) where
         let path : ℕ → StraightState → Path = λ i t. path_along (counted x i t) body in
         let a = value_at s low in
         let b = value_at s high in
-        along (λ fine. (fine_back most (path_in s.variables low ++ path_in s.variables high)
-        (bounded x a b ∷ path_of_turns (b - a) a turn path s) fine).1)
+        along (record {
+          fine = λ fine. (fine_back most (path_in s.variables low ++ path_in s.variables high)
+              (bounded x a b ∷ path_of_turns (b - a) a turn path s) fine).1;
+        })
         (subst (λ k. LeadsTo s code words (turns (k - a) a turn s) (path_of_turns (k - a) a turn path s)) at_high
         (subst (λ k. LeadsTo s code words (turns (h - k) k turn s) (path_of_turns (h - k) k turn path s)) at_low one))
 
@@ -168,38 +135,34 @@ module _ (most : List ℕ) where
             → Simplifies copies declared words statement code next → IsTyped profile declared controls statement
             → (s : StraightState) → AllHolds profile declared words s
             → LeadsTo s code next (after s statement) (path_at s statement)
-        leads (sets {words = words} {within = within} {x = x} {value = value}) is s holds = record {
-          same = rw (same_suited types words s.variables holds is.1.suits) refl;
-          agrees = set_agrees words s holds within x value is.1;
-          fine = λ fine. fine_alone most (path_in s.variables (simple words value))
-              (fine_suited most types words s.variables holds is.1.suits fine);
-        }
-        leads (fills {words = words} {x = x} {size = size} {values = values}) is s holds = record {
-          same = ap (with_variable s x) (same_elements words s holds x size values is);
-          agrees = kept words (without words x) (array x size values) s holds.agrees
-              (without_known words x);
-          fine = λ fine. fine_alone most (path_in_all s.variables (map (simple words) values))
-              (fine_path_all most (types_but profile declared x) words s.variables
-              (holds_but words s holds x size values is) is.word values is.suit fine);
-        }
+        leads (sets {words = words} {within = within} {x = x} {value = value}) is s holds =
+            let a = suited_alike most types words s.variables holds is.1.suits in
+            record {
+              same = rw a.value refl;
+              agrees = set_agrees words s holds within x value is.1;
+              path = alone most a.path;
+            }
+        leads (fills {words = words} {x = x} {size = size} {values = values}) is s holds =
+            let a = all_alike most (types_but profile declared x) words s.variables
+            (holds_but words s holds x size values is) is.word values is.suit in
+            record {
+              same = ap (with_variable s x) (a.filled size);
+              agrees = kept words (without words x) (array x size values) s holds.agrees (without_known words x);
+              path = alone most a.path;
+            }
         leads (puts {words = words} {within = within} {place = place} {x = x} {size = size} {index = index} {value =
-            value}) is s holds = record {
-              same = ap₂ (λ i v. if holds_under s within then with_element s x i v else s)
-                  (same_value types words s.variables holds is.1.index_type)
-                  (same_suited types words s.variables holds is.1.suits);
+            value}) is s holds =
+            let i = still_alike most types words s.variables holds is.1.index_type in
+            let a = suited_alike most types words s.variables holds is.1.suits in
+            record {
+              same = ap₂ (λ i v. if holds_under s within then with_element s x i v else s) i.value a.value;
               agrees = kept words (without words x) (put within place x size index value) s holds.agrees
                   (without_known words x);
-              fine = λ fine. fine_alone most (path_in s.variables (simple words index)
-                  ++ indexed place size (value_at s (simple words index)) ∷ path_in s.variables (simple words value))
-                  (put_fine words s holds place x size index value is.1 fine);
+              path = alone most (both most i.path (at_index most place size i.value a.path));
             }
-        leads (takes {words = words} {control = control} {within = within} {condition = condition}) is s holds =
-            record {
-              same = rw (same_value types words s.variables holds is.2.1) refl;
-              agrees = holds.agrees;
-              fine = λ fine. fine_alone most (path_in s.variables (simple words condition))
-                  (fine_path most types words s.variables holds is.2.1 fine);
-            }
+        leads (takes {words = words}) is s holds =
+            let a = still_alike most types words s.variables holds is.2.1 in
+            record { same = rw a.value refl; agrees = holds.agrees; path = alone most a.path }
         leads (accepts {words = words} {condition = condition} {accepted = accepted} {otherwise =
             otherwise} decides one) is s holds =
             arm_leads s condition accepted otherwise false (decided_here types words s holds is.0 true decides)
@@ -210,29 +173,17 @@ module _ (most : List ℕ) where
             (all_lead one is.2 s holds)
         leads (chooses {words = words} {next = next} {condition = condition} {accepted = accepted} {otherwise =
             otherwise} {one = one} {other = other} first_arm second_arm) is s holds =
-            let c = simple words condition in
+            let chooser = still_alike most types words s.variables holds is.0 in
             let a = all_lead first_arm is.1 s holds in
             let b = all_lead second_arm is.2 s (arm_begins profile declared first_arm s holds) in
             record {
-              same = rw (same_value types words s.variables holds is.0, b.same, a.same) refl;
+              same = rw (chooser.value, b.same, a.same) refl;
               agrees = kept words (behind next otherwise) (branch condition accepted otherwise) s holds.agrees
                   (λ f is.
                   let second = behind_part second_arm f is in
                   let front = behind_part first_arm f second.0 in
                   (front.0, (front.1, second.1)));
-              fine = λ fine. fine_alone most (path_at s (branch c one other))
-                  (fine_parts most (path_in s.variables condition) (decided_mark (value_at s condition)
-                  ∷ (if value_at s condition == 0 then path_along s otherwise else path_along s accepted))
-                  (path_in s.variables c) (decided_mark (value_at s c)
-                  ∷ (if value_at s c == 0 then path_along s other else path_along s one))
-                  (fine_path most types words s.variables holds is.0)
-                  (λ arms. (
-                    tt,
-                    subst (λ v. AreFine most (if v == 0 then path_along s other else path_along s one))
-                        (sym (same_value types words s.variables holds is.0))
-                        (either_fine (value_at s condition == 0) (path_along s otherwise) (path_along s accepted)
-                        (path_along s other) (path_along s one) b.fine a.fine arms.1),
-                  )) fine);
+              path = alone most (branch_path most s s accepted otherwise one other chooser a.path b.path);
             }
         leads (unrolls {words = words} {x = x} {low = low} {high = high} {body = body} {a = a} {b =
             b} low_is high_is few all) is s holds =
@@ -242,18 +193,15 @@ module _ (most : List ℕ) where
             (within_limit profile declared words a b holds.kinds is.0 is.1 low_is high_is) is.2 is.3 s holds)
         leads (loops {words = words} {after = next} {x = x} {low = low} {high = high} {body = body} {code =
             code} inner) is s holds =
-            let l = simple words low in
-            let h = simple words high in
-            let turn : ℕ → StraightState → StraightState = λ i t. after_all (counted x i t) body in
-            let simpler : ℕ → StraightState → StraightState = λ i t. after_all (counted x i t) code in
-            let path : ℕ → StraightState → Path = λ i t. path_along (counted x i t) body in
-            let shorter : ℕ → StraightState → Path = λ i t. path_along (counted x i t) code in
-            let alike = turns_alike (AllHolds profile declared (in_loop words x body)) simpler turn shorter path
-            counter_limit
+            let from = still_alike most types words s.variables holds is.0 in
+            let to = still_alike most types words s.variables holds is.1 in
+            let run = turns_alike (AllHolds profile declared (in_loop words x body))
+            (λ i t. after_all (counted x i t) code) (λ i t. after_all (counted x i t) body)
+            (λ i t. path_along (counted x i t) code) (λ i t. path_along (counted x i t) body) counter_limit
             (λ i t below known.
             let one = all_lead inner is.3 (counted x i t)
             (turn_start profile declared words x body is.2 i t below known) in
-            (one.same, one.fine, turn_end profile declared words x body is.2 i t below known controls is.3))
+            (one.same, one.path, turn_end profile declared words x body is.2 i t below known controls is.3))
             (value_at s high - value_at s low) (value_at s low) s
             (omega (
               arith,
@@ -262,23 +210,10 @@ module _ (most : List ℕ) where
             ))
             (loop_begins profile declared words x body s holds) in
             record {
-              same = rw (same_value types words s.variables holds is.0, same_value types words s.variables holds is.1)
-                  alike.0;
+              same = rw (from.value, to.value) run.0;
               agrees = kept words (behind next body) (repeats x low high body) s holds.agrees
                   (λ f is. within_loop words x body f (behind_part inner f is).0);
-              fine = λ fine. fine_alone most (path_at s (repeats x l h code))
-                  (fine_parts most (path_in s.variables low ++ path_in s.variables high)
-                  (bounded x (value_at s low) (value_at s high)
-                  ∷ path_of_turns (value_at s high - value_at s low) (value_at s low) turn path s)
-                  (path_in s.variables l ++ path_in s.variables h) (bounded x (value_at s l) (value_at s h)
-                  ∷ path_of_turns (value_at s h - value_at s l) (value_at s l) simpler shorter s)
-                  (fine_parts most (path_in s.variables low) (path_in s.variables high) (path_in s.variables l)
-                  (path_in s.variables h) (fine_path most types words s.variables holds is.0)
-                  (fine_path most types words s.variables holds is.1))
-                  (λ rest. rw (
-                    same_value types words s.variables holds is.0,
-                    same_value types words s.variables holds is.1,
-                  ) (rest.0, alike.1 rest.1)) fine);
+              path = alone most (loop_path most s s x body code from to run.1);
             }
 
         all_turns_lead : {x n i : ℕ} {body code : StraightBlock} {words next : Words}
@@ -288,7 +223,7 @@ module _ (most : List ℕ) where
             → LeadsTo s code next (turns n i (λ j t. after_all (counted x j t) body) s)
             (path_of_turns n i (λ j t. after_all (counted x j t) body) (λ j t. path_along (counted x j t) body) s)
         all_turns_lead no_turn below there is s holds =
-            record { same = refl; agrees = holds.agrees; fine = λ fine. tt }
+            record { same = refl; agrees = holds.agrees; path = same_path most }
         all_turns_lead (a_turn {x = x} {i = i} {body = body} {code = code} {words = words} one others) below there is s
             holds =
             let here : i < counter_limit = omega (arith, below) in
@@ -305,7 +240,7 @@ module _ (most : List ℕ) where
             → AllSimplify copies declared words body code next → AreTyped profile declared controls body
             → (s : StraightState) → AllHolds profile declared words s
             → LeadsTo s code next (after_all s body) (path_along s body)
-        all_lead ends is s holds = record { same = refl; agrees = holds.agrees; fine = λ fine. tt }
+        all_lead ends is s holds = record { same = refl; agrees = holds.agrees; path = same_path most }
         all_lead (goes_on {statement = statement} one others) is s holds =
             let a = leads one is.0 s holds in
             both_lead a

@@ -9,10 +9,10 @@ use Rattle.std.proofs.lemmas.Option.{none-some, same_Some}
 use Rattle.inline.proofs.Fitting.{fits_number, value_fits}
 use Rattle.inline.specs.Fitting.{IsWithinKind, Fits}
 use Rattle.inline.specs.Flat.{TermTree, number, truth, variable, binary}
-use Rattle.inline.specs.FlatMeaning.{Values, value_in, path_in, path_in_all, marks_of}
+use Rattle.inline.specs.FlatMeaning.{Values, value_in, path_in, marks_of}
 use Rattle.inline.specs.FlatTyping.{Types, HasType, of_number, of_truth, of_variable, of_prefix, of_binary}
-use Rattle.inline.specs.FlatTyping.{of_rotation, of_conversion, of_selection, of_element, Suits, AllSuit}
-use Rattle.inline.specs.Path.{Path, AreFine, indexed, multiplied}
+use Rattle.inline.specs.FlatTyping.{of_rotation, of_conversion, of_selection, of_element, Suits, AllSuit, IsResult}
+use Rattle.inline.specs.Path.{Path, AreFine, multiplied}
 use Rattle.branch_removal.proofs.Sequences.{fine_both, fine_front, fine_back, fine_alone}
 use Rattle.language.specs.declared.operators.BinaryOperator.{BinaryOperator}
 use Rattle.language.specs.declared.operators.BinaryOperator.TheVariants.{BitAnd, ShiftRight, Multiply, Divide}
@@ -47,6 +47,9 @@ use Rattle.optimisation.proofs.constants_lemmas.TermRules.{masked, bits_moved, a
 use Rattle.optimisation.proofs.constants_lemmas.TermRules.{around, simpler}
 use Rattle.optimisation.proofs.constants_lemmas.TermTypes.{around_suits, becomes_suits}
 use Rattle.optimisation.proofs.constants_lemmas.TwoShifts.{lifted_by, moved_value}
+use Rattle.optimisation.proofs.over_lemmas.Values.{same_path, IsAlike, AreAllAlike, IsResultAlike, prefix_alike}
+use Rattle.optimisation.proofs.over_lemmas.Values.{binary_alike, rotate_alike, convert_alike, select_alike}
+use Rattle.optimisation.proofs.over_lemmas.Values.{element_alike, all_values_alike}
 
 -- Values.
 
@@ -140,64 +143,7 @@ module _ (types : Types) (m : Values) (fits : Fits types m) where
       sym (cond-true (value_in m condition == 0) (value_in m otherwise) (value_in m accepted)
       (decided_value m condition false is))
 
-module _ (types : Types) (words : Words) (m : Values) (holds : Holds types words m) where
-  -- a copy has its source's value
-  source_value : (x y : ℕ) → IsReadAs words.copies x y → slice_index (m y) 0 ≡ slice_index (m x) 0
-  source_value x y as_itself = refl
-  source_value x y (as_source c copied is) =
-      sym (holds.agrees (copy c) copied) ∙ ap (λ z. slice_index (m z) 0) is
-
-  variable_value : (x : ℕ) (o : Option Constant) → known words x ≡ o
-      → value_in m (known_or o (variable (source_in words.copies x))) ≡ slice_index (m x) 0
-  variable_value x None is = source_value x (source_in words.copies x) (read_as words.copies x)
-  variable_value x (Some c) is = sym (holds.agrees (valued x c) is)
-
-  simple_value : {e : TermTree} {word : WordType} → HasType types e word
-      → value_in m (around words e) ≡ value_in m e → value_in m (simple words e) ≡ value_in m e
-  simple_value {e = e} has same =
-      becomes_value types m holds.fits (simpler words e) (around_suits types words holds.kinds has).has_type ∙ same
-
-  -- with simple operands
-  around_value : {e : TermTree} {word : WordType} → HasType types e word → value_in m (around words e) ≡ value_in m e
-  around_value (of_number below) = refl
-  around_value of_truth = refl
-  around_value (of_variable {x = x} there) = variable_value x (known words x) refl
-  around_value (of_prefix {operator = operator} {width = width} has takes even) =
-      ap (prefix_value operator width) (simple_value has (around_value has))
-  around_value (of_binary {operator = operator} {width = width} has more makes even) =
-      ap₂ (operated operator width) (simple_value has (around_value has)) (simple_value more (around_value more))
-  around_value (of_rotation {width = width} {amount = amount} has numeric low high even) =
-      ap (λ v. rotated_left width v amount) (simple_value has (around_value has))
-  around_value (of_conversion {kind = kind} has numeric) =
-      ap (converted (width_of kind)) (simple_value has (around_value has))
-  around_value (of_selection {condition = condition} {accepted = accepted} {otherwise = otherwise} chooser has more) =
-      ap (λ v. if v == 0 then value_in m (simple words otherwise) else value_in m (simple words accepted))
-      (simple_value chooser (around_value chooser))
-      ∙ ap₂ (λ u v. if value_in m condition == 0 then u else v) (simple_value more (around_value more))
-      (simple_value has (around_value has))
-  around_value (of_element {x = x} there has) = ap (slice_index (m x)) (simple_value has (around_value has))
-
-  pub same_value : {e : TermTree} {word : WordType} → HasType types e word
-      → value_in m (simple words e) ≡ value_in m e
-  same_value has = simple_value has (around_value has)
-
-  pub same_suited : {e : TermTree} {word : WordType} → Suits types word e
-      → value_in m (simple words e) ≡ value_in m e
-  same_suited suits = same_value suits.has_type
-
-  pub same_values : (word : WordType) (es : List TermTree) → AllSuit types word es
-      → map (value_in m) (map (simple words) es) ≡ map (value_in m) es
-  same_values word [] suit = refl
-  same_values word (e ∷ es) suit =
-      ap₂ (λ (v : ℕ) (vs : List ℕ). v ∷ vs) (same_suited suit.0) (same_values word es suit.1)
-
 -- Paths: what is a number meets nothing.
-
--- where the parts of a path are fine if those of another one are
-pub fine_parts : (most : List ℕ) (p q r t : Path) → (AreFine most p → AreFine most r)
-    → (AreFine most q → AreFine most t) → AreFine most (p ++ q) → AreFine most (r ++ t)
-fine_parts most p q r t front back fine =
-    fine_both most r t (front (fine_front most p q fine)) (back (fine_back most p q fine))
 
 module _ (most : List ℕ) (m : Values) where
   operands_fine : (place : Place) (operator : BinaryOperator) (w : Width) (left right : TermTree)
@@ -261,57 +207,63 @@ module _ (most : List ℕ) (m : Values) where
       fine_back most (path_in m condition ++ path_in m accepted) (path_in m otherwise) fine
   becomes_fine rule fine = tt
 
+-- Both.
+
 module _ (most : List ℕ) (types : Types) (words : Words) (m : Values) (holds : Holds types words m) where
-  variable_fine : (o : Option Constant) (x : ℕ) → AreFine most (path_in m (known_or o (variable x)))
-  variable_fine None x = tt
-  variable_fine (Some c) x = tt
+  -- a copy has its source's value
+  source_value : (x y : ℕ) → IsReadAs words.copies x y → slice_index (m y) 0 ≡ slice_index (m x) 0
+  source_value x y as_itself = refl
+  source_value x y (as_source c copied is) =
+      sym (holds.agrees (copy c) copied) ∙ ap (λ z. slice_index (m z) 0) is
 
-  simple_fine : {e : TermTree} {word : WordType} → HasType types e word → AreFine most (path_in m (around words e))
-      → AreFine most (path_in m (simple words e))
-  simple_fine {e = e} has fine = becomes_fine most m (simpler words e) fine
+  variable_alike : (x : ℕ) (o : Option Constant) → known words x ≡ o
+      → IsAlike most m m (variable x) (known_or o (variable (source_in words.copies x)))
+  variable_alike x None is =
+      record { value = source_value x (source_in words.copies x) (read_as words.copies x); path = same_path most }
+  variable_alike x (Some c) is =
+      record { value = sym (holds.agrees (valued x c) is); path = record { fine = λ fine. tt } }
 
-  around_fine : {e : TermTree} {word : WordType} → HasType types e word → AreFine most (path_in m e)
-      → AreFine most (path_in m (around words e))
-  around_fine (of_number below) = λ fine. tt
-  around_fine of_truth = λ fine. tt
-  around_fine (of_variable {x = x} there) = λ fine. variable_fine (known words x) (source_in words.copies x)
-  around_fine (of_prefix has takes even) = λ fine. simple_fine has (around_fine has fine)
-  around_fine (of_binary {place = place} {operator = operator} {left = left} {right = right} has more makes even) =
-      let a = simple words left in
-      let b = simple words right in
-      fine_parts most (path_in m left ++ path_in m right) (marks_of place operator (value_in m left) (value_in m right))
-      (path_in m a ++ path_in m b) (marks_of place operator (value_in m a) (value_in m b))
-      (fine_parts most (path_in m left) (path_in m right) (path_in m a) (path_in m b)
-      (λ fine. simple_fine has (around_fine has fine)) (λ fine. simple_fine more (around_fine more fine)))
-      (subst (AreFine most) (sym (ap₂ (marks_of place operator) (same_value types words m holds has)
-      (same_value types words m holds more))))
-  around_fine (of_rotation has numeric low high even) = λ fine. simple_fine has (around_fine has fine)
-  around_fine (of_conversion has numeric) = λ fine. simple_fine has (around_fine has fine)
-  around_fine (of_selection {condition = condition} {accepted = accepted} {otherwise = otherwise} chooser has more) =
-      let c = simple words condition in
-      let a = simple words accepted in
-      fine_parts most (path_in m condition ++ path_in m accepted) (path_in m otherwise) (path_in m c ++ path_in m a)
-      (path_in m (simple words otherwise))
-      (fine_parts most (path_in m condition) (path_in m accepted) (path_in m c) (path_in m a)
-      (λ fine. simple_fine chooser (around_fine chooser fine)) (λ fine. simple_fine has (around_fine has fine)))
-      (λ fine. simple_fine more (around_fine more fine))
-  around_fine (of_element {place = place} {size = size} {index = index} there has) =
-      let i = simple words index in
-      fine_parts most (path_in m index) (indexed place size (value_in m index) ∷ []) (path_in m i)
-      (indexed place size (value_in m i) ∷ []) (λ fine. simple_fine has (around_fine has fine))
-      (subst (λ v. AreFine most (indexed place size v ∷ [])) (sym (same_value types words m holds has)))
+  simple_alike : {e : TermTree} {word : WordType} → HasType types e word → IsAlike most m m e (around words e)
+      → IsAlike most m m e (simple words e)
+  simple_alike {e = e} has a = record {
+    value = becomes_value types m holds.fits (simpler words e) (around_suits types words holds.kinds has).has_type
+        ∙ a.value;
+    path = record { fine = λ fine. becomes_fine most m (simpler words e) (a.path.fine fine) };
+  }
 
-  pub fine_path : {e : TermTree} {word : WordType} → HasType types e word → AreFine most (path_in m e)
-      → AreFine most (path_in m (simple words e))
-  fine_path has fine = simple_fine has (around_fine has fine)
+  -- with simple operands
+  around_alike : {e : TermTree} {word : WordType} → HasType types e word → IsAlike most m m e (around words e)
+  around_alike (of_number below) = record { value = refl; path = same_path most }
+  around_alike of_truth = record { value = refl; path = same_path most }
+  around_alike (of_variable {x = x} there) = variable_alike x (known words x) refl
+  around_alike (of_prefix has takes even) = prefix_alike (simple_alike has (around_alike has))
+  around_alike (of_binary has more makes even) =
+      binary_alike (simple_alike has (around_alike has)) (simple_alike more (around_alike more))
+  around_alike (of_rotation has numeric low high even) = rotate_alike (simple_alike has (around_alike has))
+  around_alike (of_conversion has numeric) = convert_alike (simple_alike has (around_alike has))
+  around_alike (of_selection chooser has more) =
+      select_alike (simple_alike chooser (around_alike chooser)) (simple_alike has (around_alike has))
+      (simple_alike more (around_alike more))
+  around_alike (of_element there has) = element_alike refl (simple_alike has (around_alike has))
 
-  pub fine_suited : {e : TermTree} {word : WordType} → Suits types word e → AreFine most (path_in m e)
-      → AreFine most (path_in m (simple words e))
-  fine_suited suits fine = fine_path suits.has_type fine
+  pub still_alike : {e : TermTree} {word : WordType} → HasType types e word → IsAlike most m m e (simple words e)
+  still_alike has = simple_alike has (around_alike has)
 
-  pub fine_path_all : (word : WordType) (es : List TermTree) → AllSuit types word es
-      → AreFine most (path_in_all m es) → AreFine most (path_in_all m (map (simple words) es))
-  fine_path_all word [] suit = λ fine. tt
-  fine_path_all word (e ∷ es) suit =
-      fine_parts most (path_in m e) (path_in_all m es) (path_in m (simple words e))
-      (path_in_all m (map (simple words) es)) (fine_suited suit.0) (fine_path_all word es suit.1)
+  pub suited_alike : {e : TermTree} {word : WordType} → Suits types word e → IsAlike most m m e (simple words e)
+  suited_alike suits = still_alike suits.has_type
+
+  pub all_alike : (word : WordType) (es : List TermTree) → AllSuit types word es
+      → AreAllAlike most m m es (map (simple words) es)
+  all_alike word [] suit = record { values = refl; filled = λ size. refl; path = same_path most }
+  all_alike word (e ∷ es) suit = all_values_alike (suited_alike suit.0) (all_alike word es suit.1)
+
+  pub result_alike : (returned : Option WordType) (value : Option TermTree) → IsResult types returned value
+      → IsResultAlike most m m value (option_map (simple words) value)
+  result_alike None None is = record { value = refl; path = same_path most }
+  result_alike (Some word) (Some value) is =
+      let a = suited_alike is in record { value = ap Some a.value; path = a.path }
+  result_alike returned value is = absurd is
+
+pub same_value : (types : Types) (words : Words) (m : Values) → Holds types words m → {e : TermTree} {word : WordType}
+    → HasType types e word → value_in m (simple words e) ≡ value_in m e
+same_value types words m holds has = (still_alike [] types words m holds has).value

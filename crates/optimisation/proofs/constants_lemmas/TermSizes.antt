@@ -1,5 +1,5 @@
 -- A simpler expression has no more nodes than the expression, and no more temporaries.
-use Rattle.std.proofs.Common.{◌≡◌, ℕ, ◌+◌, ◌≤◌, List, [], ◌∷◌, map, Option, None, Some, arith}
+use Rattle.std.proofs.Common.{◌≡◌, ℕ, ◌+◌, ◌≤◌, List, [], ◌∷◌, map, Option, None, Some, option_map, arith}
 use Rattle.std.proofs.lemmas.Option.{none-some}
 use Rattle.branch_removal.specs.Heights.{height_of, height_of_all}
 use Rattle.inline.specs.Flat.{TermTree, number, truth, variable, prefix, binary, rotate, convert, select, element}
@@ -15,7 +15,7 @@ use Rattle.optimisation.proofs.constants_lemmas.TermRules.{Becomes, and_then, co
 use Rattle.optimisation.proofs.constants_lemmas.TermRules.{shifted_up, shifted_down, masked, bits_moved, around}
 use Rattle.optimisation.proofs.constants_lemmas.TermRules.{simpler}
 use Rattle.optimisation.proofs.constants_lemmas.TwoShifts.{lifted_by}
-use Rattle.optimisation.proofs.over_lemmas.Sizes.{IsNoLarger}
+use Rattle.optimisation.proofs.over_lemmas.Sizes.{IsNoLarger, AreNoLarger, IsResultNoLarger}
 
 pub some_node : (e : TermTree) → 1 ≤ term_nodes e
 some_node (number value kind) = omega arith
@@ -104,10 +104,14 @@ module _ (words : Words) where
   pub no_larger : (e : TermTree) → IsNoLarger (simple words e) e
   no_larger e = simple_no_larger (around_no_larger e)
 
-  pub fewer_nodes_all : (es : List TermTree) → terms_nodes (map (simple words) es) ≤ terms_nodes es
-  fewer_nodes_all [] = omega arith
-  fewer_nodes_all (e ∷ es) = let less = no_larger e in omega (arith, fewer_nodes_all es)
+  pub no_larger_all : (es : List TermTree) → AreNoLarger (map (simple words) es) es
+  no_larger_all [] = record { nodes = omega arith; height = omega arith }
+  no_larger_all (e ∷ es) =
+      let a = no_larger e in
+      let b = no_larger_all es in
+      record { nodes = omega arith; height = omega arith }
 
-  pub lower_all : (es : List TermTree) → height_of_all (map (simple words) es) ≤ height_of_all es
-  lower_all [] = omega arith
-  lower_all (e ∷ es) = let less = no_larger e in omega (arith, lower_all es)
+  pub result_no_larger : (value : Option TermTree) → IsResultNoLarger (option_map (simple words) value) value
+  result_no_larger None = record { nodes = omega arith; height = omega arith }
+  result_no_larger (Some value) =
+      let a = no_larger value in record { nodes = omega arith; height = omega arith }

@@ -4,7 +4,8 @@ use Rattle.std.proofs.Common.{inl, Option, None, Some, refl, ◌∙◌}
 use Rattle.std.proofs.lemmas.Bool.{cond-false, cond-true, cond_both, eq-eqb, ne_eqb}
 use Rattle.inline.specs.declared.flat.FlatVariable.{FlatVariable}
 use Rattle.inline.specs.Flat.{TermTree}
-use Rattle.inline.specs.FlatMeaning.{Values, with_value, turns}
+use Rattle.inline.specs.FlatMeaning.{turns}
+use Rattle.inline.proofs.Face.{with_value-other}
 use Rattle.branch_removal.specs.Straight.{StraightTree, set, array, put, take, branch, repeats}
 use Rattle.branch_removal.specs.Straight.{StraightBlock, nothing, first}
 use Rattle.branch_removal.specs.StraightMeaning.{StraightState, holds, with_variable, value_at, counted}
@@ -124,15 +125,9 @@ turns_keep : {S : Type 0} (P : S → Type 0) (turn : ℕ → S → S) → ((i : 
 turns_keep P turn keep zero i s p = p
 turns_keep P turn keep (suc n) i s p = turns_keep P turn keep n (i + 1) (turn i s) (keep i s p)
 
-pub at_itself : (m : Values) (x : ℕ) (v : List ℕ) → with_value m x v x ≡ v
-at_itself m x v = cond-true (x == x) v (m x) (eq-eqb x x refl)
-
-pub beside : (m : Values) (x y : ℕ) (v : List ℕ) → (y ≡ x → ⊥) → with_value m x v y ≡ m y
-beside m x y v apart = cond-false (y == x) v (m y) (ne_eqb y x apart)
-
 beside_under : (s : StraightState) (b : Bool) (x y : ℕ) (v : List ℕ) → (y ≡ x → ⊥)
     → (if b then with_variable s x v else s).variables y ≡ s.variables y
-beside_under s true x y v apart = beside s.variables x y v apart
+beside_under s true x y v apart = with_value-other s.variables x y v apart
 beside_under s false x y v apart = refl
 
 mutual
@@ -140,7 +135,7 @@ mutual
   pub left_alone : (statement : StraightTree) (f : Fact) → IsUnset f statement → (y : ℕ) → IsAbout y f
       → (s : StraightState) → (after s statement).variables y ≡ s.variables y
   left_alone (set within x value) f unset y about s = beside_under s (holds s within) x y _ (unset y about)
-  left_alone (array x size values) f unset y about s = beside s.variables x y _ (unset y about)
+  left_alone (array x size values) f unset y about s = with_value-other s.variables x y _ (unset y about)
   left_alone (put within place x size index value) f unset y about s =
       beside_under s (holds s within) x y _ (unset y about)
   left_alone (take control within condition) f unset y about s = refl
@@ -151,7 +146,7 @@ mutual
   left_alone (repeats x low high body) f unset y about s =
       turns_keep (λ (t : StraightState). t.variables y ≡ s.variables y) (λ i t. after_all (counted x i t) body)
       (λ i t so_far. left_alone_all body f unset.1 y about (counted x i t)
-      ∙ (beside t.variables x y (i ∷ []) (unset.0 y about) ∙ so_far))
+      ∙ (with_value-other t.variables x y (i ∷ []) (unset.0 y about) ∙ so_far))
       (value_at s high - value_at s low) (value_at s low) s refl
 
   pub left_alone_all : (body : StraightBlock) (f : Fact) → AreUnset f body → (y : ℕ) → IsAbout y f

@@ -21,28 +21,15 @@ use Rattle.optimisation.specs.constants.private.Known.{Words}
 use Rattle.optimisation.specs.constants.private.Simplification.{knowing_all, simplified_all, nothing_known}
 use Rattle.optimisation.specs.constants.private.Simplification.{simplified_program}
 use Rattle.optimisation.proofs.constants_lemmas.KnownLemmas.{nothing_first, Holds}
-use Rattle.optimisation.proofs.constants_lemmas.Held.{fits_after_all}
-use Rattle.optimisation.proofs.constants_lemmas.TermLemmas.{same_suited, fine_parts, fine_suited}
+use Rattle.optimisation.proofs.constants_lemmas.Held.{fits_after_all, start_fits}
+use Rattle.optimisation.proofs.constants_lemmas.TermLemmas.{result_alike}
 use Rattle.optimisation.proofs.constants_lemmas.TermTypes.{still_result}
 use Rattle.optimisation.proofs.constants_lemmas.Same.{LeadsTo, all_lead}
 use Rattle.optimisation.proofs.constants_lemmas.StatementRules.{AllSimplify, all_simplify}
 use Rattle.optimisation.proofs.constants_lemmas.Typed.{AreKinds, IsStillTyped, still_hidden_all, typed_after_all}
-use Rattle.optimisation.proofs.constants_lemmas.Bounds.{less_all, lower_result, fewer_in_value}
-
--- the result
-same_result : (types : Types) (words : Words) (m : Values) → Holds types words m → (returned : Option WordType)
-    (value : Option TermTree) → IsResult types returned value
-    → option_map (value_in m) (option_map (simple words) value) ≡ option_map (value_in m) value
-same_result types words m holds None None is = refl
-same_result types words m holds (Some word) (Some value) is = ap Some (same_suited types words m holds is)
-same_result types words m holds returned value is = absurd is
-
-fine_result : (most : List ℕ) (types : Types) (words : Words) (m : Values) → Holds types words m
-    → (returned : Option WordType) (value : Option TermTree) → IsResult types returned value
-    → AreFine most (path_of_result m value) → AreFine most (path_of_result m (option_map (simple words) value))
-fine_result most types words m holds None None is fine = fine
-fine_result most types words m holds (Some word) (Some value) is fine = fine_suited most types words m holds is fine
-fine_result most types words m holds returned value is fine = absurd is
+use Rattle.optimisation.proofs.constants_lemmas.Bounds.{less_all}
+use Rattle.optimisation.proofs.constants_lemmas.TermSizes.{result_no_larger}
+use Rattle.optimisation.proofs.over_lemmas.Values.{IsNoWorse, both, IsResultAlike}
 
 module _ (copies : List ℕ) (p : StraightProgram) where
   abbrev last_words : Words
@@ -85,26 +72,25 @@ module _ (copies : List ℕ) (p : StraightProgram) where
       same_end : end_of (simplified_program copies p) args ≡ end_of p args
       same_end = ap (λ (s : StraightState). s.variables) leads.same
 
+      result : IsResultAlike p.turns (end_of p args) (end_of p args) p.value (simplified_program copies p).value
+      result = result_alike p.turns types last_words (end_of p args) last_holds p.returned p.value typed.result
+
       same_outcome : outcome_of (simplified_program copies p) args ≡ outcome_of p args
       same_outcome =
           ap (results_of p.parameters (simplified_program copies p).value) same_end
-          ∙ ap (λ (v : Option ℕ). record { returned = v; arrays = (outcome_of p args).arrays })
-          (same_result types last_words (end_of p args) last_holds p.returned p.value typed.result)
+          ∙ ap (λ (v : Option ℕ). record { returned = v; arrays = (outcome_of p args).arrays }) result.value
 
-      still_fine_path : AreFine p.turns (path_of p args)
-          → AreFine p.turns (path_of (simplified_program copies p) args)
-      still_fine_path =
-          fine_parts p.turns (path_along (start p args) p.body) (path_of_result (end_of p args) p.value)
-          (path_along (start p args) (simplified_program copies p).body)
-          (path_of_result (end_of (simplified_program copies p) args) (simplified_program copies p).value) leads.fine
-          (λ fine. subst (λ (m : Values). AreFine p.turns (path_of_result m (simplified_program copies p).value))
-          (sym same_end)
-          (fine_result p.turns types last_words (end_of p args) last_holds p.returned p.value typed.result fine))
+      path : IsNoWorse p.turns (path_of p args) (path_of (simplified_program copies p) args)
+      path =
+          both p.turns leads.path
+          (subst (λ (m : Values). IsNoWorse p.turns (path_of_result (end_of p args) p.value)
+          (path_of_result m (simplified_program copies p).value)) (sym same_end) result.path)
 
   module _ (kept : IsStraight p) (allowed : AreAllowed copies p.turns) where
     pub still_straight : IsStraight (simplified_program copies p)
     still_straight =
         let size = less_all p.turns copies p.declared allowed body_simplifies in
+        let value = result_no_larger last_words p.value in
         record {
           typed = record {
             parameters = kept.typed.parameters;
@@ -118,15 +104,9 @@ module _ (copies : List ℕ) (p : StraightProgram) where
             parameters = kept.bounded.parameters;
             declared = kept.bounded.declared;
             nodes = kept.bounded.nodes;
-            worked = omega (arith, size.worked, fewer_in_value last_words p.value, kept.bounded.worked);
+            worked = omega (arith, kept.bounded.worked);
             work_fits = kept.bounded.work_fits;
-            framed = omega (
-              arith,
-              size.low,
-              size.shallow,
-              lower_result last_words p.value,
-              kept.bounded.framed,
-            );
+            framed = omega (arith, kept.bounded.framed);
           };
         }
 
@@ -140,5 +120,5 @@ module _ (copies : List ℕ) (p : StraightProgram) where
       turns = refl;
       straight = still_straight;
       outcome = λ args within. same_outcome kept.typed args within;
-      fine = λ args within fine. still_fine_path kept.typed args within fine;
+      fine = λ args within. (path kept.typed args within).fine;
     }

@@ -9,6 +9,7 @@ use Rattle.inline.specs.declared.flat.FlatVariable.{FlatVariable}
 use Rattle.inline.specs.Flat.{TermTree}
 use Rattle.inline.specs.FlatMeaning.{Values, with_value, value_in, elements, path_in, path_in_all}
 use Rattle.inline.specs.FlatTyping.{HasCount}
+use Rattle.inline.proofs.Face.{with_value-other}
 use Rattle.branch_removal.specs.Straight.{StraightBlock}
 use Rattle.branch_removal.specs.StraightMeaning.{StraightState, with_variable, value_at, after_all, path_along}
 use Rattle.language.specs.declared.signature.Kind.{Kind}
@@ -18,7 +19,7 @@ use Rattle.optimisation.specs.element_words.private.Splitting.{first_value, give
 use Rattle.optimisation.proofs.element_words_lemmas.PartLemmas.{IsSplitting}
 use Rattle.optimisation.proofs.element_words_lemmas.Known.{places_in}
 use Rattle.optimisation.proofs.element_words_lemmas.Values.{AreAlike, held_in}
-use Rattle.optimisation.proofs.element_words_lemmas.Held.{beside, here, no_word, zeros_at}
+use Rattle.optimisation.proofs.element_words_lemmas.Held.{here, no_word, zeros_at}
 use Rattle.optimisation.proofs.over_lemmas.Rules.{AreOver, no_values, a_value}
 use Rattle.optimisation.proofs.over_lemmas.Types.{but, but_within}
 use Rattle.optimisation.proofs.over_lemmas.Values.{IsNoWorse, both, alike as value_alike}
@@ -54,7 +55,7 @@ words_outside (suc n) base kind values t z apart =
     let v = value_at t (first_value kind values) ∷ [] in
     words_outside n (base + 1) kind (drop 1 values) (with_variable t base v) z
     (λ i below same. apart (i + 1) (omega (arith, below)) (omega (arith, same)))
-    ∙ beside t.variables base z v (λ same. apart 0 (omega arith) (omega (arith, same)))
+    ∙ with_value-other t.variables base z v (λ same. apart 0 (omega arith) (omega (arith, same)))
 
 pub words_controls : (n base : ℕ) (kind : Kind) (values : List TermTree) (t : StraightState)
     → (after_all t (given_words base n kind values)).controls ≡ t.controls
@@ -70,7 +71,7 @@ module _ (declared new : List FlatVariable) (parts : Parts) (is_splitting : IsSp
       → i < part.size → AreAlike (but declared x) parts m (with_value k base v)
   undisturbed k base i v alike at below = record {
     plain = λ y d there stays.
-        beside k base y v (λ same. no_word declared new parts is_splitting (but declared x) (but_within declared x) y
+        with_value-other k base y v (λ same. no_word declared new parts is_splitting (but declared x) (but_within declared x) y
         x d part i there is (same ∙ at))
         ∙ alike.plain y d there stays;
     held = λ y d other there also.
@@ -78,7 +79,7 @@ module _ (declared new : List FlatVariable) (parts : Parts) (is_splitting : IsSp
         record {
           count = old.count;
           each = λ j inside.
-              beside k base (other.base + j) v (λ same. but_apart declared x y d there
+              with_value-other k base (other.base + j) v (λ same. but_apart declared x y d there
               (is_splitting.apart y x other part j i also is inside below (same ∙ at)))
               ∙ old.each j inside;
         };
@@ -101,7 +102,8 @@ module _ (declared new : List FlatVariable) (parts : Parts) (is_splitting : IsSp
       → (after_all (with_variable t base (w ∷ [])) (given_words (base + 1) n kind es)).variables z
       ≡ slice_index (v ∷ numbers) i ∷ []
   first_given n base kind es t v w numbers same rest zero z below place =
-      words_outside n (base + 1) kind es (with_variable t base (w ∷ [])) z (λ i inside equal. omega (arith, equal, place))
+      words_outside n (base + 1) kind es (with_variable t base (w ∷ [])) z
+      (λ i inside equal. omega (arith, equal, place))
       ∙ (here t.variables base z (w ∷ []) (omega (arith, place)) ∙ ap (λ n. n ∷ []) same)
   first_given n base kind es t v w numbers same rest (suc i) z below place =
       rest i z (omega (arith, below)) (omega (arith, place))

@@ -3,38 +3,18 @@ use Rattle.std.proofs.Common.{◌≡◌, ℕ, zero, suc, ◌+◌, ◌<◌, ◌==
 use Rattle.std.proofs.Common.{◌∷◌, length, replicate, Option, None, Some, slice_get, slice_set, slice_index, refl}
 use Rattle.std.proofs.Common.{sym, ap, ap₂, ◌∙◌, subst, arith}
 use Rattle.std.proofs.lemmas.Bool.{cond-false, cond-true, eqb-true, eqb-false, eq-eqb, ne_eqb}
+use Rattle.std.proofs.lemmas.List.{get_or-set_other, get_or-set_same, length-set}
 use Rattle.std.proofs.lemmas.Option.{none-some, same_Some, slice_get_within}
 use Rattle.inline.specs.declared.flat.FlatVariable.{FlatVariable}
 use Rattle.inline.specs.FlatMeaning.{Values, with_value}
+use Rattle.inline.proofs.Face.{with_value-other}
 use Rattle.optimisation.specs.declared.element_words.parts.Part.{Part}
 use Rattle.optimisation.specs.element_words.private.Parts.{Parts, part_of}
 use Rattle.optimisation.proofs.element_words_lemmas.PartLemmas.{IsSplitting}
 use Rattle.optimisation.proofs.element_words_lemmas.Values.{IsHeldIn, AreAlike}
 
-pub beside : (m : Values) (x y : ℕ) (v : List ℕ) → (y ≡ x → ⊥) → with_value m x v y ≡ m y
-beside m x y v apart = cond-false (y == x) v (m y) (ne_eqb y x apart)
-
 pub here : (m : Values) (x y : ℕ) (v : List ℕ) → y ≡ x → with_value m x v y ≡ v
 here m x y v same = cond-true (y == x) v (m y) (eq-eqb y x same)
-
--- what an array holds once an element is set
-pub set_here : (numbers : List ℕ) (i v : ℕ) → i < length numbers → slice_index (slice_set numbers i v) i ≡ v
-set_here [] i v below = absurd (omega (arith, below))
-set_here (n ∷ numbers) zero v below = refl
-set_here (n ∷ numbers) (suc i) v below = set_here numbers i v (omega (arith, below))
-
-pub set_beside : (numbers : List ℕ) (i j v : ℕ) → (j ≡ i → ⊥)
-    → slice_index (slice_set numbers i v) j ≡ slice_index numbers j
-set_beside [] i j v apart = refl
-set_beside (n ∷ numbers) zero zero v apart = absurd (apart refl)
-set_beside (n ∷ numbers) zero (suc j) v apart = refl
-set_beside (n ∷ numbers) (suc i) zero v apart = refl
-set_beside (n ∷ numbers) (suc i) (suc j) v apart = set_beside numbers i j v (λ e. apart (ap suc e))
-
-pub set_length : (numbers : List ℕ) (i v : ℕ) → length (slice_set numbers i v) ≡ length numbers
-set_length [] i v = refl
-set_length (n ∷ numbers) zero v = refl
-set_length (n ∷ numbers) (suc i) v = ap suc (set_length numbers i v)
 
 pub zeros_at : (n i : ℕ) → slice_index (replicate n 0) i ≡ 0
 zeros_at zero i = refl
@@ -63,11 +43,11 @@ module _ (declared new : List FlatVariable) (parts : Parts) (is_splitting : IsSp
     plain = λ y e at_y stays. ap₂ (λ (a b : List ℕ). if y == x then a else b) same (alike.plain y e at_y stays);
     held = λ y e part at_y is.
         let old = alike.held y e part at_y is in
-        let left = beside m x y v (not_split x y part none is) in
+        let left = with_value-other m x y v (not_split x y part none is) in
         record {
           count = ap length left ∙ old.count;
           each = λ i below.
-              beside k x (part.base + i) w (λ e. no_word x y d part i there is (sym e))
+              with_value-other k x (part.base + i) w (λ e. no_word x y d part i there is (sym e))
               ∙ (old.each i below ∙ ap (λ numbers. slice_index numbers i ∷ []) (sym left));
         };
   }
@@ -82,7 +62,7 @@ module _ (declared new : List FlatVariable) (parts : Parts) (is_splitting : IsSp
     plain = λ y e at_y stays.
         others y (λ i below same. no_word y x e part i at_y is same)
         ∙ (alike.plain y e at_y stays
-        ∙ sym (beside m x y numbers (λ same. not_split y x part stays is (sym same))));
+        ∙ sym (with_value-other m x y numbers (λ same. not_split y x part stays is (sym same))));
     held = λ y e other at_y also. by_number y e other at_y also (y == x) refl;
   }
     where
@@ -99,7 +79,7 @@ module _ (declared new : List FlatVariable) (parts : Parts) (is_splitting : IsSp
       by_number y e other at_y also false h =
           let apart = eqb-false y x h in
           let old = alike.held y e other at_y also in
-          let left = beside m x y numbers apart in
+          let left = with_value-other m x y numbers apart in
           record {
             count = ap length left ∙ old.count;
             each = λ j inside.
@@ -115,9 +95,9 @@ module _ (declared new : List FlatVariable) (parts : Parts) (is_splitting : IsSp
   word_set m k x i v w d part alike there is below same =
       let old = alike.held x d part there is in
       words_set m k (with_value k (part.base + i) (w ∷ [])) x part (slice_set (m x) i v) alike is
-      (set_length (m x) i v ∙ old.count)
+      (length-set (m x) i v ∙ old.count)
       (λ j inside. by_number j inside (j == i) refl)
-      (λ z apart. beside k (part.base + i) z (w ∷ []) (λ e. apart i below e))
+      (λ z apart. with_value-other k (part.base + i) z (w ∷ []) (λ e. apart i below e))
     where
       by_number : (j : ℕ) → j < part.size → (b : Bool) → (j == i) ≡ b
           → with_value k (part.base + i) (w ∷ []) (part.base + j) ≡ slice_index (slice_set (m x) i v) j ∷ []
@@ -126,11 +106,11 @@ module _ (declared new : List FlatVariable) (parts : Parts) (is_splitting : IsSp
           let held = alike.held x d part there is in
           let long : i < length (m x) = omega (arith, below, held.count) in
           here k (part.base + i) (part.base + j) (w ∷ []) (ap (λ n. part.base + n) e)
-          ∙ ap (λ n. n ∷ []) (same ∙ (sym (set_here (m x) i v long)
+          ∙ ap (λ n. n ∷ []) (same ∙ (sym (get_or-set_same (m x) i v 0 long)
           ∙ ap (slice_index (slice_set (m x) i v)) (sym e)))
       by_number j inside false h =
           let apart = eqb-false j i h in
           let held = alike.held x d part there is in
           let elsewhere : part.base + j ≡ part.base + i → ⊥ = λ e. apart (omega (arith, e)) in
-          beside k (part.base + i) (part.base + j) (w ∷ []) elsewhere
-          ∙ (held.each j inside ∙ ap (λ n. n ∷ []) (sym (set_beside (m x) i j v apart)))
+          with_value-other k (part.base + i) (part.base + j) (w ∷ []) elsewhere
+          ∙ (held.each j inside ∙ ap (λ n. n ∷ []) (sym (get_or-set_other (m x) i j v 0 apart)))

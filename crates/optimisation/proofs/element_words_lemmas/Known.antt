@@ -1,5 +1,5 @@
--- Where arrays become words, they are used by known indices alone: what becomes of code is code over other variables, in
--- which the words stand in the places of the elements.
+-- Where arrays become words, they are used by known indices alone: what becomes of code is code over other variables,
+-- in which the words stand in the places of the elements.
 use Rattle.std.proofs.Common.{◌≡◌, ℕ, ◌+◌, ◌<◌, Bool, true, false, if◌then◌else◌, List, [], ◌∷◌, map, Option, None}
 use Rattle.std.proofs.Common.{Some, option_map, slice_get, ◌⊎◌, inl, inr, refl, sym, ap, ◌∙◌, subst}
 use Rattle.std.specs.Prelude.{nat_lt}
@@ -259,7 +259,8 @@ module _ (last : Parts) where
           let second = known profile at is.1 (narrowed parts low) third.0 in
           let one = known profile at is.0 parts second.0 in (
             one.0,
-            loops (record { listed = word_as counter_type false; there = is.2; stays = inl refl }) one.1 second.1 third.1,
+            loops (record { listed = word_as counter_type false; there = is.2; stays = inl refl }) one.1 second.1
+                third.1,
           )
 
       pub block_known : (body : StraightBlock) → AreTyped profile declared controls body

@@ -28,7 +28,8 @@ use Rattle.optimisation.specs.element_words.private.Plan.{split_program}
 use Rattle.optimisation.specs.element_words.private.Splitting.{split, split_all}
 use Rattle.optimisation.proofs.element_words_lemmas.PartLemmas.{IsBelow, below_itself, IsArray, found_array}
 use Rattle.optimisation.proofs.element_words_lemmas.PartLemmas.{candidate_is, are_numbered, made, within_room}
-use Rattle.optimisation.proofs.element_words_lemmas.PartLemmas.{words-append, one_word_each, IsSplitting, no_splitting, splitting}
+use Rattle.optimisation.proofs.element_words_lemmas.PartLemmas.{words-append, one_word_each, IsSplitting}
+use Rattle.optimisation.proofs.element_words_lemmas.PartLemmas.{no_splitting, splitting}
 use Rattle.optimisation.proofs.element_words_lemmas.Known.{places_in, layout_in, block_known, result_known}
 use Rattle.optimisation.proofs.element_words_lemmas.Values.{part_word}
 use Rattle.optimisation.proofs.element_words_lemmas.Held.{zeros_at}

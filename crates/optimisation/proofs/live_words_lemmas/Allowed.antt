@@ -4,8 +4,9 @@ use Rattle.std.proofs.Common.{None, Some, slice_get, unwrap_or, ◌⊎◌, inl, 
 use Rattle.std.proofs.lemmas.Bool.{and_parts, eqb-true, false≢true}
 use Rattle.std.proofs.lemmas.Option.{none-some, same_Some}
 use Rattle.inline.specs.declared.flat.FlatVariable.{FlatVariable}
+use Rattle.optimisation.specs.private.SameWords.{are_alike}
 use Rattle.optimisation.specs.live_words.private.Held.{Table}
-use Rattle.optimisation.specs.live_words.private.Choice.{are_alike, is_allowed, all_allowed}
+use Rattle.optimisation.specs.live_words.private.Choice.{is_allowed, all_allowed}
 use Rattle.optimisation.proofs.live_words_lemmas.Typed.{IsAlike, IsKept}
 use Rattle.optimisation.proofs.over_lemmas.SameWords.{are_words, as_word}
 

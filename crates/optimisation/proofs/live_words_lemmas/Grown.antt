@@ -11,48 +11,29 @@ use Rattle.optimisation.proofs.live_words_lemmas.HeldLemmas.{Grows, grows_same, 
 use Rattle.optimisation.proofs.live_words_lemmas.TermLemmas.{grows_reading, grows_reading_all}
 
 module _ (table : Table) where
-  grows_put : (done : Done) (held : Held) (x : ℕ) (index value : TermTree)
-      → Grows held (reading table done (reading table done (living_where table done held x) value) index)
-  grows_put done held x index value =
-      let one = living_where table done held x in
-      let other = reading table done one value in
-      grows_on held one (reading table done other index) (grows_where table done held x)
-      (grows_on one other (reading table done other index) (grows_reading table done one value)
-      (grows_reading table done other index))
-
   mutual
     pub grows_gathered : (done : Done) (held : Held) (statement : StraightTree)
         → Grows held (gathered table done held statement)
     grows_gathered done held (set None x value) = grows_reading table done held value
     grows_gathered done held (set (Some control) x value) =
-        let one = living_where table done held x in
-        grows_on held one (reading table done one value) (grows_where table done held x)
-        (grows_reading table done one value)
+        grows_on (grows_where table done held x) (grows_reading table done _ value)
     grows_gathered done held (array x size values) = grows_reading_all table done held values
-    grows_gathered done held (put within place x size index value) = grows_put done held x index value
+    grows_gathered done held (put within place x size index value) =
+        grows_on (grows_where table done held x)
+        (grows_on (grows_reading table done _ value) (grows_reading table done _ index))
     grows_gathered done held (take control within condition) = grows_reading table done held condition
     grows_gathered done held (branch condition accepted otherwise) =
-        let one = reading table done held condition in
-        let other = gathered_all table done one accepted in
-        grows_on held one (gathered_all table done other otherwise) (grows_reading table done held condition)
-        (grows_on one other (gathered_all table done other otherwise) (grows_gathered_all done one accepted)
-        (grows_gathered_all done other otherwise))
+        grows_on (grows_reading table done held condition)
+        (grows_on (grows_gathered_all done _ accepted) (grows_gathered_all done _ otherwise))
     grows_gathered done held (repeats x low high body) =
-        let one = reading table done held high in
-        let other = reading table done one low in
-        let inside = with_done done x in
-        grows_on held one (gathered_all table inside other body) (grows_reading table done held high)
-        (grows_on one other (gathered_all table inside other body) (grows_reading table done one low)
-        (grows_gathered_all inside other body))
+        grows_on (grows_reading table done held high)
+        (grows_on (grows_reading table done _ low) (grows_gathered_all (with_done done x) _ body))
 
     pub grows_gathered_all : (done : Done) (held : Held) (body : StraightBlock)
         → Grows held (gathered_all table done held body)
     grows_gathered_all done held nothing = grows_same held
     grows_gathered_all done held (first statement rest) =
-        let one = gathered table done held statement in
-        let behind = done_after done statement in
-        grows_on held one (gathered_all table behind one rest) (grows_gathered done held statement)
-        (grows_gathered_all behind one rest)
+        grows_on (grows_gathered done held statement) (grows_gathered_all (done_after done statement) _ rest)
 
   pub grows_head : (held : Held) (x : ℕ) (body : StraightBlock) → Grows held (at_head table held x body)
   grows_head held x body = grows_gathered_all (with_done (none_done (length held.holders)) x) held body

@@ -1,7 +1,7 @@
 -- Code over the variables that words live in is code over other variables, where sharing fits; and where it fits behind
 -- some code, it fits before.
-use Rattle.std.proofs.Common.{◌≡◌, ℕ, ◌==◌, ◌&&◌, not, Bool, true, false, if◌then◌else◌, List, [], ◌∷◌, map, Option, None}
-use Rattle.std.proofs.Common.{Some, option_map, refl, ap}
+use Rattle.std.proofs.Common.{◌≡◌, ℕ, ◌==◌, ◌&&◌, not, Bool, true, false, if◌then◌else◌, List, [], ◌∷◌, map, Option}
+use Rattle.std.proofs.Common.{None, Some, option_map, refl, ap}
 use Rattle.std.proofs.lemmas.Bool.{and_parts, eqb-true, not-true}
 use Rattle.inline.specs.Flat.{TermTree, number, truth, variable, prefix, binary, rotate, convert, select, element}
 use Rattle.branch_removal.specs.Straight.{StraightTree, set, array, put, take, branch, repeats, StraightBlock, nothing}
@@ -89,18 +89,12 @@ module _ (table : Table) where
     sets tt (over value),
   )
 
-  pub grows_put : (held : Held) (x : ℕ) (index value : TermTree)
+  grows_put : (held : Held) (x : ℕ) (index value : TermTree)
       → Grows (living table held x) (before_put table held x index value)
-  grows_put held x index value =
-      let one = living table held x in
-      let other = reading table [] one value in
-      grows_on one other (reading table [] other index) (grows_reading table [] one value)
-      (grows_reading table [] other index)
+  grows_put held x index value = grows_on (grows_reading table [] _ value) (grows_reading table [] _ index)
 
   grows_bounds : (held : Held) (low high : TermTree) → Grows held (before_bounds table low high held)
-  grows_bounds held low high =
-      let one = reading table [] held high in
-      grows_on held one (reading table [] one low) (grows_reading table [] held high) (grows_reading table [] one low)
+  grows_bounds held low high = grows_on (grows_reading table [] held high) (grows_reading table [] _ low)
 
   -- what fits where a loop is closed
   pub record IsClosed (x : ℕ) (head turn : Held) : Type 0 where

@@ -36,12 +36,11 @@ module _ (table : Table) where
     pub fits : held.fits ≡ true
     pub beside : AreBeside (Alike held.holders) s u
 
-  pub ready_before : (one other : Held) {s u : StraightState} → Grows one other → AreReady other s u
-      → AreReady one s u
-  ready_before one other {s} {u} grows ready = record {
+  pub ready_before : {one other : Held} {s u : StraightState} → Grows one other → AreReady other s u → AreReady one s u
+  ready_before {s = s} {u = u} grows ready = record {
     fits = grows.fits ready.fits;
     beside = record {
-      variables = alike_before table one other grows ready.fits s.variables u.variables ready.beside.variables;
+      variables = alike_before table grows ready.fits s.variables u.variables ready.beside.variables;
       controls = ready.beside.controls;
     };
   }
@@ -54,7 +53,7 @@ module _ (table : Table) where
         let last = reading table [] held e in (
           alike most (held_alike table last ready.beside.variables)
               (read table [] last held e ready.fits (grows_same last)).1,
-          ready_before held last (grows_reading table [] held e) ready,
+          ready_before (grows_reading table [] held e) ready,
         )
 
     reads_all : (held : Held) (es : List TermTree) {s u : StraightState} → AreReady (reading_all table [] held es) s u
@@ -63,7 +62,7 @@ module _ (table : Table) where
         let last = reading_all table [] held es in (
           all_alike most (held_alike table last ready.beside.variables)
               (read_all table [] last held es ready.fits (grows_same last)).1,
-          ready_before held last (grows_reading_all table [] held es) ready,
+          ready_before (grows_reading_all table [] held es) ready,
         )
 
     set_both : (held : Held) (x : ℕ) (v w : List ℕ) {s u : StraightState} → AreReady (setting table held x) s u
@@ -79,7 +78,7 @@ module _ (table : Table) where
         (if holds u within then with_variable u (share table x) w else u)
     under_both within held x v w {s} {u} ready same =
         within_beside (Alike held.holders) within
-        (ready_before held (living table held x) (grows_holding held (share table x) x) ready).beside
+        (ready_before (grows_holding held (share table x) x) ready).beside
         (rw same (record {
           variables = under_alike table held x v s.variables u.variables ready.fits ready.beside.variables;
           controls = ready.beside.controls;
@@ -131,9 +130,8 @@ module _ (table : Table) where
             variables = subst (λ z. AreAlike table turn.holders (counted x i s).variables (counted z i u).variables)
                 parts.own
                 (set_alike table (fitting turn (share table x == x)) x (i ∷ []) s.variables u.variables parts.free
-                (λ y is. beside.variables y
-                (subst (λ n. holder head.holders n ≡ Some y) (omega arith)
-                (covers_holds head.holders 0 inside.holders parts.covered (share table y) y is))));
+                (λ y is. beside.variables y (covers_holds head.holders 0 inside.holders parts.covered (share table y)
+                (share table y) y (omega arith) is)));
             controls = beside.controls;
           };
         }
@@ -145,8 +143,7 @@ module _ (table : Table) where
       fits = fits;
       beside = record {
         variables = λ y is. ready.beside.variables y
-            (subst (λ n. holder (joined one 0 second.holders).holders n ≡ Some y) (omega arith)
-            (joined_holds one 0 second.holders ready.fits (share table y) y is));
+            (joined_holds one 0 second.holders ready.fits (share table y) (share table y) y (omega arith) is);
         controls = ready.beside.controls;
       };
     }
@@ -180,7 +177,7 @@ module _ (table : Table) where
           let second = before_all table held otherwise in
           let one = before_all table (anew second held.holders) accepted in
           let chooser = reads (joined one 0 second.holders) condition ready in
-          let at_one = ready_before one (joined one 0 second.holders) (grows_joined one 0 second.holders) chooser.1 in
+          let at_one = ready_before (grows_joined one 0 second.holders) chooser.1 in
           let fits = (all_become table (anew second held.holders) accepted at_one.fits).0 in
           let first_arm = all_follow (anew second held.holders) accepted at_one in
           branch_follows (Alike held.holders) most chooser.0
@@ -200,7 +197,7 @@ module _ (table : Table) where
           let run = loop_follows (Alike head.holders) most x beside from.0 to.0
           (λ i v w at. all_follow head body (turn_begins x head turn parts i v w at)) in
           rw parts.own (record {
-            beside = (ready_before held head (grows_head table held x body) (record {
+            beside = (ready_before (grows_head table held x body) (record {
               fits = fits;
               beside = run.beside;
             })).beside;

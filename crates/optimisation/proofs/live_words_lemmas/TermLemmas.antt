@@ -25,7 +25,7 @@ module _ (table : Table) (done : Done) where
   read last held (number value kind) f grows = (grows, a_number)
   read last held (truth value) f grows = (grows, a_truth)
   read last held (variable x) f grows = (
-    grows_on held (living_where table done held x) last (grows_where table done held x) grows,
+    grows_on (grows_where table done held x) grows,
     a_variable (where_holds table done held x last f grows),
   )
   read last held (prefix operator width operand) f grows =
@@ -46,7 +46,7 @@ module _ (table : Table) (done : Done) where
       (other.0, selected chooser.1 one.1 other.1)
   read last held (element place x size index) f grows =
       let inner = read last (living_where table done held x) index f grows in (
-        grows_on held (living_where table done held x) last (grows_where table done held x) inner.0,
+        grows_on (grows_where table done held x) inner.0,
         an_element (where_holds table done held x last f inner.0) inner.1,
       )
 

@@ -71,7 +71,8 @@ module _ (table : Table) (declared : List FlatVariable) (kept : IsKept table dec
     still_but : (y : ℕ) (d : FlatVariable) → (share table y ≡ x → ⊥) → slice_get declared (share table y) ≡ Some d
         → but declared (share table x) (share table y) ≡ Some d
     still_but y d apart there =
-        rw own (ap (λ b. if b then None else slice_get declared (share table y)) (ne_eqb (share table y) x apart) ∙ there)
+        rw own
+        (ap (λ b. if b then None else slice_get declared (share table y)) (ne_eqb (share table y) x apart) ∙ there)
 
     but_words : (y : ℕ) (other : WordType) (m : Bool) → but declared x y ≡ Some (word_as other m)
         → (n : Bool) × (but declared (share table x) (share table y) ≡ Some (word_as other n))

@@ -65,20 +65,14 @@ module _ (table : Table) where
 
   grows_results : (x : ℕ) (ps : List Param) (held : Held) → Grows held (with_results table x ps held)
   grows_results x [] held = grows_same held
-  grows_results x (p ∷ ps) held =
-      let next = if is_mutable p.form then kept table held x else held in
-      grows_on held next (with_results table (x + 1) ps next) (grows_if (is_mutable p.form) held x)
-      (grows_results (x + 1) ps next)
+  grows_results x (p ∷ ps) held = grows_on (grows_if (is_mutable p.form) held x) (grows_results (x + 1) ps _)
 
   grows_any : (held : Held) (value : Option TermTree) → Grows held (reading_any table held value)
   grows_any held None = grows_same held
   grows_any held (Some value) = grows_reading table [] held value
 
   pub grows_end : (held : Held) (p : StraightProgram) → Grows held (at_end table held p)
-  grows_end held p =
-      let results = with_results table 0 p.parameters held in
-      grows_on held results (reading_any table results p.value) (grows_results 0 p.parameters held)
-      (grows_any results p.value)
+  grows_end held p = grows_on (grows_results 0 p.parameters held) (grows_any _ p.value)
 
   module _ {s u : StraightState} where
     kept_alike : (b : Bool) (held : Held) (x : ℕ) → b ≡ true
@@ -94,8 +88,7 @@ module _ (table : Table) where
     same_arrays x [] held ready = refl
     same_arrays x (p ∷ ps) held ready =
         let next = if is_mutable p.form then kept table held x else held in
-        let here = ready_before table next (with_results table (x + 1) ps next) (grows_results (x + 1) ps next)
-        ready in
+        let here = ready_before table (grows_results (x + 1) ps next) ready in
         ap₂ (λ (a b : List (List ℕ)). a ++ b)
         (same_array p.form (s.variables x) (u.variables x) (λ is. kept_alike (is_mutable p.form) held x is here))
         (same_arrays (x + 1) ps next ready)
@@ -139,8 +132,7 @@ module _ (table : Table) where
       same_outcome =
           let results = with_results table 0 p.parameters held in
           ap₂ (λ (r : Option ℕ) (a : List (List ℕ)). record { returned = r; arrays = a }) result.value
-          (same_arrays 0 p.parameters held
-          (ready_before table results (at_end table held p) (grows_any results p.value) last))
+          (same_arrays 0 p.parameters held (ready_before table (grows_any results p.value) last))
 
     module _ (straight : IsStraight p) (words_kept : IsKept table p.declared) where
       still_straight : IsStraight (over table held p)
@@ -224,27 +216,6 @@ module _ (table : Table) (p : StraightProgram) where
           let inner = and_parts start_held.fits (hold_own 0 start_held.holders) outer.0 in
           shared_replaced table (nothing_live p 0) p inner.0 inner.1 straight (allowed_kept p.declared table outer.1)
       by_fit false fit = subst (IsReplaced p) (sym (unshared p)) (itself p straight)
-
-  -- a program of these parts is the shared one
-  pub as_shared : (fits : Bool) → fits ≡ all_fits table start_held p → fits ≡ true
-      → (made : StraightProgram) → made ≡ over table (nothing_live p 0) p → made ≡ shared_by table p
-  as_shared fits is so made same = same ∙ choose (all_fits table start_held p) (sym is ∙ so)
-    where
-      choose : (b : Bool) → b ≡ true
-          → over table (nothing_live p 0) p
-          ≡ (if b then over table (nothing_live p 0) p else over [] (fitting (nothing_live p 0) false) p)
-      choose true so = refl
-      choose false so = cc
-
-  pub as_unshared : (fits : Bool) → fits ≡ all_fits table start_held p → fits ≡ false
-      → (made : StraightProgram) → made ≡ over [] (fitting (nothing_live p 0) false) p → made ≡ shared_by table p
-  as_unshared fits is so made same = same ∙ choose (all_fits table start_held p) (sym is ∙ so)
-    where
-      choose : (b : Bool) → b ≡ false
-          → over [] (fitting (nothing_live p 0) false) p
-          ≡ (if b then over table (nothing_live p 0) p else over [] (fitting (nothing_live p 0) false) p)
-      choose true so = cc
-      choose false so = refl
 
   pub shared_straight : IsStraight p → IsStraight (shared_by table p)
   shared_straight straight = (replaced straight).straight

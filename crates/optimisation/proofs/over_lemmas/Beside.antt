@@ -17,6 +17,42 @@ pub record AreBeside (R : Values → Values → Type 0) (s t : StraightState) : 
   pub variables : R s.variables t.variables
   pub controls : t.controls ≡ s.controls
 
+module _ (most : List ℕ) where
+  either_path : (v : ℕ) (b : Bool) {p q p' q' : Path} → IsNoWorse most p p' → IsNoWorse most q q'
+      → IsNoWorse most (decided v ∷ (if b then p else q)) (decided v ∷ (if b then p' else q'))
+  either_path v true one other = record { fine = λ fine. (tt, one.fine fine.1) }
+  either_path v false one other = record { fine = λ fine. (tt, other.fine fine.1) }
+
+  -- the path of a branch, and of a loop
+  pub branch_path : (s t : StraightState) (accepted otherwise one other : StraightBlock) {condition c : TermTree}
+      → IsAlike most s.variables t.variables condition c
+      → IsNoWorse most (path_along s accepted) (path_along t one)
+      → IsNoWorse most (path_along s otherwise) (path_along t other)
+      → IsNoWorse most (path_at s (branch condition accepted otherwise)) (path_at t (branch c one other))
+  branch_path s t accepted otherwise one other {condition} {c} chooser first_arm second_arm =
+      let arm : IsNoWorse most (decided (value_at s condition)
+      ∷ (if value_at s condition == 0 then path_along s otherwise else path_along s accepted))
+      (decided (value_at t c) ∷ (if value_at t c == 0 then path_along t other else path_along t one)) =
+      rw chooser.value (either_path (value_at s condition) (value_at s condition == 0) second_arm first_arm) in
+      both most chooser.path arm
+
+  pub loop_path : (s t : StraightState) (x : ℕ) (body code : StraightBlock) {low high a b : TermTree}
+      → IsAlike most s.variables t.variables low a → IsAlike most s.variables t.variables high b
+      → IsNoWorse most (path_of_turns (value_at s high - value_at s low) (value_at s low)
+      (λ i u. after_all (counted x i u) body) (λ i u. path_along (counted x i u) body) s)
+      (path_of_turns (value_at s high - value_at s low) (value_at s low) (λ i u. after_all (counted x i u) code)
+      (λ i u. path_along (counted x i u) code) t)
+      → IsNoWorse most (path_at s (repeats x low high body)) (path_at t (repeats x a b code))
+  loop_path s t x body code {low} {high} {a} {b} from to turn =
+      let l = value_at s low in
+      let h = value_at s high in
+      let path : IsNoWorse most (bounded x l h ∷ path_of_turns (h - l) l (λ i u. after_all (counted x i u) body)
+      (λ i u. path_along (counted x i u) body) s)
+      (bounded x (value_at t a) (value_at t b) ∷ path_of_turns (value_at t b - value_at t a) (value_at t a)
+      (λ i u. after_all (counted x i u) code) (λ i u. path_along (counted x i u) code) t) =
+      rw (from.value, to.value) (record { fine = λ fine. (fine.0, turn.fine fine.1) }) in
+      both most (both most from.path to.path) path
+
 module _ (R : Values → Values → Type 0) where
   pub same_hold : (within : Option ℕ) {s t : StraightState} → AreBeside R s t → holds t within ≡ holds s within
   same_hold None beside = refl
@@ -57,23 +93,13 @@ module _ (R : Values → Values → Type 0) where
       pub beside : AreBeside R (after s statement) (after_all t code)
       pub path : IsNoWorse most (path_at s statement) (path_along t code)
 
-    either_path : (v : ℕ) (b : Bool) {p q p' q' : Path} → IsNoWorse most p p' → IsNoWorse most q q'
-        → IsNoWorse most (decided v ∷ (if b then p else q)) (decided v ∷ (if b then p' else q'))
-    either_path v true one other = record { fine = λ fine. (tt, one.fine fine.1) }
-    either_path v false one other = record { fine = λ fine. (tt, other.fine fine.1) }
-
     pub branch_follows : {s t : StraightState} {condition c : TermTree} {accepted otherwise one other : StraightBlock}
         → IsAlike most s.variables t.variables condition c → Follows s t accepted one → Follows s t otherwise other
         → FollowsAt s t (branch condition accepted otherwise) (single (branch c one other))
     branch_follows {s} {t} {condition} {c} {accepted} {otherwise} {one} {other} chooser first_arm second_arm =
-        let arm : IsNoWorse most (decided (value_at s condition)
-        ∷ (if value_at s condition == 0 then path_along s otherwise else path_along s accepted))
-        (decided (value_at t c) ∷ (if value_at t c == 0 then path_along t other else path_along t one)) =
-        rw chooser.value
-        (either_path (value_at s condition) (value_at s condition == 0) second_arm.path first_arm.path) in
         record {
           beside = rw chooser.value (both_sides (value_at s condition == 0) second_arm.beside first_arm.beside);
-          path = alone most (both most chooser.path arm);
+          path = alone most (branch_path most s t accepted otherwise one other chooser first_arm.path second_arm.path);
         }
 
     -- turns of two loops
@@ -94,23 +120,13 @@ module _ (R : Values → Values → Type 0) where
         → ((i : ℕ) (u v : StraightState) → AreBeside R u v → Follows (counted x i u) (counted x i v) body code)
         → FollowsAt s t (repeats x low high body) (single (repeats x a b code))
     loop_follows {s} {t} x {low} {high} {a} {b} {body} {code} beside from to each =
-        let l = value_at s low in
-        let h = value_at s high in
-        let f : ℕ → StraightState → StraightState = λ i u. after_all (counted x i u) body in
-        let g : ℕ → StraightState → StraightState = λ i u. after_all (counted x i u) code in
-        let p : ℕ → StraightState → Path = λ i u. path_along (counted x i u) body in
-        let q : ℕ → StraightState → Path = λ i u. path_along (counted x i u) code in
-        let run = turns_follow f g p q (λ i u v at. let turn = each i u v at in (turn.beside, turn.path)) (h - l) l s t
-        beside in
-        let path : IsNoWorse most (bounded x l h ∷ path_of_turns (h - l) l f p s)
-        (bounded x l h ∷ path_of_turns (h - l) l g q t) =
-        record { fine = λ fine. (fine.0, run.1.fine fine.1) } in
-        let loop : IsNoWorse most (bounded x l h ∷ path_of_turns (h - l) l f p s)
-        (bounded x (value_at t a) (value_at t b)
-        ∷ path_of_turns (value_at t b - value_at t a) (value_at t a) g q t) = rw (from.value, to.value) path in
+        let run = turns_follow (λ i u. after_all (counted x i u) body) (λ i u. after_all (counted x i u) code)
+        (λ i u. path_along (counted x i u) body) (λ i u. path_along (counted x i u) code)
+        (λ i u v at. let turn = each i u v at in (turn.beside, turn.path)) (value_at s high - value_at s low)
+        (value_at s low) s t beside in
         record {
           beside = rw (from.value, to.value) run.0;
-          path = alone most (both most (both most from.path to.path) loop);
+          path = alone most (loop_path most s t x body code from to run.1);
         }
 
 -- a statement, and others behind it

@@ -9,7 +9,7 @@ use Rattle.language.specs.declared.signature.Label.{Label}
 use Rattle.language.specs.declared.signature.Label.TheVariants.{Public, Secret}
 use Rattle.language.specs.declared.typing.WordType.{WordType}
 use Rattle.language.specs.Types.{same_kind, same_label}
-use Rattle.optimisation.specs.live_words.private.Choice.{is_word, same_words}
+use Rattle.optimisation.specs.private.SameWords.{is_word, same_words}
 
 one_kind : (k l : Kind) → same_kind k l ≡ true → l ≡ k
 one_kind Boolean Boolean h = refl

@@ -8,14 +8,15 @@ use Rattle.inline.specs.FlatTyping.{Types, types_of, HasType, of_number, of_trut
 use Rattle.inline.specs.FlatTyping.{of_rotation, of_conversion, of_selection, of_element, Suits, AllSuit, HasCount}
 use Rattle.inline.specs.FlatTyping.{IsResult}
 use Rattle.inline.proofs.Face.{some_bit}
-use Rattle.branch_removal.specs.Straight.{StraightTree, StraightBlock, nothing, first, chain}
-use Rattle.branch_removal.specs.StraightTyping.{types_but, IsTyped, AreTyped, IsHidden, AreHidden, IsSecretWithin}
+use Rattle.branch_removal.specs.Straight.{StraightTree, set, StraightBlock, nothing, first, chain}
+use Rattle.branch_removal.specs.StraightTyping.{types_but, IsAmong, IsTyped, AreTyped, IsHidden, AreHidden}
+use Rattle.branch_removal.specs.StraightTyping.{IsSecretWithin}
 use Rattle.language.specs.declared.signature.Label.TheVariants.{Public}
 use Rattle.language.specs.declared.typing.WordType.{WordType}
 use Rattle.language.specs.WellTyped.{labelled}
 use Rattle.word.specs.declared.profile.Profile.{Profile}
 use Rattle.optimisation.specs.declared.element_words.parts.Part.{Part}
-use Rattle.optimisation.specs.element_words.private.Splitting.{first_value, given_words}
+use Rattle.optimisation.specs.element_words.private.Splitting.{single, first_value, given_words}
 use Rattle.optimisation.proofs.over_lemmas.Rules.{Places, IsOver, a_number, a_truth, a_variable, prefixed, operated}
 use Rattle.optimisation.proofs.over_lemmas.Rules.{rotated, converted, selected, an_element, a_word}
 use Rattle.optimisation.proofs.over_lemmas.Rules.{AreOver, no_values, a_value, IsResultOver, no_result, a_result}
@@ -186,27 +187,24 @@ module _ (profile : Profile) (new : List FlatVariable) (controls : ℕ) where
         λ f found. ap (λ (v : FlatVariable). v.word.label) (same_Some f e (sym found ∙ at))
         ∙ (ap (λ (w : WordType). w.label) same ∙ secret d there)
 
+    -- a word is set in the place of what has its type
+    set_still : (within : Option ℕ) (x y : ℕ) {d : FlatVariable} {word : WordType} {mutable : Bool} {e : TermTree}
+        → IsAmong controls within → slice_get declared x ≡ Some d → d.word ≡ word
+        → slice_get new y ≡ Some (word_as word mutable) → Suits (types_of profile new) word e
+        → IsSecretWithin declared within x → IsStillTyped (single (set within y e))
+    set_still within x y {word = word} {mutable = mutable} among there same known suits hidden = record {
+      typed = ((among, record { word = word; mutable = mutable; known = known; suits = suits }), tt);
+      hidden = (secret_still within x y there known (sym same) hidden, tt);
+    }
+
     mutual
       still : {statement : StraightTree} {code : StraightBlock} → Becomes l statement code
           → IsTyped profile declared controls statement → IsHidden declared statement → IsStillTyped code
       still (left_out unread) is hidden = record { typed = tt; hidden = tt }
       still (sets {within = within} {x = x} stays one) is hidden =
-          let found = keeps.outer.words x is.1.word is.1.mutable stays is.1.known in
-          record {
-            typed = (
-              (
-                is.0,
-                record {
-                  word = is.1.word;
-                  mutable = found.0;
-                  known = found.1;
-                  suits = still_suits profile keeps.outer one is.1.suits;
-                },
-              ),
-              tt,
-            );
-            hidden = (secret_still within x (l.outer.at x) is.1.known found.1 refl hidden, tt);
-          }
+          set_still within x (l.outer.at x) is.0 is.1.known refl
+          (keeps.outer.words x is.1.word is.1.mutable stays is.1.known).1
+          (still_suits profile keeps.outer one is.1.suits) hidden
       still (fills {x = x} {size = size} stays all) is hidden =
           let found = keeps.outer.arrays x is.word is.mutable size stays is.known in
           record {
@@ -246,22 +244,9 @@ module _ (profile : Profile) (new : List FlatVariable) (controls : ℕ) where
             hidden = (secret_still within x (l.outer.at x) is.1.known found.1 refl hidden, tt);
           }
       still (puts_word {within = within} {x = x} {size = size} {i = i} {w = w} word one) is hidden =
-          let found = keeps.outer.elements x i w is.1.word is.1.mutable size word is.1.known in
-          record {
-            typed = (
-              (
-                is.0,
-                record {
-                  word = is.1.word;
-                  mutable = found.0;
-                  known = found.1;
-                  suits = still_suits profile keeps.outer one is.1.suits;
-                },
-              ),
-              tt,
-            );
-            hidden = (secret_still within x w is.1.known found.1 refl hidden, tt);
-          }
+          set_still within x w is.0 is.1.known refl
+          (keeps.outer.elements x i w is.1.word is.1.mutable size word is.1.known).1
+          (still_suits profile keeps.outer one is.1.suits) hidden
       still (takes one) is hidden =
           record { typed = ((is.0, is.1, (is.2.0, still_typed profile keeps.outer one is.2.1)), tt); hidden = (tt, tt) }
       still (chooses chooser one other) is hidden =

@@ -2,10 +2,14 @@
 -- fine where that one's is.
 use Rattle.std.proofs.Common.{◌≡◌, ℕ, ◌<◌, ◌==◌, if◌then◌else◌, List, [], ◌∷◌, ◌++◌, map, Option, None, Some}
 use Rattle.std.proofs.Common.{option_map, slice_index, refl, sym, ap, ap₂, subst}
-use Rattle.inline.specs.Flat.{TermTree}
+use Rattle.inline.specs.Flat.{TermTree, prefix, binary, rotate, convert, select, element}
 use Rattle.inline.specs.FlatMeaning.{Values, value_in, elements, path_in, path_in_all, marks_of, path_of_result}
 use Rattle.inline.specs.Path.{Path, AreFine, indexed}
+use Rattle.language.specs.declared.operators.BinaryOperator.{BinaryOperator}
+use Rattle.language.specs.declared.operators.PrefixOperator.{PrefixOperator}
+use Rattle.language.specs.declared.signature.Kind.{Kind}
 use Rattle.word.specs.declared.place.Place.{Place}
+use Rattle.word.specs.declared.width.Width.{Width}
 use Rattle.branch_removal.proofs.Sequences.{fine_both, fine_front, fine_back, fine_alone}
 use Rattle.optimisation.proofs.over_lemmas.Rules.{Places, IsOver, a_number, a_truth, a_variable, prefixed, operated}
 use Rattle.optimisation.proofs.over_lemmas.Rules.{rotated, converted, selected, an_element, a_word}
@@ -23,6 +27,9 @@ module _ (most : List ℕ) where
   both {p} {q} {r} {t} one other = record {
     fine = λ fine. fine_both most r t (one.fine (fine_front most p q fine)) (other.fine (fine_back most p q fine));
   }
+
+  pub through : {p q r : Path} → IsNoWorse p q → IsNoWorse q r → IsNoWorse p r
+  through one other = record { fine = λ fine. other.fine (one.fine fine) }
 
   -- one statement, and nothing behind it
   pub alone : {p q : Path} → IsNoWorse p q → IsNoWorse p (q ++ [])
@@ -54,44 +61,72 @@ pub record IsResultAlike (most : List ℕ) (m k : Values) (whole other : Option 
   pub value : option_map (value_in k) other ≡ option_map (value_in m) whole
   pub path : IsNoWorse most (path_of_result m whole) (path_of_result k other)
 
+-- Nodes of which the operands are alike.
+
+module _ {most : List ℕ} {m k : Values} where
+  pub prefix_alike : {operator : PrefixOperator} {width : Width} {e f : TermTree} → IsAlike most m k e f
+      → IsAlike most m k (prefix operator width e) (prefix operator width f)
+  prefix_alike a = record { value = rw a.value; path = a.path }
+
+  pub binary_alike : {place : Place} {operator : BinaryOperator} {width : Width} {left right l r : TermTree}
+      → IsAlike most m k left l → IsAlike most m k right r
+      → IsAlike most m k (binary place operator width left right) (binary place operator width l r)
+  binary_alike {place} {operator} a b = record {
+    value = rw (a.value, b.value);
+    path = both most (both most a.path b.path)
+        (subst (IsNoWorse most _) (sym (ap₂ (marks_of place operator) a.value b.value)) (same_path most));
+  }
+
+  pub rotate_alike : {width : Width} {e f : TermTree} {amount : ℕ} → IsAlike most m k e f
+      → IsAlike most m k (rotate width e amount) (rotate width f amount)
+  rotate_alike a = record { value = rw a.value; path = a.path }
+
+  pub convert_alike : {kind : Kind} {e f : TermTree} → IsAlike most m k e f
+      → IsAlike most m k (convert kind e) (convert kind f)
+  convert_alike a = record { value = rw a.value; path = a.path }
+
+  pub select_alike : {condition accepted otherwise c a o : TermTree} → IsAlike most m k condition c
+      → IsAlike most m k accepted a → IsAlike most m k otherwise o
+      → IsAlike most m k (select condition accepted otherwise) (select c a o)
+  select_alike chooser one other = record {
+    value = rw (chooser.value, one.value, other.value);
+    path = both most (both most chooser.path one.path) other.path;
+  }
+
+  pub element_alike : {place : Place} {x y size : ℕ} {index i : TermTree} → k y ≡ m x → IsAlike most m k index i
+      → IsAlike most m k (element place x size index) (element place y size i)
+  element_alike {place} {size = size} same a = record {
+    value = rw (same, a.value);
+    path = both most a.path (at_index most place size a.value (same_path most));
+  }
+
+  pub all_values_alike : {e f : TermTree} {es fs : List TermTree} → IsAlike most m k e f → AreAllAlike most m k es fs
+      → AreAllAlike most m k (e ∷ es) (f ∷ fs)
+  all_values_alike a b =
+      let values = ap₂ (λ (v : ℕ) (vs : List ℕ). v ∷ vs) a.value b.values in
+      record { values = values; filled = λ size. values; path = both most a.path b.path }
+
 module _ (most : List ℕ) {p : Places} {m k : Values} (held : AreHeld p m k) where
   pub alike : {e f : TermTree} → IsOver p e f → IsAlike most m k e f
   alike a_number = record { value = refl; path = same_path most }
   alike a_truth = record { value = refl; path = same_path most }
   alike (a_variable {x} stays) =
       record { value = ap (λ numbers. slice_index numbers 0) (held.stays x stays); path = same_path most }
-  alike (prefixed one) = let a = alike one in record { value = rw a.value refl; path = a.path }
-  alike (operated {place} {operator} one other) =
-      let a = alike one in
-      let b = alike other in
-      record {
-        value = rw (a.value, b.value) refl;
-        path = both most (both most a.path b.path)
-            (subst (IsNoWorse most _) (sym (ap₂ (marks_of place operator) a.value b.value)) (same_path most));
-      }
-  alike (rotated one) = let a = alike one in record { value = rw a.value refl; path = a.path }
-  alike (converted one) = let a = alike one in record { value = rw a.value refl; path = a.path }
-  alike (selected chooser one other) =
-      let c = alike chooser in
-      let a = alike one in
-      let b = alike other in
-      record { value = rw (c.value, a.value, b.value) refl; path = both most (both most c.path a.path) b.path }
-  alike (an_element {place = place} {x = x} {size = size} stays index) =
-      let i = alike index in
-      record {
-        value = rw (held.stays x stays, i.value) refl;
-        path = both most i.path (at_index most place size i.value (same_path most));
-      }
+  alike (prefixed one) = prefix_alike (alike one)
+  alike (operated one other) = binary_alike (alike one) (alike other)
+  alike (rotated one) = rotate_alike (alike one)
+  alike (converted one) = convert_alike (alike one)
+  alike (selected chooser one other) = select_alike (alike chooser) (alike one) (alike other)
+  alike (an_element {x = x} stays index) = element_alike (held.stays x stays) (alike index)
   alike (a_word {x = x} {value = i} {w = w} is) =
-      record { value = ap (λ numbers. slice_index numbers 0) (held.words x i w is); path = record { fine = λ fine. tt } }
+      record {
+        value = ap (λ numbers. slice_index numbers 0) (held.words x i w is);
+        path = record { fine = λ fine. tt };
+      }
 
   pub all_alike : {es fs : List TermTree} → AreOver p es fs → AreAllAlike most m k es fs
   all_alike no_values = record { values = refl; filled = λ size. refl; path = same_path most }
-  all_alike (a_value one others) =
-      let a = alike one in
-      let b = all_alike others in
-      let values = ap₂ (λ v vs. v ∷ vs) a.value b.values in
-      record { values = values; filled = λ size. values; path = both most a.path b.path }
+  all_alike (a_value one others) = all_values_alike (alike one) (all_alike others)
 
   pub result_alike : {value other : Option TermTree} → IsResultOver p value other
       → IsResultAlike most m k value other

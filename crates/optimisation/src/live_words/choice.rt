@@ -1,76 +1,17 @@
 // Which words share a variable.
 
-ghost use Rattle.std.specs.Prelude.{◌≡◌, ◌≤◌, length, slice_get, slice_set, IfOk};
-ghost use Rattle.language.specs.Types.{same_label};
-ghost use Rattle.optimisation.specs.live_words.private.Choice.{all_allowed, are_alike, chosen, conflicts_with};
-ghost use Rattle.optimisation.specs.live_words.private.Choice.{first_shared};
+ghost use Rattle.std.specs.Prelude.{◌≡◌, ◌≤◌, length, slice_set, IfOk};
+ghost use Rattle.optimisation.specs.live_words.private.Choice.{all_allowed, chosen, conflicts_with, first_shared};
 ghost use Rattle.optimisation.specs.live_words.private.Choice.{is_allowed, is_conflict, is_fixed, is_noted, is_some};
-ghost use Rattle.optimisation.specs.live_words.private.Choice.{is_word};
 ghost use Rattle.optimisation.specs.live_words.private.Choice.{may_share, merged, none_placed, noted_where};
-ghost use Rattle.optimisation.specs.live_words.private.Choice.{own_variables};
-ghost use Rattle.optimisation.specs.live_words.private.Choice.{placed, placed_all, placing_by, same_words};
-ghost use Rattle.optimisation.specs.live_words.private.Choice.{variable_for};
-ghost use Rattle.optimisation.specs.live_words.private.Choice.{with_own};
+ghost use Rattle.optimisation.specs.live_words.private.Choice.{own_variables, placed, placed_all, placing_by};
+ghost use Rattle.optimisation.specs.live_words.private.Choice.{variable_for, with_own};
 
 use crate::live_words::live::{conflict_place, holder, mark};
+use crate::same_words::{are_alike, at};
 use branch_removal::{greatest_of, heaviest, take_greatest};
 use inline::FlatVariable;
-use language::Label;
 use std::alloc::{AllocError, Global};
-
-/// Whether these are one label.
-fn is_same_label(one: Label, other: Label) -> bool
-    ensures { result ≡ same_label one other }
-{
-    match one {
-        Label::Public => matches!(other, Label::Public),
-        Label::Secret => matches!(other, Label::Secret),
-    }
-}
-
-/// Whether a variable with so many elements, where it is an array, is a word.
-fn is_word(elements: Option<u32>) -> bool
-    ensures { result ≡ is_word elements }
-{
-    match elements {
-        None => true,
-        Some(_) => false,
-    }
-}
-
-/// Whether two variables are words of one type. One may be assigned to where the other may not: straight code sets
-/// both.
-fn same_words(one: FlatVariable, other: FlatVariable) -> bool
-    ensures { result ≡ same_words one other }
-{
-    is_word(one.elements)
-        && is_word(other.elements)
-        && one.word.kind.is_same(other.word.kind)
-        && is_same_label(one.word.label, other.word.label)
-}
-
-/// Whether there are two variables, and they are words of one type.
-fn are_alike(one: Option<FlatVariable>, other: Option<FlatVariable>) -> bool
-    ensures { result ≡ are_alike one other }
-{
-    match one {
-        None => false,
-        Some(one) => match other {
-            None => false,
-            Some(other) => same_words(one, other),
-        },
-    }
-}
-
-/// The variable of a number.
-fn at(declared: &[FlatVariable], number: usize) -> Option<FlatVariable>
-    ensures { result ≡ slice_get declared.now number }
-{
-    match declared.get(number) {
-        Some(variable) => Some(*variable),
-        None => None,
-    }
-}
 
 /// Whether a word may live in this variable as it is declared.
 fn is_allowed(declared: &[FlatVariable], word: usize, variable: usize) -> bool

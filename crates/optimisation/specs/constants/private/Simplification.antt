@@ -9,7 +9,7 @@ use Rattle.branch_removal.specs.Straight.{StraightBlock, nothing, first, chain, 
 use Rattle.inline.specs.declared.flat.FlatVariable.{FlatVariable}
 use Rattle.inline.specs.Flat.{TermTree, number, variable, counter_type}
 use Rattle.inline.specs.FlatMeaning.{turns}
-use Rattle.language.specs.Types.{same_kind, same_label}
+use Rattle.optimisation.specs.private.SameWords.{are_alike}
 use Rattle.optimisation.specs.declared.constants.terms.Numbers.{Numbers}
 use Rattle.optimisation.specs.constants.private.Folding.{simple, constant, constant_of, decision, numbers_of}
 use Rattle.optimisation.specs.constants.private.Known.{Words, with_copy, with_word, without, in_loop, behind}
@@ -30,18 +30,6 @@ abbrev pub at_turn : ℕ → ℕ → Words → Words
 at_turn x i words = with_word words x (Some (constant i counter_type.kind))
 
 -- Copies.
-
-abbrev pub is_word : Option ℕ → Bool
-is_word None = true
-is_word (Some size) = false
-
--- two variables are words of one type
-abbrev pub are_alike : Option FlatVariable → Option FlatVariable → Bool
-are_alike (Some d) (Some e) =
-    is_word d.elements && is_word e.elements && same_kind d.word.kind e.word.kind
-    && same_label d.word.label e.word.label
-are_alike (Some d) None = false
-are_alike None other = false
 
 -- a variable that is set to another one may be read as that one
 abbrev pub may_be_read_as : List FlatVariable → ℕ → ℕ → Bool

@@ -6,24 +6,9 @@ use Rattle.std.specs.Prelude.{ℕ, zero, suc, ◌+◌, ◌*◌, ◌==◌, ◌&&�
 use Rattle.std.specs.Prelude.{Option, None, Some, if◌then◌else◌, slice_get, slice_set, take, unwrap_or}
 use Rattle.branch_removal.specs.Greatest.{greatest_of, heaviest, without_greatest}
 use Rattle.inline.specs.declared.flat.FlatVariable.{FlatVariable}
-use Rattle.language.specs.Types.{same_kind, same_label}
 use Rattle.optimisation.specs.declared.live_words.choice.Placed.{Placed}
+use Rattle.optimisation.specs.private.SameWords.{are_alike}
 use Rattle.optimisation.specs.live_words.private.Held.{Table, Holders, holder}
-
-abbrev pub is_word : Option ℕ → Bool
-is_word None = true
-is_word (Some size) = false
-
--- two words of one type; one may be assigned to where the other may not, since straight code sets both
-abbrev pub same_words : FlatVariable → FlatVariable → Bool
-same_words d e =
-    is_word d.elements && is_word e.elements && same_kind d.word.kind e.word.kind
-    && same_label d.word.label e.word.label
-
-abbrev pub are_alike : Option FlatVariable → Option FlatVariable → Bool
-are_alike (Some d) (Some e) = same_words d e
-are_alike (Some d) None = false
-are_alike None other = false
 
 -- a word may live in this variable as it is declared
 abbrev pub is_allowed : List FlatVariable → ℕ → ℕ → Bool

@@ -1,8 +1,4 @@
-use Rattle.std.proofs.Common.{◌+◌, ◌*◌, ◌<◌, rules, refl, ap, sym, ◌∙◌, arith}
-use Rattle.branch_removal.specs.Bounds.{block_nodes, statement_nodes}
-use Rattle.branch_removal.specs.Straight.{straight_block, straight_tree}
-use Rattle.inline.specs.Flat.{term_tree}
-use Rattle.optimisation.specs.element_words.private.Narrowing.{narrowed, narrowed_by, narrowed_by_all}
+use Rattle.std.proofs.Common.{rules, refl}
 use Rattle.branch_removal.proofs.StatementTrees.{tree_of_branch, tree_of_loop, accepted_smaller, otherwise_smaller}
 use Rattle.branch_removal.proofs.StatementTrees.{body_smaller, item_here, smaller_here}
 use Rattle.optimisation.proofs.element_words.narrowing.+narrowing.Goals as goal

@@ -1,12 +1,10 @@
-use Rattle.std.proofs.Common.{◌≡◌, ◌+◌, ◌*◌, ◌<◌, rules, refl, sym, ◌∙◌, subst, arith}
+use Rattle.std.proofs.Common.{◌≡◌, rules, refl, sym, ◌∙◌, subst}
 use Rattle.std.specs.Result.{OnOk}
 use Rattle.std.proofs.lemmas.List.{at_drop_all}
-use Rattle.branch_removal.specs.Bounds.{block_nodes, statement_nodes}
-use Rattle.branch_removal.specs.Straight.{chain, straight_block, straight_tree}
+use Rattle.branch_removal.specs.Straight.{chain, straight_block}
 use Rattle.optimisation.specs.element_words.private.Splitting.{split_all}
 use Rattle.branch_removal.proofs.StatementTrees.{tree_of_branch, tree_of_loop, accepted_smaller, otherwise_smaller}
-use Rattle.branch_removal.proofs.StatementTrees.{body_smaller, item_here, smaller_here, chain-nothing}
-use Rattle.optimisation.proofs.element_words_lemmas.CodeLemmas.{passed, branch_code, loop_code}
+use Rattle.branch_removal.proofs.StatementTrees.{body_smaller, item_here, smaller_here, chain-assoc, chain-nothing}
 use Rattle.optimisation.proofs.element_words.statements.+splitting.Goals as goal
 
 pub block-statement-requires : goal.block-statement-requires
@@ -38,37 +36,33 @@ statement-block-requires-in-Repeat t c =
 
 pub statement-returns-in_ok-other-in-Branch : goal.statement-returns-in_ok-other-in-Branch
 statement-returns-in_ok-other-in-Branch t c =
-    subst (λ b. OnOk c.push-in-Branch.result
-    (straight_block c.push-in-Branch.new.code.items ≡ chain (straight_block c.args.code.now.items) b))
-    (branch_code c.args.parts.now.arrays.items _ _ _ _ _ _ _ _
-    (tree_of_branch c.in-Branch.accepted c.in-Branch.otherwise c.in-Branch.is c.deref-in-Branch.ensures.value
-    c.deref-in-Branch-2.ensures.value)
-    c.branch_of.ensures c.in_ok-condition-in-Branch.ensures c.in_ok-one-in-Branch.ensures
-    c.in_ok-other-in-Branch.ensures)
-    c.push-in-Branch.ensures
+    rw (
+      tree_of_branch c.in-Branch.accepted c.in-Branch.otherwise c.in-Branch.is c.deref-in-Branch.ensures.value
+          c.deref-in-Branch-2.ensures.value,
+      ← c.in_ok-condition-in-Branch.ensures,
+      ← c.in_ok-one-in-Branch.ensures,
+      ← c.in_ok-other-in-Branch.ensures,
+      ← c.branch_of.ensures,
+    ) c.push-in-Branch.ensures
 
 pub statement-returns-in_ok-turn-in-Repeat : goal.statement-returns-in_ok-turn-in-Repeat
 statement-returns-in_ok-turn-in-Repeat t c =
-    subst (λ b. OnOk c.push-in-Repeat.result
-    (straight_block c.push-in-Repeat.new.code.items ≡ chain (straight_block c.args.code.now.items) b))
-    (loop_code c.args.parts.now.arrays.items _ _ _ _ _ _ _ _ _
-    (tree_of_loop c.in-Repeat.body c.in-Repeat.is c.deref-in-Repeat.ensures.value)
-    c.loop_of.ensures c.in_ok-low-in-Repeat.ensures c.in_ok-high-in-Repeat.ensures c.in_ok-turn-in-Repeat.ensures)
-    c.push-in-Repeat.ensures
+    rw (
+      tree_of_loop c.in-Repeat.body c.in-Repeat.is c.deref-in-Repeat.ensures.value,
+      ← c.in_ok-low-in-Repeat.ensures,
+      ← c.in_ok-high-in-Repeat.ensures,
+      ← c.in_ok-turn-in-Repeat.ensures,
+      ← c.loop_of.ensures,
+    ) c.push-in-Repeat.ensures
 
 pub block-loop-each-preserved : goal.block-loop-each-preserved
 block-loop-each-preserved t c =
-    let s = c.each-item.result in
     let l = c.loop-each in
-    let here = item_here c.args.body.now l.each-index s c.loop-each-test.true c.each-item.is in
-    passed c.args.parts.now.arrays.items c.args.body.now l.each-index s here _ _ _ l.invariant
-    c.in_ok-statement.ensures
+    let here = item_here c.args.body.now l.each-index c.each-item.result c.loop-each-test.true c.each-item.is in
+    rw (c.in_ok-statement.ensures, chain-assoc, ← l.invariant, here) refl
 
 pub block-returns : goal.block-returns
 block-returns t c =
     let l = c.loop-each in
-    let none =
-    at_drop_all (λ xs. chain (straight_block l.code.items)
-    (split_all c.args.parts.now.arrays.items (straight_block xs))) c.args.body.now l.each-index
-    c.loop-each-test.false in
-    sym (chain-nothing (straight_block l.code.items)) ∙ (sym none ∙ l.invariant)
+    let none = at_drop_all (λ xs. straight_block xs) c.args.body.now l.each-index c.loop-each-test.false in
+    rw (← l.invariant, none, chain-nothing) refl

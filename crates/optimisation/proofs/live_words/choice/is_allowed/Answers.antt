@@ -1,5 +1,5 @@
 use Rattle.std.proofs.Common.{rules, ◌≡◌, slice_get}
-use Rattle.optimisation.specs.live_words.private.Choice.{are_alike}
+use Rattle.optimisation.specs.private.SameWords.{are_alike}
 use Rattle.optimisation.proofs.live_words.choice.is_allowed.Goals as goal
 
 pub returns-else-variable-word : goal.returns-else-variable-word

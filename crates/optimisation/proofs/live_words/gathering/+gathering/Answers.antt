@@ -1,10 +1,4 @@
-use Rattle.std.proofs.Common.{rules, ◌+◌, ◌*◌, ◌<◌, refl, sym, ap, ap₂, ◌∙◌, arith}
-use Rattle.branch_removal.specs.Bounds.{block_nodes, statement_nodes}
-use Rattle.branch_removal.specs.Straight.{StraightTree, straight_block, straight_tree}
-use Rattle.inline.specs.Flat.{term_tree}
-use Rattle.optimisation.specs.live_words.private.Gathering.{gathered, gathered_all, with_done}
-use Rattle.optimisation.specs.live_words.private.Held.{Done, Held, held_by}
-use Rattle.optimisation.specs.live_words.private.Terms.{reading}
+use Rattle.std.proofs.Common.{rules, refl}
 use Rattle.branch_removal.proofs.StatementTrees.{tree_of_branch, tree_of_loop, accepted_smaller, otherwise_smaller}
 use Rattle.branch_removal.proofs.StatementTrees.{body_smaller, item_here, smaller_here}
 use Rattle.optimisation.proofs.live_words.gathering.+gathering.Goals as goal

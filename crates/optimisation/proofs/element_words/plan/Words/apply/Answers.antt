@@ -1,6 +1,5 @@
 use Rattle.std.proofs.Common.{sym, subst, ap, ◌∙◌}
 use Rattle.branch_removal.specs.Kept.{IsStraight}
-use Rattle.branch_removal.specs.Replaced.{IsReplaced}
 use Rattle.optimisation.specs.element_words.Exact.{words_of, split_of}
 use Rattle.optimisation.specs.element_words.private.Plan.{WordPlan}
 use Rattle.optimisation.proofs.element_words_lemmas.Whole.{as_split, replaced}
@@ -17,23 +16,15 @@ with_variables-requires c =
     c.in_ok-value.ensures in
     subst IsStraight (sym whole) (replaced p c.body.ensures.kept).straight
 
-pub returns-clause-replaced : goal.returns-clause-replaced
-unfolding words_of
-returns-clause-replaced c =
-    let p = c.args.straight.now in
-    let view = c.self.view_is in
-    let whole = as_split p c.args.self.now _ _ _ _ _ _ c.requires
-    (c.as_slice.ensures.value ∙ ap (λ (w : WordPlan). w.declared) view)
-    (ap (λ (w : WordPlan). w.parts) view) c.body.ensures.body c.in_ok-code.ensures c.value.ensures
-    c.in_ok-value.ensures in
-    subst (IsReplaced p) (sym (c.with_variables.ensures ∙ whole)) (replaced p c.body.ensures.kept)
-
 pub returns-clause-exact : goal.returns-clause-exact
 unfolding words_of split_of
 returns-clause-exact c =
-    let p = c.args.straight.now in
     let view = c.self.view_is in
-    c.with_variables.ensures ∙ as_split p c.args.self.now _ _ _ _ _ _ c.requires
+    c.with_variables.ensures ∙ as_split c.args.straight.now c.args.self.now _ _ _ _ _ _ c.requires
     (c.as_slice.ensures.value ∙ ap (λ (w : WordPlan). w.declared) view)
     (ap (λ (w : WordPlan). w.parts) view) c.body.ensures.body c.in_ok-code.ensures c.value.ensures
     c.in_ok-value.ensures
+
+pub returns-clause-replaced : goal.returns-clause-replaced
+unfolding split_of
+returns-clause-replaced c = rw (returns-clause-exact c) (replaced c.args.straight.now c.body.ensures.kept)
