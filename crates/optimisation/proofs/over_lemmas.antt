@@ -4,3 +4,4 @@ pub mod Types
 pub mod Values
 pub mod Beside
 pub mod SameWords
+pub mod Whole

@@ -1,11 +1,10 @@
 -- Simpler statements are no more work, and need no more of a frame.
-use Rattle.std.proofs.Common.{◌≡◌, ℕ, ◌+◌, ◌-◌, ◌*◌, ◌≤◌, List, Option, None, Some, max, option_map, slice_index, arith}
+use Rattle.std.proofs.Common.{ℕ, ◌+◌, ◌-◌, ◌*◌, ◌≤◌, List, Option, None, slice_index, arith}
 use Rattle.std.proofs.Math.Nat.{mul-le-mul_left, mul-le-mul_right}
 use Rattle.inline.specs.declared.flat.FlatVariable.{FlatVariable}
 use Rattle.inline.specs.Flat.{TermTree, counter_type, number}
-use Rattle.inline.specs.FlatSize.{term_nodes, value_nodes}
 use Rattle.branch_removal.specs.Bounds.{statement_work, block_work, set_work}
-use Rattle.branch_removal.specs.Heights.{depth_in, depth_in_all, height_in, height_in_all, result_height}
+use Rattle.branch_removal.specs.Heights.{depth_in, depth_in_all, height_in, height_in_all}
 use Rattle.branch_removal.specs.Straight.{StraightTree, set, StraightBlock, first}
 use Rattle.optimisation.specs.constants.private.Choice.{AreAllowed}
 use Rattle.optimisation.specs.constants.private.Folding.{simple}

@@ -1,5 +1,5 @@
 -- Variables that may be read as others: they are words of one type.
-use Rattle.std.proofs.Common.{◌≡◌, ℕ, ◌==◌, ◌&&◌, Bool, true, false, not, List, Option, None, Some, slice_get}
+use Rattle.std.proofs.Common.{◌≡◌, ℕ, ◌==◌, Bool, true, false, not, List, Option, None, Some, slice_get}
 use Rattle.std.proofs.Common.{slice_index, ⊎_elim, refl, sym, ap, ◌∙◌, subst}
 use Rattle.std.proofs.lemmas.Bool.{and_parts, eqb-false, false≢true, not-true}
 use Rattle.std.proofs.lemmas.Option.{none-some, same_Some}

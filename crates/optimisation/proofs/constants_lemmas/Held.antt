@@ -20,6 +20,7 @@ use Rattle.branch_removal.specs.StraightTyping.{types_but, IsTyped, AreTyped}
 use Rattle.language.specs.declared.typing.WordType.{WordType}
 use Rattle.language.specs.Types.{bits_of}
 use Rattle.word.specs.declared.profile.Profile.{Profile}
+use Rattle.optimisation.proofs.over_lemmas.Types.{but_within}
 
 -- first values of an array
 all_held : (types : Types) (m : Values) → Fits types m → (word : WordType) (es : List TermTree)
@@ -34,12 +35,7 @@ kept_below : {S : Type 0} (Q : S → Type 0) (f : ℕ → S → S) (limit : ℕ)
     → (n i : ℕ) (s : S) → i + n ≤ limit → Q s → Q (turns n i f s)
 kept_below Q f limit keep zero i s below q = q
 kept_below Q f limit keep (suc n) i s below q =
-    kept_below Q f limit keep n (i + 1) (f i s) (omega (arith, below)) (keep i s (omega (arith, below)) q)
-
--- what is declared though one variable is left out
-pub declared_but : (b : Bool) (o : Option FlatVariable) (d : FlatVariable) → cond b None o ≡ Some d → o ≡ Some d
-declared_but true o d is = absurd (none-some d is)
-declared_but false o d is = is
+    kept_below Q f limit keep n (i + 1) (f i s) (omega arith) (keep i s (omega arith) q)
 
 -- all numbers of a loop are below this
 abbrev pub counter_limit : ℕ
@@ -50,7 +46,7 @@ module _ (profile : Profile) (declared : List FlatVariable) where
   types = types_of profile declared
 
   pub fewer_fit : (x : ℕ) (m : Values) → Fits types m → Fits (types_but profile declared x) m
-  fewer_fit x m fits y d is = fits y d (declared_but (y == x) (slice_get declared y) d is)
+  fewer_fit x m fits y d is = fits y d (but_within declared x y d is)
 
   -- where a turn begins
   pub counted_fits : (x i : ℕ) → slice_get declared x ≡ Some (word_as counter_type false) → i < counter_limit
@@ -112,3 +108,46 @@ module _ (profile : Profile) (declared : List FlatVariable) where
       fits_after_all nothing is s fits = fits
       fits_after_all (first statement rest) is s fits =
           fits_after_all rest is.1 (after s statement) (fits_after statement is.0 s fits)
+
+-- Where a program begins.
+
+greatest_fits : (kind : Kind) (v : ℕ) → v ≤ greatest_of kind → IsWithinKind kind v
+greatest_fits Boolean v h = omega arith
+greatest_fits kind v h = omega arith
+
+held_argument : (p : Param) (arg : Arg) → IsWithin p arg → IsHeld (declaration_of p) (words_of arg)
+held_argument p arg within = record {
+  count = argument_count p.form p.length arg within.shape;
+  within = λ k d less. greatest_fits p.kind _ (within.values k d less);
+}
+
+held_zeros : (d : FlatVariable) → IsHeld d (replicate (numbers_in d.elements) 0)
+held_zeros d = record {
+  count = length-replicate (numbers_in d.elements) 0;
+  within = All-replicate (IsWithinKind d.word.kind) (numbers_in d.elements) 0 (some_bit d.word.kind);
+}
+
+pub given_none : (more : List FlatVariable) (x : ℕ) (d : FlatVariable) → slice_get more x ≡ Some d
+    → given more [] x ≡ replicate (numbers_in d.elements) 0
+given_none [] x d is = absurd (none-some d is)
+given_none (e ∷ more) zero d is = ap (λ (f : FlatVariable). replicate (numbers_in f.elements) 0) (same_Some e d is)
+given_none (e ∷ more) (suc x) d is = given_none more x d is
+
+given_fits : (profile : Profile) (ps : List Param) (args : List Arg) (more : List FlatVariable) → AreWithin ps args
+    → Fits (types_of profile (map declaration_of ps ++ more)) (given (map declaration_of ps ++ more) args)
+given_fits profile [] [] more within x d is =
+    subst (λ (l : List ℕ). IsHeld d l) (sym (given_none more x d is)) (held_zeros d)
+given_fits profile (p ∷ ps) (arg ∷ args) more within zero d is =
+    subst (λ (f : FlatVariable). IsHeld f (words_of arg)) (same_Some (declaration_of p) d is)
+    (held_argument p arg within.0)
+given_fits profile (p ∷ ps) (arg ∷ args) more within (suc x) d is = given_fits profile ps args more within.1 x d is
+given_fits profile ps args more within x d is = absurd within
+
+pub start_fits : (profile : Profile) (ps : List Param) (declared : List FlatVariable) (args : List Arg)
+    → first_of (length ps) declared ≡ map declaration_of ps → AreWithin ps args
+    → Fits (types_of profile declared) (given declared args)
+start_fits profile ps declared args front within =
+    subst (λ (ds : List FlatVariable). Fits (types_of profile ds) (given ds args))
+    (ap (λ (ds : List FlatVariable). ds ++ drop (length ps) declared) (sym front)
+    ∙ take-append-drop (length ps) declared)
+    (given_fits profile ps args (drop (length ps) declared) within)

@@ -27,9 +27,8 @@ wrap_leaves : (w : Width) (a b : ℕ) → IsWord w a → b ≡ a → b % 2 ^ bit
 wrap_leaves w a b fits is = subst (λ c. c % 2 ^ bits w ≡ a) (sym is) (mod-eq_of_lt fits)
 
 nothing_less : (w : Width) (a : ℕ) → IsWord w a → difference w a 0 ≡ a
-nothing_less W8 a fits = omega (arith, fits)
-nothing_less W16 a fits = omega (arith, fits)
-nothing_less W32 a fits = omega (arith, fits)
+nothing_less W8 a fits = omega arith
+nothing_less width a fits = omega arith
 
 ones_leave : (w : Width) (a : ℕ) → IsWord w a → bit_and a (complemented w 0) ≡ a
 ones_leave W8 a fits = and_mask a 8 ∙ mod-eq_of_lt fits
@@ -46,7 +45,7 @@ truth_again a fits = by_zero (a == 0) refl
   where
     by_zero : (b : Bool) → (a == 0) ≡ b → word_of (not b) ≡ a
     by_zero true is = sym (eqb-true a 0 is)
-    by_zero false is = omega (arith, fits, eqb-false a 0 is)
+    by_zero false is = omega (arith, eqb-false a 0 is)
 
 either_nothing : (b : Bool) → (b || false) ≡ b
 either_nothing true = refl

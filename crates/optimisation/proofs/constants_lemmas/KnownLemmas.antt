@@ -61,7 +61,7 @@ in_latest c copies is =
   where
     in_rest : (cs : List WordCopy) → Contains (remove cs 0) c → Contains cs c
     in_rest [] there = there
-    in_rest (d ∷ cs) there = (suc there.0, omega (arith, there.1), there.2)
+    in_rest (d ∷ cs) there = (suc there.0, omega arith, there.2)
 
 -- a copy that is known once one more is noted
 pub in_more : (words : Words) (c d : WordCopy) → Contains (with_copy words d).copies c
@@ -75,7 +75,7 @@ pub data IsReadAs (copies : List WordCopy) (x : ℕ) : ℕ → Type 0 where
 
 one_copy_more : (d : WordCopy) (copies : List WordCopy) (x y : ℕ) → IsReadAs copies x y → IsReadAs (d ∷ copies) x y
 one_copy_more d copies x y as_itself = as_itself
-one_copy_more d copies x y (as_source c there is) = as_source c (suc there.0, omega (arith, there.1), there.2) is
+one_copy_more d copies x y (as_source c there is) = as_source c (suc there.0, omega arith, there.2) is
 
 pub read_as : (copies : List WordCopy) (x : ℕ) → IsReadAs copies x (source_in copies x)
 read_as [] x = as_itself
@@ -163,9 +163,9 @@ shorts_step (suc n) (w ∷ numbers) = ap (λ rest. w ∷ rest) (shorts_step n nu
 
 pub shorts_end : (n : ℕ) (numbers : List (Option Constant)) → length numbers ≤ n → shorts_from n numbers ≡ numbers
 shorts_end zero [] within = refl
-shorts_end zero (w ∷ numbers) within = absurd (omega (arith, within))
+shorts_end zero (w ∷ numbers) within = absurd (omega arith)
 shorts_end (suc n) [] within = refl
-shorts_end (suc n) (w ∷ numbers) within = ap (λ rest. w ∷ rest) (shorts_end n numbers (omega (arith, within)))
+shorts_end (suc n) (w ∷ numbers) within = ap (λ rest. w ∷ rest) (shorts_end n numbers (omega arith))
 
 no_word : (n x : ℕ) (c : Constant) → word_at (replicate n None) x ≡ Some c → ⊥
 no_word zero x c is = none-some c is
@@ -175,7 +175,7 @@ no_word (suc n) (suc x) c is = no_word n x c is
 -- where a program begins nothing is known
 pub nothing_first : (n : ℕ) (f : Fact) → Knows (record { numbers = replicate n None; copies = [] }) f → ⊥
 nothing_first n (valued x c) is = no_word n x c is
-nothing_first n (copy c) is = absurd (omega (arith, is.1))
+nothing_first n (copy c) is = absurd (omega arith)
 
 -- Facts of what variables hold.
 

@@ -21,4 +21,4 @@ is_power n =
     (λ is. tt)
 
 pub quotient_below : (w : Width) (a b : ℕ) → IsWord w a → a / b < 2 ^ bits w
-quotient_below w a b low = let less = div-le_self a b in omega (arith, low, less)
+quotient_below w a b low = let less = div-le_self a b in omega arith

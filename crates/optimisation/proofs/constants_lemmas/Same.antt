@@ -1,22 +1,21 @@
 -- Simpler statements leave the state that the statements leave, and their path is fine where that of the statements
 -- is.
 use Rattle.std.proofs.Common.{◌≡◌, ℕ, zero, suc, ◌+◌, ◌-◌, ◌<◌, ◌≤◌, ◌==◌, Bool, true, false}
-use Rattle.std.proofs.Common.{if◌then◌else◌, List, [], ◌∷◌, ◌++◌, map, Option, None, Some, refl, sym, ap, ap₂, ◌∙◌}
+use Rattle.std.proofs.Common.{if◌then◌else◌, List, ◌∷◌, ◌++◌, Option, None, Some, refl, sym, ap, ap₂, ◌∙◌}
 use Rattle.std.proofs.Common.{subst}
 use Rattle.std.proofs.Common.{arith}
 use Rattle.word.specs.declared.profile.Profile.{Profile}
 use Rattle.inline.proofs.Fitting.{value_fits}
 use Rattle.inline.specs.declared.flat.FlatVariable.{FlatVariable}
 use Rattle.inline.specs.Flat.{TermTree, number, counter_type}
-use Rattle.inline.specs.FlatMeaning.{elements, path_in, path_in_all, turns, path_of_turns}
+use Rattle.inline.specs.FlatMeaning.{path_in, turns, path_of_turns}
 use Rattle.inline.specs.FlatTyping.{Types, types_of}
-use Rattle.inline.specs.Path.{Path, AreFine, decided as decided_mark, bounded, indexed}
-use Rattle.word.specs.declared.place.Place.{Place}
+use Rattle.inline.specs.Path.{Path, decided as decided_mark, bounded}
 use Rattle.branch_removal.specs.Straight.{StraightTree, set, array, put, branch, repeats}
 use Rattle.branch_removal.specs.Straight.{StraightBlock, first, chain}
 use Rattle.branch_removal.specs.StraightMeaning.{StraightState, holds as holds_under, with_variable, with_element}
 use Rattle.branch_removal.specs.StraightMeaning.{value_at, counted, after, after_all, path_at, path_along}
-use Rattle.branch_removal.specs.StraightTyping.{types_but, IsFilled, IsPut, IsSet, IsTyped, AreTyped}
+use Rattle.branch_removal.specs.StraightTyping.{types_but, IsFilled, IsSet, IsTyped, AreTyped}
 use Rattle.branch_removal.proofs.Sequences.{after-chain, path-chain, fine_back}
 use Rattle.optimisation.specs.constants.private.Folding.{simple}
 use Rattle.optimisation.specs.constants.private.Known.{Words, behind, in_loop, without}
@@ -43,8 +42,8 @@ module _ (most : List ℕ) where
       → (turns n i f s ≡ turns n i g s) × IsNoWorse most (path_of_turns n i g q s) (path_of_turns n i f p s)
   turns_alike P f g p q limit each zero i s below holds = (refl, same_path most)
   turns_alike P f g p q limit each (suc n) i s below holds =
-      let one = each i s (omega (arith, below)) holds in
-      let rest = turns_alike P f g p q limit each n (i + 1) (g i s) (omega (arith, below)) one.2 in
+      let one = each i s (omega arith) holds in
+      let rest = turns_alike P f g p q limit each n (i + 1) (g i s) (omega arith) one.2 in
       (ap (turns n (i + 1) f) one.0 ∙ rest.0, rw one.0 (both most one.1 rest.1))
 
   -- from a state code leads to that one, where these words are known, and its path is fine where this one is
@@ -226,11 +225,11 @@ module _ (most : List ℕ) where
             record { same = refl; agrees = holds.agrees; path = same_path most }
         all_turns_lead (a_turn {x = x} {i = i} {body = body} {code = code} {words = words} one others) below there is s
             holds =
-            let here : i < counter_limit = omega (arith, below) in
+            let here : i < counter_limit = omega arith in
             let known = turn_known profile declared words s x i there here holds in
             let a = all_lead one is (counted x i s) known in
             both_lead (turn_leads x i s a)
-            (all_turns_lead others (omega (arith, below)) there is (after_all (counted x i s) body) (record {
+            (all_turns_lead others (omega arith) there is (after_all (counted x i s) body) (record {
               agrees = a.agrees;
               kinds = (typed_after_all profile declared controls one known.kinds is).kinds;
               fits = fits_after_all profile declared controls body is (counted x i s) known.fits;

@@ -1,5 +1,5 @@
 -- A simpler expression has the value that the expression has, and its path is fine where that one's is.
-use Rattle.std.proofs.Common.{◌≡◌, ℕ, ◌-◌, ◌*◌, ◌/◌, ◌%◌, ◌^◌, ◌==◌, Bool, true, false, not, if◌then◌else◌, bit_and}
+use Rattle.std.proofs.Common.{◌≡◌, ℕ, ◌-◌, ◌*◌, ◌/◌, ◌%◌, ◌^◌, ◌==◌, Bool, true, false, not, bit_and}
 use Rattle.std.proofs.Common.{List, [], ◌∷◌, ◌++◌, map, slice_index, Option, None, Some, option_map, refl}
 use Rattle.std.proofs.Common.{sym, ap, ap₂, ◌∙◌, subst}
 use Rattle.std.proofs.Math.Nat.{mod-eq_of_lt, mul_comm}

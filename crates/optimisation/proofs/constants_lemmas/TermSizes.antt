@@ -1,9 +1,9 @@
 -- A simpler expression has no more nodes than the expression, and no more temporaries.
 use Rattle.std.proofs.Common.{◌≡◌, ℕ, ◌+◌, ◌≤◌, List, [], ◌∷◌, map, Option, None, Some, option_map, arith}
 use Rattle.std.proofs.lemmas.Option.{none-some}
-use Rattle.branch_removal.specs.Heights.{height_of, height_of_all}
+use Rattle.branch_removal.specs.Heights.{height_of}
 use Rattle.inline.specs.Flat.{TermTree, number, truth, variable, prefix, binary, rotate, convert, select, element}
-use Rattle.inline.specs.FlatSize.{term_nodes, terms_nodes}
+use Rattle.inline.specs.FlatSize.{term_nodes}
 use Rattle.word.specs.declared.place.Place.{Place}
 use Rattle.word.specs.declared.width.Width.TheVariants.{W32}
 use Rattle.optimisation.specs.declared.constants.fields.Field.{Field}
@@ -45,8 +45,8 @@ moved_no_larger place word field =
       omega (arith, few),
       λ most low some.
           let low_first = lifted_by (λ e. height_of e ≤ most) place W32 word field (λ zero. low)
-          (omega (arith, low, some)) in
-          omega (arith, low_first, some),
+          (omega arith) in
+          omega arith,
     )
 
 becomes_no_larger : {e f : TermTree} → Becomes e f → IsNoLarger f e
@@ -65,7 +65,7 @@ becomes_no_larger (bits_moved {place = place} {word = word} {amount = amount} {r
     field} is also found) =
     let both_shifts = moved_no_larger place word field in
     record {
-      nodes = omega (arith, both_shifts.0, some_node amount, some_node right);
+      nodes = omega (arith, some_node amount, some_node right);
       height = both_shifts.1 _ (omega arith) (omega arith);
     }
 -- a part of it, or a node alone

@@ -121,12 +121,12 @@ module _ (types : Types) where
   becomes_suits (shifted_up is power) (of_binary has more (multiplication {kind = kind} {l = l} {m =
       m} numeric may) even) = record {
         word = labelled kind (joined l Public);
-        has_type = of_binary has (of_number (omega (arith, power.few))) (shift numeric) even;
+        has_type = of_binary has (of_number (omega arith)) (shift numeric) even;
         kind = refl;
         label = λ public. both_joined l Public (joined_public l m public).0 refl;
       }
   becomes_suits (shifted_down is power) (of_binary has more (division numeric) even) =
-      typed_suits types (of_binary has (of_number (omega (arith, power.few))) (shift numeric) even)
+      typed_suits types (of_binary has (of_number (omega arith)) (shift numeric) even)
   becomes_suits (masked {power = power} is found) (of_binary has more (division numeric) even) =
       typed_suits types
       (of_binary has
@@ -136,7 +136,7 @@ module _ (types : Types) where
       (shift {l = l} {m = m} numeric) inner) more makes even) =
       suits_as types
       (moved_suits place field has numeric inner (found.kind ∙ (number_kind types amount by is).0)
-      (omega (arith, found.few, found.reach)) (omega (arith, found.few))) (made makes).kind
+      (omega arith) (omega arith)) (made makes).kind
       (λ public. (joined_public l m (public_parts makes public).0).0)
   becomes_suits (accepted_chosen is) (of_selection {l = l} {m = m} {n = n} chooser has more) =
       suits_as types (typed_suits types has) refl

@@ -108,13 +108,11 @@ two_shifts v n b up down fits ones few reach =
     ∙ (ap (λ y. y % 2 ^ 32) low ∙ (small ∙ sym masked))
 
 unmoved : (v : ℕ) → v < 2 ^ 32 → shifted_left W32 v 0 ≡ v
-unmoved v fits = omega (arith, fits)
+unmoved v fits = omega arith
 
 within_32 : (k : Kind) (v : ℕ) → IsWithinKind k v → v < 2 ^ 32
-within_32 Boolean v fits = omega (arith, fits)
-within_32 Uint8 v fits = omega (arith, fits)
-within_32 Uint16 v fits = omega (arith, fits)
-within_32 Uint32 v fits = omega (arith, fits)
+within_32 Boolean v fits = omega arith
+within_32 kind v fits = omega arith
 
 module _ (m : Values) where
   lifted_value : (place : Place) (word : TermTree) (field : Field) → value_in m word < 2 ^ 32

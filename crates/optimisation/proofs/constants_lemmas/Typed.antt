@@ -1,15 +1,15 @@
 -- Simpler statements are well typed where the statements are, and set under a control value what those set.
-use Rattle.std.proofs.Common.{◌≡◌, ℕ, ◌==◌, Bool, false, List, [], ◌∷◌, map, Option, None, Some, slice_get}
+use Rattle.std.proofs.Common.{◌≡◌, ℕ, ◌==◌, Bool, false, List, map, Option, None, Some, slice_get}
 use Rattle.std.proofs.Common.{◌+◌, ◌-◌, ◌≤◌, ◌<◌, refl, sym, ap, ◌∙◌, arith}
 use Rattle.std.proofs.lemmas.Bool.{cond-false, ne_eqb}
 use Rattle.std.proofs.lemmas.Option.{none-some, same_Some}
 use Rattle.language.specs.declared.typing.WordType.{WordType}
 use Rattle.inline.specs.declared.flat.FlatVariable.{FlatVariable}
 use Rattle.inline.specs.Flat.{TermTree, number, counter_type, word_as, array_as}
-use Rattle.inline.specs.FlatTyping.{Types, types_of, HasType, HasCount, of_number}
+use Rattle.inline.specs.FlatTyping.{Types, types_of, HasType, of_number}
 use Rattle.inline.proofs.Face.{still_counted}
 use Rattle.word.specs.declared.profile.Profile.{Profile}
-use Rattle.branch_removal.specs.Straight.{StraightTree, set, StraightBlock, nothing, first, chain}
+use Rattle.branch_removal.specs.Straight.{StraightTree, set, StraightBlock, first}
 use Rattle.branch_removal.specs.StraightTyping.{IsSet, IsFilled, IsPut, types_but, IsTyped, AreTyped, IsHidden}
 use Rattle.branch_removal.specs.StraightTyping.{AreHidden}
 use Rattle.optimisation.specs.declared.constants.known.Constant.{Constant}
@@ -17,7 +17,7 @@ use Rattle.optimisation.specs.constants.private.Folding.{simple, constant_of}
 use Rattle.optimisation.specs.constants.private.Known.{Words, behind, in_loop}
 use Rattle.optimisation.specs.constants.private.Simplification.{at_turn, set_to}
 use Rattle.optimisation.proofs.constants_lemmas.CopyLemmas.{set_by, source_alike}
-use Rattle.optimisation.proofs.constants_lemmas.Held.{counter_limit, declared_but}
+use Rattle.optimisation.proofs.constants_lemmas.Held.{counter_limit}
 use Rattle.optimisation.proofs.constants_lemmas.KnownLemmas.{Fact, valued, copy, word_by}
 use Rattle.optimisation.proofs.constants_lemmas.KnownLemmas.{without_known, IsSuited, AreOfKind}
 use Rattle.optimisation.proofs.constants_lemmas.StatementRules.{Simplifies, sets, fills, puts, takes, accepts, declines}
@@ -26,7 +26,7 @@ use Rattle.optimisation.proofs.constants_lemmas.StatementRules.{AllSimplify, end
 use Rattle.optimisation.proofs.constants_lemmas.Suiting.{number_below, suited_number}
 use Rattle.optimisation.proofs.constants_lemmas.TermTypes.{all_still_suit, still_public, still_suits, still_typed}
 use Rattle.optimisation.proofs.constants_lemmas.Unset.{behind_part, within_loop}
-use Rattle.optimisation.proofs.over_lemmas.Types.{hidden-chain, typed-chain}
+use Rattle.optimisation.proofs.over_lemmas.Types.{but_within, hidden-chain, typed-chain}
 
 module _ {copies : List ℕ} {declared : List FlatVariable} where
   mutual
@@ -84,10 +84,10 @@ module _ (profile : Profile) (declared : List FlatVariable) where
 
       fewer : (g : Fact) → IsSuited (types_of profile declared) g → IsSuited (types_but profile declared x) g
       fewer (valued y c) suited =
-          λ word other there. suited word other (declared_but (y == x) (slice_get declared y) _ there)
+          λ word other there. suited word other (but_within declared x y _ there)
       fewer (copy c) suited =
           λ word other there.
-          let source = suited word other (declared_but (c.variable == x) (slice_get declared c.variable) _ there) in (
+          let source = suited word other (but_within declared x c.variable _ there) in (
             source.0,
             cond-false (c.source == x) None (slice_get declared c.source)
                 (ne_eqb c.source x (not_array c.source word source.0 source.1)) ∙ source.1,
@@ -228,9 +228,9 @@ module _ (profile : Profile) (declared : List FlatVariable) where
         typed_after_turns no_turn below there is kinds = record { typed = tt; kinds = kinds }
         typed_after_turns (a_turn {x = x} {i = i} {code = code} {more = more} {words = words} one others) below there
             is kinds =
-            let here : i < counter_limit = omega (arith, below) in
+            let here : i < counter_limit = omega arith in
             let a = typed_after_all one (turn_kinds words x i kinds there here) is in
-            let b = typed_after_turns others (omega (arith, below)) there is a.kinds in
+            let b = typed_after_turns others (omega arith) there is a.kinds in
             record {
               typed = typed-chain profile declared controls (first (set None x (number i counter_type.kind)) code) more
                   ((tt, counter_set x i there here), a.typed) b.typed;

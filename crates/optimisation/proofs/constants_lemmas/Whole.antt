@@ -1,13 +1,9 @@
 -- The simpler program may stand in the place of the program.
-use Rattle.std.proofs.Common.{◌≡◌, ℕ, List, length, Option, None, Some, option_map, refl, sym, ap}
-use Rattle.std.proofs.Common.{◌∙◌, subst, arith}
-use Rattle.inline.specs.Flat.{TermTree}
-use Rattle.inline.specs.FlatMeaning.{Values, value_in, results_of, path_of_result}
-use Rattle.inline.specs.FlatTyping.{Types, types_of, IsResult}
-use Rattle.inline.specs.Path.{AreFine}
-use Rattle.inline.proofs.FittingBodies.{given_fits}
+use Rattle.std.proofs.Common.{◌≡◌, ℕ, List, length, Option, sym, ap}
+use Rattle.std.proofs.Common.{◌∙◌, subst}
+use Rattle.inline.specs.FlatMeaning.{Values, results_of, path_of_result}
+use Rattle.inline.specs.FlatTyping.{Types, types_of}
 use Rattle.language.specs.arguments.Within.{AreWithin}
-use Rattle.language.specs.declared.typing.WordType.{WordType}
 use Rattle.language.specs.declared.values.Arg.{Arg}
 use Rattle.branch_removal.specs.Kept.{IsStraight}
 use Rattle.branch_removal.specs.Replaced.{IsReplaced}
@@ -15,7 +11,6 @@ use Rattle.branch_removal.specs.StraightTyping.{IsTypedStraight}
 use Rattle.branch_removal.specs.Straight.{StraightProgram}
 use Rattle.branch_removal.specs.StraightMeaning.{StraightState, after_all, start, end_of, outcome_of, path_of}
 use Rattle.branch_removal.specs.StraightMeaning.{path_along}
-use Rattle.optimisation.specs.constants.private.Folding.{simple}
 use Rattle.optimisation.specs.constants.private.Choice.{AreAllowed}
 use Rattle.optimisation.specs.constants.private.Known.{Words}
 use Rattle.optimisation.specs.constants.private.Simplification.{knowing_all, simplified_all, nothing_known}
@@ -30,6 +25,7 @@ use Rattle.optimisation.proofs.constants_lemmas.Typed.{AreKinds, IsStillTyped, s
 use Rattle.optimisation.proofs.constants_lemmas.Bounds.{less_all}
 use Rattle.optimisation.proofs.constants_lemmas.TermSizes.{result_no_larger}
 use Rattle.optimisation.proofs.over_lemmas.Values.{IsNoWorse, both, IsResultAlike}
+use Rattle.optimisation.proofs.over_lemmas.Whole.{is_replaced}
 
 module _ (copies : List ℕ) (p : StraightProgram) where
   abbrev last_words : Words
@@ -86,39 +82,16 @@ module _ (copies : List ℕ) (p : StraightProgram) where
           (subst (λ (m : Values). IsNoWorse p.turns (path_of_result (end_of p args) p.value)
           (path_of_result m (simplified_program copies p).value)) (sym same_end) result.path)
 
-  module _ (kept : IsStraight p) (allowed : AreAllowed copies p.turns) where
-    pub still_straight : IsStraight (simplified_program copies p)
-    still_straight =
-        let size = less_all p.turns copies p.declared allowed body_simplifies in
-        let value = result_no_larger last_words p.value in
-        record {
-          typed = record {
-            parameters = kept.typed.parameters;
-            body = (still kept.typed).typed;
-            hidden = still_hidden_all body_simplifies kept.typed.hidden;
-            result = still_result (types_of p.profile p.declared) last_words (still kept.typed).kinds p.returned p.value
-                kept.typed.result;
-          };
-          bounded = record {
-            lengths = kept.bounded.lengths;
-            parameters = kept.bounded.parameters;
-            declared = kept.bounded.declared;
-            nodes = kept.bounded.nodes;
-            worked = omega (arith, kept.bounded.worked);
-            work_fits = kept.bounded.work_fits;
-            framed = omega (arith, kept.bounded.framed);
-          };
-        }
-
-    pub replaced : IsReplaced p (simplified_program copies p)
-    replaced = record {
-      profile = refl;
-      parameters = refl;
-      returned = refl;
-      nodes = refl;
-      work = refl;
-      turns = refl;
-      straight = still_straight;
-      outcome = λ args within. same_outcome kept.typed args within;
-      fine = λ args within. (path kept.typed args within).fine;
-    }
+  pub replaced : IsStraight p → AreAllowed copies p.turns → IsReplaced p (simplified_program copies p)
+  replaced kept allowed =
+      is_replaced p p.declared (simplified_program copies p).body (simplified_program copies p).value kept.bounded
+      (record {
+        parameters = kept.typed.parameters;
+        body = (still kept.typed).typed;
+        hidden = still_hidden_all body_simplifies kept.typed.hidden;
+        result = still_result (types_of p.profile p.declared) last_words (still kept.typed).kinds p.returned p.value
+            kept.typed.result;
+      })
+      kept.bounded.declared (less_all p.turns copies p.declared allowed body_simplifies)
+      (result_no_larger last_words p.value)
+      (λ args within. (same_outcome kept.typed args within, path kept.typed args within))

@@ -1,15 +1,13 @@
 -- The words of a new array get its first values, which do not go by what the array held.
 use Rattle.std.proofs.Common.{◌≡◌, ℕ, zero, suc, ◌+◌, ◌<◌, ◌≤◌, ◌==◌, List, [], ◌∷◌}
-use Rattle.std.proofs.Common.{map, drop, length, Option, None, Some, slice_get, slice_index, refl, sym, ap, ◌∙◌}
+use Rattle.std.proofs.Common.{map, drop, length, None, Some, slice_get, slice_index, refl, sym, ap, ◌∙◌}
 use Rattle.std.proofs.Common.{arith}
-use Rattle.std.proofs.lemmas.Bool.{eq-eqb, cond-true}
 use Rattle.std.proofs.lemmas.List.{length-map, length-replicate}
-use Rattle.std.proofs.lemmas.Option.{none-some}
 use Rattle.inline.specs.declared.flat.FlatVariable.{FlatVariable}
 use Rattle.inline.specs.Flat.{TermTree}
-use Rattle.inline.specs.FlatMeaning.{Values, with_value, value_in, elements, path_in, path_in_all}
+use Rattle.inline.specs.FlatMeaning.{Values, with_value, value_in, elements, path_in_all}
 use Rattle.inline.specs.FlatTyping.{HasCount}
-use Rattle.inline.proofs.Face.{with_value-other}
+use Rattle.inline.proofs.Face.{with_value-other, with_value-same}
 use Rattle.branch_removal.specs.Straight.{StraightBlock}
 use Rattle.branch_removal.specs.StraightMeaning.{StraightState, with_variable, value_at, after_all, path_along}
 use Rattle.language.specs.declared.signature.Kind.{Kind}
@@ -19,9 +17,9 @@ use Rattle.optimisation.specs.element_words.private.Splitting.{first_value, give
 use Rattle.optimisation.proofs.element_words_lemmas.PartLemmas.{IsSplitting}
 use Rattle.optimisation.proofs.element_words_lemmas.Known.{places_in}
 use Rattle.optimisation.proofs.element_words_lemmas.Values.{AreAlike, held_in}
-use Rattle.optimisation.proofs.element_words_lemmas.Held.{here, no_word, zeros_at}
+use Rattle.optimisation.proofs.element_words_lemmas.Held.{no_word, zeros_at}
 use Rattle.optimisation.proofs.over_lemmas.Rules.{AreOver, no_values, a_value}
-use Rattle.optimisation.proofs.over_lemmas.Types.{but, but_within}
+use Rattle.optimisation.proofs.over_lemmas.Types.{but, but_apart, but_within}
 use Rattle.optimisation.proofs.over_lemmas.Values.{IsNoWorse, both, alike as value_alike}
 
 -- The elements of a new array.
@@ -35,10 +33,6 @@ pub elements_at : (m : Values) (size i : ℕ) (values : List TermTree)
     → slice_index (map (value_in m) values) i ≡ slice_index (elements m size values) i
 elements_at m size i [] = sym (zeros_at size i)
 elements_at m size i (e ∷ es) = refl
-
-but_apart : (declared : List FlatVariable) (x y : ℕ) (d : FlatVariable) → but declared x y ≡ Some d → y ≡ x → ⊥
-but_apart declared x y d there same =
-    none-some d (sym (cond-true (y == x) None (slice_get declared y) (eq-eqb y x same)) ∙ there)
 
 pub but_alike : (declared : List FlatVariable) (parts : Parts) (x : ℕ) (m k : Values)
     → AreAlike (λ y. slice_get declared y) parts m k → AreAlike (but declared x) parts m k
@@ -54,8 +48,8 @@ words_outside zero base kind values t z apart = refl
 words_outside (suc n) base kind values t z apart =
     let v = value_at t (first_value kind values) ∷ [] in
     words_outside n (base + 1) kind (drop 1 values) (with_variable t base v) z
-    (λ i below same. apart (i + 1) (omega (arith, below)) (omega (arith, same)))
-    ∙ with_value-other t.variables base z v (λ same. apart 0 (omega arith) (omega (arith, same)))
+    (λ i below same. apart (i + 1) (omega arith) (omega arith))
+    ∙ with_value-other t.variables base z v (λ same. apart 0 (omega arith) (omega arith))
 
 pub words_controls : (n base : ℕ) (kind : Kind) (values : List TermTree) (t : StraightState)
     → (after_all t (given_words base n kind values)).controls ≡ t.controls
@@ -71,8 +65,8 @@ module _ (declared new : List FlatVariable) (parts : Parts) (is_splitting : IsSp
       → i < part.size → AreAlike (but declared x) parts m (with_value k base v)
   undisturbed k base i v alike at below = record {
     plain = λ y d there stays.
-        with_value-other k base y v (λ same. no_word declared new parts is_splitting (but declared x) (but_within declared x) y
-        x d part i there is (same ∙ at))
+        with_value-other k base y v (λ same. no_word declared new parts is_splitting (but declared x)
+        (but_within declared x) y x d part i there is (same ∙ at))
         ∙ alike.plain y d there stays;
     held = λ y d other there also.
         let old = alike.held y d other there also in
@@ -102,24 +96,25 @@ module _ (declared new : List FlatVariable) (parts : Parts) (is_splitting : IsSp
       → (after_all (with_variable t base (w ∷ [])) (given_words (base + 1) n kind es)).variables z
       ≡ slice_index (v ∷ numbers) i ∷ []
   first_given n base kind es t v w numbers same rest zero z below place =
-      words_outside n (base + 1) kind es (with_variable t base (w ∷ [])) z
-      (λ i inside equal. omega (arith, equal, place))
-      ∙ (here t.variables base z (w ∷ []) (omega (arith, place)) ∙ ap (λ n. n ∷ []) same)
+      let at : z ≡ base = omega arith in
+      rw at
+      (words_outside n (base + 1) kind es (with_variable t base (w ∷ [])) base (λ i inside equal. omega arith)
+      ∙ (with_value-same t.variables base (w ∷ []) ∙ ap (λ n. n ∷ []) same))
   first_given n base kind es t v w numbers same rest (suc i) z below place =
-      rest i z (omega (arith, below)) (omega (arith, place))
+      rest i z (omega arith) (omega arith)
 
   pub words_given : (most : List ℕ) {values es : List TermTree}
       → AreOver (places_in (but declared x) parts) values es → (n base : ℕ) (kind : Kind) (t : StraightState)
       → AreAlike (but declared x) parts m t.variables → (o : ℕ) → base ≡ part.base + o → o + n ≤ part.size
       → AreGiven most values n base t (given_words base n kind es)
   words_given most all zero base kind t alike o at room = record {
-    each = λ i z below place. absurd (omega (arith, below));
+    each = λ i z below place. absurd (omega arith);
     path = record { fine = λ fine. tt };
   }
   words_given most no_values (suc n) base kind t alike o at room =
       let rest = words_given most no_values n (base + 1) kind (with_variable t base (0 ∷ []))
-      (undisturbed t.variables base o (0 ∷ []) alike at (omega (arith, room))) (o + 1) (omega (arith, at))
-      (omega (arith, room)) in
+      (undisturbed t.variables base o (0 ∷ []) alike at (omega arith)) (o + 1) (omega arith)
+      (omega arith) in
       record {
         each = λ i z below place.
             first_given n base kind [] t 0 0 [] refl rest.each i z below place ∙ ap (λ n. n ∷ []) (zeros_at 1 i);
@@ -129,8 +124,8 @@ module _ (declared new : List FlatVariable) (parts : Parts) (is_splitting : IsSp
       let a = value_alike most
       (held_in declared new parts is_splitting (but declared x) (but_within declared x) alike) one in
       let rest = words_given most others n (base + 1) kind (with_variable t base (value_at t f ∷ []))
-      (undisturbed t.variables base o (value_at t f ∷ []) alike at (omega (arith, room))) (o + 1) (omega (arith, at))
-      (omega (arith, room)) in
+      (undisturbed t.variables base o (value_at t f ∷ []) alike at (omega arith)) (o + 1) (omega arith)
+      (omega arith) in
       record {
         each = first_given n base kind es t _ (value_at t f) (map (value_in m) values) a.value rest.each;
         path = both most a.path rest.path;

@@ -1,20 +1,18 @@
 -- What variables and words hold once some of them are set.
-use Rattle.std.proofs.Common.{◌≡◌, ℕ, zero, suc, ◌+◌, ◌<◌, ◌==◌, Bool, true, false, if◌then◌else◌, List, []}
-use Rattle.std.proofs.Common.{◌∷◌, length, replicate, Option, None, Some, slice_get, slice_set, slice_index, refl}
-use Rattle.std.proofs.Common.{sym, ap, ap₂, ◌∙◌, subst, arith}
-use Rattle.std.proofs.lemmas.Bool.{cond-false, cond-true, eqb-true, eqb-false, eq-eqb, ne_eqb}
+use Rattle.std.proofs.Common.{◌≡◌, ℕ, zero, suc, ◌+◌, ◌<◌, ◌==◌, if◌then◌else◌, List, []}
+use Rattle.std.proofs.Common.{◌∷◌, length, replicate, Option, None, Some, slice_get, slice_set, slice_index, inl, inr}
+use Rattle.std.proofs.Common.{refl}
+use Rattle.std.proofs.Common.{sym, ap, ap₂, ◌∙◌, arith}
+use Rattle.std.proofs.lemmas.Bool.{cases_eq}
 use Rattle.std.proofs.lemmas.List.{get_or-set_other, get_or-set_same, length-set}
 use Rattle.std.proofs.lemmas.Option.{none-some, same_Some, slice_get_within}
 use Rattle.inline.specs.declared.flat.FlatVariable.{FlatVariable}
 use Rattle.inline.specs.FlatMeaning.{Values, with_value}
-use Rattle.inline.proofs.Face.{with_value-other}
+use Rattle.inline.proofs.Face.{with_value-other, with_value-same}
 use Rattle.optimisation.specs.declared.element_words.parts.Part.{Part}
 use Rattle.optimisation.specs.element_words.private.Parts.{Parts, part_of}
 use Rattle.optimisation.proofs.element_words_lemmas.PartLemmas.{IsSplitting}
-use Rattle.optimisation.proofs.element_words_lemmas.Values.{IsHeldIn, AreAlike}
-
-pub here : (m : Values) (x y : ℕ) (v : List ℕ) → y ≡ x → with_value m x v y ≡ v
-here m x y v same = cond-true (y == x) v (m y) (eq-eqb y x same)
+use Rattle.optimisation.proofs.element_words_lemmas.Values.{AreAlike}
 
 pub zeros_at : (n i : ℕ) → slice_index (replicate n 0) i ≡ 0
 zeros_at zero i = refl
@@ -30,7 +28,7 @@ module _ (declared new : List FlatVariable) (parts : Parts) (is_splitting : IsSp
   no_word y x d part i there is same =
       let below = slice_get_within declared y d (within y d there) in
       let behind = is_splitting.behind x part is in
-      omega (arith, below, behind, same)
+      omega arith
 
   -- one that stays is none that becomes words
   pub not_split : (x y : ℕ) (part : Part) → part_of parts x ≡ None → part_of parts y ≡ Some part → y ≡ x → ⊥
@@ -43,13 +41,11 @@ module _ (declared new : List FlatVariable) (parts : Parts) (is_splitting : IsSp
     plain = λ y e at_y stays. ap₂ (λ (a b : List ℕ). if y == x then a else b) same (alike.plain y e at_y stays);
     held = λ y e part at_y is.
         let old = alike.held y e part at_y is in
-        let left = with_value-other m x y v (not_split x y part none is) in
-        record {
-          count = ap length left ∙ old.count;
+        rw (with_value-other m x y v (not_split x y part none is)) (record {
+          count = old.count;
           each = λ i below.
-              with_value-other k x (part.base + i) w (λ e. no_word x y d part i there is (sym e))
-              ∙ (old.each i below ∙ ap (λ numbers. slice_index numbers i ∷ []) (sym left));
-        };
+              with_value-other k x (part.base + i) w (λ e. no_word x y d part i there is (sym e)) ∙ old.each i below;
+        });
   }
 
   -- an array's words are set, and no others
@@ -63,30 +59,22 @@ module _ (declared new : List FlatVariable) (parts : Parts) (is_splitting : IsSp
         others y (λ i below same. no_word y x e part i at_y is same)
         ∙ (alike.plain y e at_y stays
         ∙ sym (with_value-other m x y numbers (λ same. not_split y x part stays is (sym same))));
-    held = λ y e other at_y also. by_number y e other at_y also (y == x) refl;
+    held = λ y e other at_y also.
+        elim (cases_eq y x) [
+          inl here ↦
+              let one = same_Some part other (sym is ∙ (ap (part_of parts) (sym here) ∙ also)) in
+              rw (here, ← one, with_value-same m x numbers) (record { count = long; each = each })
+          | inr apart ↦
+              let old = alike.held y e other at_y also in
+              rw (with_value-other m x y numbers apart) (record {
+                count = old.count;
+                each = λ j inside.
+                    others (other.base + j)
+                    (λ i below same. apart (is_splitting.apart y x other part j i also is inside below same))
+                    ∙ old.each j inside;
+              })
+        ];
   }
-    where
-      by_number : (y : ℕ) (e : FlatVariable) (other : Part) → at y ≡ Some e → part_of parts y ≡ Some other
-          → (b : Bool) → (y == x) ≡ b → IsHeldIn other (with_value m x numbers y) l
-      by_number y e other at_y also true h =
-          let same = eqb-true y x h in
-          let one : part ≡ other = same_Some part other (sym is ∙ (ap (part_of parts) (sym same) ∙ also)) in
-          let now = here m x y numbers same in
-          subst (λ (p : Part). IsHeldIn p (with_value m x numbers y) l) one record {
-            count = ap length now ∙ long;
-            each = λ i below. each i below ∙ ap (λ ns. slice_index ns i ∷ []) (sym now);
-          }
-      by_number y e other at_y also false h =
-          let apart = eqb-false y x h in
-          let old = alike.held y e other at_y also in
-          let left = with_value-other m x y numbers apart in
-          record {
-            count = ap length left ∙ old.count;
-            each = λ j inside.
-                others (other.base + j)
-                (λ i below same. apart (is_splitting.apart y x other part j i also is inside below same))
-                ∙ (old.each j inside ∙ ap (λ ns. slice_index ns j ∷ []) (sym left));
-          }
 
   -- an element and its word are set
   pub word_set : (m k : Values) (x i v w : ℕ) (d : FlatVariable) (part : Part) → AreAlike at parts m k → at x ≡ Some d
@@ -94,23 +82,17 @@ module _ (declared new : List FlatVariable) (parts : Parts) (is_splitting : IsSp
       → AreAlike at parts (with_value m x (slice_set (m x) i v)) (with_value k (part.base + i) (w ∷ []))
   word_set m k x i v w d part alike there is below same =
       let old = alike.held x d part there is in
+      let long : i < length (m x) = omega arith in
       words_set m k (with_value k (part.base + i) (w ∷ [])) x part (slice_set (m x) i v) alike is
       (length-set (m x) i v ∙ old.count)
-      (λ j inside. by_number j inside (j == i) refl)
+      (λ j inside. elim (cases_eq j i) [
+        inl here ↦
+            rw (here, with_value-same k (part.base + i) (w ∷ []), get_or-set_same (m x) i v 0 long)
+            (ap (λ n. n ∷ []) same)
+        | inr apart ↦
+            rw (
+              with_value-other k (part.base + i) (part.base + j) (w ∷ []) (λ e. apart (omega arith)),
+              get_or-set_other (m x) i j v 0 apart,
+            ) (old.each j inside)
+      ])
       (λ z apart. with_value-other k (part.base + i) z (w ∷ []) (λ e. apart i below e))
-    where
-      by_number : (j : ℕ) → j < part.size → (b : Bool) → (j == i) ≡ b
-          → with_value k (part.base + i) (w ∷ []) (part.base + j) ≡ slice_index (slice_set (m x) i v) j ∷ []
-      by_number j inside true h =
-          let e = eqb-true j i h in
-          let held = alike.held x d part there is in
-          let long : i < length (m x) = omega (arith, below, held.count) in
-          here k (part.base + i) (part.base + j) (w ∷ []) (ap (λ n. part.base + n) e)
-          ∙ ap (λ n. n ∷ []) (same ∙ (sym (get_or-set_same (m x) i v 0 long)
-          ∙ ap (slice_index (slice_set (m x) i v)) (sym e)))
-      by_number j inside false h =
-          let apart = eqb-false j i h in
-          let held = alike.held x d part there is in
-          let elsewhere : part.base + j ≡ part.base + i → ⊥ = λ e. apart (omega (arith, e)) in
-          with_value-other k (part.base + i) (part.base + j) (w ∷ []) elsewhere
-          ∙ (held.each j inside ∙ ap (λ n. n ∷ []) (sym (get_or-set_other (m x) i j v 0 apart)))

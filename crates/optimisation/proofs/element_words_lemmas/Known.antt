@@ -4,14 +4,14 @@ use Rattle.std.proofs.Common.{◌≡◌, ℕ, ◌+◌, ◌<◌, Bool, true, fals
 use Rattle.std.proofs.Common.{Some, option_map, slice_get, ◌⊎◌, inl, inr, refl, sym, ap, ◌∙◌, subst}
 use Rattle.std.specs.Prelude.{nat_lt}
 use Rattle.std.proofs.lemmas.Bool.{ltb-true}
-use Rattle.std.proofs.lemmas.Option.{none-some}
+use Rattle.std.proofs.lemmas.Option.{cond_some, none-some}
 use Rattle.inline.specs.declared.flat.FlatVariable.{FlatVariable}
 use Rattle.inline.specs.Flat.{TermTree, number, element, counter_type, word_as, array_as}
-use Rattle.inline.specs.FlatTyping.{types_of, HasType, of_number, of_truth, of_variable, of_prefix, of_binary}
+use Rattle.inline.specs.FlatTyping.{HasType, of_number, of_truth, of_variable, of_prefix, of_binary}
 use Rattle.inline.specs.FlatTyping.{of_rotation, of_conversion, of_selection, of_element, AllSuit, IsResult}
 use Rattle.branch_removal.specs.Straight.{StraightTree, set, array, put, take, branch, repeats, StraightBlock, nothing}
 use Rattle.branch_removal.specs.Straight.{first}
-use Rattle.branch_removal.specs.StraightTyping.{IsFilled, IsPut, types_but, IsTyped, AreTyped}
+use Rattle.branch_removal.specs.StraightTyping.{IsFilled, IsPut, IsTyped, AreTyped}
 use Rattle.language.specs.declared.signature.Kind.{Kind}
 use Rattle.language.specs.declared.typing.WordType.{WordType}
 use Rattle.word.specs.declared.place.Place.{Place}
@@ -72,15 +72,11 @@ data IsKnownIndex (size : ℕ) : TermTree → Type 0 where
   is_number : {value : ℕ} {kind : Kind} → value < size → known_index size (number value kind) ≡ Some value
       → IsKnownIndex size (number value kind)
 
-known_here : (size value : ℕ) (kind : Kind) (i : ℕ) (b : Bool) → nat_lt value size ≡ b
-    → (if b then Some value else None) ≡ Some i → IsKnownIndex size (number value kind)
-known_here size value kind i true h is =
-    is_number (ltb-true value size h) (ap (λ (b : Bool). if b then Some value else None) h)
-known_here size value kind i false h is = absurd (none-some i is)
-
 known_index_is : (size : ℕ) (index : TermTree) (i : ℕ) → known_index size index ≡ Some i
     → IsKnownIndex size index
-known_index_is size (number value kind) i is = known_here size value kind i (nat_lt value size) refl is
+known_index_is size (number value kind) i is =
+    let fits = (cond_some (nat_lt value size) value i is).0 in
+    is_number (ltb-true value size fits) (ap (λ b. if b then Some value else None) fits)
 known_index_is size index i is = absurd (none-some i is)
 
 -- an array that becomes words has a known index
@@ -108,6 +104,12 @@ module _ (last : Parts) where
         word = found.word;
       }
 
+  is_known : (x : ℕ) (index : TermTree)
+      → ((part : Part) → part_of last x ≡ Some part → IsKnownIndex part.size index)
+      → (o : Option Part) → part_of last x ≡ o → IsKnown o index
+  is_known x index each None is = tt
+  is_known x index each (Some part) is = each part is
+
   -- a use of an array that stays whole, or is a word
   use_known : (parts : Parts) (x : ℕ) (index : TermTree) → IsBelow last (narrowed_at parts x index)
       → IsBelow last parts × IsKnown (part_of last x) index
@@ -115,21 +117,20 @@ module _ (last : Parts) where
     where
       by_word : (o : Option ℕ) → word_of parts x index ≡ o → IsBelow last (unless_word o parts x)
           → IsBelow last parts × IsKnown (part_of last x) index
-      by_word None same below = (still_below parts x below, by_part (part_of last x) refl)
-        where
-          by_part : (o : Option Part) → part_of last x ≡ o → IsKnown o index
-          by_part None is = tt
-          by_part (Some part) is =
-              let found = below x part is in absurd (whole_none parts x found.other found.there)
-      by_word (Some word) same below = (below, by_part (part_of last x) refl)
-        where
-          by_part : (o : Option Part) → part_of last x ≡ o → IsKnown o index
-          by_part None is = tt
-          by_part (Some part) is =
-              let found = below x part is in
-              subst (λ n. IsKnownIndex n index) (sym found.size)
-              (known_word found.other index word
-              (ap (λ (o : Option Part). word_in o index) (sym found.there) ∙ same))
+      by_word None same below = (
+        still_below parts x below,
+        is_known x index
+            (λ part is. let found = below x part is in absurd (whole_none parts x found.other found.there))
+            (part_of last x) refl,
+      )
+      by_word (Some word) same below = (
+        below,
+        is_known x index
+            (λ part is. let found = below x part is in
+            rw found.size (known_word found.other index word
+            (ap (λ (o : Option Part). word_in o index) (sym found.there) ∙ same)))
+            (part_of last x) refl,
+      )
 
   -- Expressions.
 

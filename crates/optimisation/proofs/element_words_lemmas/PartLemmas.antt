@@ -1,11 +1,11 @@
 -- Which arrays become words, and which words these are.
 use Rattle.std.proofs.Common.{◌≡◌, ℕ, zero, suc, ◌+◌, ◌-◌, ◌≤◌, ◌<◌, Bool, true, false, if◌then◌else◌, List, [], ◌∷◌}
-use Rattle.std.proofs.Common.{◌++◌, map, length, replicate, Option, None, Some, slice_get, ◌⊎◌, inl, inr, refl, sym}
+use Rattle.std.proofs.Common.{◌++◌, map, length, replicate, Option, None, Some, slice_get, inl, inr, refl, sym}
 use Rattle.std.proofs.Common.{ap, ap₂, ◌∙◌, subst, append_assoc, arith}
 use Rattle.std.specs.Prelude.{nat_le}
 use Rattle.std.proofs.lemmas.Bool.{cases_lt, cond_both, leb-true}
 use Rattle.std.proofs.lemmas.List.{length-replicate, length-append}
-use Rattle.std.proofs.lemmas.Option.{none-some, same_Some}
+use Rattle.std.proofs.lemmas.Option.{cond_some, none-some, same_Some}
 use Rattle.inline.specs.declared.flat.FlatVariable.{FlatVariable}
 use Rattle.inline.specs.Flat.{word_as, array_as}
 use Rattle.inline.specs.FlatSize.{declared_words}
@@ -63,14 +63,9 @@ found_array declared x part found array = record {
 sized_as : (word : WordType) (elements : Option ℕ) (part : Part) → sized word elements ≡ Some part
     → (word ≡ part.word) × (elements ≡ Some part.size)
 sized_as word None part is = absurd (none-some part is)
-sized_as word (Some size) part is = by_size (nat_le size most_elements_split) is
-  where
-    by_size : (b : Bool) → (if b then Some (part_at 0 size word) else None) ≡ Some part
-        → (word ≡ part.word) × (Some size ≡ Some part.size)
-    by_size true h =
-        let same = same_Some (part_at 0 size word) part h in
-        (ap (λ (p : Part). p.word) same, ap (λ (p : Part). Some p.size) same)
-    by_size false h = absurd (none-some part h)
+sized_as word (Some size) part is =
+    let same = (cond_some (nat_le size most_elements_split) (part_at 0 size word) part is).1 in
+    (ap (λ (p : Part). p.word) same, ap (λ (p : Part). Some p.size) same)
 
 candidate_as : (d : FlatVariable) (part : Part) → candidate d ≡ Some part
     → d ≡ array_as part.word d.mutable part.size
@@ -111,16 +106,16 @@ get_front (x ∷ xs) ys (suc i) d is = get_front xs ys i d is
 get_behind : (xs ys : List FlatVariable) (n i y : ℕ) → length xs ≡ n → y ≡ n + i
     → slice_get (xs ++ ys) y ≡ slice_get ys i
 get_behind [] ys n i y long place =
-    let same : y ≡ i = omega (arith, long, place) in
+    let same : y ≡ i = omega arith in
     ap (slice_get ys) same
-get_behind (x ∷ xs) ys n i zero long place = absurd (omega (arith, long, place))
-get_behind (x ∷ xs) ys n i (suc y) long place = get_behind xs ys (length xs) i y refl (omega (arith, long, place))
+get_behind (x ∷ xs) ys n i zero long place = absurd (omega arith)
+get_behind (x ∷ xs) ys n i (suc y) long place = get_behind xs ys (length xs) i y refl (omega arith)
 
 get_same : (n i : ℕ) (d : FlatVariable) (rest : List FlatVariable) → i < n
     → slice_get (replicate n d ++ rest) i ≡ Some d
-get_same zero i d rest below = absurd (omega (arith, below))
+get_same zero i d rest below = absurd (omega arith)
 get_same (suc n) zero d rest below = refl
-get_same (suc n) (suc i) d rest below = get_same n i d rest (omega (arith, below))
+get_same (suc n) (suc i) d rest below = get_same n i d rest (omega arith)
 
 -- arrays that get words from this number on, as long as there is room for so many
 pub data AreNumbered : ℕ → ℕ → Parts → Parts → Type 0 where
@@ -173,7 +168,7 @@ made (gets_words {base = base} {part = p} {made = more} fits rest) (suc x) part 
     let words = replicate p.size (word_as p.word true) in
     record {
       found = found_next (Some p) later.found;
-      from = omega (arith, later.from);
+      from = omega arith;
       words = λ front i y long below place.
           subst (λ xs. slice_get xs y ≡ Some (word_as part.word true)) (append_assoc front words (all_words more))
           (later.words (front ++ words) i y
@@ -185,14 +180,14 @@ made (gets_words {base = base} {part = p} {made = more} fits rest) (suc x) part 
 ordered : {base room : ℕ} {parts those : Parts} → AreNumbered base room parts those → (x y : ℕ) (part other : Part)
     → part_of those x ≡ Some part → part_of those y ≡ Some other → x < y → part.base + part.size ≤ other.base
 ordered no_parts x y part other is also before = absurd (none-some part is)
-ordered all x zero part other is also before = absurd (omega (arith, before))
+ordered all x zero part other is also before = absurd (omega arith)
 ordered (stays_whole rest) zero (suc y) part other is also before = absurd (none-some part is)
 ordered (gets_words fits rest) zero (suc y) part other is also before =
     omega (arith, ap (λ (q : Part). q.base + q.size) (same_Some _ part is), (made rest y other also).from)
 ordered (stays_whole rest) (suc x) (suc y) part other is also before =
-    ordered rest x y part other is also (omega (arith, before))
+    ordered rest x y part other is also (omega arith)
 ordered (gets_words fits rest) (suc x) (suc y) part other is also before =
-    ordered rest x y part other is also (omega (arith, before))
+    ordered rest x y part other is also (omega arith)
 
 -- there is room for all words
 pub within_room : {base room : ℕ} {parts those : Parts} → AreNumbered base room parts those
@@ -259,10 +254,10 @@ apart_by : {base room : ℕ} {parts those : Parts} → AreNumbered base room par
     → part.base + i ≡ other.base + j → x ≡ y
 apart_by all x y part other i j is also below within same =
     elim (cases_lt x y) [
-      | inl before ↦ absurd (omega (arith, ordered all x y part other is also before, same, below))
+      | inl before ↦ absurd (omega (arith, ordered all x y part other is also before))
       | inr from ↦ elim (cases_lt y x) [
-        | inl behind ↦ absurd (omega (arith, ordered all y x other part also is behind, same, within))
-        | inr to ↦ omega (arith, from, to)
+        | inl behind ↦ absurd (omega (arith, ordered all y x other part also is behind))
+        | inr to ↦ omega (arith, from)
       ]
     ]
 

@@ -1,11 +1,10 @@
 -- The words are of their array's type: code with them is well typed where the code is.
-use Rattle.std.proofs.Common.{◌≡◌, ℕ, ◌+◌, ◌<◌, ◌==◌, Bool, true, false, if◌then◌else◌, List, Option, None, Some}
-use Rattle.std.proofs.Common.{slice_get, ap, ◌∙◌, arith}
+use Rattle.std.proofs.Common.{◌≡◌, ℕ, ◌+◌, ◌<◌, ◌==◌, Bool, true, false, if◌then◌else◌, List, None, Some}
+use Rattle.std.proofs.Common.{slice_get, ◌∙◌, arith}
 use Rattle.std.proofs.lemmas.Bool.{cond-false, ne_eqb}
 use Rattle.std.proofs.lemmas.Option.{none-some, slice_get_within}
 use Rattle.inline.specs.declared.flat.FlatVariable.{FlatVariable}
 use Rattle.inline.specs.Flat.{word_as, array_as, counter_type}
-use Rattle.language.specs.declared.typing.WordType.{WordType}
 use Rattle.optimisation.specs.declared.element_words.parts.Part.{Part}
 use Rattle.optimisation.specs.element_words.private.Parts.{Parts, part_of}
 use Rattle.optimisation.proofs.element_words_lemmas.PartLemmas.{IsSplitting}
@@ -28,7 +27,7 @@ module _ (declared new : List FlatVariable) (parts : Parts) (is_splitting : IsSp
   but_words x d there y part i is below =
       let inside = slice_get_within declared x d there in
       let behind = is_splitting.behind y part is in
-      let apart : part.base + i ≡ x → ⊥ = λ same. omega (arith, same, inside, behind) in
+      let apart : part.base + i ≡ x → ⊥ = λ same. omega arith in
       cond-false (part.base + i == x) None (slice_get new (part.base + i)) (ne_eqb (part.base + i) x apart)
       ∙ is_splitting.words y part i is below
 

@@ -13,7 +13,6 @@ use Rattle.inline.specs.FlatMeaning.{Values, given, array_of, arrays_from}
 use Rattle.inline.specs.FlatSize.{declared_words}
 use Rattle.inline.specs.Limits.{most_variable_bytes}
 use Rattle.language.specs.declared.signature.Param.{Param}
-use Rattle.language.specs.declared.typing.WordType.{WordType}
 use Rattle.language.specs.declared.values.Arg.{Arg}
 use Rattle.branch_removal.specs.Kept.{IsStraight}
 use Rattle.branch_removal.specs.Replaced.{IsReplaced}
@@ -40,6 +39,7 @@ use Rattle.optimisation.proofs.over_lemmas.Sizes.{less_all, result_no_larger}
 use Rattle.optimisation.proofs.over_lemmas.Types.{still_all, still_result}
 use Rattle.optimisation.proofs.over_lemmas.Values.{both, IsResultAlike, result_alike}
 use Rattle.optimisation.proofs.over_lemmas.Beside.{AreBeside, Follows}
+use Rattle.optimisation.proofs.over_lemmas.Whole.{is_replaced}
 
 -- What the variables hold at first.
 
@@ -79,15 +79,15 @@ same_arrays : (x : ℕ) (params : List Param) (m k : Values)
 same_arrays x [] m k same = refl
 same_arrays x (p ∷ params) m k same =
     ap₂ (λ (a b : List (List ℕ)). a ++ b) (ap (array_of p.form) (same x (omega arith) (omega arith)))
-    (same_arrays (x + 1) params m k (λ y from to. same y (omega (arith, from)) (omega (arith, to))))
+    (same_arrays (x + 1) params m k (λ y from to. same y (omega arith) (omega arith)))
 
 -- what is within a front of a list is there
 front_there : (n : ℕ) (declared : List FlatVariable) (y : ℕ) → y < length (first_of n declared)
     → (d : FlatVariable) × (slice_get declared y ≡ Some d)
-front_there zero declared y below = absurd (omega (arith, below))
-front_there (suc n) [] y below = absurd (omega (arith, below))
+front_there zero declared y below = absurd (omega arith)
+front_there (suc n) [] y below = absurd (omega arith)
 front_there (suc n) (d ∷ declared) zero below = (d, refl)
-front_there (suc n) (d ∷ declared) (suc y) below = front_there n declared y (omega (arith, below))
+front_there (suc n) (d ∷ declared) (suc y) below = front_there n declared y (omega arith)
 
 module _ (p : StraightProgram) (is_straight : IsStraight p) (parts : Parts)
     (is_splitting : IsSplitting p.declared (p.declared ++ all_words parts) parts)
@@ -110,33 +110,6 @@ module _ (p : StraightProgram) (is_straight : IsStraight p) (parts : Parts)
       let within : length p.parameters ≤ length p.declared =
       omega (arith, parameters_there, length-take (length p.parameters) p.declared) in
       take-append-le (length p.parameters) p.declared (all_words parts) within ∙ is_straight.typed.parameters
-
-  pub still_straight : IsStraight made_of
-  still_straight =
-      let keeps = keeps_declared p.declared new parts is_splitting in
-      let code = still_all p.profile new p.controls p.declared keeps body_becomes is_straight.typed.body
-      is_straight.typed.hidden in
-      let size = less_all p.turns
-      (λ x size part split. (part_word p.declared new parts is_splitting (λ y. slice_get p.declared y)
-      (λ y d there. there) x split.word split.mutable size part split.known split.is).1) body_becomes in
-      let value = result_no_larger value_becomes in
-      record {
-        typed = record {
-          parameters = still_first;
-          body = code.typed;
-          hidden = code.hidden;
-          result = still_result p.profile keeps.outer p.returned value_becomes is_straight.typed.result;
-        };
-        bounded = record {
-          lengths = is_straight.bounded.lengths;
-          parameters = is_straight.bounded.parameters;
-          declared = room;
-          nodes = is_straight.bounded.nodes;
-          worked = omega (arith, is_straight.bounded.worked);
-          work_fits = is_straight.bounded.work_fits;
-          framed = omega (arith, is_straight.bounded.framed);
-        };
-      }
 
   module _ (args : List Arg) (within : AreWithin p.parameters args) where
     few : length args ≡ length p.parameters
@@ -178,12 +151,12 @@ module _ (p : StraightProgram) (is_straight : IsStraight p) (parts : Parts)
 
     parameter_stays : (y : ℕ) → y < length p.parameters → (o : Option Part) → part_of parts y ≡ o → o ≡ None
     parameter_stays y below None same = refl
-    parameter_stays y below (Some part) same = absurd (omega (arith, behind y part same, below))
+    parameter_stays y below (Some part) same = absurd (omega (arith, behind y part same))
 
     same_parameters : (y : ℕ) → 0 ≤ y → y < 0 + length p.parameters → end_of made_of args y ≡ end_of p args y
     same_parameters y from to =
-        let there = front_there (length p.parameters) p.declared y (omega (arith, to, parameters_there)) in
-        ends.beside.variables.plain y there.0 there.1 (parameter_stays y (omega (arith, to)) (part_of parts y) refl)
+        let there = front_there (length p.parameters) p.declared y (omega (arith, parameters_there)) in
+        ends.beside.variables.plain y there.0 there.1 (parameter_stays y (omega arith) (part_of parts y) refl)
 
     same_outcome : outcome_of made_of args ≡ outcome_of p args
     same_outcome =
@@ -191,17 +164,26 @@ module _ (p : StraightProgram) (is_straight : IsStraight p) (parts : Parts)
         (same_arrays 0 p.parameters (end_of p args) (end_of made_of args) same_parameters)
 
   pub replaced_by : IsReplaced p made_of
-  replaced_by = record {
-    profile = refl;
-    parameters = refl;
-    returned = refl;
-    nodes = refl;
-    work = refl;
-    turns = refl;
-    straight = still_straight;
-    outcome = λ args within. same_outcome args within;
-    fine = λ args within. (both p.turns (ends args within).path (result args within).path).fine;
-  }
+  replaced_by =
+      let keeps = keeps_declared p.declared new parts is_splitting in
+      let code = still_all p.profile new p.controls p.declared keeps body_becomes is_straight.typed.body
+      is_straight.typed.hidden in
+      is_replaced p new (split_all parts p.body) (option_map (split parts) p.value) is_straight.bounded
+      (record {
+        parameters = still_first;
+        body = code.typed;
+        hidden = code.hidden;
+        result = still_result p.profile keeps.outer p.returned value_becomes is_straight.typed.result;
+      })
+      room
+      (less_all p.turns (λ x size part split. (part_word p.declared new parts is_splitting
+      (λ y. slice_get p.declared y) (λ y d there. there) x split.word split.mutable size part split.known split.is).1)
+      body_becomes)
+      (result_no_larger value_becomes)
+      (λ args within. (
+        same_outcome args within,
+        both p.turns (ends args within).path (result args within).path,
+      ))
 
 -- The arrays that are chosen.
 
@@ -241,18 +223,21 @@ replaced_chosen : (p : StraightProgram) → IsStraight p → (b : Bool)
     }) p)
 replaced_chosen p is_straight true =
     replaced_of p is_straight [] (λ x part is. absurd (none-some part is)) (no_splitting p.declared)
-    (omega (arith, words-append p.declared [], is_straight.bounded.declared))
+    (omega (arith, words-append p.declared []))
 replaced_chosen p is_straight false =
     let room = room_beside p.declared in
     let all = numbered (length p.declared) room (used_parts p) in
-    let one = words-append p.declared (all_words all) in
-    let two = one_word_each all in
     let numbers = are_numbered (length p.declared) room (used_parts p) in
-    let three = within_room numbers in
     replaced_of p is_straight all (λ x part is. (made numbers x part is).found)
     (splitting p.declared room (used_parts p)
     (λ x part is. (was_candidate p is_straight (used_parts p) below_itself x part is).1))
-    (omega (arith, one, two, three, is_straight.bounded.declared))
+    (omega (
+      arith,
+      words-append p.declared (all_words all),
+      one_word_each all,
+      within_room numbers,
+      is_straight.bounded.declared,
+    ))
 
 pub replaced : (p : StraightProgram) → IsStraight p → IsReplaced p (split_program p)
 replaced p is_straight = replaced_chosen p is_straight (nat_lt most_variable_words (length p.declared))
@@ -264,8 +249,4 @@ pub as_split : (p : StraightProgram) (plan : WordPlan) (declared : List FlatVari
     → code ≡ split_all parts body → given ≡ p.value → value ≡ option_map (split parts) given
     → with_variables p declared code value ≡ split_program p
 as_split p plan declared parts body code given value is variables table whole made_code result made_value =
-    ap₂ (λ (ds : List FlatVariable) (v : Option TermTree). with_variables p ds code v) variables
-    (made_value ∙ ap₂ (λ (ps : Parts) (v : Option TermTree). option_map (split ps) v) table result)
-    ∙ (ap (λ c. with_variables p plan.declared c (option_map (split plan.parts) p.value))
-    (made_code ∙ ap₂ split_all table whole)
-    ∙ ap (λ (w : WordPlan). split_by w p) is)
+    rw (variables, made_code, made_value, result, whole, table, is) refl

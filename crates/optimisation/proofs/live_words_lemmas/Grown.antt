@@ -2,9 +2,7 @@
 use Rattle.std.proofs.Common.{ℕ, length, None, Some}
 use Rattle.branch_removal.specs.Straight.{StraightTree, set, array, put, take, branch, repeats, StraightBlock, nothing}
 use Rattle.branch_removal.specs.Straight.{first}
-use Rattle.inline.specs.Flat.{TermTree}
-use Rattle.optimisation.specs.live_words.private.Held.{Table, Done, Held, living_where}
-use Rattle.optimisation.specs.live_words.private.Terms.{reading}
+use Rattle.optimisation.specs.live_words.private.Held.{Table, Done, Held}
 use Rattle.optimisation.specs.live_words.private.Gathering.{gathered, gathered_all, done_after, with_done, none_done}
 use Rattle.optimisation.specs.live_words.private.Gathering.{at_head}
 use Rattle.optimisation.proofs.live_words_lemmas.HeldLemmas.{Grows, grows_same, grows_on, grows_where}

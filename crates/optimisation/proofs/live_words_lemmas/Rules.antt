@@ -1,7 +1,7 @@
 -- Code over the variables that words live in is code over other variables, where sharing fits; and where it fits behind
 -- some code, it fits before.
 use Rattle.std.proofs.Common.{◌≡◌, ℕ, ◌==◌, ◌&&◌, not, Bool, true, false, if◌then◌else◌, List, [], ◌∷◌, map, Option}
-use Rattle.std.proofs.Common.{None, Some, option_map, refl, ap}
+use Rattle.std.proofs.Common.{None, Some, option_map, refl}
 use Rattle.std.proofs.lemmas.Bool.{and_parts, eqb-true, not-true}
 use Rattle.inline.specs.Flat.{TermTree, number, truth, variable, prefix, binary, rotate, convert, select, element}
 use Rattle.branch_removal.specs.Straight.{StraightTree, set, array, put, take, branch, repeats, StraightBlock, nothing}
@@ -9,7 +9,7 @@ use Rattle.branch_removal.specs.Straight.{first, chain}
 use Rattle.branch_removal.specs.Quiet.{is_quiet}
 use Rattle.optimisation.specs.live_words.private.Held.{Table, Held, share, is_live, is_free, anew, living, setting}
 use Rattle.optimisation.specs.live_words.private.Held.{counting, joined, covers}
-use Rattle.optimisation.specs.live_words.private.Terms.{reading, reading_all, renamed, is_dead}
+use Rattle.optimisation.specs.live_words.private.Terms.{reading, renamed, is_dead}
 use Rattle.optimisation.specs.live_words.private.Gathering.{at_head}
 use Rattle.optimisation.specs.live_words.private.Sharing.{setting_within, before_put, closed, before_bounds, before}
 use Rattle.optimisation.specs.live_words.private.Sharing.{before_all, in_front, shared, shared_all}

@@ -1,17 +1,17 @@
 -- Code over the variables that words live in, run beside the code: what is live stays alike, and its path is fine where
 -- that of the code is.
-use Rattle.std.proofs.Common.{◌≡◌, ℕ, ◌+◌, ◌==◌, Bool, true, false, if◌then◌else◌, List, [], ◌∷◌, map, Option, None}
-use Rattle.std.proofs.Common.{Some, slice_set, refl, sym, ap, ap₂, subst, arith}
+use Rattle.std.proofs.Common.{◌≡◌, ℕ, ◌==◌, Bool, true, false, if◌then◌else◌, List, [], ◌∷◌, map, Option, None}
+use Rattle.std.proofs.Common.{Some, slice_set, refl, ap, subst, arith}
 use Rattle.inline.specs.Flat.{TermTree}
 use Rattle.inline.specs.FlatMeaning.{Values}
 use Rattle.branch_removal.specs.Straight.{StraightTree, set, array, put, take, branch, repeats, StraightBlock, nothing}
 use Rattle.branch_removal.specs.Straight.{first}
 use Rattle.branch_removal.specs.StraightMeaning.{StraightState, holds, with_variable, value_at, counted}
-use Rattle.optimisation.specs.live_words.private.Held.{Table, Holders, Held, share, holder, is_live, anew, fitting}
+use Rattle.optimisation.specs.live_words.private.Held.{Table, Holders, Held, share, is_live, anew, fitting}
 use Rattle.optimisation.specs.live_words.private.Held.{living, setting, counting, joined}
 use Rattle.optimisation.specs.live_words.private.Terms.{reading, reading_all, renamed, is_dead}
 use Rattle.optimisation.specs.live_words.private.Gathering.{at_head}
-use Rattle.optimisation.specs.live_words.private.Sharing.{setting_within, before_put, closed, before, before_all}
+use Rattle.optimisation.specs.live_words.private.Sharing.{setting_within, closed, before, before_all}
 use Rattle.optimisation.specs.live_words.private.Sharing.{in_front, shared, shared_all}
 use Rattle.optimisation.proofs.live_words_lemmas.HeldLemmas.{Grows, grows_same, grows_holding, grows_joined}
 use Rattle.optimisation.proofs.live_words_lemmas.HeldLemmas.{joined_holds, covers_holds, AreAlike, alike_before}

@@ -1,5 +1,5 @@
 -- What an expression reads is live before it is computed.
-use Rattle.std.proofs.Common.{◌≡◌, ℕ, Bool, true, false, List, [], ◌∷◌, map, Option, Some, refl, sym}
+use Rattle.std.proofs.Common.{◌≡◌, true, false, List, [], ◌∷◌, map, Some, refl, sym}
 use Rattle.inline.specs.Flat.{TermTree, number, truth, variable, prefix, binary, rotate, convert, select, element}
 use Rattle.inline.specs.FlatMeaning.{Values}
 use Rattle.optimisation.specs.live_words.private.Held.{Table, Done, Held, share, holder, is_done, living_where}

@@ -1,5 +1,5 @@
 -- Words live in words of their type: code over the variables that words live in is well typed where the code is.
-use Rattle.std.proofs.Common.{◌≡◌, ℕ, ◌==◌, Bool, true, false, if◌then◌else◌, List, Option, None, Some, slice_get}
+use Rattle.std.proofs.Common.{◌≡◌, ℕ, ◌==◌, Bool, true, false, if◌then◌else◌, List, None, Some, slice_get}
 use Rattle.std.proofs.Common.{◌⊎◌, inl, inr, refl, sym, ap, ◌∙◌}
 use Rattle.std.proofs.lemmas.Bool.{ne_eqb, eqb-false}
 use Rattle.std.proofs.lemmas.Option.{none-some, same_Some}
@@ -8,7 +8,7 @@ use Rattle.inline.specs.Flat.{word_as, array_as}
 use Rattle.language.specs.declared.typing.WordType.{WordType}
 use Rattle.optimisation.specs.live_words.private.Held.{Table, share}
 use Rattle.optimisation.proofs.live_words_lemmas.Rules.{places, layout}
-use Rattle.optimisation.proofs.over_lemmas.Types.{but, KeepsTypes, KeepsDeclared}
+use Rattle.optimisation.proofs.over_lemmas.Types.{but, but_apart, but_within, KeepsTypes, KeepsDeclared}
 
 -- a word, and the variable that it lives in: a word of the same type
 pub record IsAlike (declared : List FlatVariable) (x v : ℕ) : Type 0 where
@@ -60,11 +60,6 @@ module _ (table : Table) (declared : List FlatVariable) (kept : IsKept table dec
   -- so are the variables but for an array
   module _ (x : ℕ) (word : WordType) (mutable : Bool) (size : ℕ)
       (is : slice_get declared x ≡ Some (array_as word mutable size)) where
-    but_apart : (b : Bool) (y : ℕ) (d : FlatVariable) → (if b then None else slice_get declared y) ≡ Some d
-        → (b ≡ false) × (slice_get declared y ≡ Some d)
-    but_apart true y d at = absurd (none-some d at)
-    but_apart false y d at = (refl, at)
-
     own : share table x ≡ x
     own = by_array x word mutable size is (kept x)
 
@@ -77,7 +72,7 @@ module _ (table : Table) (declared : List FlatVariable) (kept : IsKept table dec
     but_words : (y : ℕ) (other : WordType) (m : Bool) → but declared x y ≡ Some (word_as other m)
         → (n : Bool) × (but declared (share table x) (share table y) ≡ Some (word_as other n))
     but_words y other m at =
-        let there = by_word y other m (but_apart (y == x) y (word_as other m) at).1 (kept y) in (
+        let there = by_word y other m (but_within declared x y (word_as other m) at) (kept y) in (
           there.0,
           still_but y (word_as other there.0)
               (λ same. word_array declared x other word there.0 mutable size
@@ -88,10 +83,10 @@ module _ (table : Table) (declared : List FlatVariable) (kept : IsKept table dec
     but_arrays : (y : ℕ) (other : WordType) (m : Bool) (n : ℕ) → but declared x y ≡ Some (array_as other m n)
         → but declared (share table x) (share table y) ≡ Some (array_as other m n)
     but_arrays y other m n at =
-        let apart = but_apart (y == x) y (array_as other m n) at in
-        let here = by_array y other m n apart.1 (kept y) in
-        still_but y (array_as other m n) (λ same. eqb-false y x apart.0 (sym here ∙ same))
-        (ap (slice_get declared) here ∙ apart.1)
+        let there = but_within declared x y (array_as other m n) at in
+        let here = by_array y other m n there (kept y) in
+        still_but y (array_as other m n) (λ same. but_apart declared x y (array_as other m n) at (sym here ∙ same))
+        (ap (slice_get declared) here ∙ there)
 
     inner_kept : KeepsTypes (but declared x) (but declared (share table x)) (places table)
     inner_kept = record {

@@ -12,7 +12,7 @@ use Rattle.language.specs.declared.values.Arg.{Arg}
 use Rattle.language.specs.Typing.{is_mutable}
 use Rattle.language.specs.Size.{array_words}
 use Rattle.language.specs.declared.signature.Kind.{Kind}
-use Rattle.language.specs.declared.signature.Kind.TheVariants.{Boolean, Uint8, Uint16, Uint32}
+use Rattle.language.specs.declared.signature.Kind.TheVariants.{Boolean}
 use Rattle.language.specs.declared.typing.WordType.{WordType}
 use Rattle.std.specs.List.{AllByRecursion}
 use Rattle.inline.specs.FlatSize.{HasLength, words_by, declared_words}
@@ -40,6 +40,7 @@ use Rattle.optimisation.proofs.over_lemmas.Sizes.{less_all, result_no_larger}
 use Rattle.optimisation.proofs.over_lemmas.Types.{still_all, still_result}
 use Rattle.optimisation.proofs.over_lemmas.Values.{same_path, both, IsResultAlike}
 use Rattle.optimisation.proofs.over_lemmas.Beside.{Follows}
+use Rattle.optimisation.proofs.over_lemmas.Whole.{is_replaced}
 
 -- an array is a result where it may be changed
 same_array : (form : Form) (one other : List ℕ) → (is_mutable form ≡ true → one ≡ other)
@@ -134,44 +135,21 @@ module _ (table : Table) where
           ap₂ (λ (r : Option ℕ) (a : List (List ℕ)). record { returned = r; arrays = a }) result.value
           (same_arrays 0 p.parameters held (ready_before table (grows_any results p.value) last))
 
-    module _ (straight : IsStraight p) (words_kept : IsKept table p.declared) where
-      still_straight : IsStraight (over table held p)
-      still_straight =
-          let keeps = keeps_declared table p.declared words_kept in
-          let typed = still_all p.profile p.declared p.controls p.declared keeps end_fits.1 straight.typed.body
-          straight.typed.hidden in
-          let size = less_all p.turns (λ x size part never. absurd never) end_fits.1 in
-          let value = result_no_larger (over_result table p.value) in
-          record {
-            typed = record {
-              parameters = straight.typed.parameters;
-              body = typed.typed;
-              hidden = typed.hidden;
-              result = still_result p.profile keeps.outer p.returned (over_result table p.value) straight.typed.result;
-            };
-            bounded = record {
-              lengths = straight.bounded.lengths;
-              parameters = straight.bounded.parameters;
-              declared = straight.bounded.declared;
-              nodes = straight.bounded.nodes;
-              worked = omega (arith, straight.bounded.worked);
-              work_fits = straight.bounded.work_fits;
-              framed = omega (arith, straight.bounded.framed);
-            };
-          }
-
-      pub shared_replaced : IsReplaced p (over table held p)
-      shared_replaced = record {
-        profile = refl;
-        parameters = refl;
-        returned = refl;
-        nodes = refl;
-        work = refl;
-        turns = refl;
-        straight = still_straight;
-        outcome = λ args within. same_outcome args;
-        fine = λ args within. (both p.turns (runs args).path (result args).path).fine;
-      }
+    pub shared_replaced : IsStraight p → IsKept table p.declared → IsReplaced p (over table held p)
+    shared_replaced straight words_kept =
+        let keeps = keeps_declared table p.declared words_kept in
+        let typed = still_all p.profile p.declared p.controls p.declared keeps end_fits.1 straight.typed.body
+        straight.typed.hidden in
+        is_replaced p p.declared code (option_map (renamed table) p.value) straight.bounded
+        (record {
+          parameters = straight.typed.parameters;
+          body = typed.typed;
+          hidden = typed.hidden;
+          result = still_result p.profile keeps.outer p.returned (over_result table p.value) straight.typed.result;
+        })
+        straight.bounded.declared (less_all p.turns (λ x size part never. absurd never) end_fits.1)
+        (result_no_larger (over_result table p.value))
+        (λ args within. (same_outcome args, both p.turns (runs args).path (result args).path))
 
 -- Where it does not, the program stays as it is.
 
@@ -186,17 +164,10 @@ same_program held p is =
     same_any_value (Some value) = ap Some (same_term value)
 
 pub itself : (p : StraightProgram) → IsStraight p → IsReplaced p p
-itself p straight = record {
-  profile = refl;
-  parameters = refl;
-  returned = refl;
-  nodes = refl;
-  work = refl;
-  turns = refl;
-  straight = straight;
-  outcome = λ args within. refl;
-  fine = λ args within fine. fine;
-}
+itself p straight =
+    is_replaced p p.declared p.body p.value straight.bounded straight.typed straight.bounded.declared
+    (record { worked = omega arith; low = omega arith; shallow = omega arith })
+    (record { nodes = omega arith; height = omega arith }) (λ args within. (refl, same_path p.turns))
 
 pub unshared : (p : StraightProgram) → over [] (fitting (nothing_live p 0) false) p ≡ p
 unshared p = same_program (fitting (nothing_live p 0) false) p refl
@@ -223,10 +194,8 @@ module _ (table : Table) (p : StraightProgram) where
 -- There are few parameters: each takes a word at least.
 
 some_words : (kind : Kind) (n : ℕ) → 1 ≤ n → 1 ≤ array_words kind n
-some_words Boolean n some = omega (arith, some)
-some_words Uint8 n some = omega (arith, some)
-some_words Uint16 n some = omega (arith, some)
-some_words Uint32 n some = omega (arith, some)
+some_words Boolean n some = omega arith
+some_words kind n some = omega arith
 
 a_word : (form : Form) (word : WordType) (n : ℕ) → HasLength form n → 1 ≤ words_by word (elements_by form n)
 a_word SingleWord word n is = omega arith
@@ -245,4 +214,4 @@ each_a_word (p ∷ ps) all =
 
 pub few_parameters : (p : StraightProgram) → IsStraight p → length p.parameters < 2 ^ 32
 few_parameters p straight =
-    omega (arith, each_a_word p.parameters straight.bounded.lengths, straight.bounded.parameters)
+    omega (arith, each_a_word p.parameters straight.bounded.lengths)

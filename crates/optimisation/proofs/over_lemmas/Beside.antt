@@ -1,11 +1,11 @@
 -- Two runs side by side: what their variables hold goes together, and the path of the second is fine where that of the
 -- first is.
-use Rattle.std.proofs.Common.{◌≡◌, ℕ, zero, suc, ◌+◌, ◌-◌, ◌==◌, ◌&&◌, not, Bool, true, false, if◌then◌else◌, List, []}
-use Rattle.std.proofs.Common.{◌∷◌, ◌++◌, Option, None, Some, refl, sym, ap, ap₂, ◌∙◌, subst}
+use Rattle.std.proofs.Common.{◌≡◌, ℕ, zero, suc, ◌+◌, ◌-◌, ◌==◌, ◌&&◌, not, Bool, true, false, if◌then◌else◌, List}
+use Rattle.std.proofs.Common.{◌∷◌, Option, None, Some, refl, ap, ap₂, ◌∙◌}
 use Rattle.inline.specs.Flat.{TermTree}
-use Rattle.inline.specs.FlatMeaning.{Values, path_in, turns, path_of_turns}
-use Rattle.inline.specs.Path.{Path, AreFine, decided, bounded}
-use Rattle.branch_removal.specs.Straight.{StraightTree, branch, repeats, StraightBlock, nothing, first, chain}
+use Rattle.inline.specs.FlatMeaning.{Values, turns, path_of_turns}
+use Rattle.inline.specs.Path.{Path, decided, bounded}
+use Rattle.branch_removal.specs.Straight.{StraightTree, branch, repeats, StraightBlock, first, chain}
 use Rattle.branch_removal.specs.StraightMeaning.{StraightState, holds, with_controls, value_at, counted, after}
 use Rattle.branch_removal.specs.StraightMeaning.{after_all, path_at, path_along}
 use Rattle.branch_removal.proofs.Sequences.{after-chain, path-chain}

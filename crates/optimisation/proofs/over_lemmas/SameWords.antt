@@ -1,5 +1,5 @@
 -- What two words of one type are.
-use Rattle.std.proofs.Common.{◌≡◌, ℕ, ◌&&◌, Bool, true, false, Option, None, Some, refl}
+use Rattle.std.proofs.Common.{◌≡◌, ℕ, ◌&&◌, true, Option, None, Some, refl}
 use Rattle.std.proofs.lemmas.Bool.{and_parts, false≢true}
 use Rattle.inline.specs.declared.flat.FlatVariable.{FlatVariable}
 use Rattle.inline.specs.Flat.{word_as}

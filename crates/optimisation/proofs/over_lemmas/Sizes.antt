@@ -1,5 +1,5 @@
 -- Code over other variables is no more work than the code, and needs no more of a frame.
-use Rattle.std.proofs.Common.{◌≡◌, ℕ, zero, suc, ◌+◌, ◌*◌, ◌≤◌, List, [], ◌∷◌, Option, None, max, slice_index, arith}
+use Rattle.std.proofs.Common.{◌≡◌, ℕ, zero, suc, ◌+◌, ◌≤◌, List, [], ◌∷◌, Option, None, max, slice_index, arith}
 use Rattle.std.proofs.Math.Nat.{mul-le-mul_left}
 use Rattle.inline.specs.Flat.{TermTree, number}
 use Rattle.inline.specs.FlatSize.{term_nodes, terms_nodes, value_nodes}

@@ -1,6 +1,7 @@
 -- Code over other variables is well typed where the code is, and sets only what is secret within a control value.
 use Rattle.std.proofs.Common.{◌≡◌, ℕ, zero, suc, ◌+◌, ◌<◌, ◌==◌, Bool, true, false, if◌then◌else◌, List, [], ◌∷◌, drop}
-use Rattle.std.proofs.Common.{length, Option, None, Some, slice_get, refl, sym, ap, ◌∙◌, subst, arith}
+use Rattle.std.proofs.Common.{length, Option, None, Some, slice_get, refl, sym, ap, ◌∙◌, arith}
+use Rattle.std.proofs.lemmas.Bool.{cond-true, eq-eqb}
 use Rattle.std.proofs.lemmas.Option.{none-some, same_Some}
 use Rattle.inline.specs.declared.flat.FlatVariable.{FlatVariable}
 use Rattle.inline.specs.Flat.{TermTree, word_as, array_as, counter_type}
@@ -9,7 +10,7 @@ use Rattle.inline.specs.FlatTyping.{of_rotation, of_conversion, of_selection, of
 use Rattle.inline.specs.FlatTyping.{IsResult}
 use Rattle.inline.proofs.Face.{some_bit}
 use Rattle.branch_removal.specs.Straight.{StraightTree, set, StraightBlock, nothing, first, chain}
-use Rattle.branch_removal.specs.StraightTyping.{types_but, IsAmong, IsTyped, AreTyped, IsHidden, AreHidden}
+use Rattle.branch_removal.specs.StraightTyping.{IsAmong, IsTyped, AreTyped, IsHidden, AreHidden}
 use Rattle.branch_removal.specs.StraightTyping.{IsSecretWithin}
 use Rattle.language.specs.declared.signature.Label.TheVariants.{Public}
 use Rattle.language.specs.declared.typing.WordType.{WordType}
@@ -34,6 +35,10 @@ but_within declared x y d = by_number (y == x)
     by_number : (b : Bool) → (if b then None else slice_get declared y) ≡ Some d → slice_get declared y ≡ Some d
     by_number true h = absurd (none-some d h)
     by_number false h = h
+
+pub but_apart : (declared : List FlatVariable) (x y : ℕ) (d : FlatVariable) → but declared x y ≡ Some d → y ≡ x → ⊥
+but_apart declared x y d there same =
+    none-some d (sym (cond-true (y == x) None (slice_get declared y) (eq-eqb y x same)) ∙ there)
 
 -- a variable has the type of the one that it takes the place of
 pub record KeepsTypes (old new : ℕ → Option FlatVariable) (p : Places) : Type 0 where
@@ -170,7 +175,7 @@ module _ (profile : Profile) (new : List FlatVariable) (controls : ℕ) where
   words_typed (suc n) base word values are suit =
       let here = first_suits word values suit in
       let rest = words_typed n (base + 1) word (drop 1 values)
-      (λ i below. ap (slice_get new) (omega arith) ∙ are (i + 1) (omega (arith, below))) here.1 in
+      (λ i below. ap (slice_get new) (omega arith) ∙ are (i + 1) (omega arith)) here.1 in
       let known : slice_get new base ≡ Some (word_as word true) =
       ap (slice_get new) (omega arith) ∙ are 0 (omega arith) in
       record {

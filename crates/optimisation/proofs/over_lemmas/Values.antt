@@ -1,6 +1,6 @@
 -- An expression over other variables has the value that the expression has, where they hold the same, and its path is
 -- fine where that one's is.
-use Rattle.std.proofs.Common.{◌≡◌, ℕ, ◌<◌, ◌==◌, if◌then◌else◌, List, [], ◌∷◌, ◌++◌, map, Option, None, Some}
+use Rattle.std.proofs.Common.{◌≡◌, ℕ, List, [], ◌∷◌, ◌++◌, map, Option, Some}
 use Rattle.std.proofs.Common.{option_map, slice_index, refl, sym, ap, ap₂, subst}
 use Rattle.inline.specs.Flat.{TermTree, prefix, binary, rotate, convert, select, element}
 use Rattle.inline.specs.FlatMeaning.{Values, value_in, elements, path_in, path_in_all, marks_of, path_of_result}

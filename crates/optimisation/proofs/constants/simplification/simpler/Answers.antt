@@ -1,5 +1,5 @@
 use Rattle.std.proofs.Common.{refl}
-use Rattle.optimisation.proofs.constants_lemmas.Whole.{still_straight, replaced}
+use Rattle.optimisation.proofs.constants_lemmas.Whole.{replaced}
 use Rattle.optimisation.proofs.constants.simplification.simpler.Goals as goal
 
 -- What is built is the simpler program, by what each call ensures.
@@ -15,7 +15,7 @@ with_body-requires c =
       c.body.ensures.body,
       c.declared-declared.ensures,
       c.new-code.ensures.items,
-    ) (still_straight c.args.copies.now c.args.straight.now c.body.ensures.kept c.requires)
+    ) (replaced c.args.copies.now c.args.straight.now c.body.ensures.kept c.requires).straight
 
 pub returns-clause-exact : goal.returns-clause-exact
 returns-clause-exact c =

@@ -1,6 +1,6 @@
 use Rattle.std.proofs.Common.{false, [], sym, ap, ap₂, ◌∙◌}
 use Rattle.optimisation.specs.live_words.private.Held.{Table, Held, fitting}
-use Rattle.optimisation.specs.live_words.private.Whole.{all_fits, at_start, over, table_for}
+use Rattle.optimisation.specs.live_words.private.Whole.{all_fits, at_start, over}
 use Rattle.optimisation.proofs.live_words.sharing.shared_parts.Goals as goal
 
 pub returns-then-all_fits-clause-code : goal.returns-then-all_fits-clause-code

@@ -1,4 +1,4 @@
-use Rattle.std.proofs.Common.{◌≡◌, List, [], ◌++◌, option_to_list, rules, refl, ap, ◌∙◌}
+use Rattle.std.proofs.Common.{◌≡◌, [], ◌++◌, option_to_list, rules, refl, ap, ◌∙◌}
 use Rattle.branch_removal.specs.Straight.{nothing}
 use Rattle.branch_removal.proofs.StatementTrees.{chain-nothing, chain-push}
 use Rattle.optimisation.proofs.live_words_lemmas.Backwards.{onto-push}
