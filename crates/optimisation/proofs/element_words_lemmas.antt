@@ -1,6 +1,5 @@
 pub mod PartLemmas
 pub mod Known
-pub mod CodeLemmas
 pub mod Values
 pub mod Held
 pub mod Given

@@ -1,12 +1,10 @@
 -- Choosing: counts, and how many turns are allowed.
-use Rattle.std.proofs.Common.{◌≡◌, ℕ, zero, suc, ◌+◌, ◌*◌, List, [], ◌∷◌, nat_le}
-use Rattle.std.proofs.Common.{◌&&◌, slice_index, slice_set, arith}
+use Rattle.std.proofs.Common.{◌≡◌, ℕ, zero, suc, ◌+◌, ◌*◌, List, [], ◌∷◌, nat_le, ◌&&◌, slice_index, slice_set, arith}
 use Rattle.std.proofs.lemmas.Bool.{cond_both}
-use Rattle.branch_removal.specs.Straight.{StraightTree, set, array, put, take, branch, repeats}
-use Rattle.branch_removal.specs.Straight.{StraightBlock, nothing, first, StraightProgram}
+use Rattle.branch_removal.specs.Straight.{StraightTree, set, array, put, take, branch, repeats, StraightBlock, nothing}
+use Rattle.branch_removal.specs.Straight.{first, StraightProgram}
 use Rattle.optimisation.specs.constants.private.Choice.{AreAllowed, Chosen, begun, chosen, chosen_all, copies_of}
-use Rattle.optimisation.specs.constants.private.Choice.{counted, grown}
-use Rattle.optimisation.specs.constants.private.Choice.{most_nodes_of, settled, term_size}
+use Rattle.optimisation.specs.constants.private.Choice.{counted, grown, most_nodes_of, settled, term_size}
 
 -- a count of nodes serves as they do
 pub grown_by : (so_far : Chosen) (count n : ℕ) → count ≡ counted n → grown so_far count ≡ grown so_far n

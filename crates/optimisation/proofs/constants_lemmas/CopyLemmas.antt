@@ -1,6 +1,6 @@
 -- Variables that may be read as others: they are words of one type.
-use Rattle.std.proofs.Common.{◌≡◌, ℕ, ◌==◌, Bool, true, false, not, List, Option, None, Some, slice_get}
-use Rattle.std.proofs.Common.{slice_index, ⊎_elim, refl, sym, ap, ◌∙◌, subst}
+use Rattle.std.proofs.Common.{◌≡◌, ℕ, ◌==◌, Bool, true, false, not, List, Option, None, Some, slice_get, slice_index}
+use Rattle.std.proofs.Common.{⊎_elim, refl, sym, ap, ◌∙◌, subst}
 use Rattle.std.proofs.lemmas.Bool.{and_parts, eqb-false, false≢true, not-true}
 use Rattle.std.proofs.lemmas.Option.{none-some, same_Some}
 use Rattle.inline.specs.declared.flat.FlatVariable.{FlatVariable}
@@ -12,9 +12,8 @@ use Rattle.optimisation.specs.declared.constants.known.Constant.{Constant}
 use Rattle.optimisation.specs.declared.constants.known.WordCopy.{WordCopy}
 use Rattle.optimisation.specs.constants.private.Folding.{constant_of}
 use Rattle.optimisation.specs.constants.private.Known.{Words, with_word}
-use Rattle.optimisation.specs.constants.private.Simplification.{copied, copied_where}
-use Rattle.optimisation.specs.constants.private.Simplification.{may_be_read_as}
-use Rattle.optimisation.specs.constants.private.Simplification.{set_to, variable_of}
+use Rattle.optimisation.specs.constants.private.Simplification.{copied, copied_where, may_be_read_as, set_to}
+use Rattle.optimisation.specs.constants.private.Simplification.{variable_of}
 use Rattle.optimisation.proofs.constants_lemmas.KnownLemmas.{Fact, valued, copy, IsFree, Knows, in_more, word_by}
 use Rattle.optimisation.proofs.over_lemmas.SameWords.{are_words, as_word}
 

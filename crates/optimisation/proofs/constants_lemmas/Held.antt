@@ -1,6 +1,7 @@
 -- Well-typed straight code keeps in each variable what it is declared as.
-use Rattle.std.proofs.Common.{◌≡◌, ℕ, zero, suc, ◌+◌, ◌-◌, ◌^◌, ◌<◌, ◌≤◌, ◌==◌, Bool, true, false, cond, List, []}
-use Rattle.std.proofs.Common.{◌∷◌, map, replicate, All, slice_get, slice_set, Option, None, Some, ◌∙◌, arith}
+use Rattle.std.proofs.Common.{◌≡◌, ℕ, zero, suc, ◌+◌, ◌-◌, ◌^◌, ◌<◌, ◌≤◌, ◌==◌, false, List, []}
+use Rattle.std.proofs.Common.{◌∷◌, ◌++◌, length, map, take as first_of, drop, replicate, All, slice_get, slice_set}
+use Rattle.std.proofs.Common.{Some, sym, ap, ◌∙◌, subst, arith}
 use Rattle.std.proofs.lemmas.Bool.{cond_both}
 use Rattle.std.proofs.lemmas.List.{length-set, length-replicate, length-map}
 use Rattle.std.proofs.lemmas.List.Elements.{All-nil, All-cons, All-set, All-replicate}
@@ -17,6 +18,9 @@ use Rattle.branch_removal.specs.Straight.{StraightBlock, nothing, first}
 use Rattle.branch_removal.specs.StraightMeaning.{StraightState, holds, value_at, with_variable, with_element}
 use Rattle.branch_removal.specs.StraightMeaning.{counted, after, after_all}
 use Rattle.branch_removal.specs.StraightTyping.{types_but, IsTyped, AreTyped}
+use Rattle.language.specs.declared.signature.Kind.{Kind}
+use Rattle.language.specs.declared.signature.Kind.TheVariants.{Boolean}
+use Rattle.language.specs.declared.signature.Param.{Param}
 use Rattle.language.specs.declared.typing.WordType.{WordType}
 use Rattle.language.specs.Types.{bits_of}
 use Rattle.word.specs.declared.profile.Profile.{Profile}
@@ -127,16 +131,20 @@ held_zeros d = record {
   within = All-replicate (IsWithinKind d.word.kind) (numbers_in d.elements) 0 (some_bit d.word.kind);
 }
 
-pub given_none : (more : List FlatVariable) (x : ℕ) (d : FlatVariable) → slice_get more x ≡ Some d
-    → given more [] x ≡ replicate (numbers_in d.elements) 0
-given_none [] x d is = absurd (none-some d is)
-given_none (e ∷ more) zero d is = ap (λ (f : FlatVariable). replicate (numbers_in f.elements) 0) (same_Some e d is)
-given_none (e ∷ more) (suc x) d is = given_none more x d is
+-- a variable behind the arguments
+pub given_behind : (declared : List FlatVariable) (args : List Arg) (x : ℕ) (d : FlatVariable) → length args ≤ x
+    → slice_get declared x ≡ Some d → given declared args x ≡ replicate (numbers_in d.elements) 0
+given_behind [] args x d few is = absurd (none-some d is)
+given_behind (e ∷ declared) [] zero d few is =
+    ap (λ (f : FlatVariable). replicate (numbers_in f.elements) 0) (same_Some e d is)
+given_behind (e ∷ declared) (arg ∷ args) zero d few is = absurd (omega arith)
+given_behind (e ∷ declared) [] (suc x) d few is = given_behind declared [] x d (omega arith) is
+given_behind (e ∷ declared) (arg ∷ args) (suc x) d few is = given_behind declared args x d (omega arith) is
 
 given_fits : (profile : Profile) (ps : List Param) (args : List Arg) (more : List FlatVariable) → AreWithin ps args
     → Fits (types_of profile (map declaration_of ps ++ more)) (given (map declaration_of ps ++ more) args)
 given_fits profile [] [] more within x d is =
-    subst (λ (l : List ℕ). IsHeld d l) (sym (given_none more x d is)) (held_zeros d)
+    subst (λ (l : List ℕ). IsHeld d l) (sym (given_behind more [] x d (omega arith) is)) (held_zeros d)
 given_fits profile (p ∷ ps) (arg ∷ args) more within zero d is =
     subst (λ (f : FlatVariable). IsHeld f (words_of arg)) (same_Some (declaration_of p) d is)
     (held_argument p arg within.0)

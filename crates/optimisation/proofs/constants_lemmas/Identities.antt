@@ -1,6 +1,6 @@
 -- What an operator makes of an operand and an identity: it leaves the operand as it is, where that is within its kind.
-use Rattle.std.proofs.Common.{◌≡◌, ℕ, ◌+◌, ◌*◌, ◌/◌, ◌%◌, ◌^◌, ◌==◌, ◌<◌, ◌&&◌, ◌||◌, Bool, true, false, not}
-use Rattle.std.proofs.Common.{bit_and, refl, sym, ◌∙◌, subst, arith}
+use Rattle.std.proofs.Common.{◌≡◌, ℕ, ◌+◌, ◌*◌, ◌/◌, ◌%◌, ◌^◌, ◌==◌, ◌<◌, ◌&&◌, ◌||◌, Bool, true, false, not, bit_and}
+use Rattle.std.proofs.Common.{refl, sym, ◌∙◌, subst, arith}
 use Rattle.std.proofs.Math.Nat.{mod-eq_of_lt}
 use Rattle.std.proofs.lemmas.Bool.{eqb-true, eqb-false, false≢true}
 use Rattle.std.proofs.lemmas.Nat.{and_comm, and_mask}
@@ -11,8 +11,7 @@ use Rattle.language.specs.declared.operators.BinaryOperator.{BinaryOperator}
 use Rattle.language.specs.declared.operators.BinaryOperator.TheVariants.{Either, Both, BitOr, BitXor, BitAnd, ShiftLeft}
 use Rattle.language.specs.declared.operators.BinaryOperator.TheVariants.{ShiftRight, Add, Subtract, Multiply, Divide}
 use Rattle.language.specs.declared.typing.WordType.{WordType}
-use Rattle.language.specs.Operators.{operation_of}
-use Rattle.language.specs.Operators.{operated, truth_of, width_of}
+use Rattle.language.specs.Operators.{operation_of, operated, truth_of, width_of}
 use Rattle.language.specs.WellTyped.{Makes, arithmetic, multiplication, division, shift, logic}
 use Rattle.word.specs.declared.profile.Profile.{Profile}
 use Rattle.word.specs.declared.width.Width.{Width}

@@ -1,9 +1,8 @@
 -- What is known of variables once something is noted or forgotten.
-use Rattle.std.proofs.Common.{◌≡◌, ◌≤◌, ◌==◌, ◌||◌, ℕ, zero, suc, length, Bool, true, false}
-use Rattle.std.proofs.Common.{nat_lt, List, [], ◌∷◌, filter, map, Option, None}
-use Rattle.std.proofs.Common.{◌⊎◌, inl, inr, Some, replicate, slice_set, slice_index}
-use Rattle.std.specs.List.{remove}
+use Rattle.std.proofs.Common.{◌≡◌, ◌≤◌, ◌==◌, ◌||◌, ℕ, zero, suc, length, Bool, true, false, nat_lt, List, [], ◌∷◌}
+use Rattle.std.proofs.Common.{filter, map, Option, None, ◌⊎◌, inl, inr, Some, replicate, slice_set, slice_index}
 use Rattle.std.proofs.Common.{Contains, ⊎_elim, refl, ap, sym, ◌∙◌, subst, arith}
+use Rattle.std.specs.List.{remove}
 use Rattle.std.proofs.Math.Logic.{⊎_map}
 use Rattle.std.proofs.lemmas.Bool.{cond_both, eqb-true, eqb-false, not-true, or_parts}
 use Rattle.std.proofs.lemmas.List.Elements.{All-contains, All-contains_itself, All-filter, Contains-push_cases}
@@ -17,8 +16,7 @@ use Rattle.inline.specs.FlatTyping.{Types}
 use Rattle.optimisation.specs.declared.constants.known.Constant.{Constant}
 use Rattle.optimisation.specs.declared.constants.known.WordCopy.{WordCopy}
 use Rattle.optimisation.specs.constants.private.Known.{Words, known, word_at, source_in, is_apart, with_word, without}
-use Rattle.optimisation.specs.constants.private.Known.{latest}
-use Rattle.optimisation.specs.constants.private.Known.{with_copy, short, all_short}
+use Rattle.optimisation.specs.constants.private.Known.{latest, with_copy, short, all_short}
 
 -- Facts: a variable's word, or a copy.
 

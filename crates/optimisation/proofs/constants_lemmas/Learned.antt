@@ -1,6 +1,6 @@
 -- What is known after a statement is what the variables then hold.
-use Rattle.std.proofs.Common.{◌≡◌, ℕ, ◌<◌, ◌==◌, Bool, not, List, [], ◌∷◌, Option, None, Some}
-use Rattle.std.proofs.Common.{slice_index, sym, ap, ◌∙◌}
+use Rattle.std.proofs.Common.{◌≡◌, ℕ, ◌<◌, ◌==◌, Bool, not, List, [], ◌∷◌, Option, None, Some, slice_index, sym, ap}
+use Rattle.std.proofs.Common.{◌∙◌}
 use Rattle.std.proofs.lemmas.Option.{same_Some}
 use Rattle.word.specs.declared.profile.Profile.{Profile}
 use Rattle.language.specs.declared.typing.WordType.{WordType}
@@ -23,8 +23,7 @@ use Rattle.optimisation.proofs.constants_lemmas.KnownLemmas.{Holds}
 use Rattle.optimisation.proofs.constants_lemmas.StatementRules.{AllSimplify}
 use Rattle.optimisation.proofs.constants_lemmas.TermLemmas.{constant_value, decided_value, same_value}
 use Rattle.optimisation.proofs.constants_lemmas.Typed.{IsCounter, inside_kinds, part_kinds, turn_kinds}
-use Rattle.optimisation.proofs.constants_lemmas.Unset.{IsUnset, behind_part, left_alone}
-use Rattle.optimisation.proofs.constants_lemmas.Unset.{left_alone_all, within_loop}
+use Rattle.optimisation.proofs.constants_lemmas.Unset.{IsUnset, behind_part, left_alone, left_alone_all, within_loop}
 
 -- Conditions and bounds that are numbers.
 

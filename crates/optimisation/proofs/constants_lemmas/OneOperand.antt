@@ -1,6 +1,5 @@
 -- What an operator comes to by one operand alone, whatever the other is: a bool.
-use Rattle.std.proofs.Common.{◌≡◌, ℕ, ◌==◌, Bool, true, false, not, ◌⊎◌, inl, inr, Some, refl}
-use Rattle.std.proofs.Common.{ap, arith}
+use Rattle.std.proofs.Common.{◌≡◌, ℕ, ◌==◌, Bool, true, false, not, ◌⊎◌, inl, inr, Some, refl, ap, arith}
 use Rattle.std.proofs.Math.Dec.{leb-zero}
 use Rattle.std.proofs.lemmas.Bool.{and_right, eqb-true, le-ltb, or_right}
 use Rattle.std.proofs.lemmas.Option.{none-some, same_Some}

@@ -1,6 +1,5 @@
 -- Numbers that are powers of two.
-use Rattle.std.proofs.Common.{◌≡◌, ℕ, ◌/◌, ◌^◌, ◌==◌, ◌<◌, ◌&&◌, nat_lt, None, Some}
-use Rattle.std.proofs.Common.{IfSome, arith}
+use Rattle.std.proofs.Common.{◌≡◌, ℕ, ◌/◌, ◌^◌, ◌==◌, ◌<◌, ◌&&◌, nat_lt, None, Some, IfSome, arith}
 use Rattle.std.proofs.Math.Nat.{div-le_self}
 use Rattle.std.proofs.lemmas.Bool.{and_parts, cond_both, eqb-true, ltb-true}
 use Rattle.std.specs.Int.Count.{count_trailing_zeros}

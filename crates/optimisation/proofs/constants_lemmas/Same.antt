@@ -1,9 +1,7 @@
 -- Simpler statements leave the state that the statements leave, and their path is fine where that of the statements
 -- is.
-use Rattle.std.proofs.Common.{◌≡◌, ℕ, zero, suc, ◌+◌, ◌-◌, ◌<◌, ◌≤◌, ◌==◌, Bool, true, false}
-use Rattle.std.proofs.Common.{if◌then◌else◌, List, ◌∷◌, ◌++◌, Option, None, Some, refl, sym, ap, ap₂, ◌∙◌}
-use Rattle.std.proofs.Common.{subst}
-use Rattle.std.proofs.Common.{arith}
+use Rattle.std.proofs.Common.{◌≡◌, ℕ, zero, suc, ◌+◌, ◌-◌, ◌<◌, ◌≤◌, ◌==◌, Bool, true, false, if◌then◌else◌, List, ◌∷◌}
+use Rattle.std.proofs.Common.{◌++◌, Option, None, Some, refl, sym, ap, ap₂, ◌∙◌, subst, arith}
 use Rattle.word.specs.declared.profile.Profile.{Profile}
 use Rattle.inline.proofs.Fitting.{value_fits}
 use Rattle.inline.specs.declared.flat.FlatVariable.{FlatVariable}
@@ -11,8 +9,7 @@ use Rattle.inline.specs.Flat.{TermTree, number, counter_type}
 use Rattle.inline.specs.FlatMeaning.{path_in, turns, path_of_turns}
 use Rattle.inline.specs.FlatTyping.{Types, types_of}
 use Rattle.inline.specs.Path.{Path, decided as decided_mark, bounded}
-use Rattle.branch_removal.specs.Straight.{StraightTree, set, array, put, branch, repeats}
-use Rattle.branch_removal.specs.Straight.{StraightBlock, first, chain}
+use Rattle.branch_removal.specs.Straight.{StraightTree, set, array, put, branch, repeats, StraightBlock, first, chain}
 use Rattle.branch_removal.specs.StraightMeaning.{StraightState, holds as holds_under, with_variable, with_element}
 use Rattle.branch_removal.specs.StraightMeaning.{value_at, counted, after, after_all, path_at, path_along}
 use Rattle.branch_removal.specs.StraightTyping.{types_but, IsFilled, IsSet, IsTyped, AreTyped}
@@ -22,9 +19,8 @@ use Rattle.optimisation.specs.constants.private.Known.{Words, behind, in_loop, w
 use Rattle.optimisation.specs.constants.private.Simplification.{set_to}
 use Rattle.optimisation.proofs.constants_lemmas.Held.{counter_limit, fewer_fit, fits_after, fits_after_all}
 use Rattle.optimisation.proofs.constants_lemmas.KnownLemmas.{Agrees, Holds, without_known}
-use Rattle.optimisation.proofs.constants_lemmas.Learned.{AllHolds, arm_begins, decided_here}
-use Rattle.optimisation.proofs.constants_lemmas.Learned.{kept, loop_begins, noted_copy, number_here, turn_end}
-use Rattle.optimisation.proofs.constants_lemmas.Learned.{turn_known, turn_start}
+use Rattle.optimisation.proofs.constants_lemmas.Learned.{AllHolds, arm_begins, decided_here, kept, loop_begins}
+use Rattle.optimisation.proofs.constants_lemmas.Learned.{noted_copy, number_here, turn_end, turn_known, turn_start}
 use Rattle.optimisation.proofs.constants_lemmas.StatementRules.{Simplifies, sets, fills, puts, takes, accepts, declines}
 use Rattle.optimisation.proofs.constants_lemmas.StatementRules.{chooses, unrolls, loops, TurnsSimplify, no_turn, a_turn}
 use Rattle.optimisation.proofs.constants_lemmas.StatementRules.{AllSimplify, ends, goes_on}

@@ -1,14 +1,13 @@
 -- What becomes of statements, and what is known after them, by rules of inference. Each statement becomes what the pass
 -- makes of it by them: what each rule keeps, the pass keeps.
 use Rattle.std.proofs.Common.{◌≡◌, ℕ, zero, suc, ◌+◌, ◌-◌, ◌≤◌, Bool, true, false, List, map, Option, None, Some}
-use Rattle.std.proofs.Common.{slice_index}
-use Rattle.std.proofs.Common.{nat_le, refl}
+use Rattle.std.proofs.Common.{slice_index, nat_le, refl}
 use Rattle.std.proofs.lemmas.Bool.{cond_both, leb-true}
 use Rattle.inline.specs.declared.flat.FlatVariable.{FlatVariable}
 use Rattle.inline.specs.Flat.{TermTree, number, counter_type}
 use Rattle.inline.specs.FlatMeaning.{turns}
-use Rattle.branch_removal.specs.Straight.{StraightTree, set, array, put, take, branch, repeats}
-use Rattle.branch_removal.specs.Straight.{StraightBlock, nothing, first, chain}
+use Rattle.branch_removal.specs.Straight.{StraightTree, set, array, put, take, branch, repeats, StraightBlock, nothing}
+use Rattle.branch_removal.specs.Straight.{first, chain}
 use Rattle.word.specs.declared.place.Place.{Place}
 use Rattle.optimisation.specs.declared.constants.known.Constant.{Constant}
 use Rattle.optimisation.specs.declared.constants.terms.Numbers.{Numbers}

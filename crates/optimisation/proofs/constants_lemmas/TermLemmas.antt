@@ -1,7 +1,6 @@
 -- A simpler expression has the value that the expression has, and its path is fine where that one's is.
-use Rattle.std.proofs.Common.{◌≡◌, ℕ, ◌-◌, ◌*◌, ◌/◌, ◌%◌, ◌^◌, ◌==◌, Bool, true, false, not, bit_and}
-use Rattle.std.proofs.Common.{List, [], ◌∷◌, ◌++◌, map, slice_index, Option, None, Some, option_map, refl}
-use Rattle.std.proofs.Common.{sym, ap, ap₂, ◌∙◌, subst}
+use Rattle.std.proofs.Common.{◌≡◌, ℕ, ◌-◌, ◌*◌, ◌/◌, ◌%◌, ◌^◌, ◌==◌, Bool, true, false, not, bit_and, List, [], ◌∷◌}
+use Rattle.std.proofs.Common.{◌++◌, map, slice_index, Option, None, Some, option_map, refl, sym, ap, ap₂, ◌∙◌, subst}
 use Rattle.std.proofs.Math.Nat.{mod-eq_of_lt, mul_comm}
 use Rattle.std.proofs.lemmas.Bool.{cond-false, cond-true}
 use Rattle.std.proofs.lemmas.Nat.{and_mask}
@@ -10,8 +9,8 @@ use Rattle.inline.proofs.Fitting.{fits_number, value_fits}
 use Rattle.inline.specs.Fitting.{IsWithinKind, Fits}
 use Rattle.inline.specs.Flat.{TermTree, number, truth, variable, binary}
 use Rattle.inline.specs.FlatMeaning.{Values, value_in, path_in, marks_of}
-use Rattle.inline.specs.FlatTyping.{Types, HasType, of_number, of_truth, of_variable, of_prefix, of_binary}
-use Rattle.inline.specs.FlatTyping.{of_rotation, of_conversion, of_selection, of_element, Suits, AllSuit, IsResult}
+use Rattle.inline.specs.FlatTyping.{Types, HasType, of_number, of_truth, of_variable, of_prefix, of_binary, of_rotation}
+use Rattle.inline.specs.FlatTyping.{of_conversion, of_selection, of_element, Suits, AllSuit, IsResult}
 use Rattle.inline.specs.Path.{Path, AreFine, multiplied}
 use Rattle.branch_removal.proofs.Sequences.{fine_both, fine_front, fine_back, fine_alone}
 use Rattle.language.specs.declared.operators.BinaryOperator.{BinaryOperator}
@@ -29,22 +28,21 @@ use Rattle.optimisation.specs.declared.constants.fields.Field.{Field}
 use Rattle.optimisation.specs.declared.constants.known.Constant.{Constant}
 use Rattle.optimisation.specs.constants.private.Fields.{lifted, moved}
 use Rattle.optimisation.specs.constants.private.Folding.{constant, constant_of, decided_by_left, decided_by_right}
-use Rattle.optimisation.specs.constants.private.Folding.{decision, is_left_identity}
-use Rattle.optimisation.specs.constants.private.Folding.{is_right_identity, known_or, simple}
+use Rattle.optimisation.specs.constants.private.Folding.{decision, is_left_identity, is_right_identity, known_or}
+use Rattle.optimisation.specs.constants.private.Folding.{simple}
 use Rattle.optimisation.specs.constants.private.Known.{Words, known, source_in}
 use Rattle.optimisation.proofs.constants_lemmas.Identities.{left_leaves, right_leaves}
-use Rattle.optimisation.proofs.constants_lemmas.KnownLemmas.{Holds, IsReadAs, as_itself, as_source, copy}
-use Rattle.optimisation.proofs.constants_lemmas.KnownLemmas.{read_as, valued}
+use Rattle.optimisation.proofs.constants_lemmas.KnownLemmas.{Holds, IsReadAs, as_itself, as_source, copy, read_as}
+use Rattle.optimisation.proofs.constants_lemmas.KnownLemmas.{valued}
 use Rattle.optimisation.proofs.constants_lemmas.OneOperand.{left_value, right_value}
 use Rattle.optimisation.proofs.constants_lemmas.Comparisons.{denied_twice}
 use Rattle.optimisation.proofs.constants_lemmas.Powers.{IsPower, quotient_below}
 use Rattle.optimisation.proofs.constants_lemmas.TermRules.{Becomes, stays, and_then, number_prefixed, number_rotated}
 use Rattle.optimisation.proofs.constants_lemmas.TermRules.{number_converted, numbers_operated, twice_negated}
 use Rattle.optimisation.proofs.constants_lemmas.TermRules.{comparison_negated, left_decides, right_decides, left_alone}
-use Rattle.optimisation.proofs.constants_lemmas.TermRules.{right_alone}
-use Rattle.optimisation.proofs.constants_lemmas.TermRules.{comparison_turned, product_turned, shifted_up, shifted_down}
-use Rattle.optimisation.proofs.constants_lemmas.TermRules.{masked, bits_moved, accepted_chosen, otherwise_chosen}
-use Rattle.optimisation.proofs.constants_lemmas.TermRules.{around, simpler}
+use Rattle.optimisation.proofs.constants_lemmas.TermRules.{right_alone, comparison_turned, product_turned, shifted_up}
+use Rattle.optimisation.proofs.constants_lemmas.TermRules.{shifted_down, masked, bits_moved, accepted_chosen}
+use Rattle.optimisation.proofs.constants_lemmas.TermRules.{otherwise_chosen, around, simpler}
 use Rattle.optimisation.proofs.constants_lemmas.TermTypes.{around_suits, becomes_suits}
 use Rattle.optimisation.proofs.constants_lemmas.TwoShifts.{lifted_by, moved_value}
 use Rattle.optimisation.proofs.over_lemmas.Values.{same_path, IsAlike, AreAllAlike, IsResultAlike, prefix_alike}

@@ -8,8 +8,7 @@ use Rattle.std.specs.Option.{option_and, option_and_then, option_or}
 use Rattle.inline.specs.Flat.{TermTree, number, truth, variable, prefix, binary, rotate, convert, select, element}
 use Rattle.language.specs.declared.operators.BinaryOperator.{BinaryOperator}
 use Rattle.language.specs.declared.operators.BinaryOperator.TheVariants.{BitAnd, ShiftLeft, ShiftRight, Multiply}
-use Rattle.language.specs.declared.operators.BinaryOperator.TheVariants.{Divide}
-use Rattle.language.specs.declared.operators.BinaryOperator.TheVariants.{Remainder}
+use Rattle.language.specs.declared.operators.BinaryOperator.TheVariants.{Divide, Remainder}
 use Rattle.language.specs.declared.operators.PrefixOperator.{PrefixOperator}
 use Rattle.language.specs.declared.operators.PrefixOperator.TheVariants.{Not}
 use Rattle.language.specs.declared.signature.Kind.{Kind}
@@ -26,12 +25,10 @@ use Rattle.optimisation.specs.constants.private.Fields.{amount_of, cleared_by, f
 use Rattle.optimisation.specs.constants.private.Fields.{moved_or}
 use Rattle.optimisation.specs.constants.private.Folding.{applied, between, binary_or, chosen, constant, constant_of}
 use Rattle.optimisation.specs.constants.private.Folding.{converted_to, decided, decided_by_left, decided_by_right}
-use Rattle.optimisation.specs.constants.private.Folding.{decision}
-use Rattle.optimisation.specs.constants.private.Folding.{is_among, is_left_identity}
-use Rattle.optimisation.specs.constants.private.Folding.{is_right_identity, known_or, negation_of, number_of}
-use Rattle.optimisation.specs.constants.private.Folding.{operated_on}
-use Rattle.optimisation.specs.constants.private.Folding.{operation, prefixed, reduced, rotated, simple, stepped}
-use Rattle.optimisation.specs.constants.private.Folding.{stepped_or, truth_or, turned, turned_by}
+use Rattle.optimisation.specs.constants.private.Folding.{decision, is_among, is_left_identity, is_right_identity}
+use Rattle.optimisation.specs.constants.private.Folding.{known_or, negation_of, number_of, operated_on, operation}
+use Rattle.optimisation.specs.constants.private.Folding.{prefixed, reduced, rotated, simple, stepped, stepped_or}
+use Rattle.optimisation.specs.constants.private.Folding.{truth_or, turned, turned_by}
 use Rattle.optimisation.specs.constants.private.Known.{Words, known, source_in}
 use Rattle.optimisation.specs.constants.private.Powers.{exponent_of, step_by, step_of, turned_step}
 use Rattle.optimisation.proofs.constants_lemmas.Comparisons.{IsOpposite, IsTurnedRound, opposite, turned_round}

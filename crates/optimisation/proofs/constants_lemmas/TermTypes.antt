@@ -2,8 +2,8 @@
 use Rattle.std.proofs.Common.{◌≡◌, ℕ, ◌-◌, ◌<◌, ◌^◌, Bool, List, [], ◌∷◌, map, inl, inr, Option, None, Some, option_map}
 use Rattle.std.proofs.Common.{refl, sym, ap, ◌∙◌, subst, arith}
 use Rattle.inline.specs.Flat.{TermTree, number, variable, prefix, binary, rotate, convert, word_as}
-use Rattle.inline.specs.FlatTyping.{Types, HasType, of_number, of_truth, of_variable, of_prefix, of_binary}
-use Rattle.inline.specs.FlatTyping.{of_rotation, of_conversion, of_selection, of_element, Suits, AllSuit, IsResult}
+use Rattle.inline.specs.FlatTyping.{Types, HasType, of_number, of_truth, of_variable, of_prefix, of_binary, of_rotation}
+use Rattle.inline.specs.FlatTyping.{of_conversion, of_selection, of_element, Suits, AllSuit, IsResult}
 use Rattle.language.specs.declared.signature.Kind.{Kind}
 use Rattle.language.specs.declared.signature.Kind.TheVariants.{Uint32}
 use Rattle.language.specs.declared.signature.Label.{Label}
@@ -23,19 +23,17 @@ use Rattle.optimisation.specs.constants.private.Fields.{moved}
 use Rattle.optimisation.specs.constants.private.Folding.{known_or, simple}
 use Rattle.optimisation.specs.constants.private.Known.{Words, known, source_in}
 use Rattle.optimisation.proofs.constants_lemmas.Identities.{left_identity_kind, right_identity_kind}
-use Rattle.optimisation.proofs.constants_lemmas.KnownLemmas.{AreOfKind, IsReadAs, as_itself, as_source, copy}
-use Rattle.optimisation.proofs.constants_lemmas.KnownLemmas.{read_as, valued}
+use Rattle.optimisation.proofs.constants_lemmas.KnownLemmas.{AreOfKind, IsReadAs, as_itself, as_source, copy, read_as}
+use Rattle.optimisation.proofs.constants_lemmas.KnownLemmas.{valued}
 use Rattle.optimisation.proofs.constants_lemmas.OneOperand.{truth_kind}
 use Rattle.optimisation.proofs.constants_lemmas.TermRules.{Becomes, stays, and_then, number_prefixed, number_rotated}
 use Rattle.optimisation.proofs.constants_lemmas.TermRules.{number_converted, numbers_operated, twice_negated}
 use Rattle.optimisation.proofs.constants_lemmas.TermRules.{comparison_negated, left_decides, right_decides, left_alone}
-use Rattle.optimisation.proofs.constants_lemmas.TermRules.{right_alone}
-use Rattle.optimisation.proofs.constants_lemmas.TermRules.{comparison_turned, product_turned, shifted_up, shifted_down}
-use Rattle.optimisation.proofs.constants_lemmas.TermRules.{masked, bits_moved, accepted_chosen, otherwise_chosen}
-use Rattle.optimisation.proofs.constants_lemmas.TermRules.{around, simpler}
+use Rattle.optimisation.proofs.constants_lemmas.TermRules.{right_alone, comparison_turned, product_turned, shifted_up}
+use Rattle.optimisation.proofs.constants_lemmas.TermRules.{shifted_down, masked, bits_moved, accepted_chosen}
+use Rattle.optimisation.proofs.constants_lemmas.TermRules.{otherwise_chosen, around, simpler}
 use Rattle.optimisation.proofs.constants_lemmas.Suiting.{both_joined, joined_lower, joined_public, made, made_suits}
-use Rattle.optimisation.proofs.constants_lemmas.Suiting.{remade}
-use Rattle.optimisation.proofs.constants_lemmas.Suiting.{number_below, number_kind, number_suits, number_type}
+use Rattle.optimisation.proofs.constants_lemmas.Suiting.{remade, number_below, number_kind, number_suits, number_type}
 use Rattle.optimisation.proofs.constants_lemmas.Suiting.{public_parts, public_typed, retyped, suits_as, turned_may}
 use Rattle.optimisation.proofs.constants_lemmas.Suiting.{truth_suits, typed_suits}
 use Rattle.optimisation.proofs.constants_lemmas.TwoShifts.{lifted_by}

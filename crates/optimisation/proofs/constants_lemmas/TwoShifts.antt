@@ -1,7 +1,6 @@
 -- Two shifts, one up and one down, leave the bits that a shift and a mask leave.
-use Rattle.std.proofs.Common.{◌≡◌, ℕ, ◌+◌, ◌-◌, ◌*◌, ◌/◌, ◌%◌, ◌^◌, ◌==◌, ◌<◌, ◌≤◌, ◌&&◌, ◌||◌, Bool, true}
-use Rattle.std.proofs.Common.{nat_le, nat_lt, bit_and, Option, None, Some, IfSome, ⊎_elim, refl, sym, ap, ap₂, ◌∙◌}
-use Rattle.std.proofs.Common.{arith}
+use Rattle.std.proofs.Common.{◌≡◌, ℕ, ◌+◌, ◌-◌, ◌*◌, ◌/◌, ◌%◌, ◌^◌, ◌==◌, ◌<◌, ◌≤◌, ◌&&◌, ◌||◌, Bool, true, nat_le}
+use Rattle.std.proofs.Common.{nat_lt, bit_and, Option, None, Some, IfSome, ⊎_elim, refl, sym, ap, ap₂, ◌∙◌, arith}
 use Rattle.std.proofs.Math.Nat.{div-le_self, mod-eq_of_lt, mod-le, mul-div-mul_right}
 use Rattle.std.proofs.lemmas.Bool.{and_parts, cond_both, eqb-true, ltb-true, or_cases}
 use Rattle.std.proofs.lemmas.Nat.{and_mask, div-mul-add, mod-pow-add, mod_below, pow-add, pow_pos}
@@ -10,7 +9,7 @@ use Rattle.inline.specs.Fitting.{IsWithinKind}
 use Rattle.inline.specs.Flat.{TermTree, number, binary}
 use Rattle.inline.specs.FlatMeaning.{Values, value_in}
 use Rattle.language.specs.declared.signature.Kind.{Kind}
-use Rattle.language.specs.declared.signature.Kind.TheVariants.{Boolean, Uint8, Uint16, Uint32}
+use Rattle.language.specs.declared.signature.Kind.TheVariants.{Boolean}
 use Rattle.language.specs.declared.operators.BinaryOperator.TheVariants.{ShiftLeft}
 use Rattle.word.specs.declared.place.Place.{Place}
 use Rattle.word.specs.declared.width.Width.{Width}

@@ -2,7 +2,7 @@
 use Rattle.std.proofs.Common.{◌≡◌, ℕ, ◌==◌, Bool, false, List, map, Option, None, Some, slice_get}
 use Rattle.std.proofs.Common.{◌+◌, ◌-◌, ◌≤◌, ◌<◌, refl, sym, ap, ◌∙◌, arith}
 use Rattle.std.proofs.lemmas.Bool.{cond-false, ne_eqb}
-use Rattle.std.proofs.lemmas.Option.{none-some, same_Some}
+use Rattle.std.proofs.lemmas.Option.{same_Some}
 use Rattle.language.specs.declared.typing.WordType.{WordType}
 use Rattle.inline.specs.declared.flat.FlatVariable.{FlatVariable}
 use Rattle.inline.specs.Flat.{TermTree, number, counter_type, word_as, array_as}
@@ -26,7 +26,7 @@ use Rattle.optimisation.proofs.constants_lemmas.StatementRules.{AllSimplify, end
 use Rattle.optimisation.proofs.constants_lemmas.Suiting.{number_below, suited_number}
 use Rattle.optimisation.proofs.constants_lemmas.TermTypes.{all_still_suit, still_public, still_suits, still_typed}
 use Rattle.optimisation.proofs.constants_lemmas.Unset.{behind_part, within_loop}
-use Rattle.optimisation.proofs.over_lemmas.Types.{but_within, hidden-chain, typed-chain}
+use Rattle.optimisation.proofs.over_lemmas.Types.{but_within, hidden-chain, typed-chain, word_array}
 
 module _ {copies : List ℕ} {declared : List FlatVariable} where
   mutual
@@ -74,14 +74,6 @@ module _ (profile : Profile) (declared : List FlatVariable) where
       → AreOfKind (types_but profile declared x) words
   but_kinds words x own mutable size listed kinds f is = fewer f (kinds f is)
     where
-      -- a word is no array
-      not_array : (y : ℕ) (word : WordType) (other : Bool) → slice_get declared y ≡ Some (word_as word other) → y ≡ x
-          → ⊥
-      not_array y word other there here =
-          let same : word_as word other ≡ array_as own mutable size =
-          same_Some _ _ (sym there ∙ (ap (slice_get declared) here ∙ listed)) in
-          none-some size (ap (λ (d : FlatVariable). d.elements) same)
-
       fewer : (g : Fact) → IsSuited (types_of profile declared) g → IsSuited (types_but profile declared x) g
       fewer (valued y c) suited =
           λ word other there. suited word other (but_within declared x y _ there)
@@ -90,7 +82,8 @@ module _ (profile : Profile) (declared : List FlatVariable) where
           let source = suited word other (but_within declared x c.variable _ there) in (
             source.0,
             cond-false (c.source == x) None (slice_get declared c.source)
-                (ne_eqb c.source x (not_array c.source word source.0 source.1)) ∙ source.1,
+                (ne_eqb c.source x (λ here. word_array declared c.source source.1
+                (ap (slice_get declared) here ∙ listed))) ∙ source.1,
           )
 
   pub inside_kinds : (words : Words) (x : ℕ) (body : StraightBlock) → AreKinds words

@@ -1,6 +1,5 @@
 -- The simpler program may stand in the place of the program.
-use Rattle.std.proofs.Common.{◌≡◌, ℕ, List, length, Option, sym, ap}
-use Rattle.std.proofs.Common.{◌∙◌, subst}
+use Rattle.std.proofs.Common.{◌≡◌, ℕ, List, length, Option, sym, ap, ◌∙◌, subst}
 use Rattle.inline.specs.FlatMeaning.{Values, results_of, path_of_result}
 use Rattle.inline.specs.FlatTyping.{Types, types_of}
 use Rattle.language.specs.arguments.Within.{AreWithin}

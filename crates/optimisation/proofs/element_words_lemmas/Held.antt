@@ -1,8 +1,7 @@
 -- What variables and words hold once some of them are set.
-use Rattle.std.proofs.Common.{◌≡◌, ℕ, zero, suc, ◌+◌, ◌<◌, ◌==◌, if◌then◌else◌, List, []}
-use Rattle.std.proofs.Common.{◌∷◌, length, replicate, Option, None, Some, slice_get, slice_set, slice_index, inl, inr}
-use Rattle.std.proofs.Common.{refl}
-use Rattle.std.proofs.Common.{sym, ap, ap₂, ◌∙◌, arith}
+use Rattle.std.proofs.Common.{◌≡◌, ℕ, zero, suc, ◌+◌, ◌<◌, ◌==◌, if◌then◌else◌, List, [], ◌∷◌, length, replicate}
+use Rattle.std.proofs.Common.{Option, None, Some, slice_get, slice_set, slice_index, inl, inr, refl, sym, ap, ap₂, ◌∙◌}
+use Rattle.std.proofs.Common.{arith}
 use Rattle.std.proofs.lemmas.Bool.{cases_eq}
 use Rattle.std.proofs.lemmas.List.{get_or-set_other, get_or-set_same, length-set}
 use Rattle.std.proofs.lemmas.Option.{none-some, same_Some, slice_get_within}
@@ -61,7 +60,7 @@ module _ (declared new : List FlatVariable) (parts : Parts) (is_splitting : IsSp
         ∙ sym (with_value-other m x y numbers (λ same. not_split y x part stays is (sym same))));
     held = λ y e other at_y also.
         elim (cases_eq y x) [
-          inl here ↦
+          | inl here ↦
               let one = same_Some part other (sym is ∙ (ap (part_of parts) (sym here) ∙ also)) in
               rw (here, ← one, with_value-same m x numbers) (record { count = long; each = each })
           | inr apart ↦
@@ -86,7 +85,7 @@ module _ (declared new : List FlatVariable) (parts : Parts) (is_splitting : IsSp
       words_set m k (with_value k (part.base + i) (w ∷ [])) x part (slice_set (m x) i v) alike is
       (length-set (m x) i v ∙ old.count)
       (λ j inside. elim (cases_eq j i) [
-        inl here ↦
+        | inl here ↦
             rw (here, with_value-same k (part.base + i) (w ∷ []), get_or-set_same (m x) i v 0 long)
             (ap (λ n. n ∷ []) same)
         | inr apart ↦

@@ -1,7 +1,7 @@
 -- Where arrays become words, they are used by known indices alone: what becomes of code is code over other variables,
 -- in which the words stand in the places of the elements.
-use Rattle.std.proofs.Common.{◌≡◌, ℕ, ◌+◌, ◌<◌, Bool, true, false, if◌then◌else◌, List, [], ◌∷◌, map, Option, None}
-use Rattle.std.proofs.Common.{Some, option_map, slice_get, ◌⊎◌, inl, inr, refl, sym, ap, ◌∙◌, subst}
+use Rattle.std.proofs.Common.{◌≡◌, ℕ, ◌+◌, ◌<◌, Bool, false, if◌then◌else◌, List, [], ◌∷◌, map, Option, None}
+use Rattle.std.proofs.Common.{Some, option_map, slice_get, ◌⊎◌, inl, inr, refl, sym, ap, ◌∙◌}
 use Rattle.std.specs.Prelude.{nat_lt}
 use Rattle.std.proofs.lemmas.Bool.{ltb-true}
 use Rattle.std.proofs.lemmas.Option.{cond_some, none-some}

@@ -1,7 +1,7 @@
 -- Which arrays become words, and which words these are.
-use Rattle.std.proofs.Common.{◌≡◌, ℕ, zero, suc, ◌+◌, ◌-◌, ◌≤◌, ◌<◌, Bool, true, false, if◌then◌else◌, List, [], ◌∷◌}
-use Rattle.std.proofs.Common.{◌++◌, map, length, replicate, Option, None, Some, slice_get, inl, inr, refl, sym}
-use Rattle.std.proofs.Common.{ap, ap₂, ◌∙◌, subst, append_assoc, arith}
+use Rattle.std.proofs.Common.{◌≡◌, ℕ, zero, suc, ◌+◌, ◌-◌, ◌≤◌, ◌<◌, Bool, true, List, [], ◌∷◌}
+use Rattle.std.proofs.Common.{◌++◌, map, length, replicate, Option, None, Some, slice_get, inl, inr, refl, sym, ap, ap₂}
+use Rattle.std.proofs.Common.{◌∙◌, subst, append_assoc, arith}
 use Rattle.std.specs.Prelude.{nat_le}
 use Rattle.std.proofs.lemmas.Bool.{cases_lt, cond_both, leb-true}
 use Rattle.std.proofs.lemmas.List.{length-replicate, length-append}
@@ -13,8 +13,7 @@ use Rattle.language.specs.declared.typing.WordType.{WordType}
 use Rattle.optimisation.specs.declared.element_words.parts.Part.{Part}
 use Rattle.optimisation.specs.element_words.Limits.{most_elements_split}
 use Rattle.optimisation.specs.element_words.private.Parts.{Parts, part_of, whole, part_at, sized, candidate, candidates}
-use Rattle.optimisation.specs.element_words.private.Parts.{numbered}
-use Rattle.optimisation.specs.element_words.private.Parts.{all_words}
+use Rattle.optimisation.specs.element_words.private.Parts.{numbered, all_words}
 
 -- An array that stays whole.
 

@@ -1,14 +1,13 @@
 -- The program with words may stand in the place of the program.
-use Rattle.std.proofs.Common.{◌≡◌, ℕ, zero, suc, ◌+◌, ◌*◌, ◌<◌, ◌≤◌, Bool, true, false, if◌then◌else◌, List, []}
-use Rattle.std.proofs.Common.{◌∷◌, ◌++◌, map, drop, length, replicate, Option, None, Some, option_map}
-use Rattle.std.proofs.Common.{slice_get, slice_index, refl, sym, ap, ap₂, ◌∙◌, arith}
-use Rattle.std.proofs.Common.{take as first_of}
+use Rattle.std.proofs.Common.{◌≡◌, ℕ, zero, suc, ◌+◌, ◌*◌, ◌<◌, ◌≤◌, Bool, true, false, if◌then◌else◌, List, [], ◌∷◌}
+use Rattle.std.proofs.Common.{◌++◌, map, drop, length, replicate, Option, None, Some, option_map, slice_get}
+use Rattle.std.proofs.Common.{slice_index, refl, sym, ap, ap₂, ◌∙◌, arith, take as first_of}
 use Rattle.std.specs.Prelude.{nat_lt}
 use Rattle.std.proofs.lemmas.List.{length-map, length-replicate, length-take, take-append-le}
 use Rattle.std.proofs.lemmas.Option.{none-some, slice_get_within}
 use Rattle.language.specs.arguments.Within.{AreWithin}
 use Rattle.inline.specs.declared.flat.FlatVariable.{FlatVariable}
-use Rattle.inline.specs.Flat.{TermTree, word_as, array_as, declaration_of, numbers_in}
+use Rattle.inline.specs.Flat.{TermTree, word_as, array_as, declaration_of}
 use Rattle.inline.specs.FlatMeaning.{Values, given, array_of, arrays_from}
 use Rattle.inline.specs.FlatSize.{declared_words}
 use Rattle.inline.specs.Limits.{most_variable_bytes}
@@ -25,10 +24,11 @@ use Rattle.optimisation.specs.element_words.private.Parts.{Parts, part_of, candi
 use Rattle.optimisation.specs.element_words.private.Plan.{WordPlan, room_beside, used_parts, plan_of, split_by}
 use Rattle.optimisation.specs.element_words.private.Plan.{split_program}
 use Rattle.optimisation.specs.element_words.private.Splitting.{split, split_all}
+use Rattle.optimisation.proofs.constants_lemmas.Held.{given_behind}
 use Rattle.optimisation.proofs.element_words_lemmas.PartLemmas.{IsBelow, below_itself, IsArray, found_array}
 use Rattle.optimisation.proofs.element_words_lemmas.PartLemmas.{candidate_is, are_numbered, made, within_room}
-use Rattle.optimisation.proofs.element_words_lemmas.PartLemmas.{words-append, one_word_each, IsSplitting}
-use Rattle.optimisation.proofs.element_words_lemmas.PartLemmas.{no_splitting, splitting}
+use Rattle.optimisation.proofs.element_words_lemmas.PartLemmas.{words-append, one_word_each, IsSplitting, no_splitting}
+use Rattle.optimisation.proofs.element_words_lemmas.PartLemmas.{splitting}
 use Rattle.optimisation.proofs.element_words_lemmas.Known.{places_in, layout_in, block_known, result_known}
 use Rattle.optimisation.proofs.element_words_lemmas.Values.{part_word}
 use Rattle.optimisation.proofs.element_words_lemmas.Held.{zeros_at}
@@ -55,23 +55,6 @@ given_front [] more args y d there = absurd (none-some d there)
 given_front (e ∷ declared) more [] zero d there = refl
 given_front (e ∷ declared) more (arg ∷ args) zero d there = refl
 given_front (e ∷ declared) more args (suc y) d there = given_front declared more (drop 1 args) y d there
-
-fewer_left : (args : List Arg) (y : ℕ) → length args ≤ suc y → length (drop 1 args) ≤ y
-fewer_left [] y few = omega arith
-fewer_left (arg ∷ args) y few = omega (arith, few)
-
-given_behind : (declared : List FlatVariable) (args : List Arg) (y : ℕ) (d : FlatVariable) → length args ≤ y
-    → slice_get declared y ≡ Some d → given declared args y ≡ replicate (numbers_in d.elements) 0
-given_behind [] args y d few there = absurd (none-some d there)
-given_behind (e ∷ declared) [] zero d few there =
-    ap (λ (o : Option FlatVariable). first_zeros o) there
-  where
-    first_zeros : Option FlatVariable → List ℕ
-    first_zeros None = []
-    first_zeros (Some e) = replicate (numbers_in e.elements) 0
-given_behind (e ∷ declared) (arg ∷ args) zero d few there = absurd (omega (arith, few))
-given_behind (e ∷ declared) args (suc y) d few there =
-    given_behind declared (drop 1 args) y d (fewer_left args y few) there
 
 -- the arrays of parameters that hold the same
 same_arrays : (x : ℕ) (params : List Param) (m k : Values)

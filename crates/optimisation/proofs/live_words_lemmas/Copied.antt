@@ -1,7 +1,6 @@
 -- Where sharing does not fit, and each word keeps its variable, code stays as it is.
-use Rattle.std.proofs.Common.{◌≡◌, ℕ, ◌&&◌, not, Bool, true, false, if◌then◌else◌, List, [], ◌∷◌, map}
-use Rattle.std.proofs.Common.{Option, None, Some}
-use Rattle.std.proofs.Common.{refl, sym, ap, ap₂, ◌∙◌}
+use Rattle.std.proofs.Common.{◌≡◌, ℕ, ◌&&◌, not, Bool, true, false, if◌then◌else◌, List, [], ◌∷◌, map, Option, None}
+use Rattle.std.proofs.Common.{Some, refl, sym, ap, ap₂, ◌∙◌}
 use Rattle.inline.specs.Flat.{TermTree}
 use Rattle.inline.specs.Flat as flat
 use Rattle.branch_removal.specs.Straight.{StraightTree, set, array, put, take, branch, repeats, StraightBlock, nothing}

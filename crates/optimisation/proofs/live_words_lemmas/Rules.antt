@@ -17,10 +17,9 @@ use Rattle.optimisation.proofs.live_words_lemmas.HeldLemmas.{Grows, grows_on, gr
 use Rattle.optimisation.proofs.live_words_lemmas.TermLemmas.{grows_reading, grows_reading_all}
 use Rattle.optimisation.proofs.live_words_lemmas.Grown.{grows_head}
 use Rattle.optimisation.proofs.over_lemmas.Rules.{Places, IsOver, a_number, a_truth, a_variable, prefixed, operated}
-use Rattle.optimisation.proofs.over_lemmas.Rules.{rotated, converted, selected, an_element}
-use Rattle.optimisation.proofs.over_lemmas.Rules.{AreOver, no_values, a_value, IsResultOver, no_result, a_result}
-use Rattle.optimisation.proofs.over_lemmas.Rules.{Layout, Becomes, left_out, sets, fills, puts, takes, chooses, loops}
-use Rattle.optimisation.proofs.over_lemmas.Rules.{AllBecome, ends, goes_on}
+use Rattle.optimisation.proofs.over_lemmas.Rules.{rotated, converted, selected, an_element, AreOver, no_values, a_value}
+use Rattle.optimisation.proofs.over_lemmas.Rules.{IsResultOver, no_result, a_result, Layout, Becomes, left_out, sets}
+use Rattle.optimisation.proofs.over_lemmas.Rules.{fills, puts, takes, chooses, loops, AllBecome, ends, goes_on}
 
 pub front_chain : (o : Option StraightTree) (rest : StraightBlock)
     → chain (in_front o nothing) rest ≡ in_front o rest

@@ -139,14 +139,11 @@ module _ (table : Table) where
     -- what is live before the second arm
     ready_second : (one second : Held) {s u : StraightState} → second.fits ≡ true
         → AreReady (joined one 0 second.holders) s u → AreReady second s u
-    ready_second one second fits ready = record {
-      fits = fits;
-      beside = record {
-        variables = λ y is. ready.beside.variables y
-            (joined_holds one 0 second.holders ready.fits (share table y) (share table y) y (omega arith) is);
-        controls = ready.beside.controls;
-      };
-    }
+    ready_second one second fits =
+        ready_before (record {
+          fits = λ f. fits;
+          holds = λ f v x is. joined_holds one 0 second.holders f v v x (omega arith) is;
+        })
 
     mutual
       follows : (held : Held) (statement : StraightTree) {s u : StraightState}
@@ -179,11 +176,9 @@ module _ (table : Table) where
           let chooser = reads (joined one 0 second.holders) condition ready in
           let at_one = ready_before (grows_joined one 0 second.holders) chooser.1 in
           let fits = (all_become table (anew second held.holders) accepted at_one.fits).0 in
-          let first_arm = all_follow (anew second held.holders) accepted at_one in
-          branch_follows (Alike held.holders) most chooser.0
-          (record { beside = first_arm.beside; path = first_arm.path })
+          branch_follows (Alike held.holders) most chooser.0 (all_follow (anew second held.holders) accepted at_one)
           (all_follow held otherwise (ready_second one second fits chooser.1))
-      follows held (repeats x low high body) {s} {u} ready =
+      follows held (repeats x low high body) ready =
           let head = at_head table held x body in
           let turn = before_all table head body in
           let last = closed table x head turn in
@@ -191,10 +186,7 @@ module _ (table : Table) where
           let to = reads last high from.1 in
           let parts = is_closed table x head turn to.1.fits in
           let fits = (all_become table head body parts.turn_fits).0 in
-          let code = shared_all table head body in
-          let beside : AreBeside (Alike head.holders) s u =
-          record { variables = to.1.beside.variables; controls = to.1.beside.controls } in
-          let run = loop_follows (Alike head.holders) most x beside from.0 to.0
+          let run = loop_follows (Alike head.holders) most x to.1.beside from.0 to.0
           (λ i v w at. all_follow head body (turn_begins x head turn parts i v w at)) in
           rw parts.own (record {
             beside = (ready_before (grows_head table held x body) (record {

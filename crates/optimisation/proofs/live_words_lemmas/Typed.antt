@@ -1,14 +1,14 @@
 -- Words live in words of their type: code over the variables that words live in is well typed where the code is.
-use Rattle.std.proofs.Common.{◌≡◌, ℕ, ◌==◌, Bool, true, false, if◌then◌else◌, List, None, Some, slice_get}
-use Rattle.std.proofs.Common.{◌⊎◌, inl, inr, refl, sym, ap, ◌∙◌}
-use Rattle.std.proofs.lemmas.Bool.{ne_eqb, eqb-false}
-use Rattle.std.proofs.lemmas.Option.{none-some, same_Some}
+use Rattle.std.proofs.Common.{◌≡◌, ℕ, Bool, if◌then◌else◌, List, None, Some, slice_get}
+use Rattle.std.proofs.Common.{◌⊎◌, inl, inr, sym, ap, ◌∙◌}
+use Rattle.std.proofs.lemmas.Bool.{ne_eqb}
+use Rattle.std.proofs.lemmas.Option.{same_Some}
 use Rattle.inline.specs.declared.flat.FlatVariable.{FlatVariable}
 use Rattle.inline.specs.Flat.{word_as, array_as}
 use Rattle.language.specs.declared.typing.WordType.{WordType}
 use Rattle.optimisation.specs.live_words.private.Held.{Table, share}
 use Rattle.optimisation.proofs.live_words_lemmas.Rules.{places, layout}
-use Rattle.optimisation.proofs.over_lemmas.Types.{but, but_apart, but_within, KeepsTypes, KeepsDeclared}
+use Rattle.optimisation.proofs.over_lemmas.Types.{but, but_apart, but_within, word_array, KeepsTypes, KeepsDeclared}
 
 -- a word, and the variable that it lives in: a word of the same type
 pub record IsAlike (declared : List FlatVariable) (x v : ℕ) : Type 0 where
@@ -21,13 +21,6 @@ pub record IsAlike (declared : List FlatVariable) (x v : ℕ) : Type 0 where
 -- each variable lives in its own, or is a word that lives in one of its type
 abbrev pub IsKept : Table → List FlatVariable → Type 0
 IsKept table declared = (x : ℕ) → (share table x ≡ x) ⊎ IsAlike declared x (share table x)
-
--- a word is no array
-word_array : (declared : List FlatVariable) (x : ℕ) (word other : WordType) (m n : Bool) (size : ℕ)
-    → slice_get declared x ≡ Some (word_as word m) → slice_get declared x ≡ Some (array_as other n size) → ⊥
-word_array declared x word other m n size one two =
-    none-some size (ap (λ (d : FlatVariable). d.elements)
-    (same_Some (word_as word m) (array_as other n size) (sym one ∙ two)))
 
 module _ (table : Table) (declared : List FlatVariable) (kept : IsKept table declared) where
   by_word : (x : ℕ) (word : WordType) (mutable : Bool) → slice_get declared x ≡ Some (word_as word mutable)
@@ -47,7 +40,7 @@ module _ (table : Table) (declared : List FlatVariable) (kept : IsKept table dec
       → (share table x ≡ x) ⊎ IsAlike declared x (share table x) → share table x ≡ x
   by_array x word mutable size is (inl own) = own
   by_array x word mutable size is (inr alike) =
-      absurd (word_array declared x alike.word word alike.mutable mutable size alike.from is)
+      absurd (word_array declared x alike.from is)
 
   outer_kept : KeepsTypes (λ y. slice_get declared y) (λ y. slice_get declared y) (places table)
   outer_kept = record {
@@ -75,8 +68,7 @@ module _ (table : Table) (declared : List FlatVariable) (kept : IsKept table dec
         let there = by_word y other m (but_within declared x y (word_as other m) at) (kept y) in (
           there.0,
           still_but y (word_as other there.0)
-              (λ same. word_array declared x other word there.0 mutable size
-              (sym (ap (slice_get declared) same) ∙ there.1) is)
+              (λ same. word_array declared x (sym (ap (slice_get declared) same) ∙ there.1) is)
               there.1,
         )
 

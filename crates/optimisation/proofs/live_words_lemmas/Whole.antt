@@ -1,7 +1,6 @@
 -- The program over the variables that words live in may stand in the place of the program.
-use Rattle.std.proofs.Common.{◌≡◌, ℕ, ◌+◌, ◌<◌, ◌≤◌, ◌^◌, ◌==◌, ◌&&◌, ◌++◌, Bool, true, false, if◌then◌else◌, List}
-use Rattle.std.proofs.Common.{[], ◌∷◌, length, map, Option, None, Some, option_map, refl, sym, ap, ap₂, ◌∙◌}
-use Rattle.std.proofs.Common.{subst, arith}
+use Rattle.std.proofs.Common.{◌≡◌, ℕ, ◌+◌, ◌<◌, ◌≤◌, ◌^◌, ◌==◌, ◌&&◌, ◌++◌, Bool, true, false, if◌then◌else◌, List, []}
+use Rattle.std.proofs.Common.{◌∷◌, length, map, Option, None, Some, option_map, refl, sym, ap, ap₂, ◌∙◌, subst, arith}
 use Rattle.std.proofs.lemmas.Bool.{and_parts, eqb-true}
 use Rattle.inline.specs.Flat.{TermTree, declaration_of, elements_by}
 use Rattle.inline.specs.FlatMeaning.{array_of, arrays_from}
@@ -24,8 +23,7 @@ use Rattle.optimisation.specs.live_words.private.Held.{Table, Held, share, fitti
 use Rattle.optimisation.specs.live_words.private.Terms.{renamed}
 use Rattle.optimisation.specs.live_words.private.Sharing.{shared_all}
 use Rattle.optimisation.specs.live_words.private.Whole.{kept, with_results, reading_any, at_end, at_start, over}
-use Rattle.optimisation.specs.live_words.private.Whole.{nothing_live}
-use Rattle.optimisation.specs.live_words.private.Whole.{all_fits, shared_by}
+use Rattle.optimisation.specs.live_words.private.Whole.{nothing_live, all_fits, shared_by}
 use Rattle.optimisation.specs.live_words.private.Choice.{all_allowed}
 use Rattle.optimisation.proofs.live_words_lemmas.Allowed.{allowed_kept}
 use Rattle.optimisation.proofs.live_words_lemmas.HeldLemmas.{Grows, grows_same, grows_on, grows_holding, alike_living}
@@ -52,16 +50,11 @@ same_array MutableArray one other same = ap (λ w. w ∷ []) (sym (same refl))
 module _ (table : Table) where
   -- Results.
 
-  grows_kept : (held : Held) (x : ℕ) → Grows held (kept table held x)
-  grows_kept held x = record {
-    fits = λ f. (grows_holding held (share table x) x).fits
-        (and_parts (living table held x).fits (share table x == x) f).0;
-    holds = λ f v y is. (grows_holding held (share table x) x).holds
-        (and_parts (living table held x).fits (share table x == x) f).0 v y is;
-  }
+  grows_fitting : (held : Held) (fine : Bool) → Grows held (fitting held fine)
+  grows_fitting held fine = record { fits = λ f. (and_parts held.fits fine f).0; holds = λ f v y is. is }
 
   grows_if : (b : Bool) (held : Held) (x : ℕ) → Grows held (if b then kept table held x else held)
-  grows_if true held x = grows_kept held x
+  grows_if true held x = grows_on (grows_holding held (share table x) x) (grows_fitting _ (share table x == x))
   grows_if false held x = grows_same held
 
   grows_results : (x : ℕ) (ps : List Param) (held : Held) → Grows held (with_results table x ps held)

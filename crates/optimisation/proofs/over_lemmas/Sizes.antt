@@ -11,10 +11,9 @@ use Rattle.language.specs.declared.signature.Kind.{Kind}
 use Rattle.optimisation.specs.declared.element_words.parts.Part.{Part}
 use Rattle.optimisation.specs.element_words.private.Splitting.{given_words}
 use Rattle.optimisation.proofs.over_lemmas.Rules.{Places, IsOver, a_number, prefixed, operated, rotated, converted}
-use Rattle.optimisation.proofs.over_lemmas.Rules.{selected, an_element, AreOver, no_values, a_value}
-use Rattle.optimisation.proofs.over_lemmas.Rules.{IsResultOver, no_result, a_result}
-use Rattle.optimisation.proofs.over_lemmas.Rules.{Layout, Becomes, left_out, sets, fills, gives, puts, puts_word, takes}
-use Rattle.optimisation.proofs.over_lemmas.Rules.{chooses, loops, AllBecome, ends, goes_on}
+use Rattle.optimisation.proofs.over_lemmas.Rules.{selected, an_element, AreOver, no_values, a_value, IsResultOver}
+use Rattle.optimisation.proofs.over_lemmas.Rules.{no_result, a_result, Layout, Becomes, left_out, sets, fills, gives}
+use Rattle.optimisation.proofs.over_lemmas.Rules.{puts, puts_word, takes, chooses, loops, AllBecome, ends, goes_on}
 
 -- an expression has no more nodes than another one, and no more temporaries
 pub record IsNoLarger (e whole : TermTree) : Type 0 where

@@ -10,8 +10,7 @@ use Rattle.inline.specs.FlatTyping.{of_rotation, of_conversion, of_selection, of
 use Rattle.inline.specs.FlatTyping.{IsResult}
 use Rattle.inline.proofs.Face.{some_bit}
 use Rattle.branch_removal.specs.Straight.{StraightTree, set, StraightBlock, nothing, first, chain}
-use Rattle.branch_removal.specs.StraightTyping.{IsAmong, IsTyped, AreTyped, IsHidden, AreHidden}
-use Rattle.branch_removal.specs.StraightTyping.{IsSecretWithin}
+use Rattle.branch_removal.specs.StraightTyping.{IsAmong, IsTyped, AreTyped, IsHidden, AreHidden, IsSecretWithin}
 use Rattle.language.specs.declared.signature.Label.TheVariants.{Public}
 use Rattle.language.specs.declared.typing.WordType.{WordType}
 use Rattle.language.specs.WellTyped.{labelled}
@@ -19,10 +18,10 @@ use Rattle.word.specs.declared.profile.Profile.{Profile}
 use Rattle.optimisation.specs.declared.element_words.parts.Part.{Part}
 use Rattle.optimisation.specs.element_words.private.Splitting.{single, first_value, given_words}
 use Rattle.optimisation.proofs.over_lemmas.Rules.{Places, IsOver, a_number, a_truth, a_variable, prefixed, operated}
-use Rattle.optimisation.proofs.over_lemmas.Rules.{rotated, converted, selected, an_element, a_word}
-use Rattle.optimisation.proofs.over_lemmas.Rules.{AreOver, no_values, a_value, IsResultOver, no_result, a_result}
-use Rattle.optimisation.proofs.over_lemmas.Rules.{Layout, Becomes, left_out, sets, fills, gives, puts, puts_word, takes}
-use Rattle.optimisation.proofs.over_lemmas.Rules.{chooses, loops, AllBecome, ends, goes_on}
+use Rattle.optimisation.proofs.over_lemmas.Rules.{rotated, converted, selected, an_element, a_word, AreOver, no_values}
+use Rattle.optimisation.proofs.over_lemmas.Rules.{a_value, IsResultOver, no_result, a_result, Layout, Becomes, left_out}
+use Rattle.optimisation.proofs.over_lemmas.Rules.{sets, fills, gives, puts, puts_word, takes, chooses, loops, AllBecome}
+use Rattle.optimisation.proofs.over_lemmas.Rules.{ends, goes_on}
 
 -- the variables of a list but for one
 abbrev pub but : List FlatVariable → ℕ → ℕ → Option FlatVariable
@@ -39,6 +38,13 @@ but_within declared x y d = by_number (y == x)
 pub but_apart : (declared : List FlatVariable) (x y : ℕ) (d : FlatVariable) → but declared x y ≡ Some d → y ≡ x → ⊥
 but_apart declared x y d there same =
     none-some d (sym (cond-true (y == x) None (slice_get declared y) (eq-eqb y x same)) ∙ there)
+
+-- a word is no array
+pub word_array : (declared : List FlatVariable) (x : ℕ) {word other : WordType} {m n : Bool} {size : ℕ}
+    → slice_get declared x ≡ Some (word_as word m) → slice_get declared x ≡ Some (array_as other n size) → ⊥
+word_array declared x {word} {other} {m} {n} {size} one two =
+    none-some size (ap (λ (d : FlatVariable). d.elements)
+    (same_Some (word_as word m) (array_as other n size) (sym one ∙ two)))
 
 -- a variable has the type of the one that it takes the place of
 pub record KeepsTypes (old new : ℕ → Option FlatVariable) (p : Places) : Type 0 where

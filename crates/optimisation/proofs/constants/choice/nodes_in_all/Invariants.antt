@@ -1,7 +1,6 @@
 use Rattle.std.proofs.Common.{◌≡◌, ◌≤◌, ◌+◌, ◌-◌, ◌^◌, drop, map}
 use Rattle.inline.specs.Flat.{term_tree}
-use Rattle.optimisation.specs.constants.private.Choice.{terms_size}
-use Rattle.optimisation.specs.constants.private.Choice.{counted}
+use Rattle.optimisation.specs.constants.private.Choice.{terms_size, counted}
 use Rattle.optimisation.proofs.constants.choice.nodes_in_all.Given as goal
 
 -- the sum is a count, and with what the expressions left have it is the count of all

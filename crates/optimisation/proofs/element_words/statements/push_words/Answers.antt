@@ -1,7 +1,18 @@
-use Rattle.std.proofs.Common.{◌≡◌, suc, ◌+◌, ◌-◌, refl, arith}
+use Rattle.std.proofs.Common.{◌≡◌, ℕ, suc, ◌+◌, ◌-◌, List, map, drop, refl, ap, ◌∙◌, arith}
+use Rattle.std.proofs.lemmas.List.{drop-map, drop-drop}
+use Rattle.inline.specs.declared.flat.Term.{Term}
+use Rattle.inline.specs.Flat.{term_tree}
 use Rattle.branch_removal.proofs.StatementTrees.{chain-assoc, chain-nothing}
-use Rattle.optimisation.proofs.element_words_lemmas.CodeLemmas.{values_left}
+use Rattle.optimisation.specs.element_words.private.Parts.{Parts}
+use Rattle.optimisation.specs.element_words.private.Splitting.{split}
 use Rattle.optimisation.proofs.element_words.statements.push_words.Goals as goal
+
+values_left : (parts : Parts) (values : List Term) (k : ℕ)
+    → drop 1 (map (split parts) (map term_tree (drop k values)))
+    ≡ map (split parts) (map term_tree (drop (k + 1) values))
+values_left parts values k =
+    drop-map (split parts) 1 (map term_tree (drop k values))
+    ∙ ap (map (split parts)) (drop-map term_tree 1 (drop k values) ∙ ap (map term_tree) (drop-drop 1 k values))
 
 pub loop-k-preserved : goal.loop-k-preserved
 loop-k-preserved c =
