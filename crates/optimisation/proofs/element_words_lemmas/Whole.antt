@@ -1,13 +1,13 @@
 -- The program with words may stand in the place of the program.
 use Rattle.std.proofs.Common.{◌≡◌, ℕ, zero, suc, ◌+◌, ◌*◌, ◌<◌, ◌≤◌, Bool, true, false, if◌then◌else◌, List, [], ◌∷◌}
 use Rattle.std.proofs.Common.{◌++◌, map, drop, length, replicate, Option, None, Some, option_map, slice_get}
-use Rattle.std.proofs.Common.{slice_index, refl, sym, ap, ap₂, ◌∙◌, arith, take as first_of}
+use Rattle.std.proofs.Common.{get_or, slice_index, refl, sym, ap, ap₂, ◌∙◌, arith, take as first_of}
 use Rattle.std.specs.Prelude.{nat_lt}
 use Rattle.std.proofs.lemmas.List.{length-map, length-replicate, length-take, take-append-le}
-use Rattle.std.proofs.lemmas.Option.{none-some, slice_get_within}
+use Rattle.std.proofs.lemmas.Option.{none-some, slice_get-get_or, slice_get_within}
 use Rattle.language.specs.arguments.Within.{AreWithin}
 use Rattle.inline.specs.declared.flat.FlatVariable.{FlatVariable}
-use Rattle.inline.specs.Flat.{TermTree, word_as, array_as, declaration_of}
+use Rattle.inline.specs.Flat.{counter_type, TermTree, word_as, array_as, declaration_of}
 use Rattle.inline.specs.FlatMeaning.{Values, given, array_of, arrays_from}
 use Rattle.inline.specs.FlatSize.{declared_words}
 use Rattle.inline.specs.Limits.{most_variable_bytes}
@@ -63,14 +63,6 @@ same_arrays x [] m k same = refl
 same_arrays x (p ∷ params) m k same =
     ap₂ (λ (a b : List (List ℕ)). a ++ b) (ap (array_of p.form) (same x (omega arith) (omega arith)))
     (same_arrays (x + 1) params m k (λ y from to. same y (omega arith) (omega arith)))
-
--- what is within a front of a list is there
-front_there : (n : ℕ) (declared : List FlatVariable) (y : ℕ) → y < length (first_of n declared)
-    → (d : FlatVariable) × (slice_get declared y ≡ Some d)
-front_there zero declared y below = absurd (omega arith)
-front_there (suc n) [] y below = absurd (omega arith)
-front_there (suc n) (d ∷ declared) zero below = (d, refl)
-front_there (suc n) (d ∷ declared) (suc y) below = front_there n declared y (omega arith)
 
 module _ (p : StraightProgram) (is_straight : IsStraight p) (parts : Parts)
     (is_splitting : IsSplitting p.declared (p.declared ++ all_words parts) parts)
@@ -138,8 +130,11 @@ module _ (p : StraightProgram) (is_straight : IsStraight p) (parts : Parts)
 
     same_parameters : (y : ℕ) → 0 ≤ y → y < 0 + length p.parameters → end_of made_of args y ≡ end_of p args y
     same_parameters y from to =
-        let there = front_there (length p.parameters) p.declared y (omega (arith, parameters_there)) in
-        ends.beside.variables.plain y there.0 there.1 (parameter_stays y (omega arith) (part_of parts y) refl)
+        let d = word_as counter_type false in
+        let listed : y < length p.declared =
+        omega (arith, parameters_there, length-take (length p.parameters) p.declared) in
+        ends.beside.variables.plain y (get_or p.declared y d) (slice_get-get_or p.declared y d listed)
+        (parameter_stays y (omega arith) (part_of parts y) refl)
 
     same_outcome : outcome_of made_of args ≡ outcome_of p args
     same_outcome =

@@ -1,7 +1,7 @@
 -- In a table that is allowed each word lives in its own variable, or in one of its type.
 use Rattle.std.proofs.Common.{◌≡◌, ℕ, zero, suc, ◌+◌, ◌==◌, ◌||◌, Bool, true, false, List, [], ◌∷◌, Option}
 use Rattle.std.proofs.Common.{None, Some, slice_get, unwrap_or, ◌⊎◌, inl, inr, refl, ap, ◌∙◌, subst, arith}
-use Rattle.std.proofs.lemmas.Bool.{and_parts, eqb-true, false≢true}
+use Rattle.std.proofs.lemmas.Bool.{and_parts, cases_eq, false≢true, ne_eqb}
 use Rattle.std.proofs.lemmas.Option.{none-some, same_Some}
 use Rattle.inline.specs.declared.flat.FlatVariable.{FlatVariable}
 use Rattle.optimisation.specs.private.SameWords.{are_alike}
@@ -26,30 +26,28 @@ alike_placed declared x v (Some d) (Some e) at to h =
 
 allowed_placed : (declared : List FlatVariable) (x v : ℕ) → is_allowed declared x v ≡ true
     → (v ≡ x) ⊎ IsAlike declared x v
-allowed_placed declared x v allowed = by_number (v == x) refl allowed
-  where
-    by_number : (b : Bool) → (v == x) ≡ b
-        → (b || are_alike (slice_get declared x) (slice_get declared v)) ≡ true → (v ≡ x) ⊎ IsAlike declared x v
-    by_number true same h = inl (eqb-true v x same)
-    by_number false apart h = inr (alike_placed declared x v (slice_get declared x) (slice_get declared v) refl refl h)
+allowed_placed declared x v allowed =
+    elim (cases_eq v x) [
+      inl same ↦ inl same
+      | inr apart ↦
+          inr (alike_placed declared x v (slice_get declared x) (slice_get declared v) refl refl
+          (rw (ne_eqb v x apart) at allowed))
+    ]
 
 entry_allowed : (declared : List FlatVariable) (x : ℕ) (table : Table) → all_allowed declared x table ≡ true
-    → (i v : ℕ) → slice_get table i ≡ Some v → is_allowed declared (x + i) v ≡ true
-entry_allowed declared x [] all i v is = absurd (none-some v is)
-entry_allowed declared x (w ∷ table) all zero v is =
-    let parts = and_parts (is_allowed declared x w) (all_allowed declared (x + 1) table) all in
-    subst (λ n. is_allowed declared n v ≡ true) (omega arith)
-    (subst (λ z. is_allowed declared x z ≡ true) (same_Some w v is) parts.0)
-entry_allowed declared x (w ∷ table) all (suc i) v is =
-    let parts = and_parts (is_allowed declared x w) (all_allowed declared (x + 1) table) all in
-    subst (λ n. is_allowed declared n v ≡ true) (omega arith) (entry_allowed declared (x + 1) table parts.1 i v is)
+    → (i y v : ℕ) → y ≡ x + i → slice_get table i ≡ Some v → is_allowed declared y v ≡ true
+entry_allowed declared x [] all i y v at is = absurd (none-some v is)
+entry_allowed declared x (w ∷ table) all zero y v at is =
+    let here : y ≡ x = omega arith in
+    rw (here, ← same_Some w v is) (and_parts (is_allowed declared x w) (all_allowed declared (x + 1) table) all).0
+entry_allowed declared x (w ∷ table) all (suc i) y v at is =
+    entry_allowed declared (x + 1) table
+    (and_parts (is_allowed declared x w) (all_allowed declared (x + 1) table) all).1 i y v (omega arith) is
 
 module _ (declared : List FlatVariable) (table : Table) (all : all_allowed declared 0 table ≡ true) where
   placed : (x : ℕ) (o : Option ℕ) → slice_get table x ≡ o → (unwrap_or o x ≡ x) ⊎ IsAlike declared x (unwrap_or o x)
   placed x None is = inl refl
-  placed x (Some v) is =
-      allowed_placed declared x v
-      (subst (λ n. is_allowed declared n v ≡ true) (omega arith) (entry_allowed declared 0 table all x v is))
+  placed x (Some v) is = allowed_placed declared x v (entry_allowed declared 0 table all x x v (omega arith) is)
 
   pub allowed_kept : IsKept table declared
   allowed_kept x = placed x (slice_get table x) refl
