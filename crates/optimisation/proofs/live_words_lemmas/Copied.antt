@@ -22,19 +22,17 @@ pub same_term : (e : TermTree) → renamed [] e ≡ e
 same_term (flat.number value kind) = refl
 same_term (flat.truth value) = refl
 same_term (flat.variable x) = refl
-same_term (flat.prefix operator width operand) = ap (flat.prefix operator width) (same_term operand)
-same_term (flat.binary place operator width left right) =
-    ap₂ (flat.binary place operator width) (same_term left) (same_term right)
-same_term (flat.rotate width operand amount) = ap (λ e. flat.rotate width e amount) (same_term operand)
-same_term (flat.convert kind operand) = ap (flat.convert kind) (same_term operand)
+same_term (flat.prefix operator width operand) = rw (same_term operand)
+same_term (flat.binary place operator width left right) = rw (same_term left, same_term right)
+same_term (flat.rotate width operand amount) = rw (same_term operand)
+same_term (flat.convert kind operand) = rw (same_term operand)
 same_term (flat.select condition accepted otherwise) =
-    ap₂ (λ c a. flat.select c a (renamed [] otherwise)) (same_term condition) (same_term accepted)
-    ∙ ap (flat.select condition accepted) (same_term otherwise)
-same_term (flat.element place x size index) = ap (flat.element place x size) (same_term index)
+    rw (same_term condition, same_term accepted, same_term otherwise)
+same_term (flat.element place x size index) = rw (same_term index)
 
 same_terms : (es : List TermTree) → map (renamed []) es ≡ es
 same_terms [] = refl
-same_terms (e ∷ es) = ap₂ (λ one more. one ∷ more) (same_term e) (same_terms es)
+same_terms (e ∷ es) = rw (same_term e, same_terms es)
 
 -- a statement is not left out
 not_dead : (held : Held) (x : ℕ) (value : TermTree) (code : Option StraightTree) → held.fits ≡ false
@@ -46,25 +44,25 @@ mutual
   same_statement : (held : Held) (statement : StraightTree) → held.fits ≡ false
       → shared [] held statement ≡ Some statement
   same_statement held (set within x value) is =
-      not_dead held x value (Some (set within x (renamed [] value))) is
-      ∙ ap (λ e. Some (set within x e)) (same_term value)
-  same_statement held (array x size values) is = ap (λ es. Some (array x size es)) (same_terms values)
-  same_statement held (put within place x size index value) is =
-      ap₂ (λ i e. Some (put within place x size i e)) (same_term index) (same_term value)
-  same_statement held (take control within condition) is =
-      ap (λ e. Some (take control within e)) (same_term condition)
+      not_dead held x value (Some (set within x (renamed [] value))) is ∙ rw (same_term value)
+  same_statement held (array x size values) is = rw (same_terms values)
+  same_statement held (put within place x size index value) is = rw (same_term index, same_term value)
+  same_statement held (take control within condition) is = rw (same_term condition)
   same_statement held (branch condition accepted otherwise) is =
       let second = before_all [] held otherwise in
-      ap₂ (λ a b. Some (branch (renamed [] condition) a b))
-      (same_block (anew second held.holders) accepted
-      (unfit held.fits second.fits (λ f. (all_become [] held otherwise f).0) is))
-      (same_block held otherwise is)
-      ∙ ap (λ e. Some (branch e accepted otherwise)) (same_term condition)
+      rw (
+        same_term condition,
+        same_block (anew second held.holders) accepted
+            (unfit held.fits second.fits (λ f. (all_become [] held otherwise f).0) is),
+        same_block held otherwise is,
+      )
   same_statement held (repeats x low high body) is =
       let head = at_head [] held x body in
-      ap₂ (λ l h. Some (repeats x l h (shared_all [] head body))) (same_term low) (same_term high)
-      ∙ ap (λ code. Some (repeats x low high code))
-      (same_block head body (unfit held.fits head.fits (grows_head [] held x body).fits is))
+      rw (
+        same_term low,
+        same_term high,
+        same_block head body (unfit held.fits head.fits (grows_head [] held x body).fits is),
+      )
 
   pub same_block : (held : Held) (body : StraightBlock) → held.fits ≡ false → shared_all [] held body ≡ body
   same_block held nothing is = refl

@@ -61,6 +61,6 @@ statements-loop-behind-preserved t c =
         more,
         less,
         here,
-      ) refl;
-      live = rw (c.in_ok-code.ensures.live, l.invariant.live, more, less, here) refl;
+      );
+      live = rw (c.in_ok-code.ensures.live, l.invariant.live, more, less, here);
     }
