@@ -1,7 +1,6 @@
 -- Simpler statements are well typed where the statements are, and set under a control value what those set.
-use Rattle.std.proofs.Common.{◌≡◌, ℕ, ◌==◌, Bool, false, List, map, Option, None, Some, slice_get}
+use Rattle.std.proofs.Common.{◌≡◌, ℕ, Bool, false, List, map, Option, None, Some, slice_get}
 use Rattle.std.proofs.Common.{◌+◌, ◌-◌, ◌≤◌, ◌<◌, refl, sym, ap, ◌∙◌, arith}
-use Rattle.std.proofs.lemmas.Bool.{cond-false, ne_eqb}
 use Rattle.std.proofs.lemmas.Option.{same_Some}
 use Rattle.language.specs.declared.typing.WordType.{WordType}
 use Rattle.inline.specs.declared.flat.FlatVariable.{FlatVariable}
@@ -26,7 +25,7 @@ use Rattle.optimisation.proofs.constants_lemmas.StatementRules.{AllSimplify, end
 use Rattle.optimisation.proofs.constants_lemmas.Suiting.{number_below, suited_number}
 use Rattle.optimisation.proofs.constants_lemmas.TermTypes.{all_still_suit, still_public, still_suits, still_typed}
 use Rattle.optimisation.proofs.constants_lemmas.Unset.{behind_part, within_loop}
-use Rattle.optimisation.proofs.over_lemmas.Types.{but_within, hidden-chain, typed-chain, word_array}
+use Rattle.optimisation.proofs.over_lemmas.Types.{but_other, but_within, hidden-chain, typed-chain, word_array}
 
 module _ {copies : List ℕ} {declared : List FlatVariable} where
   mutual
@@ -81,9 +80,8 @@ module _ (profile : Profile) (declared : List FlatVariable) where
           λ word other there.
           let source = suited word other (but_within declared x c.variable _ there) in (
             source.0,
-            cond-false (c.source == x) None (slice_get declared c.source)
-                (ne_eqb c.source x (λ here. word_array declared c.source source.1
-                (ap (slice_get declared) here ∙ listed))) ∙ source.1,
+            but_other declared x c.source (λ here. word_array declared c.source source.1
+                (ap (slice_get declared) here ∙ listed)) ∙ source.1,
           )
 
   pub inside_kinds : (words : Words) (x : ℕ) (body : StraightBlock) → AreKinds words

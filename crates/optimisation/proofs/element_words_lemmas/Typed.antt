@@ -1,8 +1,7 @@
 -- The words are of their array's type: code with them is well typed where the code is.
-use Rattle.std.proofs.Common.{◌≡◌, ℕ, ◌+◌, ◌<◌, ◌==◌, Bool, true, false, if◌then◌else◌, List, None, Some}
+use Rattle.std.proofs.Common.{◌≡◌, ℕ, ◌+◌, ◌<◌, true, false, List, Some}
 use Rattle.std.proofs.Common.{slice_get, ◌∙◌, arith}
-use Rattle.std.proofs.lemmas.Bool.{cond-false, ne_eqb}
-use Rattle.std.proofs.lemmas.Option.{none-some, slice_get_within}
+use Rattle.std.proofs.lemmas.Option.{slice_get_within}
 use Rattle.inline.specs.declared.flat.FlatVariable.{FlatVariable}
 use Rattle.inline.specs.Flat.{word_as, array_as, counter_type}
 use Rattle.optimisation.specs.declared.element_words.parts.Part.{Part}
@@ -10,16 +9,12 @@ use Rattle.optimisation.specs.element_words.private.Parts.{Parts, part_of}
 use Rattle.optimisation.proofs.element_words_lemmas.PartLemmas.{IsSplitting}
 use Rattle.optimisation.proofs.element_words_lemmas.Known.{layout_in}
 use Rattle.optimisation.proofs.element_words_lemmas.Values.{keeps_in, part_word}
-use Rattle.optimisation.proofs.over_lemmas.Types.{but, but_within, KeepsDeclared}
+use Rattle.optimisation.proofs.over_lemmas.Types.{but, but_apart, but_other, but_within, KeepsDeclared}
 
 module _ (declared new : List FlatVariable) (parts : Parts) (is_splitting : IsSplitting declared new parts) where
   but_kept : (x y : ℕ) (d : FlatVariable) → but declared x y ≡ Some d → but new x y ≡ Some d
-  but_kept x y d = by_number (y == x)
-    where
-      by_number : (b : Bool) → (if b then None else slice_get declared y) ≡ Some d
-          → (if b then None else slice_get new y) ≡ Some d
-      by_number true h = absurd (none-some d h)
-      by_number false h = is_splitting.kept y d h
+  but_kept x y d there =
+      but_other new x y (but_apart declared x y d there) ∙ is_splitting.kept y d (but_within declared x y d there)
 
   but_words : (x : ℕ) (d : FlatVariable) → slice_get declared x ≡ Some d
       → (y : ℕ) (part : Part) (i : ℕ) → part_of parts y ≡ Some part → i < part.size
@@ -28,8 +23,7 @@ module _ (declared new : List FlatVariable) (parts : Parts) (is_splitting : IsSp
       let inside = slice_get_within declared x d there in
       let behind = is_splitting.behind y part is in
       let apart : part.base + i ≡ x → ⊥ = λ same. omega arith in
-      cond-false (part.base + i == x) None (slice_get new (part.base + i)) (ne_eqb (part.base + i) x apart)
-      ∙ is_splitting.words y part i is below
+      but_other new x (part.base + i) apart ∙ is_splitting.words y part i is below
 
   pub keeps_declared : KeepsDeclared declared new (layout_in declared parts)
   keeps_declared = record {

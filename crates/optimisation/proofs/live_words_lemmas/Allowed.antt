@@ -1,6 +1,6 @@
 -- In a table that is allowed each word lives in its own variable, or in one of its type.
-use Rattle.std.proofs.Common.{◌≡◌, ℕ, zero, suc, ◌+◌, ◌==◌, ◌||◌, Bool, true, false, List, [], ◌∷◌, Option}
-use Rattle.std.proofs.Common.{None, Some, slice_get, unwrap_or, ◌⊎◌, inl, inr, refl, ap, ◌∙◌, subst, arith}
+use Rattle.std.proofs.Common.{◌≡◌, ℕ, zero, suc, ◌+◌, true, List, [], ◌∷◌, Option}
+use Rattle.std.proofs.Common.{None, Some, slice_get, unwrap_or, ◌⊎◌, inl, inr, refl, ap, ◌∙◌, arith}
 use Rattle.std.proofs.lemmas.Bool.{and_parts, cases_eq, false≢true, ne_eqb}
 use Rattle.std.proofs.lemmas.Option.{none-some, same_Some}
 use Rattle.inline.specs.declared.flat.FlatVariable.{FlatVariable}
@@ -28,7 +28,7 @@ allowed_placed : (declared : List FlatVariable) (x v : ℕ) → is_allowed decla
     → (v ≡ x) ⊎ IsAlike declared x v
 allowed_placed declared x v allowed =
     elim (cases_eq v x) [
-      inl same ↦ inl same
+      | inl same ↦ inl same
       | inr apart ↦
           inr (alike_placed declared x v (slice_get declared x) (slice_get declared v) refl refl
           (rw (ne_eqb v x apart) at allowed))

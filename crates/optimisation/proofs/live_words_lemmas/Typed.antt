@@ -1,14 +1,14 @@
 -- Words live in words of their type: code over the variables that words live in is well typed where the code is.
-use Rattle.std.proofs.Common.{◌≡◌, ℕ, Bool, if◌then◌else◌, List, None, Some, slice_get}
+use Rattle.std.proofs.Common.{◌≡◌, ℕ, Bool, List, Some, slice_get}
 use Rattle.std.proofs.Common.{◌⊎◌, inl, inr, sym, ap, ◌∙◌}
-use Rattle.std.proofs.lemmas.Bool.{ne_eqb}
 use Rattle.std.proofs.lemmas.Option.{same_Some}
 use Rattle.inline.specs.declared.flat.FlatVariable.{FlatVariable}
 use Rattle.inline.specs.Flat.{word_as, array_as}
 use Rattle.language.specs.declared.typing.WordType.{WordType}
 use Rattle.optimisation.specs.live_words.private.Held.{Table, share}
 use Rattle.optimisation.proofs.live_words_lemmas.Rules.{places, layout}
-use Rattle.optimisation.proofs.over_lemmas.Types.{but, but_apart, but_within, word_array, KeepsTypes, KeepsDeclared}
+use Rattle.optimisation.proofs.over_lemmas.Types.{but, but_apart, but_other, but_within, word_array, KeepsTypes}
+use Rattle.optimisation.proofs.over_lemmas.Types.{KeepsDeclared}
 
 -- a word, and the variable that it lives in: a word of the same type
 pub record IsAlike (declared : List FlatVariable) (x v : ℕ) : Type 0 where
@@ -59,8 +59,7 @@ module _ (table : Table) (declared : List FlatVariable) (kept : IsKept table dec
     still_but : (y : ℕ) (d : FlatVariable) → (share table y ≡ x → ⊥) → slice_get declared (share table y) ≡ Some d
         → but declared (share table x) (share table y) ≡ Some d
     still_but y d apart there =
-        rw own
-        (ap (λ b. if b then None else slice_get declared (share table y)) (ne_eqb (share table y) x apart) ∙ there)
+        rw own (but_other declared x (share table y) apart ∙ there)
 
     but_words : (y : ℕ) (other : WordType) (m : Bool) → but declared x y ≡ Some (word_as other m)
         → (n : Bool) × (but declared (share table x) (share table y) ≡ Some (word_as other n))

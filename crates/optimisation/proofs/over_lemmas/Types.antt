@@ -1,7 +1,7 @@
 -- Code over other variables is well typed where the code is, and sets only what is secret within a control value.
 use Rattle.std.proofs.Common.{◌≡◌, ℕ, zero, suc, ◌+◌, ◌<◌, ◌==◌, Bool, true, false, if◌then◌else◌, List, [], ◌∷◌, drop}
 use Rattle.std.proofs.Common.{length, Option, None, Some, slice_get, refl, sym, ap, ◌∙◌, arith}
-use Rattle.std.proofs.lemmas.Bool.{cond-true, eq-eqb}
+use Rattle.std.proofs.lemmas.Bool.{cond-false, cond-true, eq-eqb, ne_eqb}
 use Rattle.std.proofs.lemmas.Option.{none-some, same_Some}
 use Rattle.inline.specs.declared.flat.FlatVariable.{FlatVariable}
 use Rattle.inline.specs.Flat.{TermTree, word_as, array_as, counter_type}
@@ -34,6 +34,9 @@ but_within declared x y d = by_number (y == x)
     by_number : (b : Bool) → (if b then None else slice_get declared y) ≡ Some d → slice_get declared y ≡ Some d
     by_number true h = absurd (none-some d h)
     by_number false h = h
+
+pub but_other : (declared : List FlatVariable) (x y : ℕ) → (y ≡ x → ⊥) → but declared x y ≡ slice_get declared y
+but_other declared x y apart = cond-false (y == x) None (slice_get declared y) (ne_eqb y x apart)
 
 pub but_apart : (declared : List FlatVariable) (x y : ℕ) (d : FlatVariable) → but declared x y ≡ Some d → y ≡ x → ⊥
 but_apart declared x y d there same =

@@ -1,4 +1,4 @@
-use Rattle.std.proofs.Common.{rules, ◌≡◌, ◌+◌, ◌-◌, length, refl, arith}
+use Rattle.std.proofs.Common.{rules, ◌≡◌, ◌+◌, ◌-◌, length, arith}
 use Rattle.branch_removal.proofs.StatementTrees.{tree_of_branch, tree_of_loop, arms_smaller, body_smaller, item_here}
 use Rattle.branch_removal.proofs.StatementTrees.{smaller_here}
 use Rattle.optimisation.proofs.live_words.statements.+sharing.Goals as goal
