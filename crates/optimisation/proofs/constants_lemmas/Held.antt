@@ -1,16 +1,17 @@
 -- Well-typed straight code keeps in each variable what it is declared as.
-use Rattle.std.proofs.Common.{◌≡◌, ℕ, zero, suc, ◌+◌, ◌-◌, ◌^◌, ◌<◌, ◌≤◌, ◌==◌, false, List, []}
+use Rattle.std.proofs.Common.{◌≡◌, ℕ, zero, suc, ◌-◌, ◌^◌, ◌<◌, ◌≤◌, ◌==◌, false, List, []}
 use Rattle.std.proofs.Common.{◌∷◌, ◌++◌, length, map, take as first_of, drop, replicate, All, slice_get, slice_set}
-use Rattle.std.proofs.Common.{Some, sym, ap, ◌∙◌, subst, arith}
+use Rattle.std.proofs.Common.{refl, Some, sym, ap, ◌∙◌, subst, arith}
 use Rattle.std.proofs.lemmas.Bool.{cond_both}
 use Rattle.std.proofs.lemmas.List.{length-set, length-replicate, length-map}
 use Rattle.std.proofs.lemmas.List.Elements.{All-nil, All-cons, All-set, All-replicate}
 use Rattle.std.proofs.lemmas.Option.{none-some}
 use Rattle.inline.specs.declared.flat.FlatVariable.{FlatVariable}
-use Rattle.inline.specs.Fitting.{IsWithinKind, Fits}
-use Rattle.inline.specs.Flat.{TermTree, counter_type, word_as, array_as}
-use Rattle.inline.specs.FlatMeaning.{Values, value_in, turns}
+use Rattle.inline.specs.Fitting.{IsWithinKind, IsHeld, Fits}
+use Rattle.inline.specs.Flat.{TermTree, counter_type, word_as, array_as, declaration_of, numbers_in}
+use Rattle.inline.specs.FlatMeaning.{Values, value_in, given}
 use Rattle.inline.specs.FlatTyping.{Types, types_of, AllSuit}
+use Rattle.inline.proofs.Face.{turns_keep}
 use Rattle.inline.proofs.Fitting.{value_fits, suited_fits, some_bit}
 use Rattle.inline.proofs.FittingBodies.{fits_assigned, one_held}
 use Rattle.branch_removal.specs.Straight.{StraightTree, set, array, put, take, branch, repeats}
@@ -32,14 +33,6 @@ all_held : (types : Types) (m : Values) → Fits types m → (word : WordType) (
 all_held types m fits word [] suit = All-nil (IsWithinKind word.kind)
 all_held types m fits word (e ∷ es) suit = All-cons (IsWithinKind word.kind) (value_in m e) (map (value_in m) es)
     (suited_fits types m fits word e suit.0) (all_held types m fits word es suit.1)
-
--- what each turn keeps, of numbers below a limit, all keep
-kept_below : {S : Type 0} (Q : S → Type 0) (f : ℕ → S → S) (limit : ℕ)
-    → ((i : ℕ) (s : S) → i < limit → Q s → Q (f i s))
-    → (n i : ℕ) (s : S) → i + n ≤ limit → Q s → Q (turns n i f s)
-kept_below Q f limit keep zero i s below q = q
-kept_below Q f limit keep (suc n) i s below q =
-    kept_below Q f limit keep n (i + 1) (f i s) (omega arith) (keep i s (omega arith) q)
 
 -- all numbers of a loop are below this
 abbrev pub counter_limit : ℕ
@@ -101,11 +94,11 @@ module _ (profile : Profile) (declared : List FlatVariable) where
           (λ (t : StraightState). Fits types t.variables) (λ none. fits_after_all otherwise is.2 s fits)
           (λ some. fits_after_all accepted is.1 s fits)
       fits_after (repeats x low high body) is s fits =
-          kept_below (λ (t : StraightState). Fits types t.variables) (λ i t. after_all (counted x i t) body)
-          counter_limit
-          (λ i t below held. fits_after_all body is.3 (counted x i t) (counted_fits x i is.2 below t held))
-          (value_at s high - value_at s low) (value_at s low) s
-          (omega (arith, value_fits types s.variables fits is.0, value_fits types s.variables fits is.1)) fits
+          turns_keep (λ (t : StraightState). Fits types t.variables) (λ i t. after_all (counted x i t) body)
+          (value_at s high)
+          (λ i t below held. fits_after_all body is.3 (counted x i t) (counted_fits x i is.2
+          (omega (arith, value_fits types s.variables fits is.1)) t held))
+          (value_at s high - value_at s low) (value_at s low) s refl fits
 
       pub fits_after_all : (body : StraightBlock) → AreTyped profile declared controls body → (s : StraightState)
           → Fits types s.variables → Fits types (after_all s body).variables

@@ -1,11 +1,10 @@
 -- Variables that statements leave alone: they hold what they held, and what is still known of them was known before.
-use Rattle.std.proofs.Common.{◌≡◌, ℕ, zero, suc, ◌+◌, ◌-◌, ◌==◌, Bool, true, false, if◌then◌else◌, List, [], ◌∷◌}
+use Rattle.std.proofs.Common.{◌≡◌, ℕ, ◌-◌, ◌==◌, Bool, true, false, if◌then◌else◌, List, [], ◌∷◌}
 use Rattle.std.proofs.Common.{inl, Option, None, Some, refl, ◌∙◌}
 use Rattle.std.proofs.lemmas.Bool.{cond_both}
 use Rattle.inline.specs.declared.flat.FlatVariable.{FlatVariable}
 use Rattle.inline.specs.Flat.{TermTree}
-use Rattle.inline.specs.FlatMeaning.{turns}
-use Rattle.inline.proofs.Face.{with_value-other}
+use Rattle.inline.proofs.Face.{turns_keep, with_value-other}
 use Rattle.branch_removal.specs.Straight.{StraightTree, set, array, put, take, branch, repeats}
 use Rattle.branch_removal.specs.Straight.{StraightBlock, nothing, first}
 use Rattle.branch_removal.specs.StraightMeaning.{StraightState, holds, with_variable, value_at, counted}
@@ -119,12 +118,6 @@ module _ {copies : List ℕ} {declared : List FlatVariable} where
 
 -- Runs.
 
--- what each turn keeps, all turns keep
-turns_keep : {S : Type 0} (P : S → Type 0) (turn : ℕ → S → S) → ((i : ℕ) (s : S) → P s → P (turn i s))
-    → (n i : ℕ) (s : S) → P s → P (turns n i turn s)
-turns_keep P turn keep zero i s p = p
-turns_keep P turn keep (suc n) i s p = turns_keep P turn keep n (i + 1) (turn i s) (keep i s p)
-
 beside_under : (s : StraightState) (b : Bool) (x y : ℕ) (v : List ℕ) → (y ≡ x → ⊥)
     → (if b then with_variable s x v else s).variables y ≡ s.variables y
 beside_under s true x y v apart = with_value-other s.variables x y v apart
@@ -145,9 +138,10 @@ mutual
       (λ is. left_alone_all accepted f unset.0 y about s)
   left_alone (repeats x low high body) f unset y about s =
       turns_keep (λ (t : StraightState). t.variables y ≡ s.variables y) (λ i t. after_all (counted x i t) body)
-      (λ i t so_far. left_alone_all body f unset.1 y about (counted x i t)
+      (value_at s high)
+      (λ i t below so_far. left_alone_all body f unset.1 y about (counted x i t)
       ∙ (with_value-other t.variables x y (i ∷ []) (unset.0 y about) ∙ so_far))
-      (value_at s high - value_at s low) (value_at s low) s refl
+      (value_at s high - value_at s low) (value_at s low) s refl refl
 
   pub left_alone_all : (body : StraightBlock) (f : Fact) → AreUnset f body → (y : ℕ) → IsAbout y f
       → (s : StraightState) → (after_all s body).variables y ≡ s.variables y

@@ -1,6 +1,5 @@
 -- Words live in words of their type: code over the variables that words live in is well typed where the code is.
-use Rattle.std.proofs.Common.{◌≡◌, ℕ, Bool, List, Some, slice_get}
-use Rattle.std.proofs.Common.{◌⊎◌, inl, inr, sym, ap, ◌∙◌}
+use Rattle.std.proofs.Common.{◌≡◌, ℕ, Bool, List, Some, slice_get, ◌⊎◌, inl, inr, sym, ap, ◌∙◌}
 use Rattle.std.proofs.lemmas.Option.{same_Some}
 use Rattle.inline.specs.declared.flat.FlatVariable.{FlatVariable}
 use Rattle.inline.specs.Flat.{word_as, array_as}
