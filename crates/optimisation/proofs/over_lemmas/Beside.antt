@@ -1,7 +1,7 @@
 -- Two runs side by side: what their variables hold goes together, and the path of the second is fine where that of the
 -- first is.
 use Rattle.std.proofs.Common.{◌≡◌, ℕ, zero, suc, ◌+◌, ◌-◌, ◌==◌, ◌&&◌, not, Bool, true, false, if◌then◌else◌, List}
-use Rattle.std.proofs.Common.{◌∷◌, Option, None, Some, refl, ap, ap₂, ◌∙◌}
+use Rattle.std.proofs.Common.{◌∷◌, Option, None, Some, refl, ap}
 use Rattle.inline.specs.Flat.{TermTree}
 use Rattle.inline.specs.FlatMeaning.{Values, turns, path_of_turns}
 use Rattle.inline.specs.Path.{Path, decided, bounded}
@@ -72,15 +72,10 @@ module _ (R : Values → Values → Type 0) where
   pub taken_beside : (control : ℕ) (within : Option ℕ) {s t : StraightState} {v w : ℕ} → AreBeside R s t → w ≡ v
       → AreBeside R (with_controls s control (holds s within && not (v == 0)) (holds s within && (v == 0)))
       (with_controls t control (holds t within && not (w == 0)) (holds t within && (w == 0)))
-  taken_beside control within {s = s} {t = t} {v = v} beside same =
-      let taken : Bool → ℕ → (ℕ → Bool) → ℕ → Bool =
-      λ h n others c. if c == control then h && not (n == 0)
-      else (if c == control + 1 then h && (n == 0) else others c) in
-      record {
-        variables = beside.variables;
-        controls = ap₂ (λ (h : Bool) (n : ℕ). taken h n t.controls) (same_hold within beside) same
-            ∙ ap (taken (holds s within) v) beside.controls;
-      }
+  taken_beside control within beside same = record {
+    variables = beside.variables;
+    controls = rw (same, same_hold within beside, beside.controls);
+  }
 
   module _ (most : List ℕ) where
     -- a block beside another one

@@ -15,9 +15,9 @@ use Rattle.optimisation.specs.element_words.private.Splitting.{single, given_wor
 
 -- where the variables are
 pub record Places : Type 1 where
-  -- the variable that one is in, where it stays a variable
-  pub at : ℕ → ℕ
+  -- where a variable stays one, and which one it is then
   pub Stays : ℕ → Type 0
+  pub at : ℕ → ℕ
   -- an array's element that is this word
   pub IsWord : ℕ → ℕ → ℕ → Type 0
 
@@ -41,6 +41,7 @@ pub data IsOver (p : Places) : TermTree → TermTree → Type 0 where
   a_word : {place : Place} {x size value w : ℕ} {kind : Kind} → p.IsWord x value w
       → IsOver p (element place x size (number value kind)) (variable w)
 
+-- so expressions
 pub data AreOver (p : Places) : List TermTree → List TermTree → Type 0 where
   no_values : AreOver p [] []
   a_value : {e f : TermTree} {es fs : List TermTree} → IsOver p e f → AreOver p es fs
@@ -64,18 +65,21 @@ pub record Layout : Type 1 where
 mutual
   -- a statement becomes code over other variables
   pub data Becomes (l : Layout) : StraightTree → StraightBlock → Type 0 where
+    -- nobody reads what is set
     left_out : {within : Option ℕ} {x : ℕ} {value : TermTree} → l.IsLeftOut value
         → Becomes l (set within x value) nothing
     sets : {within : Option ℕ} {x : ℕ} {value e : TermTree} → l.outer.Stays x → IsOver l.outer value e
         → Becomes l (set within x value) (single (set within (l.outer.at x) e))
     fills : {x size : ℕ} {values es : List TermTree} → l.outer.Stays x → AreOver (l.inner x) values es
         → Becomes l (array x size values) (single (array (l.outer.at x) size es))
+    -- an array that is words
     gives : {x size : ℕ} {part : Part} {values es : List TermTree} → l.IsSplit x size part
         → HasCount size values → AreOver (l.inner x) values es
         → Becomes l (array x size values) (given_words part.base part.size part.word.kind es)
     puts : {within : Option ℕ} {place : Place} {x size : ℕ} {index value i e : TermTree} → l.outer.Stays x
         → IsOver l.outer index i → IsOver l.outer value e
         → Becomes l (put within place x size index value) (single (put within place (l.outer.at x) size i e))
+    -- an element that is a word
     puts_word : {within : Option ℕ} {place : Place} {x size i w : ℕ} {kind : Kind} {value e : TermTree}
         → l.outer.IsWord x i w → IsOver l.outer value e
         → Becomes l (put within place x size (number i kind) value) (single (set within w e))
@@ -89,6 +93,7 @@ mutual
         → IsOver l.outer high b → AllBecome l body code
         → Becomes l (repeats x low high body) (single (repeats x a b code))
 
+  -- so statements in their order
   pub data AllBecome (l : Layout) : StraightBlock → StraightBlock → Type 0 where
     ends : AllBecome l nothing nothing
     goes_on : {statement : StraightTree} {rest code more : StraightBlock} → Becomes l statement code
