@@ -1,15 +1,13 @@
 -- Well-typed straight code keeps in each variable what it is declared as.
-use Rattle.std.proofs.Common.{◌≡◌, ℕ, zero, suc, ◌-◌, ◌^◌, ◌<◌, ◌≤◌, ◌==◌, false, List, []}
-use Rattle.std.proofs.Common.{◌∷◌, ◌++◌, length, map, take as first_of, drop, replicate, All, slice_get, slice_set}
-use Rattle.std.proofs.Common.{refl, Some, sym, ap, ◌∙◌, subst, arith}
+use Rattle.std.proofs.Common.{◌≡◌, ℕ, ◌-◌, ◌^◌, ◌<◌, ◌==◌, false, List, []}
+use Rattle.std.proofs.Common.{◌∷◌, map, replicate, All, slice_get, slice_set, refl, Some, ◌∙◌, arith}
 use Rattle.std.proofs.lemmas.Bool.{cond_both}
 use Rattle.std.proofs.lemmas.List.{length-set, length-replicate, length-map}
 use Rattle.std.proofs.lemmas.List.Elements.{All-nil, All-cons, All-set, All-replicate}
-use Rattle.std.proofs.lemmas.Option.{none-some}
 use Rattle.inline.specs.declared.flat.FlatVariable.{FlatVariable}
-use Rattle.inline.specs.Fitting.{IsWithinKind, IsHeld, Fits}
-use Rattle.inline.specs.Flat.{TermTree, counter_type, word_as, array_as, declaration_of, numbers_in}
-use Rattle.inline.specs.FlatMeaning.{Values, value_in, given}
+use Rattle.inline.specs.Fitting.{IsWithinKind, Fits}
+use Rattle.inline.specs.Flat.{TermTree, counter_type, word_as, array_as}
+use Rattle.inline.specs.FlatMeaning.{Values, value_in}
 use Rattle.inline.specs.FlatTyping.{Types, types_of, AllSuit}
 use Rattle.inline.proofs.Face.{turns_keep}
 use Rattle.inline.proofs.Fitting.{value_fits, suited_fits, some_bit}
@@ -19,9 +17,6 @@ use Rattle.branch_removal.specs.Straight.{StraightBlock, nothing, first}
 use Rattle.branch_removal.specs.StraightMeaning.{StraightState, holds, value_at, with_variable, with_element}
 use Rattle.branch_removal.specs.StraightMeaning.{counted, after, after_all}
 use Rattle.branch_removal.specs.StraightTyping.{types_but, IsTyped, AreTyped}
-use Rattle.language.specs.declared.signature.Kind.{Kind}
-use Rattle.language.specs.declared.signature.Kind.TheVariants.{Boolean}
-use Rattle.language.specs.declared.signature.Param.{Param}
 use Rattle.language.specs.declared.typing.WordType.{WordType}
 use Rattle.language.specs.Types.{bits_of}
 use Rattle.word.specs.declared.profile.Profile.{Profile}
@@ -105,50 +100,3 @@ module _ (profile : Profile) (declared : List FlatVariable) where
       fits_after_all nothing is s fits = fits
       fits_after_all (first statement rest) is s fits =
           fits_after_all rest is.1 (after s statement) (fits_after statement is.0 s fits)
-
--- Where a program begins.
-
-greatest_fits : (kind : Kind) (v : ℕ) → v ≤ greatest_of kind → IsWithinKind kind v
-greatest_fits Boolean v h = omega arith
-greatest_fits kind v h = omega arith
-
-held_argument : (p : Param) (arg : Arg) → IsWithin p arg → IsHeld (declaration_of p) (words_of arg)
-held_argument p arg within = record {
-  count = argument_count p.form p.length arg within.shape;
-  within = λ k d less. greatest_fits p.kind _ (within.values k d less);
-}
-
-held_zeros : (d : FlatVariable) → IsHeld d (replicate (numbers_in d.elements) 0)
-held_zeros d = record {
-  count = length-replicate (numbers_in d.elements) 0;
-  within = All-replicate (IsWithinKind d.word.kind) (numbers_in d.elements) 0 (some_bit d.word.kind);
-}
-
--- a variable behind the arguments
-pub given_behind : (declared : List FlatVariable) (args : List Arg) (x : ℕ) (d : FlatVariable) → length args ≤ x
-    → slice_get declared x ≡ Some d → given declared args x ≡ replicate (numbers_in d.elements) 0
-given_behind [] args x d few is = absurd (none-some d is)
-given_behind (e ∷ declared) [] zero d few is =
-    ap (λ (f : FlatVariable). replicate (numbers_in f.elements) 0) (same_Some e d is)
-given_behind (e ∷ declared) (arg ∷ args) zero d few is = absurd (omega arith)
-given_behind (e ∷ declared) [] (suc x) d few is = given_behind declared [] x d (omega arith) is
-given_behind (e ∷ declared) (arg ∷ args) (suc x) d few is = given_behind declared args x d (omega arith) is
-
-given_fits : (profile : Profile) (ps : List Param) (args : List Arg) (more : List FlatVariable) → AreWithin ps args
-    → Fits (types_of profile (map declaration_of ps ++ more)) (given (map declaration_of ps ++ more) args)
-given_fits profile [] [] more within x d is =
-    subst (λ (l : List ℕ). IsHeld d l) (sym (given_behind more [] x d (omega arith) is)) (held_zeros d)
-given_fits profile (p ∷ ps) (arg ∷ args) more within zero d is =
-    subst (λ (f : FlatVariable). IsHeld f (words_of arg)) (same_Some (declaration_of p) d is)
-    (held_argument p arg within.0)
-given_fits profile (p ∷ ps) (arg ∷ args) more within (suc x) d is = given_fits profile ps args more within.1 x d is
-given_fits profile ps args more within x d is = absurd within
-
-pub start_fits : (profile : Profile) (ps : List Param) (declared : List FlatVariable) (args : List Arg)
-    → first_of (length ps) declared ≡ map declaration_of ps → AreWithin ps args
-    → Fits (types_of profile declared) (given declared args)
-start_fits profile ps declared args front within =
-    subst (λ (ds : List FlatVariable). Fits (types_of profile ds) (given ds args))
-    (ap (λ (ds : List FlatVariable). ds ++ drop (length ps) declared) (sym front)
-    ∙ take-append-drop (length ps) declared)
-    (given_fits profile ps args (drop (length ps) declared) within)

@@ -2,6 +2,7 @@
 use Rattle.std.proofs.Common.{◌≡◌, ℕ, List, length, Option, sym, ap, ◌∙◌, subst}
 use Rattle.inline.specs.FlatMeaning.{Values, results_of, path_of_result}
 use Rattle.inline.specs.FlatTyping.{Types, types_of}
+use Rattle.inline.proofs.FittingBodies.{given_fits}
 use Rattle.language.specs.arguments.Within.{AreWithin}
 use Rattle.language.specs.declared.values.Arg.{Arg}
 use Rattle.branch_removal.specs.Kept.{IsStraight}
@@ -15,7 +16,7 @@ use Rattle.optimisation.specs.constants.private.Known.{Words}
 use Rattle.optimisation.specs.constants.private.Simplification.{knowing_all, simplified_all, nothing_known}
 use Rattle.optimisation.specs.constants.private.Simplification.{simplified_program}
 use Rattle.optimisation.proofs.constants_lemmas.KnownLemmas.{nothing_first, Holds}
-use Rattle.optimisation.proofs.constants_lemmas.Held.{fits_after_all, start_fits}
+use Rattle.optimisation.proofs.constants_lemmas.Held.{fits_after_all}
 use Rattle.optimisation.proofs.constants_lemmas.TermLemmas.{result_alike}
 use Rattle.optimisation.proofs.constants_lemmas.TermTypes.{still_result}
 use Rattle.optimisation.proofs.constants_lemmas.Same.{LeadsTo, all_lead}
