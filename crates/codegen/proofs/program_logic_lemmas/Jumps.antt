@@ -1,9 +1,9 @@
 -- Jumps: over instructions and back, and of two pieces one.
-use Rattle.std.proofs.Common.{◌≡◌, ◌≢◌, ℕ, ◌+◌, ◌-◌, ◌*◌, ◌%◌, ◌^◌, ◌<◌, ◌≤◌, ◌==◌, Bool, true, false, not}
+use Rattle.std.proofs.Common.{◌≡◌, ◌≢◌, ℕ, ◌+◌, ◌-◌, ◌*◌, ◌%◌, ◌^◌, ◌<◌, ◌≤◌, ◌==◌, true, false, not, inl, inr}
 use Rattle.std.proofs.Common.{if◌then◌else◌, List, [], ◌∷◌, ◌++◌, length, None, refl, sym, ap, ◌∙◌, subst, arith}
 use Rattle.std.proofs.Common.{length-append, eq-eqb, ne_eqb}
 use Rattle.std.proofs.Math.Path.{fun_ext}
-use Rattle.std.proofs.lemmas.Bool.{eqb-true, eqb-false}
+use Rattle.std.proofs.lemmas.Bool.{cases_eq}
 use Rattle.std.proofs.lemmas.Bool.Decides.{nat_tests}
 use Rattle.codegen.proofs.program_logic_lemmas.Pieces.{cheaper, turn_ends, then_ends, ends_to, along_fit, stop_here}
 use Rattle.codegen.proofs.program_logic_lemmas.PlacedLaws.{Placed-left, Placed-right, Placed-below, stands}
@@ -63,12 +63,6 @@ pub record Way (z : Setting) (p k l : ℕ) (goes : State → Type 0) (code xs : 
       → Ends z k start into rest rest (λ t. Still s t) s
   pub leaves : (u : State) (rest : List z.Mark) → u.pc ≡ start + 4 * length xs
       → Ends z l (p + 4 * length code) out rest rest (Back u) u
-
--- a piece has been run
-record Between (z : Setting) (Q : After z) (env : z.Beside) (s u : State) : Type 0 where
-  start : State
-  still : Still s start
-  done : Q env start u
 
 module _ {z : Setting} where
   jump_ends : (p halves target : ℕ) (rest : List z.Mark) → Placed z.code p (instr.Jump 0 halves ∷ [])
@@ -135,22 +129,19 @@ module _ {z : Setting} where
       → ((env : z.Beside) (s : State) → P env s → goes s)
       → ((env : z.Beside) (s t : State) → P env s → Still s t → P' env t)
       → ((env : z.Beside) (s t u v : State) → P env s → Still s t → Q env t u → Back u v → S env s v)
-      → Runs z m a xs P' Q → Runs z (k + m + l) a code P S
-  arm_runs {a = a} {Q = Q} {S = S} way tested before after one = record {
+      → Runs z m a xs P' Q → Runs z (k + (m + l)) a code P S
+  arm_runs {a = a} way tested before after one = record {
     placed_at = λ p placed.
         let w = way p placed in
         let piece = one.placed_at w.start w.stands_there in
         record {
-          leak = both (both w.into piece.leak) w.out;
+          leak = both w.into (both piece.leak w.out);
           runs = λ env s rest at fine fit.
-              then_ends
-              (then_ends (w.enters s (z.seen (a env) ++ rest) at (tested env s fit))
+              then_ends (w.enters s (z.seen (a env) ++ rest) at (tested env s fit))
               (λ t there still.
-              ends_to {R = Between z Q env s} (piece.runs env t rest there fine (before env s t fit still)) refl
-              (λ u done. record { start = t; still = still; done = done })))
+              then_ends (piece.runs env t rest there fine (before env s t fit still))
               (λ u there done.
-              ends_to {R = S env s} (w.leaves u rest there) refl
-              (λ v back. after env s done.start u v fit done.still done.done back));
+              ends_to (w.leaves u rest there) refl (λ v back. after env s t u v fit still done back)));
         };
   }
 
@@ -160,15 +151,15 @@ module _ {z : Setting} where
       → (((env : z.Beside) (s : State) → P env s → value env ≢ 0) → Runs z n a is P S)
       → (((env : z.Beside) (s : State) → P env s → value env ≡ 0) → Runs z n b is P S)
       → Runs z n (λ env. if value env == 0 then b env else a env) is P S
-  by_known {n = n} {a = a} {b = b} {is = is} {P = P} {S = S} value v known some none' = by_case (v == 0) refl
-    where
-      by_case : (c : Bool) → (v == 0) ≡ c → Runs z n (λ env. if value env == 0 then b env else a env) is P S
-      by_case true e =
-          along_fit (λ env s fit. let at = known env s fit in rw (at, e))
-          (none' (λ env s fit. known env s fit ∙ eqb-true v 0 e))
-      by_case false e =
-          along_fit (λ env s fit. let at = known env s fit in rw (at, e))
-          (some (λ env s fit same. eqb-false v 0 e (sym (known env s fit) ∙ same)))
+  by_known {P = P} value v known some none' =
+      elim (cases_eq v 0) [
+        | inl zero' ↦ along_fit (λ env s fit. rw (eq-eqb (value env) 0 (known env s fit ∙ zero')))
+            (none' (λ env s fit. known env s fit ∙ zero'))
+        | inr other ↦
+            let nonzero = λ (env : z.Beside) (s : State) (fit : P env s) (same : value env ≡ 0).
+            other (sym (known env s fit) ∙ same) in
+            along_fit (λ env s fit. rw (ne_eqb (value env) 0 (nonzero env s fit))) (some nonzero)
+      ]
 
   module _ (r : ℕ) (small : r < 32) (nonzero : r ≢ 0) where
     -- the register is not 0, so the next instruction is not run

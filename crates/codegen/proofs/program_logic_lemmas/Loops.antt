@@ -74,26 +74,16 @@ module _ {z : Setting} (r : ℕ) (small : r < 32) (nonzero : r ≢ 0) {m n : ℕ
         (bodies left i).placed_at (tested_at + 4 + 4) (Placed-left z.code (tested_at + 4 + 4) body jump from_skip.3.3)
 
     leak_at : ℕ → ℕ → Leak z
-    leak_at zero i = both (both (test_at 0 i).leak (always (shown_at tested_at))) (always (shown_at (tested_at + 4)))
+    leak_at zero i = both (test_at 0 i).leak (both (always (shown_at tested_at)) (always (shown_at (tested_at + 4))))
     leak_at (suc left) i =
-        both (both (both (both (test_at (suc left) i).leak (always (shown_at tested_at))) (body_at left i).leak)
-        (always (shown_at back_at))) (leak_at left (i + 1))
+        both (test_at (suc left) i).leak (both (always (shown_at tested_at)) (both (body_at left i).leak
+        (both (always (shown_at back_at)) (leak_at left (i + 1)))))
 
     -- the test on a path that it puts nothing on
     test_ends : (left i : ℕ) (env : z.Beside) (s : State) (rest : List z.Mark) → s.pc ≡ p → A left i env s
         → Ends z m tested_at (test_at left i).leak rest rest (B left i env s) s
     test_ends left i env s rest at fit =
         ends_on ((test_at left i).runs env s rest at z.fine_none fit) (sym (seen_nothing z rest))
-
-    record Tested (left i : ℕ) (env : z.Beside) (s u : State) : Type 0 where
-      between : State
-      done : B left i env s between
-      still : Still between u
-
-    record Turned (left i : ℕ) (env : z.Beside) (s v : State) : Type 0 where
-      between : State
-      tested : Tested (suc left) i env s between
-      done : D left i env between v
 
     last_ends : (i : ℕ) (env : z.Beside) (o s : State) (rest : List z.Mark) → s.pc ≡ p → Inv 0 i env o s
         → Ends z (m + n + 2) (p + 4 * length (loop_code r test body)) (leak_at 0 i) rest rest (Over env o) s
@@ -103,20 +93,17 @@ module _ {z : Setting} (r : ℕ) (small : r < 32) (nonzero : r ≢ 0) {m n : ℕ
         let b = from_back.1 in
         let past : tested_at + 4 + 4 + 4 * (length body + 1) ≡ back_at + 4 = omega arith in
         ends_as
-        (then_ends
-        (then_ends
-        (test_ends 0 i env s rest at (enters 0 i env o s inv))
+        (then_ends (test_ends 0 i env s rest at (enters 0 i env o s inv))
         (λ t there done.
-        ends_to {R = Tested 0 i env s}
+        then_ends
         (pass_ends r small nonzero tested_at rest (from_skip.0, from_skip.1, from_skip.2, tt) t there
-        (ends' i env o s t inv done)) refl
-        (λ u still. record { between = t; done = done; still = still })))
-        (λ u there tested.
+        (ends' i env o s t inv done))
+        (λ u there still.
         ends_to {R = Over env o}
         (over_ends (tested_at + 4) (length body + 1) rest (from_skip.3.0, from_skip.3.1, from_skip.3.2, tt)
         (omega (arith, near)) (omega (arith, b, past)) u there) past
-        (λ v still. leaves i env o s tested.between v inv tested.done
-        (record { regs = still.regs ∙ tested.still.regs; bytes = still.bytes ∙ tested.still.bytes }))))
+        (λ v more. leaves i env o s t v inv done
+        (record { regs = more.regs ∙ still.regs; bytes = more.bytes ∙ still.bytes })))))
         (omega arith) e (λ t done. done)
 
     runs_at : (left i : ℕ) (env : z.Beside) (o s : State) (rest : List z.Mark) → s.pc ≡ p
@@ -135,29 +122,21 @@ module _ {z : Setting} (r : ℕ) (small : r < 32) (nonzero : r ≢ 0) {m n : ℕ
         ends_as
         (ends_on
         (then_ends
-        (then_ends
-        (then_ends
-        (then_ends
         (test_ends (suc left) i env s (z.seen (path i env) ++ more) at (enters (suc left) i env o s inv))
         (λ t there done.
-        ends_to {R = Tested (suc left) i env s}
+        then_ends
         (skip_ends r small nonzero tested_at (z.seen (path i env) ++ more)
-        (from_skip.0, from_skip.1, from_skip.2, tt) (omega (arith, b)) t there
-        (goes left i env o s t inv done)) refl
-        (λ u still. record { between = t; done = done; still = still })))
-        (λ u there tested.
-        ends_to {R = Turned left i env s}
+        (from_skip.0, from_skip.1, from_skip.2, tt) (omega (arith, b)) t there (goes left i env o s t inv done))
+        (λ u there still.
+        then_ends
         ((body_at left i).runs env u more there (z.fine_left (path i env) tail fine)
-        (prepares left i env o s tested.between u inv tested.done tested.still)) refl
-        (λ v done. record { between = u; tested = tested; done = done })))
-        (λ v there done.
-        ends_to {R = Inv left (i + 1) (turn i env) o}
+        (prepares left i env o s t u inv done still))
+        (λ v there made.
+        then_ends
         (back_ends p (length test + 2 + length body) back_at more from_back (omega arith) (omega (arith, near))
-        there' v there) refl
-        (λ w still. turned left i env o s done.tested.between done.between v w inv done.tested.done done.tested.still
-        done.done still)))
-        (λ w there again. runs_at left (i + 1) (turn i env) o w rest there
-        (z.fine_right (path i env) tail fine) again))
+        there' v there)
+        (λ w there back. runs_at left (i + 1) (turn i env) o w rest there (z.fine_right (path i env) tail fine)
+        (turned left i env o s t u v w inv done still made back))))))
         (seen_then z (path i env) tail rest))
         (omega arith) refl (λ t done. done)
 
@@ -224,8 +203,8 @@ module _ {z : Setting} (r q : ℕ) (small : r < 32) (small' : q < 32) {n : ℕ} 
 
     again_leak : ℕ → ℕ → Leak z
     again_leak zero i = both (round_at 0 i).leak (always (shown_at branch_at))
-    again_leak (suc left) i = both (both (round_at (suc left) i).leak (always (shown_at branch_at)))
-        (again_leak left (i + 1))
+    again_leak (suc left) i =
+        both (round_at (suc left) i).leak (both (always (shown_at branch_at)) (again_leak left (i + 1)))
 
     again_at : (left i : ℕ) (env : z.Beside) (o s : State) (rest : List z.Mark) → s.pc ≡ p
         → z.Fine (turns_path (suc left) i turn path env) → Inv left i env o s
@@ -250,16 +229,14 @@ module _ {z : Setting} (r q : ℕ) (small : r < 32) (small' : q < 32) {n : ℕ} 
         let even = from_branch.0 in
         ends_as
         (ends_on
-        (then_ends
         (then_ends ((round_at (suc left) i).runs env s more at (z.fine_left (path i env) tail fine)
         (enters (suc left) i env o s inv))
         (λ t there done.
-        ends_to {R = Inv left (i + 1) (turn i env) o}
+        then_ends
         (taken_ends Bne r q _ branch_at fields from_branch more t there p target (omega (arith, even))
-        (ap not (ne_eqb _ _ (goes left i env o s t inv done)))) refl
-        (λ u still. turned left i env o s t u inv done still)))
-        (λ w there again. again_at left (i + 1) (turn i env) o w rest there
-        (z.fine_right (path i env) tail fine) again))
+        (ap not (ne_eqb _ _ (goes left i env o s t inv done))))
+        (λ w there still. again_at left (i + 1) (turn i env) o w rest there (z.fine_right (path i env) tail fine)
+        (turned left i env o s t w inv done still))))
         (seen_then z (path i env) tail rest))
         (omega arith) refl (λ t done. done)
 

@@ -1,9 +1,8 @@
 -- Straight-line code as a piece, and what it keeps.
 use Rattle.std.specs.Prelude.{is_some}
-use Rattle.std.proofs.Common.{◌≡◌, ℕ, ◌+◌, ◌*◌, Bool, true, false, List, [], ◌∷◌, ◌++◌, length, Option, Some, refl, sym}
+use Rattle.std.proofs.Common.{◌≡◌, ℕ, ◌+◌, ◌*◌, Bool, true, false, List, [], ◌∷◌, length, Option, Some, refl, sym}
 use Rattle.std.proofs.Common.{◌∙◌, subst, arith}
 use Rattle.std.proofs.lemmas.Bool.Decides.{nat_tests}
-use Rattle.std.specs.Cmp.Derive.{both_true}
 use Rattle.codegen.proofs.program_logic_lemmas.Pieces.{seen_nothing, ends_on}
 use Rattle.codegen.proofs.program_logic_lemmas.StraightRuns.{straight_code_leads, shown_allowed, rest_fit, rest_met}
 use Rattle.codegen.proofs.program_logic_lemmas.StraightRuns.{both_left, both_right}
@@ -103,11 +102,3 @@ module _ (Allows : Option Event → Type 0) (x : ℕ)
   byte_kept (i ∷ is) places c fit =
       let a = next_of places in
       byte_kept is (left_by i places) (after i a c) (rest_fit Allows i a _ fit) ∙ byte_after i a c _ fit
-
--- One list, and then another.
-
-pub straight_append : (works : ℕ → Bool) (xs ys : List Instr) → are_straight works xs ≡ true
-    → are_straight works ys ≡ true → are_straight works (xs ++ ys) ≡ true
-straight_append works [] ys one two = two
-straight_append works (x ∷ xs) ys one two =
-    both_true (both_left _ _ one) (straight_append works xs ys (both_right _ _ one) two)
