@@ -17,7 +17,7 @@ use Rattle.codegen.proofs.Machine.{store_by, put_code, slots_to, Instr, element_
 use Rattle.codegen.proofs.Machine.{variable_offset, fill_code, height_of, index_code, read_register, height_of_all}
 use Rattle.codegen.proofs.Machine.{stored_register, height_of_put}
 use Rattle.codegen.proofs.Slots.{Shown, suits_fits, wrote_as, hidden_valued, hidden_then, ready_same, ready_put}
-use Rattle.codegen.proofs.Slots.{IsOffered, offered_put, offered_register, offered_runs, ready_offered}
+use Rattle.codegen.proofs.Slots.{offered_put, offered_low, offered_runs, ready_offered}
 use Rattle.rv_machine.specs.Registers.{register}
 use Rattle.codegen.specs.private.Emitted.{into_element_code, put_value_code}
 use Rattle.codegen.specs.private.StoredValues.{stored_value}
@@ -28,15 +28,15 @@ use Rattle.codegen.proofs.Elements.{put_access, stores, value_beside, value_sour
 -- One element, at a fixed place.
 
 -- what a register reads as into an element of a fixed place
-pub offered_element : (z : Setting) (r : ℕ) → IsOffered z r → (kind : Kind) (o : ℕ)
+pub offered_element : (z : Setting) (r : ℕ) → r < 28 → (kind : Kind) (o : ℕ)
     → o % element_bytes kind ≡ 0 → o + element_bytes kind ≤ z.size
     → Runs z 3 none (element_store_code r kind o) (Held z)
     (λ env s t. Wrote z (element_bytes kind) o (register s.regs r) s t)
-offered_element z r offered kind o even room =
+offered_element z r low kind o even room =
     let bytes = store_bytes kind in
     gives
     (λ env s t fine held wrote. subst (λ n. Wrote z n o (register s.regs r) s t) bytes wrote)
-    (offered_put z (store_by kind) r o offered (ap (λ n. o % n) bytes ∙ even) (omega (arith, room, bytes)))
+    (offered_put z (store_by kind) r o low (ap (λ n. o % n) bytes ∙ even) (omega (arith, room, bytes)))
 
 -- a value into an element of a fixed place
 one_at : (z : Setting) (depth : ℕ) → depth ≤ z.depths → (x size : ℕ) (word : WordType) (mutable : Bool)
@@ -71,7 +71,7 @@ one_at z depth within x size word mutable known k e below suits room =
       hidden = hidden_valued z depth within other env n at w s m t (omega (arith, before)) done.first wrote;
     })
     (quiet (offered_runs z is_cut.has_type (omega (arith, room, height)))
-    (offered_element z r (offered_register z other) word.kind at (place_even z.declared x d k)
+    (offered_element z r (offered_low z other) word.kind at (place_even z.declared x d k)
     (place_ends z x d k known below))
     (λ env s t ready offered. offered.held))))
 
@@ -197,14 +197,12 @@ module _ (z : Setting) (depth : ℕ) (within : depth ≤ z.depths) (x size : ℕ
       → Runs z (32 * terms_nodes es) (λ env. path_in_all env.variables es)
       (fill_code z.declared z.allocation (base_of z) word.kind o es) (Ready z) (Shown z depth (filled k es))
   fill_from k o [] is suits few room =
-      idle (λ env s ready. record { ready = ready; hidden = λ a low high. refl })
+      idle (λ env s ready. assumption)
   fill_from k o (e ∷ es) is suits few room =
       cheaper (omega (arith, height e))
       (gives
-      (λ env s t fine ready done. record {
-        ready = done.second.ready;
-        hidden = hidden_then z depth s done.middle t done.first.hidden done.second.hidden;
-      })
+      (λ env s t fine ready done.
+      assumption (hidden_then z depth s done.middle t done.first.hidden done.second.hidden))
       (seq
       (as_code (ap (λ p. into_element_code z.declared z.allocation (base_of z) word.kind p
       (stored_value z.allocation word.kind e)) is)

@@ -3,7 +3,7 @@ use Rattle.std.proofs.Common.{◌≡◌, ℕ, ◌+◌, ◌*◌, ◌%◌, ◌^◌
 use Rattle.std.proofs.Common.{slice_index, refl, sym, ap, ◌∙◌, subst, arith, inl, inr}
 use Rattle.codegen.proofs.Language.{FlatVariable, StraightState, with_element, element_bytes, TermTree, array_as}
 use Rattle.codegen.proofs.Language.{term_nodes, value_in, after, IsPut, Kind, bits_of, Place, types_of}
-use Rattle.codegen.proofs.Logic.{unwritten, lower_fits, steps_of, homes_beside, load_bytes, load_plain, loading}
+use Rattle.codegen.proofs.Logic.{lower_fits, steps_of, homes_beside, load_bytes, load_plain, loading}
 use Rattle.codegen.proofs.Logic.{place_of, place_even, place_ends, Setting, base_of, none, Runs, gives, cheaper}
 use Rattle.codegen.proofs.Logic.{as_code, number_or_zero, Ready, Wrote, near_address, Fetched, free_from, weaken}
 use Rattle.codegen.proofs.Machine.{code_by, near_element, slots_to, load_by, number_at, sign_extended, sum_of}
@@ -19,7 +19,7 @@ use Rattle.codegen.proofs.Elements.{value_source, put_by, Puts, put_access}
 use Rattle.codegen.proofs.ElementRuns.{offered_element}
 use Rattle.codegen.proofs.UnderRuns.{number_under, read_begun, merges}
 use Rattle.inline.specs.Fitting.{Fits}
-use Rattle.codegen.proofs.expression_code_lemmas.Moves.{written}
+use Rattle.codegen.proofs.expression_code_lemmas.Moves.{is_left, is_written}
 
 module _ (z : Setting) (depth : ℕ) (place : Place) (x size : ℕ) (index value : TermTree)
     (typed : IsPut z.code.profile z.declared x size index value)
@@ -64,11 +64,11 @@ module _ (z : Setting) (depth : ℕ) (place : Place) (x size : ℕ) (index value
       (λ env s fine given. (given.0.held, given.1))
       (λ env s t fine given load. record {
         held = load.0;
-        there = ap (λ (regs : ℕ → ℕ). regs q) load.1 ∙ (written s.regs q _ (λ e. omega (arith, low, e))
+        there = is_written s.regs q _ load.1.regs (λ e. omega (arith, low, e))
             ∙ (load_plain kind _ ∙ ap number_or_zero (ap (λ k. number_at s.bytes k (z.frame + place_at i)) n
-            ∙ given.0.variables_there x array i typed.known (away z access) below)));
-        others = λ p other. ap (λ (regs : ℕ → ℕ). regs p) load.1 ∙ unwritten s.regs q _ p other;
-        same = load.2;
+            ∙ given.0.variables_there x array i typed.known (away z access) below));
+        others = is_left s.regs q _ load.1.regs;
+        same = load.1.bytes;
       })
       (loading z rs field (place_at i) small fits (load_by kind) q low high
       (ap (λ m. place_at i % m) n ∙ place_even z.declared x array i) (omega (arith, h, n)))
@@ -149,7 +149,7 @@ module _ (z : Setting) (depth : ℕ) (place : Place) (x size : ℕ) (index value
       (weaken
       (λ env s fine given. given.0)
       (λ env s t fine given wrote. subst (λ a. Wrote z (element_bytes kind) a (s.regs 5) s t) (sym is) wrote)
-      (offered_element z 5 (inr (record { low = omega arith; high = omega arith; is = inl refl })) kind o
+      (offered_element z 5 (omega arith) kind o
       (ap (λ a. a % element_bytes kind) (sym is) ∙ place_even z.declared x array i) (omega (arith, h, is))))
       (gives (λ env s t fine ready done. (done, tt))
       (read_begun z depth within c among read typed.suits.has_type (omega (arith, room)))))

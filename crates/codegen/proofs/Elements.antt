@@ -1,15 +1,15 @@
 -- Where an element of an array lies, and how its index and a value for it come into registers.
-use Rattle.std.proofs.Common.{◌≡◌, ℕ, ◌+◌, ◌*◌, ◌%◌, ◌^◌, ◌<◌, ◌≤◌, ◌==◌, Bool, true, false, if◌then◌else◌, List, []}
+use Rattle.std.proofs.Common.{◌≡◌, ℕ, ◌+◌, ◌*◌, ◌%◌, ◌^◌, ◌<◌, ◌≤◌, Bool, if◌then◌else◌, List, []}
 use Rattle.std.proofs.Common.{◌∷◌, ◌++◌, Option, None, Some, slice_get, refl, sym, ap, ap₂, subst, ◌∙◌, arith, ◌≢◌}
-use Rattle.std.proofs.Common.{append_assoc, eq-eqb}
-use Rattle.std.proofs.lemmas.Bool.{true≢false}
+use Rattle.std.proofs.Common.{append_assoc}
 use Rattle.codegen.proofs.Language.{FlatVariable, StraightState, with_element, element_bytes, TermTree, array_as}
 use Rattle.codegen.proofs.Language.{term_nodes, value_in, path_in, indexed, WordType, Kind, Boolean, bits_of, Place}
 use Rattle.codegen.proofs.Language.{HasType, counter_type, holds, path_at, put, IsPut, types_of}
 use Rattle.codegen.proofs.Logic.{register-at, lower_fits, Addressed, address_runs, steps_of, kind_known, HomesKept}
 use Rattle.codegen.proofs.Logic.{homes_by, HeldAt, free_from, storing, place_of, place_even, place_before, place_ends}
-use Rattle.codegen.proofs.Logic.{Setting, setting, base_of, Known, by_index, none, Runs, quiet, weaken, gives, as_code}
-use Rattle.codegen.proofs.Logic.{Ready, Wrote, NearElement, near_known, known, never, along, cheaper, eqb-true}
+use Rattle.codegen.proofs.Logic.{Setting, setting, base_of, Known, by_index, by_known_index, by_option, none, Runs}
+use Rattle.codegen.proofs.Logic.{quiet, weaken, gives, as_code}
+use Rattle.codegen.proofs.Logic.{Ready, Wrote, NearElement, near_known, known, along, cheaper}
 use Rattle.codegen.proofs.Machine.{store_by, slots_to, kind_at, Instr, variable_offset, home_of, lower_part, store_size}
 use Rattle.codegen.proofs.Machine.{address_of, byte_count, index_code, read_code, read_register, height_of_put}
 use Rattle.codegen.proofs.Machine.{address_code, with_number, code_by, near_element}
@@ -134,9 +134,9 @@ module _ (z : Setting) (access : ElementAccess z) where
       gives
       (λ env s t fine given done. record {
         held = done.0;
-        written = done.2 ∙ ap₂ (λ m v. with_number s.bytes m (z.frame + element_at i) v) n
+        written = done.1.bytes ∙ ap₂ (λ m v. with_number s.bytes m (z.frame + element_at i) v) n
             (register-at s.regs r nonzero);
-        homes = homes_by z s t done.1;
+        homes = homes_by z s t done.1.regs;
       })
       (storing z 5 (lower_part offset) (element_at i) (omega arith) (lower_fits offset) (store_by kind) r small
       (ap (λ m. element_at i % m) n ∙ place_even z.declared access.x array i) (omega (arith, h, n)))
@@ -164,10 +164,8 @@ module _ (z : Setting) (access : ElementAccess z) where
   value_piece i =
       weaken {P' = Known (setting z) ℕ (λ j. j < access.size) (FirstRead z access.index) number_of i}
       (λ env s fine given. given.given)
-      (λ env s t fine given both. (
-        record { ready = both.ready; five = both.first_there ∙ given.is; six = both.second_there },
-        hidden_kept z access.depth s t access.within both.kept,
-      ))
+      (λ env s t fine given both.
+      assumption (both.first_there ∙ given.is, hidden_kept z access.depth s t access.within both.kept))
       (second_runs z access.index access.value access.value_type (omega (arith, access.room)))
 
   -- The index, and behind its mark what is done at it.
@@ -219,37 +217,23 @@ module _ (z : Setting) (access : ElementAccess z) where
         (one : (i o : ℕ) → i < access.size → element_at i ≡ o → o < 2048
         → Runs z n (steps_of value) (code o) (Ready z) (Shown z access.depth (put_with i))) where
       module _ (o : ℕ) (near : NearElement z.declared access.x access.index o) where
-        -- of the indices that there might be, the number is one
-        at_number : (i : ℕ) → i < access.size → (b : Bool) → (i == near.i) ≡ b
-            → Runs z n (steps_of value) (code o)
-            (Known (setting z) ℕ (λ j. j < access.size) (Ready z) number_of i)
-            (Shown z access.depth (λ env. put_with (number_of env) env))
-        at_number i below true same =
-            weaken
-            (λ env s fine given. given.given)
-            (λ env s t fine given done. record {
-              ready = subst (λ j. Ready z (put_with j env) t) (sym given.is) done.ready;
-              hidden = done.hidden;
-            })
-            (one i o below (ap element_at (eqb-true i near.i same) ∙ near_at o near) near.near)
-        at_number i below false other =
-            never (λ env s given.
-            true≢false (sym (eq-eqb i near.i (sym given.is ∙ (known access.index near.i near.is env.variables).0))
-            ∙ other))
-
         near_runs : Puts (code o)
         near_runs =
+            let number_is = λ (env : StraightState). known access.index near.i near.is env.variables in
             along (λ env. ap (λ p. p ++ indexed access.place access.size (number_of env)
-            ∷ path_in env.variables value) (known access.index near.i near.is env.variables).1)
+            ∷ path_in env.variables value) (number_is env).1)
             (cheaper (omega (arith, few))
-            (by_index z access.place access.size number_of (λ i below. at_number i below (i == near.i) refl)))
+            (by_known_index z access.place access.size number_of near.i (λ env. (number_is env).0)
+            (λ below. gives
+            (λ env s t fine ready done. record {
+              ready = subst (λ j. Ready z (put_with j env) t) (sym (number_is env).0) done.ready;
+              hidden = done.hidden;
+            })
+            (one near.i o below (near_at o near) near.near))))
 
       -- of that code and the one for an index in a register, the one that is emitted
       pub put_by : {far : List Instr} → Puts far
           → Puts (code_by (near_element z.declared z.allocation access.x access.index) code far)
-      put_by {far} far_runs = by_test (near_element z.declared z.allocation access.x access.index) refl
-        where
-          by_test : (o : Option ℕ) → near_element z.declared z.allocation access.x access.index ≡ o
-              → Puts (code_by o code far)
-          by_test None e = far_runs
-          by_test (Some o) e = near_runs o (near_known z.declared z.allocation access.x access.index o e)
+      put_by far_runs =
+          by_option (near_element z.declared z.allocation access.x access.index)
+          (λ o is. near_runs o (near_known z.declared z.allocation access.x access.index o is)) (λ none. far_runs)

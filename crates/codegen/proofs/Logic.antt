@@ -1,39 +1,45 @@
 -- The laws that the proofs here build on, of the crates below and of the code of expressions, in one place.
 pub use Rattle.branch_removal.proofs.Scopes.{but_among, suits_among}
 pub use Rattle.branch_removal.proofs.Values.{all_values, one_path_all}
-pub use Rattle.codegen.proofs.expression_code_lemmas.Logic.{address_length, address_runs, Addressed, After}
-pub use Rattle.codegen.proofs.expression_code_lemmas.Logic.{after_append, All-one, along, along_fit, apart, apart_from}
-pub use Rattle.codegen.proofs.expression_code_lemmas.Logic.{as_code, base_of, Before, beside, branching_at, by_bounds}
-pub use Rattle.codegen.proofs.expression_code_lemmas.Logic.{by_index, by_mark, bytes_by, bytes_of, cheaper}
-pub use Rattle.codegen.proofs.expression_code_lemmas.Logic.{computing_within, condition_kind, constant_after}
-pub use Rattle.codegen.proofs.expression_code_lemmas.Logic.{constant_length, constant_plain, does, elements_apart}
-pub use Rattle.codegen.proofs.expression_code_lemmas.Logic.{ends_before_result, frame_runs, frame_there, free_from}
-pub use Rattle.codegen.proofs.expression_code_lemmas.Logic.{gives, height, Held, held_regs, HeldAt, home_beside}
-pub use Rattle.codegen.proofs.expression_code_lemmas.Logic.{home_target, homes_beside, homes_by, homes_computed}
-pub use Rattle.codegen.proofs.expression_code_lemmas.Logic.{homes_moved, homes_then, HomesKept, idle, into_length}
-pub use Rattle.codegen.proofs.expression_code_lemmas.Logic.{into_runs, is_free, is_scratch, IsHome, Kept, kept_by}
-pub use Rattle.codegen.proofs.expression_code_lemmas.Logic.{kept_less, kept_number, kept_then, kind_known, Known}
-pub use Rattle.codegen.proofs.expression_code_lemmas.Logic.{load_bytes, load_length, load_plain, loading, looping}
-pub use Rattle.codegen.proofs.expression_code_lemmas.Logic.{lower_fits, mask_fits, mask_of, mask_otherwise, mask_when}
-pub use Rattle.codegen.proofs.expression_code_lemmas.Logic.{masks_join, merge, merged, move_length, move_runs}
-pub use Rattle.codegen.proofs.expression_code_lemmas.Logic.{moves_run, never, none, none_low, number_or_zero}
-pub use Rattle.codegen.proofs.expression_code_lemmas.Logic.{number_same, one_of, only_computes, parameter_words}
-pub use Rattle.codegen.proofs.expression_code_lemmas.Logic.{place_before, place_ends, place_even, place_of}
-pub use Rattle.codegen.proofs.expression_code_lemmas.Logic.{place_target, place_within, Placed, Placed-left}
-pub use Rattle.codegen.proofs.expression_code_lemmas.Logic.{Placed-right, plain_append, put, quiet, quietly, Ready}
-pub use Rattle.codegen.proofs.expression_code_lemmas.Logic.{ready_after, ready_below, registers_after, Runs}
-pub use Rattle.codegen.proofs.expression_code_lemmas.Logic.{scratch_low, seen_by, seq, Setting, setting, Steps}
-pub use Rattle.codegen.proofs.expression_code_lemmas.Logic.{steps_of, Still, store_length, storing, Straight, take}
-pub use Rattle.codegen.proofs.expression_code_lemmas.Logic.{Then, then_moves, typed_among, typed_within, value_word}
-pub use Rattle.codegen.proofs.expression_code_lemmas.Logic.{ValuedIn, unwritten, variables_home, variables_kept, weaken}
-pub use Rattle.codegen.proofs.expression_code_lemmas.Logic.{works_at, Wrote, wrote_kept, wrote_there, written}
-pub use Rattle.codegen.proofs.expression_code_lemmas.Logic.{code_length, known, near_known, NearElement, at_control}
-pub use Rattle.codegen.proofs.expression_code_lemmas.Logic.{control_stays, controls_kept, Fetched, fetch_length}
-pub use Rattle.codegen.proofs.expression_code_lemmas.Logic.{fetch_runs, HasRoom, Holds, near_address, took}
+pub use Rattle.codegen.proofs.expression_code_lemmas.Arithmetic.{lower_fits, mask_fits, mask_of, mask_otherwise}
+pub use Rattle.codegen.proofs.expression_code_lemmas.Arithmetic.{mask_when, masks_join, merge, merged, near_address}
+pub use Rattle.codegen.proofs.expression_code_lemmas.Below.{after_append, All-one, along, along_fit, as_code, beside}
+pub use Rattle.codegen.proofs.expression_code_lemmas.Below.{branching_at, by_mark, cheaper, gives, idle, Known}
+pub use Rattle.codegen.proofs.expression_code_lemmas.Below.{looping, never, none, number_or_zero, only_computes}
+pub use Rattle.codegen.proofs.expression_code_lemmas.Below.{Placed, Placed-left, Placed-right, plain_append, quiet}
+pub use Rattle.codegen.proofs.expression_code_lemmas.Below.{quietly, registers_after, seq, Still, Straight, Then}
+pub use Rattle.codegen.proofs.expression_code_lemmas.Below.{weaken}
+pub use Rattle.codegen.proofs.expression_code_lemmas.Elements.{address_runs, Addressed, load_bytes, load_plain}
+pub use Rattle.codegen.proofs.expression_code_lemmas.Events.{by_bounds, by_index, by_known_index, condition_kind}
+pub use Rattle.codegen.proofs.expression_code_lemmas.ExpressionRuns.{into_runs}
+pub use Rattle.codegen.proofs.expression_code_lemmas.Frame.{After, base_of, Before, by_option, frame_runs}
+pub use Rattle.codegen.proofs.expression_code_lemmas.Frame.{frame_there, Held, held_regs, HeldAt, Runs, seen_by}
+pub use Rattle.codegen.proofs.expression_code_lemmas.Frame.{Setting, setting, Steps}
 pub use Rattle.codegen.proofs.expression_code_lemmas.Homes.{home_there}
-pub use Rattle.codegen.proofs.expression_code_lemmas.Moves.{moves_cost, register-at}
-pub use Rattle.codegen.proofs.expression_code_lemmas.Values.{Leaves}
-pub use Rattle.codegen.proofs.expression_code_lemmas.WorkRegisters.{home_allowed, IsTarget}
+pub use Rattle.codegen.proofs.expression_code_lemmas.Moves.{computing_within, does, is_free, loading, move_runs}
+pub use Rattle.codegen.proofs.expression_code_lemmas.Moves.{moves_run, none_low, put, register-at, storing, take}
+pub use Rattle.codegen.proofs.expression_code_lemmas.Moves.{then_moves, unwritten, written}
+pub use Rattle.codegen.proofs.expression_code_lemmas.NumberCode.{known, near_known, NearElement}
+pub use Rattle.codegen.proofs.expression_code_lemmas.OperandRuns.{steps_of}
+pub use Rattle.codegen.proofs.expression_code_lemmas.Operands.{fetch_runs, Fetched, HasRoom, took}
+pub use Rattle.codegen.proofs.expression_code_lemmas.OperatorCode.{constant_after, constant_plain}
+pub use Rattle.codegen.proofs.expression_code_lemmas.Places.{apart, apart_from, bytes_by, bytes_of, elements_apart}
+pub use Rattle.codegen.proofs.expression_code_lemmas.Places.{ends_before_result, kind_known, parameter_words}
+pub use Rattle.codegen.proofs.expression_code_lemmas.Places.{place_even, place_of, place_within}
+pub use Rattle.codegen.proofs.expression_code_lemmas.Scratch.{homes_beside, homes_computed, homes_moved, is_scratch}
+pub use Rattle.codegen.proofs.expression_code_lemmas.Scratch.{scratch_low}
+pub use Rattle.codegen.proofs.expression_code_lemmas.TermLengths.{address_length, code_length, constant_length}
+pub use Rattle.codegen.proofs.expression_code_lemmas.TermLengths.{fetch_length, height, into_length, load_length}
+pub use Rattle.codegen.proofs.expression_code_lemmas.TermLengths.{move_length, one_of, store_length, typed_among}
+pub use Rattle.codegen.proofs.expression_code_lemmas.TermLengths.{typed_within}
+pub use Rattle.codegen.proofs.expression_code_lemmas.Values.{at_control, control_stays, controls_kept, Holds}
+pub use Rattle.codegen.proofs.expression_code_lemmas.Values.{homes_by, homes_then, HomesKept, Kept, kept_by}
+pub use Rattle.codegen.proofs.expression_code_lemmas.Values.{kept_less, kept_number, kept_then, Leaves, number_same}
+pub use Rattle.codegen.proofs.expression_code_lemmas.Values.{place_before, place_ends, Ready, ready_after}
+pub use Rattle.codegen.proofs.expression_code_lemmas.Values.{ready_below, value_word, ValuedIn, variables_home}
+pub use Rattle.codegen.proofs.expression_code_lemmas.Values.{variables_kept, Wrote, wrote_kept, wrote_there}
+pub use Rattle.codegen.proofs.expression_code_lemmas.WorkRegisters.{free_from, home_allowed, home_beside, home_target}
+pub use Rattle.codegen.proofs.expression_code_lemmas.WorkRegisters.{IsHome, IsTarget, place_target, works_at}
 pub use Rattle.inline.proofs.Fitting.{value_fits}
 pub use Rattle.inline.proofs.FittingBodies.{fits_assigned, one_held}
 pub use Rattle.rv_machine.proofs.ByteLaws.{number_at-suc, number_at-with_number, number_at-zero, number_at_apart}

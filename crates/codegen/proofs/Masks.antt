@@ -1,18 +1,19 @@
 -- Masks of control values: the registers that have them, how they come there and into their slots, and what is shown
 -- once both of a condition are set.
 use Rattle.std.proofs.Common.{◌≡◌, ℕ, ◌+◌, ◌^◌, ◌<◌, ◌≤◌, ◌==◌, ◌≢◌, Bool, true, false, cond, nat_lt, List, [], ◌∷◌}
-use Rattle.std.proofs.Common.{length, None, Some, refl, sym, ap, ◌∙◌, subst, arith, inl, inr, ◌⊎◌, ◌&&◌, not, Option}
-use Rattle.std.proofs.lemmas.Bool.{true≢false}
-use Rattle.codegen.proofs.Machine.{control_offset, number_at, at_home, control_location, fetch_code, home_or, InSlot}
+use Rattle.std.proofs.Common.{length, None, Some, refl, sym, ap, ◌∙◌, arith, inl, inr, ◌⊎◌, ◌&&◌, not, ne_eqb}
+use Rattle.std.proofs.lemmas.Bool.{cases_eq, eq-eqb, true≢false}
+use Rattle.codegen.proofs.Machine.{control_offset, number_at, at_home, control_location, fetch_code, InSlot}
 use Rattle.codegen.proofs.Machine.{is_unread, kept_code, read_register, register_of, unless_unread, with_number}
 use Rattle.codegen.proofs.Machine.{home_of, home_of_term, Instr, Sw}
 use Rattle.codegen.proofs.Language.{StraightState, with_controls, TermTree, WordType, types_of, HasType}
-use Rattle.codegen.proofs.Logic.{free_from, none-some, eqb-true, eqb-false, at_control, control_stays, Fetched}
-use Rattle.codegen.proofs.Logic.{fetch_runs, HasRoom, Holds, move_runs, none, slice_get_within, unwritten, weaken}
+use Rattle.codegen.proofs.Logic.{free_from, none-some, at_control, control_stays, Fetched}
+use Rattle.codegen.proofs.Logic.{fetch_runs, HasRoom, Holds, move_runs, none, slice_get_within, weaken}
 use Rattle.codegen.proofs.Logic.{HeldAt, mask_of, apart, Setting, base_of, Kept, Ready, Wrote, wrote_kept, wrote_there}
 use Rattle.codegen.proofs.Logic.{variables_kept, HomesKept, IsHome, homes_moved, kept_number, home_there, is_free, idle}
 use Rattle.codegen.proofs.Logic.{put, Runs, kept_less, kept_then}
-use Rattle.codegen.proofs.expression_code_lemmas.WorkRegisters.{IsFree}
+use Rattle.codegen.proofs.expression_code_lemmas.Moves.{is_left}
+use Rattle.codegen.proofs.expression_code_lemmas.WorkRegisters.{IsFree, cases_Option}
 use Rattle.rv_machine.specs.Machine as machine
 use Rattle.codegen.proofs.Slots.{Hidden, hidden_wrote, other_number}
 
@@ -30,9 +31,7 @@ module _ (z : Setting) where
   pub mask_apart : (c spare q : ℕ) → q < 8 → spare ≢ q → mask_register c spare ≢ q
   mask_apart c spare q low other =
       at_control z c (λ l. register_of l spare ≢ q)
-      (λ home at e. let some = z.allocated.some in
-      let is = z.allocated.allowed (length z.declared + c) home at in
-      omega (arith, some, is.0, e, low))
+      (λ home at e. omega (arith, z.allocated.some, (z.allocated.allowed (length z.declared + c) home at).0, e, low))
       (λ away e. other e)
 
   -- nor does any other word live there
@@ -41,9 +40,7 @@ module _ (z : Setting) where
   mask_beside c spare y home low other here =
       at_control z c (λ l. home ≢ register_of l spare)
       (λ own at e. other (z.allocated.apart y (length z.declared + c) own (here ∙ ap Some e) at))
-      (λ away e. let some = z.allocated.some in
-      let is = z.allocated.allowed y home here in
-      omega (arith, some, is.0, e, low))
+      (λ away e. omega (arith, z.allocated.some, (z.allocated.allowed y home here).0, e, low))
 
   -- code may work on it
   pub mask_free : (c spare : ℕ) → 4 < spare → spare < 32 → IsFree (mask_register c spare)
@@ -118,28 +115,31 @@ module _ (z : Setting) where
         ap (λ h. register_of (at_home h (InSlot (control_offset z.declared d))) spare) at in
         stays home (z.allocated.allowed (n + d) home at) ∙ (ap m.regs (sym same) ∙ is)
 
-    control_there : (y : ℕ) → y < z.controls → is_unread z.allocation y ≡ false → (d e : Bool) → (y == c) ≡ d → (y == c + 1) ≡ e
-        → Holds z (control_location z.declared z.allocation y) u (mask_of (cond d f (cond e g (env.controls y))))
-    control_there y below read true e h k =
-        let own : is_unread z.allocation c ≡ false =
-        subst (λ x. is_unread z.allocation x ≡ false) (eqb-true y c h) read in
-        subst (λ x. Holds z (control_location z.declared z.allocation x) u (mask_of f)) (sym (eqb-true y c h))
-        (at_control z c (λ l. Holds z l u (mask_of f)) (at_home_of c 7 (mask_of f) (seven own))
-        (λ away. two.apart 4 (control_offset z.declared c) (inl (omega arith)) ∙ one.written own away))
-    control_there y below read false true h k =
-        let own : is_unread z.allocation (c + 1) ≡ false =
-        subst (λ x. is_unread z.allocation x ≡ false) (eqb-true y (c + 1) k) read in
-        subst (λ x. Holds z (control_location z.declared z.allocation x) u (mask_of g)) (sym (eqb-true y (c + 1) k))
-        (at_control z (c + 1) (λ l. Holds z l u (mask_of g)) (at_home_of (c + 1) 5 (mask_of g) (five own))
-        (two.written own))
-    control_there y below read false false h k =
-        control_stays z y (mask_of (env.controls y)) s u
-        (λ home at. others (n + y) home (λ e. eqb-false y c h (omega (arith, e)))
-        (λ e. eqb-false y (c + 1) k (omega (arith, e))) at)
-        (two.apart 4 (control_offset z.declared y) (controls_apart y (c + 1) k)
-        ∙ (one.apart 4 (control_offset z.declared y) (controls_apart y c h)
-        ∙ kept_number z (base_of z) s m kept 4 (control_offset z.declared y) (omega (arith, below))))
-        (ready.controls_there y below read)
+    control_there : (y : ℕ) → y < z.controls → is_unread z.allocation y ≡ false
+        → Holds z (control_location z.declared z.allocation y) u
+        (mask_of (cond (y == c) f (cond (y == c + 1) g (env.controls y))))
+    control_there y below read =
+        elim (cases_eq y c) [
+          | inl is ↦
+              let own = rw is at read in
+              rw (is, eq-eqb c c refl)
+              (at_control z c (λ l. Holds z l u (mask_of f)) (at_home_of c 7 (mask_of f) (seven own))
+              (λ away. two.apart 4 (control_offset z.declared c) (inl (omega arith)) ∙ one.written own away))
+          | inr other ↦ rw (ne_eqb y c other) (elim (cases_eq y (c + 1)) [
+            | inl is ↦
+                let own = rw is at read in
+                rw (is, eq-eqb (c + 1) (c + 1) refl)
+                (at_control z (c + 1) (λ l. Holds z l u (mask_of g)) (at_home_of (c + 1) 5 (mask_of g) (five own))
+                (two.written own))
+            | inr another ↦ rw (ne_eqb y (c + 1) another)
+                (control_stays z y (mask_of (env.controls y)) s u
+                (λ home at. others (n + y) home (λ e. other (omega (arith, e))) (λ e. another (omega (arith, e))) at)
+                (two.apart 4 (control_offset z.declared y) (controls_apart y (c + 1) (ne_eqb y (c + 1) another))
+                ∙ (one.apart 4 (control_offset z.declared y) (controls_apart y c (ne_eqb y c other))
+                ∙ kept_number z (base_of z) s m kept 4 (control_offset z.declared y) (omega (arith, below))))
+                (ready.controls_there y below read))
+          ])
+        ]
 
     pub ready_taken : Ready z (with_controls env c f g) u
     ready_taken = record {
@@ -155,7 +155,7 @@ module _ (z : Setting) where
           (kept_then z (control_offset z.declared c) s m t
           (kept_less z (control_offset z.declared c) (base_of z) s m (omega (arith, among)) kept) one.lower)
           (kept_less z (control_offset z.declared c) (control_offset z.declared (c + 1)) t u (omega arith) two.lower));
-      controls_there = λ y below read. control_there y below read (y == c) (y == c + 1) refl refl;
+      controls_there = control_there;
     }
 
   -- a control value's mask is put where it belongs, unless nothing reads it
@@ -176,14 +176,7 @@ module _ (z : Setting) where
           → (is_unread z.allocation c ≡ false → home_of z.allocation.homes (length z.declared + c) ≡ None
           → number_at s.bytes 4 (z.frame + control_offset z.declared c) ≡ Some (v env))
           → MaskPut c (v env) s s
-      untouched env s held there = record {
-        held = held;
-        others = λ q other. refl;
-        written = there;
-        apart = λ n x beside. refl;
-        lower = λ b below. refl;
-        hidden = λ depth b from to. refl;
-      }
+      untouched env s held there = assumption
 
       by_test : (b : Bool) → is_unread z.allocation c ≡ b
           → PutsMask c r v (unless_unread b (kept_code (control_location z.declared z.allocation c) r))
@@ -204,7 +197,7 @@ module _ (z : Setting) where
           } in
           record {
             held = moved.held;
-            others = λ q other. ap (λ (regs : ℕ → ℕ). regs q) moved.regs ∙ unwritten s.regs 28 _ q other;
+            others = is_left s.regs 28 _ moved.regs;
             written = λ is out. wrote_there z o (v env) s t wrote given.1;
             apart = λ n x beside. other_number z 4 o (v env) n x s t wrote beside;
             lower = wrote_kept z 4 o (v env) s t wrote;
@@ -215,11 +208,11 @@ module _ (z : Setting) where
 -- what is read is not in the register of a control value
 pub read_beside : (z : Setting) (c : ℕ) {e : TermTree} {word : WordType}
     → HasType (types_of z.code.profile z.declared) e word → read_register z.allocation 5 e ≢ mask_register z c 7
-read_beside z c {e = e} has = by_home (home_of_term z.allocation e) refl
-  where
-    by_home : (h : Option ℕ) → home_of_term z.allocation e ≡ h → home_or h 5 ≢ mask_register z c 7
-    by_home None at = λ e. mask_apart z c 7 5 (omega arith) (λ e. omega (arith, e)) (sym e)
-    by_home (Some home) at =
-        let home_is = home_there z has home at in
-        let below = home_is.declared in
-        mask_beside z c 7 home_is.x home (omega arith) (λ e. omega (arith, below, e)) home_is.at
+read_beside z c {e = e} has =
+    elim (cases_Option (home_of_term z.allocation e)) [
+      | inl found ↦
+          let home_is = home_there z has found.0 found.1 in
+          let below = home_is.declared in
+          rw found.1 (mask_beside z c 7 home_is.x found.0 (omega arith) (λ f. omega (arith, below, f)) home_is.at)
+      | inr at ↦ rw at (λ f. mask_apart z c 7 5 (omega arith) (λ g. omega (arith, g)) (sym f))
+    ]

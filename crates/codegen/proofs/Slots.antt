@@ -5,23 +5,26 @@ use Rattle.std.proofs.Common.{sym, ap, ◌∙◌, subst, arith, inl, inr, ◌⊎
 use Rattle.std.specs.Prelude.{slice_set}
 use Rattle.codegen.proofs.Machine.{variable_offset, control_offset, next_offset, result_offset, ByteMap, number_at}
 use Rattle.codegen.proofs.Machine.{assign_code, byte_count, control_location, home_of_term, home_or, read_code}
-use Rattle.codegen.proofs.Machine.{read_register, store_size, stored_code, stored_register, gives_zero, unless_home}
+use Rattle.codegen.proofs.Machine.{read_register, store_size, stored_code, stored_register, gives_zero}
 use Rattle.codegen.proofs.Machine.{with_number, slots_to, height_of, home_of, into_code, store_code, Instr, Sw, State}
 use Rattle.codegen.proofs.Language.{StraightState, with_variable, with_element, FlatVariable, numbers_in, IsWithinKind}
 use Rattle.codegen.proofs.Language.{word_as, TermTree, term_nodes, Boolean, WordType, value_in, types_of, IsHeld, Fits}
-use Rattle.codegen.proofs.Language.{Kind, Uint32, bits_of, Values, HasType, Suits, Profile}
+use Rattle.codegen.proofs.Language.{Kind, bits_of, Values, HasType, Suits, Profile}
 use Rattle.codegen.proofs.Logic.{length-set, get_or-set_same, get_or-set_other, set-get_or, All-set, none-some}
-use Rattle.codegen.proofs.Logic.{same_Some, eqb-true, eqb-false, controls_kept, Holds, number_at_apart}
+use Rattle.codegen.proofs.Logic.{same_Some, eqb-true, controls_kept, Holds, number_at_apart}
 use Rattle.codegen.proofs.Logic.{number_at-with_number, HeldAt, mask_of, bytes_by, bytes_of, place_of, place_within}
 use Rattle.codegen.proofs.Logic.{ends_before_result, apart_from, elements_apart, Setting, base_of, Kept, Ready, Wrote}
 use Rattle.codegen.proofs.Logic.{wrote_kept, variables_kept, Before, After, Steps, Then, Still, steps_of, into_runs}
 use Rattle.codegen.proofs.Logic.{Held, held_regs, HomesKept, IsHome, ValuedIn, home_beside, home_target, homes_by}
 use Rattle.codegen.proofs.Logic.{homes_moved, kept_number, place_before, place_target, variables_home, is_free, idle}
 use Rattle.codegen.proofs.Logic.{lt-ltb, works_at, IsTarget, Leaves, put, then_moves, setting, Runs, gives, cheaper}
-use Rattle.codegen.proofs.Logic.{kept_less, kept_by, ready_below, along, home_allowed, home_there, known, move_runs}
+use Rattle.codegen.proofs.Logic.{kept_less, kept_by, ready_below, along, home_allowed, home_there, known}
 use Rattle.codegen.proofs.Logic.{none, quiet, ready_after, register-at, value_fits}
 use Rattle.inline.specs.FlatSize.{words_of}
-use Rattle.codegen.proofs.expression_code_lemmas.Logic.{emptied, put_code}
+use Rattle.codegen.proofs.expression_code_lemmas.Moves.{is_left, put_code, putting}
+use Rattle.codegen.proofs.expression_code_lemmas.WorkRegisters.{cases_Option}
+use Rattle.codegen.proofs.expression_code_lemmas.Values.{kind_fits}
+use Rattle.std.proofs.lemmas.Bool.{cases_Bool, cases_eq, cond_both}
 use Rattle.rv_code.specs.declared.operations.StoreOperation.{StoreOperation}
 use Rattle.rv_machine.specs.Registers.{register}
 use Rattle.rv_machine.specs.Machine as machine
@@ -30,18 +33,11 @@ pub use Rattle.codegen.proofs.HiddenWords.{hidden_then, hidden_wrote}
 use Rattle.codegen.proofs.expression_code_lemmas.NumberCode.{zero_known}
 
 -- what is written as a value of its kind is that value again
-pub cut_kind : (kind : Kind) (v : ℕ) → v < 2 ^ bits_of kind → v < 2 ^ 32
-cut_kind Uint32 v h = h
-cut_kind kind v h = omega (arith, h)
-
-pub cut_element : (kind : Kind) (size v : ℕ) → v < 2 ^ bits_of kind → v % 256 ^ bytes_by kind (Some size) ≡ v
-cut_element Boolean size v h = omega (arith, h)
-cut_element kind size v h = omega (arith, h)
-
 pub cut_number : (kind : Kind) (elements : Option ℕ) (v : ℕ) → v < 2 ^ bits_of kind
     → v % 256 ^ bytes_by kind elements ≡ v
-cut_number kind None v h = let word = cut_kind kind v h in omega (arith, word)
-cut_number kind (Some size) v h = cut_element kind size v h
+cut_number kind None v h = omega (arith, kind_fits kind v h)
+cut_number Boolean (Some size) v h = omega (arith, h)
+cut_number kind (Some size) v h = omega (arith, h)
 
 pub alone : (l : List ℕ) (v : ℕ) → length l ≡ 1 → slice_set l 0 v ≡ v ∷ []
 alone (x ∷ []) v one = refl
@@ -51,12 +47,10 @@ module _ (z : Setting) where
   -- a number elsewhere is as it was
   pub other_number : (n o w m x : ℕ) (s t : machine.State) → Wrote z n o w s t → (x + m ≤ o) ⊎ (o + n ≤ x)
       → number_at t.bytes m (z.frame + x) ≡ number_at s.bytes m (z.frame + x)
-  other_number n o w m x s t wrote (inl h) =
+  other_number n o w m x s t wrote apart =
       ap (λ (b : ByteMap). number_at b m (z.frame + x)) wrote.written
-      ∙ number_at_apart s.bytes n (z.frame + o) w m (z.frame + x) (inl (omega (arith, h)))
-  other_number n o w m x s t wrote (inr h) =
-      ap (λ (b : ByteMap). number_at b m (z.frame + x)) wrote.written
-      ∙ number_at_apart s.bytes n (z.frame + o) w m (z.frame + x) (inr (omega (arith, h)))
+      ∙ number_at_apart s.bytes n (z.frame + o) w m (z.frame + x)
+      (elim apart [ inl h ↦ inl (omega (arith, h)) | inr h ↦ inr (omega (arith, h)) ])
 
   -- a state that is shown by the same values
   pub ready_same : (one other : StraightState) (s : machine.State) → ((x : ℕ) → one.variables x ≡ other.variables x)
@@ -82,44 +76,35 @@ module _ (z : Setting) where
       ⊎ (variable_offset z.declared x + 4 * words_of d ≤ o)
       → number_at t.bytes n (z.frame + o) ≡ number_at s.bytes n (z.frame + o))
       (homes : HomesKept z s t) where
-    same_variable : (y : ℕ) (e : FlatVariable) → slice_get z.declared y ≡ Some e → (y == x) ≡ true → d ≡ e
-    same_variable y e is q =
-        same_Some d e (sym known ∙ (ap (λ n. slice_get z.declared n) (sym (eqb-true y x q)) ∙ is))
-
-    fits_at : (y : ℕ) (e : FlatVariable) → slice_get z.declared y ≡ Some e → (b : Bool) → (y == x) ≡ b
-        → IsHeld e (cond b l (env.variables y))
-    fits_at y e is true q = subst (λ (f : FlatVariable). IsHeld f l) (same_variable y e is q) holds
-    fits_at y e is false q = ready.fits y e is
-
-    home_at : (y home : ℕ) (e : FlatVariable) → slice_get z.declared y ≡ Some e
-        → home_of z.allocation.homes y ≡ Some home → (b : Bool) → (y == x) ≡ b
-        → t.regs home ≡ slice_index (cond b l (env.variables y)) 0
-    home_at y home e is at true q =
-        absurd (none-some home (sym away ∙ (ap (λ n. home_of z.allocation.homes n) (sym (eqb-true y x q)) ∙ at)))
-    home_at y home e is at false q = variables_home z env s t ready homes y home e is at
-
-    there_at : (y : ℕ) (e : FlatVariable) (j : ℕ) → slice_get z.declared y ≡ Some e
-        → home_of z.allocation.homes y ≡ None → j < numbers_in e.elements → (b : Bool) → (y == x) ≡ b
-        → number_at t.bytes (bytes_of e) (z.frame + place_of z.declared y e j)
-        ≡ Some (slice_index (cond b l (env.variables y)) j)
-    there_at y e j is out more true q =
-        let kind = same_variable y e is q in
-        ap (λ n. number_at t.bytes (bytes_of e) (z.frame + place_of z.declared n e j)) (eqb-true y x q)
-        ∙ subst (λ (f : FlatVariable). number_at t.bytes (bytes_of f) (z.frame + place_of z.declared x f j)
-        ≡ Some (slice_index l j)) kind
-        (there j (subst (λ (f : FlatVariable). j < numbers_in f.elements) (sym kind) more))
-    there_at y e j is out more false q =
-        apart (bytes_of e) (place_of z.declared y e j) (apart_from z.declared x y d e j known is more q)
-        ∙ ready.variables_there y e j is out more
+    -- what is so of the variable and its new numbers, and of each other one and its old ones, is so of each
+    at_each : (P : ℕ → FlatVariable → List ℕ → Type 0) → P x d l
+        → ((y : ℕ) (e : FlatVariable) → slice_get z.declared y ≡ Some e → (y == x) ≡ false → P y e (env.variables y))
+        → (y : ℕ) (e : FlatVariable) → slice_get z.declared y ≡ Some e → P y e (cond (y == x) l (env.variables y))
+    at_each P own other y e is =
+        cond_both (y == x) l (env.variables y) (P y e)
+        (λ q.
+        let at = eqb-true y x q in
+        let same = same_Some d e (sym known ∙ (ap (slice_get z.declared) (sym at) ∙ is)) in
+        subst (λ n. P n e l) (sym at) (subst (λ (f : FlatVariable). P x f l) same own))
+        (other y e is)
 
     pub ready_changed : Ready z (with_variable env x l) t
     ready_changed =
         let first = ends_before_result z.declared x d known in
         record {
           held = held;
-          fits = λ y e is. fits_at y e is (y == x) refl;
-          homes_there = λ y home e is at. home_at y home e is at (y == x) refl;
-          variables_there = λ y e j is out more. there_at y e j is out more (y == x) refl;
+          fits = at_each (λ y e m. IsHeld e m) holds (λ y e is q. ready.fits y e is);
+          homes_there = λ y home e.
+              at_each (λ n f m. home_of z.allocation.homes n ≡ Some home → t.regs home ≡ slice_index m 0)
+              (λ at. absurd (none-some home (sym away ∙ at)))
+              (λ n f is q at. variables_home z env s t ready homes n home f is at) y e;
+          variables_there = λ y e j.
+              at_each (λ n f m. home_of z.allocation.homes n ≡ None → j < numbers_in f.elements
+              → number_at t.bytes (bytes_of f) (z.frame + place_of z.declared n f j) ≡ Some (slice_index m j))
+              (λ out. there j)
+              (λ n f is q out more.
+              apart (bytes_of f) (place_of z.declared n f j) (apart_from z.declared x n d f j known is more q)
+              ∙ ready.variables_there n f j is out more) y e;
           controls_there = λ c among read. controls_kept z env s t ready homes c among read
               (apart 4 (control_offset z.declared c) (inr (omega (arith, first))));
         }
@@ -132,32 +117,28 @@ module _ (z : Setting) where
     abbrev old : List ℕ
     old = env.variables x
 
-    same_there : (j : ℕ) → j < numbers_in d.elements → (b : Bool) → (j == i) ≡ b
+    same_there : (j : ℕ) → j < numbers_in d.elements
         → number_at t.bytes (bytes_of d) (z.frame + place_of z.declared x d j)
         ≡ Some (slice_index (slice_set old i v) j)
-    same_there j more true q =
-        let e = eqb-true j i q in
-        let long = (ready.fits x d known).count in
-        let here : number_at t.bytes (bytes_of d) (z.frame + place_of z.declared x d i) ≡ Some v =
-        ap (λ (b : ByteMap). number_at b (bytes_of d) (z.frame + place_of z.declared x d i)) wrote.written
-        ∙ (number_at-with_number s.bytes (bytes_of d) (z.frame + place_of z.declared x d i) w ∙ ap Some cut) in
-        ap (λ k. number_at t.bytes (bytes_of d) (z.frame + place_of z.declared x d k)) e
-        ∙ (here
-        ∙ ap Some (sym (ap (λ k. slice_index (slice_set old i v) k) e
-        ∙ get_or-set_same old i v 0 (omega (arith, long, below)))))
-    same_there j more false q =
-        other_number (bytes_of d) (place_of z.declared x d i) w (bytes_of d) (place_of z.declared x d j) s t wrote
-        (elements_apart z.declared x d i j q)
-        ∙ (ready.variables_there x d j known away more
-        ∙ ap Some (sym (get_or-set_other old i j v 0 (eqb-false j i q))))
+    same_there j more =
+        elim (cases_eq j i) [
+          | inl same ↦
+              let long = (ready.fits x d known).count in
+              rw same (ap (λ (b : ByteMap). number_at b (bytes_of d) (z.frame + place_of z.declared x d i)) wrote.written
+              ∙ (number_at-with_number s.bytes (bytes_of d) (z.frame + place_of z.declared x d i) w
+              ∙ ap Some (cut ∙ sym (get_or-set_same old i v 0 (omega (arith, long, below))))))
+          | inr other ↦
+              other_number (bytes_of d) (place_of z.declared x d i) w (bytes_of d) (place_of z.declared x d j) s t wrote
+              (elements_apart z.declared x d i j (ne_eqb j i other))
+              ∙ (ready.variables_there x d j known away more ∙ ap Some (sym (get_or-set_other old i j v 0 other)))
+        ]
 
     outside : (n o : ℕ) → (o + n ≤ variable_offset z.declared x) ⊎ (variable_offset z.declared x + 4 * words_of d ≤ o)
         → number_at t.bytes n (z.frame + o) ≡ number_at s.bytes n (z.frame + o)
-    outside n o (inl h) = other_number (bytes_of d) (place_of z.declared x d i) w n o s t wrote
-        (inl (omega (arith, h)))
-    outside n o (inr h) =
+    outside n o apart =
         let p = place_within z.declared x d i below in
-        other_number (bytes_of d) (place_of z.declared x d i) w n o s t wrote (inr (omega (arith, h, p)))
+        other_number (bytes_of d) (place_of z.declared x d i) w n o s t wrote
+        (elim apart [ inl h ↦ inl (omega (arith, h)) | inr h ↦ inr (omega (arith, h, p)) ])
 
     -- a number of a variable is set
     pub ready_put : Ready z (with_element env x i v) t
@@ -168,7 +149,7 @@ module _ (z : Setting) where
           count = length-set old i v ∙ before.count;
           within = All-set (IsWithinKind d.word.kind) old i v fits before.within;
         })
-        env s t ready wrote.held (λ j more. same_there j more (j == i) refl) outside wrote.homes
+        env s t ready wrote.held same_there outside wrote.homes
 
   -- a word has one element
   pub ready_alone : (env : StraightState) (x v : ℕ) (t : machine.State) → length (env.variables x) ≡ 1
@@ -185,17 +166,11 @@ module _ (z : Setting) where
       (wrote : Wrote z 4 (variable_offset z.declared x) v s t) where
     pub ready_set : Ready z (with_variable env x (v ∷ [])) t
     ready_set =
-        let small = cut_kind word.kind v fits in
+        let small = kind_fits word.kind v fits in
         let first : variable_offset z.declared x ≡ place_of z.declared x (word_as word mutable) 0 = omega arith in
         ready_alone env x v t (ready.fits x (word_as word mutable) known).count
         (ready_put x 0 v v (word_as word mutable) known away (omega arith) fits env s t ready
         (subst (λ o. Wrote z 4 o v s t) first wrote) (omega (arith, small)))
-
-  -- a variable that is set to what it holds
-  same_again : (x i : ℕ) (env : StraightState) (y : ℕ) (b : Bool) → (y == x) ≡ b
-      → cond b (slice_set (env.variables x) i (slice_index (env.variables x) i)) (env.variables y) ≡ env.variables y
-  same_again x i env y true e = set-get_or (env.variables x) i 0 ∙ ap env.variables (sym (eqb-true y x e))
-  same_again x i env y false e = refl
 
   -- an element is set or kept
   pub ready_chosen : (b : Bool) (x i v : ℕ) (env : StraightState) (t : machine.State)
@@ -204,7 +179,8 @@ module _ (z : Setting) where
   ready_chosen true x i v env t ready = ready
   ready_chosen false x i v env t ready =
       ready_same (with_element env x i (slice_index (env.variables x) i)) env t
-      (λ y. same_again x i env y (y == x) refl) (λ c. refl) ready
+      (λ y. cond_both (y == x) _ (env.variables y) (λ (l : List ℕ). l ≡ env.variables y)
+      (λ e. set-get_or (env.variables x) i 0 ∙ ap env.variables (sym (eqb-true y x e))) (λ e. refl)) (λ c. refl) ready
 
 -- each variable, with a home or without, has its values in its slot, and each control value too
 pub record Laid (z : Setting) (env : StraightState) (s : machine.State) : Type 0 where
@@ -250,21 +226,18 @@ pub record IsSource (z : Setting) (asked r : ℕ) : Type 0 where
 
 pub read_source : (z : Setting) (e : TermTree) (asked : ℕ) → 4 < asked → asked < 28
     → IsSource z asked (read_register z.allocation asked e)
-read_source z e asked low high = by_home (home_of_term z.allocation e) refl
-  where
-    by_home : (h : Option ℕ) → home_of_term z.allocation e ≡ h → IsSource z asked (home_or h asked)
-    by_home None at = record { low = low; high = high; is = inl refl }
-    by_home (Some home) at =
-        let allowed = home_allowed z.declared z.allocation z.allocated e home at in
-        record { low = omega (arith, allowed.0); high = allowed.1; is = inr allowed }
+read_source z e asked low high =
+    elim (cases_Option (home_of_term z.allocation e)) [
+      | inl found ↦
+          let allowed = home_allowed z.declared z.allocation z.allocated e found.0 found.1 in
+          rw found.1 (record { low = omega (arith, allowed.0); high = allowed.1; is = inr allowed })
+      | inr at ↦ rw at (record { low = low; high = high; is = inl refl })
+    ]
 
 -- none of the first three temporaries but the one that was asked for
 pub source_apart : (z : Setting) {asked r : ℕ} → IsSource z asked r → (q : ℕ) → q < 8 → asked ≢ q → r ≢ q
-source_apart z {asked = asked} {r = r} source q low other e = by_source source.is
-  where
-    by_source : (r ≡ asked) ⊎ IsHome z.allocation.count r → ⊥
-    by_source (inl is) = other (sym is ∙ e)
-    by_source (inr home) = let some = z.allocated.some in omega (arith, some, home.0, e, low)
+source_apart z source q low other e =
+    elim source.is [ inl is ↦ other (sym is ∙ e) | inr home ↦ omega (arith, z.allocated.some, home.0, e, low) ]
 
 -- it can be put into the frame
 pub puts : (z : Setting) {asked r : ℕ} → IsSource z asked r → (is_free r && (nat_lt r 32 && not (r == 28))) ≡ true
@@ -296,30 +269,18 @@ module _ (z : Setting) where
       → base_of z + 4 * slots_to z.allocation.count (height_of e + place) ≤ z.size
       → Runs z (16 * term_nodes e) (steps_of e) (read_code z.declared z.allocation (base_of z) r place e) (Ready z)
       (ReadIn e r place (home_of_term z.allocation e))
-  reads {e = e} r place target has room = by_home (home_of_term z.allocation e) refl
-    where
-      by_home : (h : Option ℕ) → home_of_term z.allocation e ≡ h
-          → Runs z (16 * term_nodes e) (steps_of e)
-          (unless_home h (into_code z.declared z.allocation (base_of z) r place e)) (Ready z) (ReadIn e r place h)
-      by_home None at =
-          cheaper (omega arith)
-          (gives {P = Ready z}
-          (λ env s t fine ready done. record {
-            held = done.held;
-            there = done.there;
-            kept = kept_less z (base_of z) (base_of z + 4 * (place - z.allocation.count)) s t (omega arith) done.kept;
-            lower = done.lower;
-          })
-          (into_runs z (base_of z) (omega arith) (omega arith) has place r target room))
-      by_home (Some home) at =
-          let home_is = home_there z has home at in
-          along (λ env. home_is.quiet env.variables)
-          (idle (λ env s ready. record {
-            held = ready.held;
-            there = home_is.there env s ready;
-            kept = λ o below. refl;
-            lower = λ q h. refl;
-          }))
+  reads {e = e} r place target has room =
+      elim (cases_Option (home_of_term z.allocation e)) [
+        | inl found ↦
+            let home_is = home_there z has found.0 found.1 in
+            rw found.1 (along (λ env. home_is.quiet env.variables)
+            (idle (λ env s ready. assumption (home_is.there env s ready))))
+        | inr at ↦ rw at (cheaper (omega arith)
+            (gives {P = Ready z}
+            (λ env s t fine ready done.
+            assumption (kept_less z (base_of z) (base_of z + 4 * (place - z.allocation.count)) s t (omega arith) done.kept))
+            (into_runs z (base_of z) (omega arith) (omega arith) has place r target room)))
+      ]
 
   -- that of an expression that no temporary lives beside
   pub read_runs : {e : TermTree} {word : WordType} → HasType (types_of z.code.profile z.declared) e word
@@ -330,12 +291,10 @@ module _ (z : Setting) where
       let some = z.allocated.some in
       let count = z.allocation.count in
       gives
-      (λ env s t fine ready done. record {
-        held = done.held;
-        there = done.there;
-        kept = done.kept;
-        homes = λ r home. done.lower r (home_beside count 0 5 r home.0 home.1 (λ e. omega (arith, some, home.0, e)));
-      })
+      (λ env s t fine ready done.
+      let homes : HomesKept z s t = λ r home.
+      done.lower r (home_beside count 0 5 r home.0 home.1 (λ e. omega (arith, some, home.0, e))) in
+      assumption)
       (reads 5 0 (place_target count 0 z.allocated.few (omega (arith, some))) has (omega (arith, room)))
 
   -- An expression into a home.
@@ -422,75 +381,40 @@ module _ (z : Setting) where
     pub kept : Kept z (base_of z) s t
     pub homes : HomesKept z s t
 
-  -- it is x0, or a register that is put
-  abbrev pub IsOffered : ℕ → Type 0
-  IsOffered r = (r ≡ 0) ⊎ IsSource z 5 r
-
-  pub offered_register : (e : TermTree) → IsOffered (stored_register z.allocation e)
-  offered_register e = by_test (gives_zero z.allocation e)
-    where
-      by_test : (b : Bool) → IsOffered (cond b 0 (read_register z.allocation 5 e))
-      by_test true = inl refl
-      by_test false = inr (read_source z e 5 (omega arith) (omega arith))
+  pub offered_low : (e : TermTree) → stored_register z.allocation e < 28
+  offered_low e =
+      cond_both (gives_zero z.allocation e) 0 (read_register z.allocation 5 e) (λ r. r < 28) (λ zero. omega arith)
+      (λ some. (read_source z e 5 (omega arith) (omega arith)).high)
 
   pub offered_runs : {e : TermTree} {word : WordType} → HasType (types_of z.code.profile z.declared) e word
       → base_of z + 4 * slots_to z.allocation.count (height_of e) ≤ z.size
       → Runs z (16 * term_nodes e) (steps_of e) (stored_code z.declared z.allocation (base_of z) e) (Ready z)
       (Offered e (stored_register z.allocation e))
-  offered_runs {e = e} has room = by_test (gives_zero z.allocation e) refl
-    where
-      by_test : (b : Bool) → gives_zero z.allocation e ≡ b
-          → Runs z (16 * term_nodes e) (steps_of e)
-          (cond b [] (read_code z.declared z.allocation (base_of z) 5 0 e)) (Ready z)
-          (Offered e (cond b 0 (read_register z.allocation 5 e)))
-      by_test true is =
-          let zero = zero_known z.allocation e is in
-          along (λ env. (known e 0 zero env.variables).1)
-          (idle (λ env s ready. record {
-            held = ready.held;
-            there = sym (known e 0 zero env.variables).0;
-            kept = λ o below. refl;
-            homes = λ r home. refl;
-          }))
-      by_test false is =
-          let source = read_source z e 5 (omega arith) (omega arith) in
-          gives
-          (λ env s t fine ready done. record {
-            held = done.held;
-            there = register-at t.regs (read_register z.allocation 5 e) (λ f. omega (arith, source.low, f))
-                ∙ done.there;
-            kept = done.kept;
-            homes = done.homes;
-          })
-          (read_runs has room)
+  offered_runs {e = e} has room =
+      elim (cases_Bool (gives_zero z.allocation e)) [
+        | inl is ↦
+            let zero = known e 0 (zero_known z.allocation e is) in
+            rw is (along (λ env. (zero env.variables).1)
+            (idle (λ env s ready. assumption (sym (zero env.variables).0))))
+        | inr is ↦
+            let source = read_source z e 5 (omega arith) (omega arith) in
+            rw is (gives
+            (λ env s t fine ready done. assumption (
+            register-at t.regs (read_register z.allocation 5 e) (λ f. omega (arith, source.low, f)) ∙ done.there))
+            (read_runs has room))
+      ]
 
   -- What a register reads as, put into the frame.
-  pub offered_put : (operation : StoreOperation) (r o : ℕ) → IsOffered r → o % byte_count (store_size operation) ≡ 0
+  pub offered_put : (operation : StoreOperation) (r o : ℕ) → r < 28 → o % byte_count (store_size operation) ≡ 0
       → o + byte_count (store_size operation) ≤ z.size
       → Runs z 3 none (put_code operation r o) (Held z)
       (λ env s t. Wrote z (byte_count (store_size operation)) o (register s.regs r) s t)
-  offered_put operation r o (inl zero) even inside =
-      subst
-      (λ r'. Runs z 3 none (put_code operation r' o) (Held z)
-      (λ env s t. Wrote z (byte_count (store_size operation)) o (register s.regs r') s t))
-      (sym zero)
-      (gives
-      (λ env s t fine held done. record {
-        held = done.0;
-        written = done.1;
-        homes = λ q home. done.2 q (λ e. omega (arith, home.1, e));
-      })
-      (emptied z operation o even inside))
-  offered_put operation r o (inr source) even inside =
+  offered_put operation r o low even inside =
       gives
-      (λ env s t fine held moved. record {
-        held = moved.held;
-        written = moved.bytes
-            ∙ ap (λ w. with_number s.bytes (byte_count (store_size operation)) (z.frame + o) w)
-            (sym (register-at s.regs r (λ f. omega (arith, source.low, f))));
-        homes = homes_moved z (put operation r o ∷ []) env s t refl moved;
-      })
-      (move_runs z (put operation r o) (puts z source) (even, inside))
+      (λ env s t fine held done.
+      let homes : HomesKept z s t = λ q home. is_left s.regs 28 _ done.1 q (λ e. omega (arith, home.1, e)) in
+      assumption)
+      (putting z operation r o (omega (arith, low)) (λ e. omega (arith, low, e)) even inside)
 
   -- an expression's value
   pub assigned : {e : TermTree} {word : WordType} (o : ℕ) → HasType (types_of z.code.profile z.declared) e word
@@ -506,7 +430,7 @@ module _ (z : Setting) where
         second = wrote_as 4 o _ _ done.middle t done.first.there done.second;
       })
       (quiet (offered_runs has room)
-      (offered_put Sw (stored_register z.allocation e) o (offered_register e) even inside)
+      (offered_put Sw (stored_register z.allocation e) o (offered_low e) even inside)
       (λ env s t ready offered. offered.held))
 
   -- the state is shown after an expression as before it

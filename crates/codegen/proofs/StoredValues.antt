@@ -1,11 +1,11 @@
 -- What is put into an element for an expression: it is read as that expression is, and its store makes the same of it.
-use Rattle.std.proofs.Common.{◌∙◌, ◌≡◌, ℕ, ◌%◌, ◌^◌, ◌<◌, ◌≤◌, true, refl, sym, arith}
+use Rattle.std.proofs.Common.{Some, ◌∙◌, ◌≡◌, ℕ, ◌%◌, ◌^◌, ◌<◌, ◌≤◌, true, refl, sym, arith}
 use Rattle.std.proofs.lemmas.Bool.{cond_both, false≢true}
 use Rattle.codegen.proofs.Choices.{of_choice}
 use Rattle.codegen.proofs.Language.{bits_of, element_bytes, HasType, Kind, labelled, path_in, term_nodes, TermTree}
 use Rattle.codegen.proofs.Language.{Types, value_in, Values, WordType}
 use Rattle.codegen.proofs.Machine.{Allocation, height_of}
-use Rattle.codegen.proofs.Slots.{cut_element}
+use Rattle.codegen.proofs.Slots.{cut_number}
 use Rattle.codegen.specs.private.StoredValues.{cuts, stored_value, uncut}
 use Rattle.inline.specs.Flat.{convert}
 use Rattle.inline.specs.FlatTyping.{of_conversion}
@@ -55,7 +55,7 @@ pub record IsCutTo (types : Types) (element : Kind) (other e : TermTree) : Type 
 itself : {types : Types} {e : TermTree} {word : WordType} (element : Kind) → HasType types e word
     → IsCutTo types element e e
 itself {e = e} {word = word} element has =
-    record { word = word; has_type = has; cut = λ m fits. cut_element element 0 (value_in m e) fits }
+    record { word = word; has_type = has; cut = λ m fits. cut_number element (Some 0) (value_in m e) fits }
 
 -- the store cuts a value as the conversion does
 cut_alike : (element kind : Kind) → cuts element kind ≡ true → (v : ℕ)

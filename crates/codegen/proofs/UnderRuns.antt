@@ -2,7 +2,7 @@
 -- set where the mask is all ones, and the old one where it is 0. It is written in any case.
 use Rattle.std.proofs.Common.{◌≡◌, ℕ, ◌+◌, ◌*◌, ◌^◌, ◌<◌, ◌≤◌, ◌==◌, ◌≢◌, nat_lt, eq-eqb, ne_eqb, Bool, true, false}
 use Rattle.std.proofs.Common.{if◌then◌else◌, List, [], ◌∷◌, ◌++◌, Option, None, Some, length, slice_index, refl, sym}
-use Rattle.std.proofs.Common.{ap, ap₂, ◌∙◌, subst, arith, append_assoc, inl, bit_and, bit_xor, inr, ◌⊎◌, slice_get}
+use Rattle.std.proofs.Common.{ap, ap₂, ◌∙◌, subst, arith, append_assoc, inl, bit_and, bit_xor, ◌⊎◌, slice_get}
 use Rattle.std.proofs.Common.{◌||◌}
 use Rattle.codegen.proofs.Logic.{lt-ltb, steps_of, mask_of, merged, merge, take, place_of, Setting, base_of, Steps}
 use Rattle.codegen.proofs.Logic.{Runs, gives, cheaper, as_code, idle, Ready, Wrote, homes_then, kept_by}
@@ -17,7 +17,7 @@ use Rattle.codegen.proofs.Machine.{slots_to, load_code, store_code, height_of, S
 use Rattle.rv_machine.specs.Machine as machine
 use Rattle.codegen.proofs.Slots.{Shown, alone, ready_same, suits_fits, read_runs, read_source, source_apart}
 use Rattle.codegen.proofs.Slots.{ready_valued, ready_with, word_before, hidden_then, hidden_by, hidden_kept}
-use Rattle.codegen.proofs.Slots.{hidden_wrote, cut_kind, ready_put, ready_alone, ready_chosen, wrote_as, Hidden}
+use Rattle.codegen.proofs.Slots.{hidden_wrote, ready_put, ready_alone, ready_chosen, wrote_as, Hidden}
 use Rattle.codegen.proofs.Slots.{cut_number, IsSource, offered_put}
 use Rattle.codegen.proofs.HomeWords.{ready_homed}
 use Rattle.codegen.proofs.Masks.{fetched_homes, home_apart, mask_apart, mask_register, mask_free, mask_runs}
@@ -29,6 +29,7 @@ use Rattle.codegen.proofs.program_logic_lemmas.Computing.{register_left}
 use Rattle.codegen.proofs.program_logic_lemmas.Pieces.{by_test}
 use Rattle.codegen.proofs.expression_code_lemmas.Moves.{Computed}
 use Rattle.codegen.proofs.expression_code_lemmas.NumberCode.{zero_known}
+use Rattle.codegen.proofs.expression_code_lemmas.Values.{kind_fits}
 use Rattle.codegen.proofs.expression_code_lemmas.WorkRegisters.{IsFree}
 use Rattle.std.proofs.lemmas.Bool.{or_from}
 use Rattle.inline.specs.Fitting.{Fits}
@@ -186,7 +187,7 @@ module _ (z : Setting) (depth : ℕ) (within : depth ≤ z.depths) (c : ℕ) (am
           let result = if b then v else old env in
           let made : m4.regs w ≡ result =
           ap (λ (regs : ℕ → ℕ). regs w) two.registers
-          ∙ chooses.makes b v (old env) m3.regs (cut_kind kind v new_fits) (cut_kind kind (old env) old_fits)
+          ∙ chooses.makes b v (old env) m3.regs (kind_fits kind v new_fits) (kind_fits kind (old env) old_fits)
           (new_stays m1.regs m3.regs v (λ q first second. mask.others q second ∙ load.others q first) one.2)
           (mask.others o apart ∙ load.there) mask.there in
           let same : m4.bytes ≡ m1.bytes = two.same ∙ (mask.same ∙ load.same) in
@@ -274,8 +275,7 @@ module _ (z : Setting) (depth : ℕ) (within : depth ≤ z.depths) (c : ℕ) (am
           (weaken
           (λ env s fine given. given.0)
           (λ env s t fine given wrote. subst (λ a. Wrote z 4 a (s.regs 5) s t) at wrote)
-          (offered_put z Sw 5 o (inr (record { low = omega arith; high = omega arith; is = inl refl })) (omega arith)
-          inside))
+          (offered_put z Sw 5 o (omega arith) (omega arith) inside))
           (gives (λ env s t fine ready done. (done, tt)) begins)))
 
       -- in its home
@@ -305,7 +305,7 @@ module _ (z : Setting) (depth : ℕ) (within : depth ≤ z.depths) (c : ℕ) (am
           (fetched_homes z (mask_register z c 7) 7 (mask_of b) m1 m2 (inl (omega arith)) mask) in
           let made : t.regs home ≡ (if b then v else old) =
           ap (λ (regs : ℕ → ℕ). regs home) two.registers
-          ∙ chooses.makes b v old m2.regs (cut_kind kind v new_fits) (cut_kind kind old old_fits)
+          ∙ chooses.makes b v old m2.regs (kind_fits kind v new_fits) (kind_fits kind old old_fits)
           (new_stays m1.regs m2.regs v (λ q first second. mask.others q second) one.2)
           (ready2.homes_there x home d typed.known at) mask.there in
           record {

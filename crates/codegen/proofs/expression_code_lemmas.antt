@@ -18,4 +18,3 @@ pub mod OperandRuns
 pub mod Elements
 pub mod ExpressionRuns
 pub mod SiteRuns
-pub mod Logic

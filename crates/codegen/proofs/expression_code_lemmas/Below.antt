@@ -20,7 +20,7 @@ pub use Rattle.codegen.specs.expression_code.TermCode.{expr_code, fetch_code, fi
 pub use Rattle.codegen.specs.expression_code.TermCode.{home_of_term, is_at_home, keep_code, keeps_words, load_by}
 pub use Rattle.codegen.specs.expression_code.TermCode.{load_code, narrow_code, narrowed_in, near_code, near_element}
 pub use Rattle.codegen.specs.expression_code.TermCode.{near_offset, number_code, of_truths, operand, operator_code}
-pub use Rattle.codegen.specs.expression_code.TermCode.{placed_code, prefix_code, raise_code, rotate_code, row_of}
+pub use Rattle.codegen.specs.expression_code.TermCode.{prefix_code, raise_code, rotate_code, row_of}
 pub use Rattle.codegen.specs.expression_code.TermCode.{scale_code, Step, lower_part, move_code, step_code, store_code}
 pub use Rattle.codegen.specs.expression_code.TermCode.{turned, upper_part, choice_or_zero_code, emitted_operator}
 pub use Rattle.codegen.specs.expression_code.TermCode.{kind_at, number_step_code, of_bits}

@@ -1,7 +1,7 @@
 -- Elements of arrays: the address of one, from its index in a register, and its value in a register, at an index that
 -- is a number or in a register.
 use Rattle.std.proofs.Common.{◌≡◌, ◌≢◌, ℕ, ◌+◌, ◌*◌, ◌^◌, ◌<◌, Bool, true, false, cond, nat_lt, List, [], ◌∷◌, ◌++◌}
-use Rattle.std.proofs.Common.{refl, ap, ap₂, ◌∙◌, arith, ◌==◌, ne_eqb, ◌%◌, Some, slice_get, slice_index, sym, eq-eqb}
+use Rattle.std.proofs.Common.{refl, ap, ap₂, ◌∙◌, arith, ◌==◌, ne_eqb, ◌%◌, Some, slice_get, slice_index, sym}
 use Rattle.rv_code.specs.declared.instructions.Instr.TheVariants as instr
 use Rattle.rv_code.specs.declared.operations.UpperOperation.TheVariants.{Lui}
 use Rattle.rv_code.specs.declared.operations.RegisterOperation.TheVariants.{Add}
@@ -10,10 +10,10 @@ use Rattle.codegen.proofs.expression_code_lemmas.Below.{element_bytes, Instr, Ki
 use Rattle.codegen.proofs.expression_code_lemmas.Below.{lower_part, lt-ltb, nat_tests, none, only_computes}
 use Rattle.codegen.proofs.expression_code_lemmas.Below.{plain_append, registers_after, scale_code, sign_extended, State}
 use Rattle.codegen.proofs.expression_code_lemmas.Below.{StraightState, sum_of, upper_part, weaken, along, array_as}
-use Rattle.codegen.proofs.expression_code_lemmas.Below.{as_code, ByteMap, element, element_code, eqb-true, gives}
-use Rattle.codegen.proofs.expression_code_lemmas.Below.{indexed, kind_at, Known, near_code, near_element, never}
+use Rattle.codegen.proofs.expression_code_lemmas.Below.{as_code, ByteMap, element, element_code, gives}
+use Rattle.codegen.proofs.expression_code_lemmas.Below.{indexed, kind_at, Known, near_code, near_element}
 use Rattle.codegen.proofs.expression_code_lemmas.Below.{number_at, number_or_zero, Path, Place, quiet, TermTree}
-use Rattle.codegen.proofs.expression_code_lemmas.Below.{true≢false, value_in, variable_offset, WordType}
+use Rattle.codegen.proofs.expression_code_lemmas.Below.{value_in, variable_offset, WordType}
 use Rattle.language.specs.declared.signature.Kind.TheVariants.{Boolean, Uint16}
 use Rattle.codegen.proofs.expression_code_lemmas.Arithmetic.{upper_fits, lower_fits, near_address}
 use Rattle.codegen.proofs.expression_code_lemmas.OperatorCode.{either_of, dd, td, d0, d32, q0, q32, low_beside}
@@ -22,12 +22,12 @@ use Rattle.codegen.proofs.expression_code_lemmas.TermLengths.{address_length}
 use Rattle.codegen.proofs.expression_code_lemmas.Frame.{Setting, Runs, HeldAt, Held, setting}
 use Rattle.codegen.proofs.expression_code_lemmas.WorkRegisters.{IsFree, ArePair, free_from, IsTarget, works_at}
 use Rattle.codegen.proofs.expression_code_lemmas.WorkRegisters.{target_works, spare_works, not_written}
-use Rattle.codegen.proofs.expression_code_lemmas.Moves.{register-at, computing_within, written, unwritten, loading}
-use Rattle.codegen.proofs.expression_code_lemmas.Events.{by_index}
-use Rattle.codegen.proofs.expression_code_lemmas.NumberCode.{known, NearElement, near_known}
+use Rattle.codegen.proofs.expression_code_lemmas.Moves.{register-at, computing_within, is_written, is_left, loading}
+use Rattle.codegen.proofs.expression_code_lemmas.Events.{by_known_index}
+use Rattle.codegen.proofs.expression_code_lemmas.NumberCode.{known, near_known}
 use Rattle.codegen.proofs.expression_code_lemmas.Operands.{Outcome}
 use Rattle.codegen.proofs.expression_code_lemmas.Places.{place_of, place_even, kind_known}
-use Rattle.codegen.proofs.expression_code_lemmas.Values.{Ready, ValuedIn, place_ends}
+use Rattle.codegen.proofs.expression_code_lemmas.Values.{Leaves, Ready, ValuedIn, place_ends}
 use Rattle.codegen.proofs.expression_code_lemmas.OperandRuns.{made, none_yet, Slots, still_ready, steps_of}
 
 -- with the lower part of the offset it is the address of an element
@@ -150,39 +150,15 @@ module _ (slots : Slots) (place d : ℕ) (target : IsTarget slots.z.allocation.c
       (λ env s t fine given two. record {
         held = two.0;
         there =
-            ap (λ (regs : ℕ → ℕ). regs d) two.1
-            ∙ (written s.regs d _ target.free.nonzero
+            is_written s.regs d _ two.1.regs target.free.nonzero
             ∙ (load_plain word.kind _
             ∙ (ap (λ n. number_or_zero (number_at s.bytes n (z.frame + a))) bytes
-            ∙ (ap number_or_zero given.2 ∙ ap (slice_index (env.variables x)) (sym given.3)))));
-        others = λ q other. ap (λ (regs : ℕ → ℕ). regs q) two.1
-            ∙ unwritten s.regs d _ q (not_written works q d other own);
-        same = two.2;
+            ∙ (ap number_or_zero given.2 ∙ ap (slice_index (env.variables x)) (sym given.3))));
+        others = λ q other. is_left s.regs d _ two.1.regs q (not_written works q d other own);
+        same = two.1.bytes;
       })
       (loading z rs offset a small short (load_by word.kind) d target.free.low target.free.small
       (ap (λ n. a % n) bytes ∙ place_even z.declared x array i) (omega (arith, h, bytes)))
-
-  -- that at an index that is a number, where its access holds its offset
-  near_picked : (source : Place) (x size : ℕ) (word : WordType) (mutable : Bool) (i o : ℕ) (index : TermTree)
-      → slice_get z.declared x ≡ Some (array_as word mutable size) → i < size
-      → place_of z.declared x (array_as word mutable size) i ≡ o → o < 2048
-      → Runs z 1 none (near_code d word.kind o)
-      (Known (setting z) ℕ (λ j. j < size) (λ env s. Ready z env s) (λ env. value_in env.variables index) i)
-      (λ env s t. Outcome z works d (value_in env.variables (element source x size index)) s t)
-  near_picked source x size word mutable i o index known below at near =
-      let array = array_as word mutable size in
-      let h = place_ends z x array i known below in
-      let ends = z.ends in
-      weaken
-      (λ env s fine given. (
-        given.given.held,
-        ap (λ b. sum_of b (sign_extended 12 o)) given.given.held.base
-            ∙ (near_address z.frame o near (omega (arith, h, ends, at)) ∙ ap (λ a. z.frame + a) (sym at)),
-        given.given.variables_there x array i known (z.allocated.words x array size known refl) below,
-        given.is,
-      ))
-      (λ env s t fine given done. done)
-      (loaded source x size word mutable i index known below 2 o (omega arith) (omega (arith, near)))
 
   -- and that at an index that is in a register
   pub picked : (r : ℕ) → IsFree r
@@ -202,28 +178,20 @@ module _ (slots : Slots) (place d : ℕ) (target : IsTarget slots.z.allocation.c
       (λ env s t fine given done.
       let one = done.first in
       let two = done.second in
-      record {
-        held = two.held;
-        there = two.there;
-        others = λ q other.
-            two.others q other
-            ∙ one.others q (not_written works q d other own)
-            (not_written works q 28 other (spare_works z.allocation.count place d 28 (omega arith)));
-        same = two.same ∙ one.same;
-      })
+      let others : Leaves works s t = λ q other.
+      two.others q other
+      ∙ one.others q (not_written works q d other own)
+      (not_written works q 28 other (spare_works z.allocation.count place d 28 (omega arith))) in
+      assumption (two.same ∙ one.same))
       (quiet
       (weaken
       (λ env s fine given. (given.given.0.held, given.given.1 ∙ given.is, omega (arith, h, z.ends)))
       (λ env s t fine given done. done)
       (address_runs z d r target.free at target.no_address word.kind o (λ env. i)))
       (loaded source x size word mutable i index known below d (lower_part o) target.free.small (lower_fits o))
-      (λ env s t given done. (
-        done.held,
-        done.address,
-        ap (λ (b : ByteMap). number_at b (element_bytes word.kind) (z.frame + a)) done.same
-            ∙ given.given.0.variables_there x array i known away below,
-        given.is,
-      )))
+      (λ env s t given done. assumption (
+      ap (λ (b : ByteMap). number_at b (element_bytes word.kind) (z.frame + a)) done.same
+      ∙ given.given.0.variables_there x array i known away below)))
 
   -- so the element at an index that is known to be one whose access holds its offset
   pub near_runs : (source : Place) {x size : ℕ} {index : TermTree} {word : WordType} {mutable : Bool}
@@ -241,22 +209,18 @@ module _ (slots : Slots) (place d : ℕ) (target : IsTarget slots.z.allocation.c
       (along (λ env. ap (λ (p : Path). p ++ indexed source size (value_in env.variables index) ∷ [])
       (known index near.i near.is env.variables).1)
       (made slots place (λ j. index) d (none_yet slots place (λ j. index))
-      (by_index z source size (λ env. value_in env.variables index)
-      (λ i below. at_number near at i below (i == near.i) refl))
+      (by_known_index z source size (λ env. value_in env.variables index) near.i
+      (λ env. (known index near.i near.is env.variables).0)
+      (λ below.
+      let h = place_ends z x array near.i is below in
+      weaken
+      (λ env s fine ready. (
+        ready.held,
+        ap (λ b. sum_of b (sign_extended 12 o)) ready.held.base
+            ∙ (near_address z.frame o near.near (omega (arith, h, z.ends, at)) ∙ ap (λ a. z.frame + a) (sym at)),
+        ready.variables_there x array near.i is (z.allocated.words x array size is refl) below,
+        (known index near.i near.is env.variables).0,
+      ))
+      (λ env s t fine given done. done)
+      (loaded source x size word mutable near.i index is below 2 o (omega arith) (omega (arith, near.near)))))
       (λ env s t ready done. still_ready slots place env s t ready done.held done.kept done.lower)))
-    where
-      -- of the indices that there might be, the number is one
-      at_number : (near : NearElement z.declared x index o)
-          → place_of z.declared x (array_as word mutable size) near.i ≡ o → (i : ℕ) → i < size → (b : Bool)
-          → (i == near.i) ≡ b
-          → Runs z 1 none (near_code d word.kind o)
-          (Known (setting z) ℕ (λ j. j < size) (λ env s. Ready z env s)
-          (λ env. value_in env.variables index) i)
-          (λ env s t. Outcome z works d (value_in env.variables (element source x size index)) s t)
-      at_number near at i below true same =
-          near_picked source x size word mutable i o index is below
-          (ap (place_of z.declared x (array_as word mutable size)) (eqb-true i near.i same) ∙ at) near.near
-      at_number near at i below false other =
-          never (λ env s given.
-          true≢false (sym (eq-eqb i near.i (sym given.is ∙ (known index near.i near.is env.variables).0))
-          ∙ other))

@@ -1,17 +1,18 @@
 -- The marks of a path, by what they carry, and the instructions that show their operands: divisions and
 -- multiplications.
-use Rattle.std.proofs.Common.{◌≡◌, ◌≢◌, ℕ, ◌-◌, ◌<◌, ◌≤◌, Bool, true, false, nat_lt, nat_le, List, [], ◌∷◌, ◌++◌}
-use Rattle.std.proofs.Common.{Option, Some, None, slice_index, refl, sym, ap, ap₂, ◌∙◌, arith}
+use Rattle.std.proofs.Common.{◌≡◌, ◌≢◌, ℕ, ◌-◌, ◌<◌, ◌≤◌, Bool, true, nat_lt, nat_le, List, [], ◌∷◌, ◌++◌}
+use Rattle.std.proofs.Common.{Option, Some, None, slice_index, refl, sym, ap, ap₂, ◌∙◌, arith, inl, inr}
+use Rattle.std.proofs.lemmas.Bool.{cases_Bool, cases_eq}
 use Rattle.codegen.proofs.expression_code_lemmas.Below.{always, bounded, by_mark, ByteMap, decided, divide_leads}
 use Rattle.codegen.proofs.expression_code_lemmas.Below.{divide_value, divided, DivideOperation, Event, indexed, Instr}
 use Rattle.codegen.proofs.expression_code_lemmas.Below.{IsAt, IsInside, IsInstr, Known, Leads, lt-ltb, ltb-true, Mark}
 use Rattle.codegen.proofs.expression_code_lemmas.Below.{multiplied, multiply_leads, multiply_value, MultiplyOperation}
 use Rattle.codegen.proofs.expression_code_lemmas.Below.{nat_tests, never, Observation, Path, Place, product_shown}
 use Rattle.codegen.proofs.expression_code_lemmas.Below.{Profile, register, stands, State, StraightState, true≢false}
-use Rattle.codegen.proofs.expression_code_lemmas.Below.{turn_ends, with_value, with_value-bytes, with_value-pc}
+use Rattle.codegen.proofs.expression_code_lemmas.Below.{turn_ends, weaken, with_value, with_value-bytes, with_value-pc}
 use Rattle.codegen.proofs.expression_code_lemmas.Below.{with_value-regs}
 use Rattle.codegen.proofs.expression_code_lemmas.Frame.{Setting, Before, After, Steps, Runs, setting}
-use Rattle.codegen.proofs.expression_code_lemmas.Moves.{register-at, written, unwritten}
+use Rattle.codegen.proofs.expression_code_lemmas.Moves.{register-at, is_written, is_left}
 use Rattle.codegen.proofs.expression_code_lemmas.WorkRegisters.{IsFree}
 use Rattle.inline.specs.Path.{seen as seen_of}
 use Rattle.codegen.proofs.program_logic_lemmas.Face.{Kind}
@@ -85,12 +86,12 @@ module _ (z : Setting) where
       → {n : ℕ} {steps : Steps} {is : List Instr} {P : Before} {Q : After} (value : StraightState → A)
       → ((x : A) → Good x → Runs z n steps is (Known (setting z) A Good P value x) Q)
       → Runs z n (λ env. kind.mark (value env) ∷ steps env) is P Q
-  by_tested {A = A} {Good = Good} kind test good met {n = n} {steps = steps} {is = is} {P = P} {Q = Q} value one =
-      by_mark kind value (λ x. at_each x (test x) refl)
-    where
-      at_each : (x : A) (b : Bool) → test x ≡ b → Runs z n steps is (Known (setting z) A Good P value x) Q
-      at_each x true e = one x (good x e)
-      at_each x false e = never (λ env s given. true≢false (sym (met x given.good) ∙ e))
+  by_tested kind test good met value one =
+      by_mark kind value
+      (λ x. elim (cases_Bool (test x)) [
+        | inl e ↦ one x (good x e)
+        | inr e ↦ never (λ env s given. true≢false (sym (met x given.good) ∙ e))
+      ])
 
   -- code behind an index below the size
   pub by_index : {n : ℕ} {steps : Steps} {is : List Instr} {P : Before} {Q : After} (place : Place) (size : ℕ)
@@ -100,6 +101,18 @@ module _ (z : Setting) where
   by_index place size index one =
       by_tested (index_kind place size) (λ i. nat_lt i size) (λ i e. ltb-true i size e)
       (λ i below. lt-ltb i size below) index one
+
+  -- so code for the one index that there can be, where it is known to be a number
+  pub by_known_index : {n : ℕ} {steps : Steps} {is : List Instr} {P : Before} {Q : After} (place : Place) (size : ℕ)
+      (index : StraightState → ℕ) (i : ℕ) → ((env : StraightState) → index env ≡ i)
+      → (i < size → Runs z n steps is P Q) → Runs z n (λ env. indexed place size (index env) ∷ steps env) is P Q
+  by_known_index place size index i known one =
+      by_index place size index
+      (λ j below. elim (cases_eq j i) [
+        | inl same ↦ weaken (λ env s fine given. given.given) (λ env s t fine given done. done)
+            (one (omega (arith, same, below)))
+        | inr other ↦ never (λ env s given. other (sym given.is ∙ known env))
+      ])
 
   -- code behind bounds with no more turns between them than are counted
   pub by_bounds : {n : ℕ} {steps : Steps} {is : List Instr} {P : Before} {Q : After} (x : ℕ)
@@ -145,15 +158,12 @@ module _ (z : Setting) where
               (leads s (stands z.code p i [] placed ok s at)) (ap₂ shows first second)
               (inside (left env) (right env))
               (record {
-                regs = λ q low. ap (λ (regs : ℕ → ℕ). regs q) (with_value-regs s d v)
-                    ∙ unwritten s.regs d v q (λ e. omega (arith, target.low, low, e));
+                regs = λ q low. is_left s.regs d v (with_value-regs s d v) q (λ e. omega (arith, target.low, low, e));
                 beside = λ a apart. ap (λ (b : ByteMap). b a) (with_value-bytes s d v);
               })
               (shown p env s rest fit) (omega (arith, at, placed.1, with_value-pc s d v)) (record {
-                there = ap (λ (regs : ℕ → ℕ). regs d) (with_value-regs s d v)
-                    ∙ (written s.regs d v target.nonzero ∙ ap₂ made first second);
-                others = λ q apart. ap (λ (regs : ℕ → ℕ). regs q) (with_value-regs s d v)
-                    ∙ unwritten s.regs d v q apart;
+                there = is_written s.regs d v (with_value-regs s d v) target.nonzero ∙ ap₂ made first second;
+                others = is_left s.regs d v (with_value-regs s d v);
                 same = with_value-bytes s d v;
               });
         };

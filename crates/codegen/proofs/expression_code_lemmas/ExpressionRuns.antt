@@ -35,7 +35,7 @@ use Rattle.codegen.proofs.expression_code_lemmas.Homes.{conversion_kept}
 use Rattle.codegen.proofs.expression_code_lemmas.Places.{kind_known}
 use Rattle.codegen.proofs.expression_code_lemmas.TermLengths.{height, constant_length, move_length, convert_length}
 use Rattle.codegen.proofs.expression_code_lemmas.TermLengths.{number_length, prefix_length, rotate_length}
-use Rattle.codegen.proofs.expression_code_lemmas.Values.{Ready, Valued, ValuedIn, kind_fits, value_word, place_ends}
+use Rattle.codegen.proofs.expression_code_lemmas.Values.{Leaves, Ready, Valued, ValuedIn, kind_fits, value_word, place_ends}
 use Rattle.codegen.proofs.expression_code_lemmas.Elements.{near_runs, picked}
 use Rattle.codegen.proofs.expression_code_lemmas.OperandRuns.{found, found_apart, found_free, found_is, HasSlot, Lies}
 use Rattle.codegen.proofs.expression_code_lemmas.OperandRuns.{made, none_yet, one_fetched, one_more, operands, placed}
@@ -132,12 +132,8 @@ module _ (z : Setting) (free : ℕ) (aligned : free % 4 ≡ 0) (above : base_of 
         let got = took z d o (slice_index (env.variables x) 0) env s t target.free.nonzero
         (ap (λ a. number_at s.bytes 4 (z.frame + a)) (sym first)
         ∙ ready.variables_there x v 0 is at (omega arith)) moved in
-        record {
-          held = got.held;
-          there = got.there;
-          others = λ q h. got.others q (not_written works q d h own);
-          same = got.same;
-        })
+        let others : Leaves works s t = λ q h. got.others q (not_written works q d h own) in
+        assumption)
         (move_runs z (take d o) (simp (lt-ltb 4 d target.free.low, lt-ltb d 32 target.free.small))
         (omega arith, omega (arith, below)))
     copied {x = x} {word = word} {mutable = mutable} is (Some home) at =
@@ -240,14 +236,11 @@ module _ (z : Setting) (free : ℕ) (aligned : free % 4 ≡ 0) (above : base_of 
         (found_apart slots place 0 1 left (λ f. omega (arith, f))) own next_own
         source width (λ env. value_in env.variables left) (λ env. value_in env.variables right) z.allocation operator
         makes)
-        (λ env s u ready done. (
-          record {
-            held = done.held;
-            left = done.fetched 0 (omega arith);
-            right = done.fetched 1 (omega arith);
-            left_fits = fits has env s ready;
-            right_fits = fits more env s ready;
-          },
+        (λ env s u ready done. assumption (
+          done.fetched 0 (omega arith),
+          done.fetched 1 (omega arith),
+          fits has env s ready,
+          fits more env s ready,
           value_fits (types_of z.code.profile z.declared) env.variables ready.fits has,
           value_fits (types_of z.code.profile z.declared) env.variables ready.fits more,
         )))))
@@ -392,12 +385,7 @@ module _ (z : Setting) (free : ℕ) (aligned : free % 4 ≡ 0) (above : base_of 
       by_test (keeps_words z.allocation kind)
       (λ keeps. cheaper (omega arith)
       (gives
-      (λ env s t fine ready done. record {
-        held = done.held;
-        there = done.there ∙ conversion_kept z kind keeps has env s ready;
-        kept = done.kept;
-        lower = done.lower;
-      })
+      (λ env s t fine ready done. assumption (done.there ∙ conversion_kept z kind keeps has env s ready))
       (into_runs has place d target room)))
       (λ cuts. applied place d target has (omega (arith, room)) (convert_code d r (width_of kind))
       (omega (arith, convert_length d r (width_of kind)))

@@ -50,19 +50,16 @@ pub record Keeps (z : Setting) (s t : State) : Type 0 where
   pub regs : (r : ℕ) → r < 5 → t.regs r ≡ s.regs r
   pub beside : (a : ℕ) → (a < z.frame) ⊎ (z.frame + z.size ≤ a) → t.bytes a ≡ s.bytes a
 
-pub keeps_by : (z : Setting) (s t : State) → t.regs ≡ s.regs → t.bytes ≡ s.bytes → Keeps z s t
-keeps_by z s t regs bytes = record {
-  regs = λ r low. ap (λ (f : ℕ → ℕ). f r) regs;
-  beside = λ a apart. ap (λ (b : ByteMap). b a) bytes;
-}
-
 abbrev pub setting : Setting → logic.Setting
 setting z = record {
   code = z.code;
   Allows = λ e. IsInside z.frame z.size e;
   silence = tt;
   Keeps = Keeps z;
-  keeps_still = λ s t still. keeps_by z s t still.regs still.bytes;
+  keeps_still = λ s t still. record {
+    regs = λ r low. ap (λ (f : ℕ → ℕ). f r) still.regs;
+    beside = λ a apart. ap (λ (b : ByteMap). b a) still.bytes;
+  };
   keeps_then = λ s t u one other. record {
     regs = λ r low. other.regs r low ∙ one.regs r low;
     beside = λ a apart. other.beside a apart ∙ one.beside a apart;

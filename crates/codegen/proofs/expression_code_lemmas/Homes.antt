@@ -7,7 +7,7 @@ use Rattle.codegen.proofs.expression_code_lemmas.Below.{StraightState, TermTree,
 use Rattle.codegen.proofs.expression_code_lemmas.Below.{word_as, WordType}
 use Rattle.codegen.proofs.expression_code_lemmas.Frame.{Setting}
 use Rattle.codegen.proofs.expression_code_lemmas.Values.{Ready, value_word}
-use Rattle.codegen.proofs.expression_code_lemmas.WorkRegisters.{converted_home}
+use Rattle.codegen.proofs.expression_code_lemmas.WorkRegisters.{when_some}
 use Rattle.language.specs.declared.signature.Kind.TheVariants.{Uint32}
 
 -- a conversion that keeps words keeps each
@@ -44,7 +44,7 @@ home_there z (of_variable {x = x} {word = word} {mutable = mutable} is) home at 
   there = λ env s ready. ready.homes_there x home (word_as word mutable) is at;
 }
 home_there z (of_conversion {kind = kind} {operand = operand} has numeric) home at =
-    let both = converted_home z.allocation kind operand home at in
+    let both = when_some (keeps_words z.allocation kind) (home_of_term z.allocation operand) home at in
     let inner = home_there z has home both.1 in
     record {
       x = inner.x;

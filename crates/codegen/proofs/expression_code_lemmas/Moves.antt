@@ -5,7 +5,7 @@ use Rattle.std.proofs.Common.{Some, ◌≡◌, ◌≢◌, ℕ, ◌+◌, ◌*◌,
 use Rattle.std.proofs.Common.{nat_lt, List, [], ◌∷◌, ◌++◌, length, refl, ap, ap₂, ◌∙◌, arith, eq-eqb, ne_eqb}
 use Rattle.codegen.proofs.expression_code_lemmas.Below.{Event, IsInside, address_of, all_straight, as_code, both_left}
 use Rattle.codegen.proofs.expression_code_lemmas.Below.{both_right, byte_count, ByteMap, cheaper, Contents, contents_of}
-use Rattle.codegen.proofs.expression_code_lemmas.Below.{fun_ext, gives, idle, Instr, load_code, load_size, loaded_value}
+use Rattle.codegen.proofs.expression_code_lemmas.Below.{fun_ext, gives, idle, Instr, load_code, load_size}
 use Rattle.codegen.proofs.expression_code_lemmas.Below.{LoadOperation, lower_part, lt-ltb, ltb-true, nat_tests}
 use Rattle.codegen.proofs.expression_code_lemmas.Below.{no_access_fit, no_access_met, none, number_at, number_or_zero}
 use Rattle.codegen.proofs.expression_code_lemmas.Below.{only_computes, quiet, register, registers_after, registers_of}
@@ -15,7 +15,7 @@ use Rattle.codegen.proofs.expression_code_lemmas.Below.{with_register, with_resu
 use Rattle.codegen.proofs.expression_code_lemmas.Arithmetic.{far_address, near_address, upper_fits}
 use Rattle.codegen.proofs.expression_code_lemmas.Frame.{Setting, Before, After, Steps, Runs, setting, HeldAt, Held}
 use Rattle.codegen.proofs.expression_code_lemmas.Frame.{frame_there, frame_runs}
-use Rattle.codegen.proofs.program_logic_lemmas.Face.{IsFit, IsMet}
+use Rattle.codegen.proofs.program_logic_lemmas.Face.{Became, IsFit, IsMet}
 use Rattle.rv_code.specs.declared.instructions.Instr.TheVariants as instr
 use Rattle.rv_code.specs.declared.operations.LoadOperation.TheVariants.{Lw}
 use Rattle.rv_code.specs.declared.operations.RegisterOperation.TheVariants.{Add}
@@ -33,6 +33,15 @@ written regs rd value h = rw (ne_eqb rd 0 h, eq-eqb rd rd refl)
 
 pub unwritten : (regs : ℕ → ℕ) (rd value q : ℕ) → q ≢ rd → with_register regs rd value q ≡ regs q
 unwritten regs rd value q h = grind (arith, nat_tests)
+
+-- so of registers that are those after a write
+pub is_written : (regs : ℕ → ℕ) (rd value : ℕ) {now : ℕ → ℕ} → now ≡ with_register regs rd value → rd ≢ 0
+    → now rd ≡ value
+is_written regs rd value is h = ap (λ (r : ℕ → ℕ). r rd) is ∙ written regs rd value h
+
+pub is_left : (regs : ℕ → ℕ) (rd value : ℕ) {now : ℕ → ℕ} → now ≡ with_register regs rd value → (q : ℕ) → q ≢ rd
+    → now q ≡ regs q
+is_left regs rd value is q h = ap (λ (r : ℕ → ℕ). r q) is ∙ unwritten regs rd value q h
 
 -- Moves.
 
@@ -128,11 +137,7 @@ computing_within z works is plain low =
     gives
     (λ env s t fine held done.
     let c = registers_of works is (contents_of s) plain in
-    record {
-      held = done.0;
-      registers = done.1.regs ∙ ap (λ (d : Contents). d.regs) c;
-      same = done.1.bytes ∙ ap (λ (d : Contents). d.bytes) c;
-    })
+    assumption (done.1.regs ∙ ap (λ (d : Contents). d.regs) c, done.1.bytes ∙ ap (λ (d : Contents). d.bytes) c))
     (frame_runs z {P = Held z} works is [] (all_straight works is plain) low (no_access_fit works _ is plain)
     (λ env s held. (held, no_access_met works is (contents_of s) plain)))
 
@@ -156,36 +161,28 @@ module _ (z : Setting) (rs offset a : ℕ) (rs_small : rs < 32) (offset_small : 
       → IsFit (λ e. IsInside z.frame z.size e) (byte_count size) e (z.frame + a)
   fit size e even inside = record { even = even_at size z.frame a z.even even; allowed = inside }
 
+  -- what the one instruction makes of a state, where that is its place
+  abbrev Accesses : Instr → Type 0
+  Accesses i = Runs z 1 none (i ∷ []) (Addresses z rs offset a)
+      (λ env s t. HeldAt z t × Became (i ∷ []) ((z.frame + a) ∷ []) s t)
+
   pub loading : (operation : LoadOperation) (rd : ℕ) → 4 < rd → rd < 32 → a % byte_count (load_size operation) ≡ 0
-      → a + byte_count (load_size operation) ≤ z.size
-      → Runs z 1 none (instr.Load operation rd rs offset ∷ []) (Addresses z rs offset a)
-      (λ env s t. HeldAt z t
-      × (t.regs ≡ with_register s.regs rd
-      (loaded_value operation
-      (number_or_zero (number_at s.bytes (byte_count (load_size operation)) (z.frame + a)))))
-      × (t.bytes ≡ s.bytes))
+      → a + byte_count (load_size operation) ≤ z.size → Accesses (instr.Load operation rd rs offset)
   loading operation rd low small even inside =
-      gives
-      (λ env s t fine given done. (done.0, done.1.regs, done.1.bytes))
-      (frame_runs z {P = Addresses z rs offset a} is_free (instr.Load operation rd rs offset ∷ [])
+      frame_runs z {P = Addresses z rs offset a} is_free (instr.Load operation rd rs offset ∷ [])
       ((z.frame + a) ∷ [])
       (simp (lt-ltb 4 rd low, lt-ltb rd 32 small, lt-ltb rs 32 rs_small, lt-ltb offset 4096 offset_small)) none_low
       (fit (load_size operation) _ even (omega arith, omega (arith, inside)), tt)
-      (λ env s given. (given.0, (met _ inside s given.0 given.1, tt))))
+      (λ env s given. (given.0, (met _ inside s given.0 given.1, tt)))
 
   pub storing : (operation : StoreOperation) (rs2 : ℕ) → rs2 < 32 → a % byte_count (store_size operation) ≡ 0
-      → a + byte_count (store_size operation) ≤ z.size
-      → Runs z 1 none (instr.Store operation rs2 rs offset ∷ []) (Addresses z rs offset a)
-      (λ env s t. HeldAt z t × (t.regs ≡ s.regs)
-      × (t.bytes ≡ with_number s.bytes (byte_count (store_size operation)) (z.frame + a) (register s.regs rs2)))
+      → a + byte_count (store_size operation) ≤ z.size → Accesses (instr.Store operation rs2 rs offset)
   storing operation rs2 small even inside =
-      gives
-      (λ env s t fine given done. (done.0, done.1.regs, done.1.bytes))
-      (frame_runs z {P = Addresses z rs offset a} is_free (instr.Store operation rs2 rs offset ∷ [])
+      frame_runs z {P = Addresses z rs offset a} is_free (instr.Store operation rs2 rs offset ∷ [])
       ((z.frame + a) ∷ [])
       (simp (lt-ltb rs2 32 small, lt-ltb rs 32 rs_small, lt-ltb offset 4096 offset_small)) none_low
       (fit (store_size operation) _ even (omega arith, omega (arith, inside)), tt)
-      (λ env s given. (given.0, (met _ inside s given.0 given.1, tt))))
+      (λ env s given. (given.0, (met _ inside s given.0 given.1, tt)))
 
 -- An access of a slot: the address of a far one is first made in a register.
 
@@ -222,15 +219,8 @@ module _ (z : Setting) where
       × (t.bytes ≡ s.bytes))
   reached r o low small inside true h =
       let ends = z.ends in
-      idle (λ env s held. (
-        (
-          held,
-          ap (λ x. sum_of x (sign_extended 12 o)) held.base
-              ∙ near_address z.frame o (ltb-true o 2048 h) (omega (arith, ends, inside)),
-        ),
-        refl,
-        refl,
-      ))
+      idle (λ env s held. assumption (ap (λ (x : ℕ). sum_of x (sign_extended 12 o)) held.base
+      ∙ near_address z.frame o (ltb-true o 2048 h) (omega (arith, ends, inside))))
   reached r o low small inside false h =
       let ends = z.ends in
       gives
@@ -250,7 +240,7 @@ module _ (z : Setting) where
       (simp (lt-ltb 4 r low, lt-ltb r 32 small, lt-ltb (upper_part o) 1048576 (upper_fits o))) none_low)
 
   -- so many low bytes of a register into the frame
-  putting : (operation : StoreOperation) (r o : ℕ) → r < 32 → r ≢ 28 → o % byte_count (store_size operation) ≡ 0
+  pub putting : (operation : StoreOperation) (r o : ℕ) → r < 32 → r ≢ 28 → o % byte_count (store_size operation) ≡ 0
       → o + byte_count (store_size operation) ≤ z.size
       → Runs z 3 none (put_code operation r o) (Held z)
       (λ env s t. HeldAt z t
@@ -262,8 +252,8 @@ module _ (z : Setting) where
       (gives
       (λ env s t fine held done. (
         done.second.0,
-        done.second.1 ∙ (done.first.1 ∙ near_or_far s.regs 28 _ near),
-        done.second.2
+        done.second.1.regs ∙ (done.first.1 ∙ near_or_far s.regs 28 _ near),
+        done.second.1.bytes
             ∙ ap₂ (λ (b : ByteMap) (w : ℕ). with_number b (byte_count (store_size operation)) (z.frame + o) w)
             done.first.2 (ap (λ (regs : ℕ → ℕ). register regs r) done.first.1 ∙ source s.regs r _ near other),
       ))
@@ -286,10 +276,10 @@ module _ (z : Setting) where
       let value = λ (b : ByteMap). number_or_zero (number_at b 4 (z.frame + o)) in
       record {
         held = done.second.0;
-        regs = done.second.1
+        regs = done.second.1.regs
             ∙ (ap₂ (λ (regs : ℕ → ℕ) (b : ByteMap). with_register regs r (value b)) done.first.1 done.first.2
             ∙ anew s.regs r _ _ near);
-        bytes = done.second.2 ∙ done.first.2;
+        bytes = done.second.1.bytes ∙ done.first.2;
       })
       (quiet
       (reached r o low small (omega (arith, slot.1)) near refl)
@@ -299,34 +289,13 @@ module _ (z : Setting) where
   move_runs (put operation r o) ok slot =
       let nonzero : r ≢ 0 = λ e. absurd (grind (arith, nat_tests, ok, e)) in
       gives
-      (λ env s t fine held done. record {
-        held = done.0;
-        regs = done.1;
-        bytes = done.2
-            ∙ ap (λ w. with_number s.bytes (byte_count (store_size operation)) (z.frame + o) w)
-            (register-at s.regs r nonzero);
-      })
+      (λ env s t fine given done. assumption (done.2
+      ∙ ap (λ (w : ℕ). with_number s.bytes (byte_count (store_size operation)) (z.frame + o) w)
+      (register-at s.regs r nonzero)))
       (putting operation r o (grind (arith, nat_tests, ok)) (λ e. absurd (grind (arith, nat_tests, ok, e))) slot.0
       slot.1)
   move_runs (does is) ok slot =
-      gives (λ env s t fine held done. record { held = done.held; regs = done.registers; bytes = done.same })
-      (computing_within z is_free is ok none_low)
-
-  -- zeros in place of so many bytes
-  pub emptied : (operation : StoreOperation) (o : ℕ) → o % byte_count (store_size operation) ≡ 0
-      → o + byte_count (store_size operation) ≤ z.size
-      → Runs z 3 none (put_code operation 0 o) (Held z)
-      (λ env s t. HeldAt z t
-      × (t.bytes ≡ with_number s.bytes (byte_count (store_size operation)) (z.frame + o) 0)
-      × ((q : ℕ) → q ≢ 28 → t.regs q ≡ s.regs q))
-  emptied operation o even inside =
-      gives
-      (λ env s t fine held done. (
-        done.0,
-        done.2,
-        λ q other. ap (λ (regs : ℕ → ℕ). regs q) done.1 ∙ unwritten s.regs 28 _ q other,
-      ))
-      (putting operation 0 o (omega arith) (λ e. omega (arith, e)) even inside)
+      gives (λ env s t fine held done. assumption) (computing_within z is_free is ok none_low)
 
   one_more : (m : Move) (ms : List Move) (env : StraightState) (s u t : State) → Moved z (m ∷ []) env s u
       → Moved z ms env u t → Moved z (m ∷ ms) env s t
@@ -334,11 +303,10 @@ module _ (z : Setting) where
       let same : contents_of u ≡ moved z m (contents_of s) =
       ap₂ (λ (r : ℕ → ℕ) (b : ByteMap). let c : Contents = record { regs = r; bytes = b } in
       c) one.regs one.bytes in
-      record {
-        held = more.held;
-        regs = more.regs ∙ ap (λ (c : Contents). (all_moved z ms c).regs) same;
-        bytes = more.bytes ∙ ap (λ (c : Contents). (all_moved z ms c).bytes) same;
-      }
+      assumption (
+        more.regs ∙ ap (λ (c : Contents). (all_moved z ms c).regs) same,
+        more.bytes ∙ ap (λ (c : Contents). (all_moved z ms c).bytes) same,
+      )
 
   -- code, and then moves
   pub then_moves : (ms : List Move) → are_moves ms ≡ true → AreSlots z ms

@@ -188,13 +188,10 @@ module _ (slots : Slots) where
         let u = done.middle in
         let one = done.first in
         let two = done.second in
-        record {
-          held = two.held;
-          there = two.there;
-          kept = kept_then z k s u t one.kept (kept_by z k u t two.same);
-          lower = leaves_then (works_at count place d) s u t (λ q h. one.lower q (beside_stays count place d q h))
-              two.others;
-        })
+        assumption (
+          kept_then z k s u t one.kept (kept_by z k u t two.same),
+          leaves_then (works_at count place d) s u t (λ q h. one.lower q (beside_stays count place d q h)) two.others,
+        ))
         (seq runs piece link)
 
   -- A value in the register of a place is kept there, where the expression is not at home.
@@ -218,20 +215,15 @@ module _ (slots : Slots) where
       (λ env s t fine ready done.
       let u = done.middle in
       let one = done.first in
-      let two = done.second in (
-        two.0,
-        two.1,
+      let two = done.second in
+      assumption (
         kept_then z k s u t one.kept two.2,
         leaves_then (works_in count place) s u t (λ q h. one.lower q (own_stays count place q few h))
             (leaves_spare count place 28 u t (omega arith) two.3),
       ))
       (quiet runs
       (keep_runs z free aligned place room (λ env. value_in env.variables e))
-      (λ env s t ready done. (
-        done.held,
-        done.there,
-        value_word z.code.profile z.declared e word env.variables ready.fits has,
-      )))
+      (λ env s t ready done. assumption (value_word z.code.profile z.declared e word env.variables ready.fits has)))
 
   -- an expression is in its home, or comes into a place
   found_there : {e : TermTree} {word : WordType} → Typed e word → (place : ℕ) → HasSlot place → {n : ℕ}
@@ -249,7 +241,7 @@ module _ (slots : Slots) where
           let home_is = home_there z has home at in
           along (λ env. home_is.quiet env.variables)
           (cheaper {m = 0} (omega arith)
-          (idle (λ env s ready. (ready.held, home_is.there env s ready, λ o below. refl, λ q h. refl))))
+          (idle (λ env s ready. assumption (home_is.there env s ready))))
 
   -- so each expression is, where its code is such code behind which its value is in the register of a place
   pub placed : {e : TermTree} {word : WordType} → Typed e word → (place : ℕ)
@@ -259,5 +251,4 @@ module _ (slots : Slots) where
       → Lies e place
   placed {e = e} has place room runs =
       cheaper (omega (arith, height e))
-      (gives (λ env s t fine ready done. record { held = done.0; there = done.1; kept = done.2; lower = done.3 })
-      (found_there has place (omega (arith, room)) runs))
+      (gives (λ env s t fine ready done. assumption) (found_there has place (omega (arith, room)) runs))

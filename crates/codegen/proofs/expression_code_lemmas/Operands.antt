@@ -18,13 +18,13 @@ use Rattle.rv_code.specs.declared.operations.StoreOperation.TheVariants.{Sw}
 use Rattle.codegen.proofs.expression_code_lemmas.Events.{Moves, multiplying, dividing}
 use Rattle.codegen.proofs.expression_code_lemmas.Frame.{Setting, Steps, Before, Runs, HeldAt, held_regs}
 use Rattle.codegen.proofs.expression_code_lemmas.WorkRegisters.{IsFree, ArePair, at_operand, not_written}
-use Rattle.codegen.proofs.expression_code_lemmas.Moves.{take, put, Moved, move_runs, written, unwritten}
+use Rattle.codegen.proofs.expression_code_lemmas.Moves.{take, put, Moved, move_runs, is_written, is_left}
 use Rattle.codegen.proofs.expression_code_lemmas.Moves.{computing_within}
 use Rattle.codegen.proofs.expression_code_lemmas.OperatorCode.{is_plain, cut_plain, operator_plain, operator_made}
 use Rattle.codegen.proofs.expression_code_lemmas.OperatorCode.{product_made}
 use Rattle.codegen.proofs.expression_code_lemmas.TermLengths.{narrow_length, operator_length}
 use Rattle.codegen.proofs.expression_code_lemmas.BoolCode.{emitted_marks, emitted_same}
-use Rattle.codegen.proofs.expression_code_lemmas.Values.{Kept, Leaves, Holds, kept_by, Wrote, wrote_kept, wrote_there}
+use Rattle.codegen.proofs.expression_code_lemmas.Values.{Kept, Leaves, Holds, Wrote, wrote_kept, wrote_there}
 use Rattle.std.proofs.lemmas.Bool.{cond_both}
 use Rattle.language.specs.Operators.{operation_of}
 use Rattle.language.specs.WellTyped.{Makes}
@@ -39,12 +39,8 @@ pub record Fetched (z : Setting) (r spare v : ℕ) (s t : State) : Type 0 where
 -- a slot's word in a register, and nothing else
 pub took : (z : Setting) (r o v : ℕ) (env : StraightState) (s t : State) → r ≢ 0
     → number_at s.bytes 4 (z.frame + o) ≡ Some v → Moved z (take r o ∷ []) env s t → Fetched z r r v s t
-took z r o v env s t nonzero there moved = record {
-  held = moved.held;
-  there = ap (λ (regs : ℕ → ℕ). regs r) moved.regs ∙ (written s.regs r _ nonzero ∙ ap number_or_zero there);
-  others = λ q other. ap (λ (regs : ℕ → ℕ). regs q) moved.regs ∙ unwritten s.regs r _ q other;
-  same = moved.bytes;
-}
+took z r o v env s t nonzero there moved =
+    assumption (is_written s.regs r _ moved.regs nonzero ∙ ap number_or_zero there, is_left s.regs r _ moved.regs)
 
 -- a register has this value, and neither the registers that do not work nor any byte has changed
 pub record Outcome (z : Setting) (works : ℕ → Bool) (d v : ℕ) (s t : State) : Type 0 where
@@ -64,7 +60,7 @@ module _ (z : Setting) (spare : ℕ) (low : 4 < spare) (high : spare < 32) (v : 
       → Runs z 3 none (fetch_code l spare) (λ env s. HeldAt z s × Holds z l s (v env))
       (λ env s t. Fetched z (register_of l spare) spare (v env) s t)
   fetch_runs (InRegister r) room =
-      idle (λ env s given. record { held = given.0; there = given.1; others = λ q other. refl; same = refl })
+      idle (λ env s given. assumption)
   fetch_runs (InSlot o) room =
       weaken
       (λ env s fine given. given.0)
@@ -95,7 +91,7 @@ module _ (z : Setting) (free : ℕ) (aligned : free % 4 ≡ 0) (place : ℕ)
         (λ env s t. HeldAt z t × Holds z (located b) t (v env) × Kept z (slot_of count free place) s t
         × ((q : ℕ) → q ≢ 28 → t.regs q ≡ s.regs q))
     keep_by true h =
-        idle (λ env s given. (given.0, given.1, kept_by z (slot_of count free place) s s refl, λ q other. refl))
+        idle (λ env s given. assumption)
     keep_by false h =
         let k = slot_of count free place in
         weaken
@@ -104,13 +100,12 @@ module _ (z : Setting) (free : ℕ) (aligned : free % 4 ≡ 0) (place : ℕ)
         let wrote : Wrote z 4 k (v env) s t = record {
           held = moved.held;
           written = moved.bytes ∙ ap (λ w. with_number s.bytes 4 (z.frame + k) w) given.1;
-          homes = λ r home. ap (λ (regs : ℕ → ℕ). regs r) moved.regs
-              ∙ unwritten s.regs 28 _ r (λ e. omega (arith, home.1, e));
-        } in (
-          moved.held,
+          homes = λ r home. is_left s.regs 28 _ moved.regs r (λ e. omega (arith, home.1, e));
+        } in
+        assumption (
           wrote_there z k (v env) s t wrote given.2,
           wrote_kept z 4 k (v env) s t wrote,
-          λ q other. ap (λ (regs : ℕ → ℕ). regs q) moved.regs ∙ unwritten s.regs 28 _ q other,
+          is_left s.regs 28 _ moved.regs,
         ))
         (move_runs z (put Sw 29 k) refl (omega (arith, aligned), omega (arith, room, ltb-false _ _ h)))
 
@@ -129,13 +124,10 @@ module _ (z : Setting) (works : ℕ → Bool) (none_low : (q : ℕ) → q < 5 �
   worked d is plain v value =
       weaken
       (λ env s fine given. (value env s given).0)
-      (λ env s t fine given done. record {
-        held = done.held;
-        there = ap (λ (regs : ℕ → ℕ). regs d) done.registers ∙ (value env s given).1;
-        others = λ q other. ap (λ (regs : ℕ → ℕ). regs q) done.registers
-            ∙ register_left works is s.regs q plain other;
-        same = done.same;
-      })
+      (λ env s t fine given done.
+      let others : Leaves works s t = λ q other. ap (λ (regs : ℕ → ℕ). regs q) done.registers
+      ∙ register_left works is s.regs q plain other in
+      assumption (ap (λ (regs : ℕ → ℕ). regs d) done.registers ∙ (value env s given).1))
       (computing_within z works is plain none_low)
 
   -- An operator between two operands, in l and r, into d, which may write t.
@@ -176,14 +168,12 @@ module _ (z : Setting) (works : ℕ → Bool) (none_low : (q : ℕ) → q < 5 �
           → Runs z (1 + length rest) steps (i ∷ rest) (Operands a b) (λ env s u. Outcome z works d (w env) s u)
       shown v w rest plain one value =
           gives
-          (λ env s u fine given done. record {
-            held = done.second.held;
-            there = done.second.there;
-            others = λ q other. done.second.others q other ∙ done.first.others q (not_written works q d other wd);
-            same = done.second.same ∙ done.first.same;
-          })
+          (λ env s u fine given done.
+          let others : Leaves works s u = λ q other.
+          done.second.others q other ∙ done.first.others q (not_written works q d other wd) in
+          assumption (done.second.same ∙ done.first.same))
           (quiet
-          (weaken (λ env s fine given. (given.left, given.right)) (λ env s u fine given moves. moves) one)
+          (weaken (λ env s fine given. assumption) (λ env s u fine given moves. moves) one)
           (worked {P = λ env s. HeldAt z s × (registers_after rest s.regs d ≡ w env)} d rest plain w
           (λ env s given. given))
           (λ env s u given moves. (

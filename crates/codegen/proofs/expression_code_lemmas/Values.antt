@@ -1,7 +1,7 @@
 -- What is shown of the state of straight code, and what the code of an expression leaves.
-use Rattle.std.proofs.Common.{◌≡◌, ◌≢◌, ℕ, ◌+◌, ◌-◌, ◌%◌, ◌^◌, ◌<◌, ◌≤◌, Bool, false, nat_lt, List, None, Option, Some}
-use Rattle.std.proofs.Common.{length, slice_get, slice_index, refl, ap, ◌∙◌, arith, sym}
-use Rattle.codegen.proofs.expression_code_lemmas.Below.{at_home, ByteMap, control_location, control_offset, is_unread}
+use Rattle.std.proofs.Common.{inl, inr, ◌≡◌, ◌≢◌, ℕ, ◌+◌, ◌-◌, ◌%◌, ◌^◌, ◌<◌, ◌≤◌, Bool, false, nat_lt, List, None, Some}
+use Rattle.std.proofs.Common.{length, slice_get, slice_index, ap, ◌∙◌, arith, sym}
+use Rattle.codegen.proofs.expression_code_lemmas.Below.{ByteMap, control_location, control_offset, is_unread}
 use Rattle.codegen.proofs.expression_code_lemmas.Below.{Fits, FlatVariable, HasType, home_of, InRegister, InSlot}
 use Rattle.codegen.proofs.expression_code_lemmas.Below.{IsWithinKind, Kind, Location, ltb-false, ltb-true, next_offset}
 use Rattle.codegen.proofs.expression_code_lemmas.Below.{number_at, number_at-with_number, number_at_same, numbers_in}
@@ -13,7 +13,7 @@ use Rattle.language.specs.declared.signature.Kind.TheVariants.{Uint32}
 use Rattle.codegen.proofs.expression_code_lemmas.Frame.{Setting, base_of, HeldAt, Held}
 use Rattle.codegen.proofs.expression_code_lemmas.Arithmetic.{mask_of}
 use Rattle.codegen.proofs.expression_code_lemmas.WorkRegisters.{IsHome, works_in, works_at, home_stays, lower_stays}
-use Rattle.codegen.proofs.expression_code_lemmas.WorkRegisters.{stays_spare, at_operand}
+use Rattle.codegen.proofs.expression_code_lemmas.WorkRegisters.{stays_spare, at_operand, cases_Option}
 use Rattle.codegen.proofs.expression_code_lemmas.Places.{bytes_of, place_of, place_within, ends_before_result}
 
 -- bytes below an offset are as they were
@@ -135,12 +135,11 @@ pub at_control : (z : Setting) (c : ℕ) (P : Location → Type 0)
     → ((home : ℕ) → home_of z.allocation.homes (length z.declared + c) ≡ Some home → P (InRegister home))
     → (home_of z.allocation.homes (length z.declared + c) ≡ None → P (InSlot (control_offset z.declared c)))
     → P (control_location z.declared z.allocation c)
-at_control z c P in_home in_slot = by_home (home_of z.allocation.homes (length z.declared + c)) refl
-  where
-    by_home : (h : Option ℕ) → home_of z.allocation.homes (length z.declared + c) ≡ h
-        → P (at_home h (InSlot (control_offset z.declared c)))
-    by_home None at = in_slot at
-    by_home (Some home) at = in_home home at
+at_control z c P in_home in_slot =
+    elim (cases_Option (home_of z.allocation.homes (length z.declared + c))) [
+      | inl found ↦ rw found.1 (in_home found.0 found.1)
+      | inr at ↦ rw at (in_slot at)
+    ]
 
 -- its mask stays there
 pub control_stays : (z : Setting) (c v : ℕ) (s t : State)

@@ -2,11 +2,12 @@
 -- of them the code for a place may write.
 use Rattle.std.proofs.Common.{◌≡◌, ◌≢◌, ◌⊎◌, inl, inr, ℕ, ◌+◌, ◌<◌, ◌≤◌, ◌==◌, ◌&&◌, ◌||◌, not, cond, nat_lt, nat_le}
 use Rattle.std.proofs.Common.{Bool, true, false, List, Option, None, Some, refl, sym, ap, ◌∙◌, arith}
+use Rattle.std.proofs.lemmas.Bool.{cases_Bool}
 use Rattle.std.proofs.lemmas.Option.{none-some}
-use Rattle.codegen.proofs.expression_code_lemmas.Below.{Allocation, at_home as at_home_of, convert, FlatVariable}
-use Rattle.codegen.proofs.expression_code_lemmas.Below.{home_of_term, InRegister, InSlot, keeps_words, Kind}
+use Rattle.codegen.proofs.expression_code_lemmas.Below.{Allocation, convert, FlatVariable}
+use Rattle.codegen.proofs.expression_code_lemmas.Below.{home_of_term, InRegister, keeps_words}
 use Rattle.codegen.proofs.expression_code_lemmas.Below.{IsAllocation, Location, lt-ltb, nat_tests, operand, register_of}
-use Rattle.codegen.proofs.expression_code_lemmas.Below.{slot_of, temporary, TermTree, true≢false, variable}
+use Rattle.codegen.proofs.expression_code_lemmas.Below.{temporary, TermTree, true≢false, variable}
 use Rattle.codegen.proofs.expression_code_lemmas.Below.{working_register}
 
 -- a register that code may work on
@@ -142,18 +143,17 @@ pub when_some : {A : Type 0} (b : Bool) (o : Option A) (x : A) → cond b o None
 when_some true o x is = (refl, is)
 when_some false o x is = absurd (none-some x is)
 
--- a conversion that has a home keeps words, and its operand has the same
-pub converted_home : (a : Allocation) (kind : Kind) (e : TermTree) (home : ℕ)
-    → home_of_term a (convert kind e) ≡ Some home
-    → (keeps_words a kind ≡ true) × (home_of_term a e ≡ Some home)
-converted_home a kind e home at = when_some (keeps_words a kind) (home_of_term a e) home at
+-- there is something, or nothing
+pub cases_Option : {A : Type 0} (o : Option A) → ((x : A) × (o ≡ Some x)) ⊎ (o ≡ None)
+cases_Option (Some x) = inl (x, refl)
+cases_Option None = inr refl
 
 -- the home of an expression is that of a variable
 pub home_allowed : (declared : List FlatVariable) (a : Allocation) → IsAllocation declared a → (e : TermTree) (home : ℕ)
     → home_of_term a e ≡ Some home → IsHome a.count home
 home_allowed declared a allocated (variable x) home at = allocated.allowed x home at
 home_allowed declared a allocated (convert kind e) home at =
-    home_allowed declared a allocated e home (converted_home a kind e home at).1
+    home_allowed declared a allocated e home (when_some (keeps_words a kind) (home_of_term a e) home at).1
 home_allowed declared a allocated e home at = absurd (none-some home at)
 
 -- Where an expression's value is.
@@ -162,20 +162,12 @@ module _ (declared : List FlatVariable) (a : Allocation) (allocated : IsAllocati
   pub at_operand : (P : Location → Type 0) → P (temporary a.count free place)
       → ((home : ℕ) → IsHome a.count home → P (InRegister home)) → (e : TermTree) → P (operand a free place e)
   at_operand P there at_home e =
-      by_home (home_of_term a e) (λ home is. at_home home (home_allowed declared a allocated e home is))
-    where
-      by_home : (h : Option ℕ) → ((home : ℕ) → h ≡ Some home → P (InRegister home))
-          → P (at_home_of h (temporary a.count free place))
-      by_home None at = there
-      by_home (Some home) at = at home refl
-
-  temporary_register : (spare : ℕ) (b : Bool)
-      → register_of (cond b (InRegister (5 + place)) (InSlot (slot_of a.count free place))) spare
-      ≡ cond b (5 + place) spare
-  temporary_register spare true = refl
-  temporary_register spare false = refl
+      elim (cases_Option (home_of_term a e)) [
+        | inl found ↦ rw found.1 (at_home found.0 (home_allowed declared a allocated e found.0 found.1))
+        | inr at ↦ rw at there
+      ]
 
   pub is_operand : (spare : ℕ) (e : TermTree)
       → IsOperand a.count place spare (register_of (operand a free place e) spare)
   is_operand spare e = at_operand (λ location. IsOperand a.count place spare (register_of location spare))
-      (inl (temporary_register spare (nat_lt place a.count))) (λ home is. inr is) e
+      (inl (elim (cases_Bool (nat_lt place a.count)) [ inl h ↦ rw h refl | inr h ↦ rw h refl ])) (λ home is. inr is) e
