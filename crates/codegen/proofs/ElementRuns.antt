@@ -1,7 +1,8 @@
 -- The code that sets an element of an array, or fills an array with values.
 use Rattle.std.proofs.Common.{◌≡◌, ℕ, ◌+◌, ◌*◌, ◌%◌, ◌<◌, ◌≤◌, ◌==◌, Bool, true, false, cond, List, [], ◌∷◌, ◌++◌}
-use Rattle.std.proofs.Common.{length, map, None, Some, slice_get, refl, sym, ap, ◌∙◌, subst, arith, eq-eqb}
+use Rattle.std.proofs.Common.{inl, inr, length, map, None, Some, slice_get, refl, sym, ap, ◌∙◌, subst, arith, eq-eqb}
 use Rattle.std.proofs.Common.{append_assoc, length-append}
+use Rattle.std.proofs.lemmas.Bool.{cases_Bool, cond_both}
 use Rattle.std.specs.Prelude.{slice_set}
 use Rattle.std.proofs.Math.Seq.{set-append_seam}
 use Rattle.codegen.proofs.Language.{FlatVariable, with_value, StraightState, with_variable, with_element, element_bytes}
@@ -215,51 +216,38 @@ module _ (z : Setting) (depth : ℕ) (within : depth ≤ z.depths) (x size : ℕ
 
   -- What is held then.
 
-  other_kept : (k : ℕ) (es : List TermTree) (env : StraightState) (y : ℕ) → (y == x) ≡ false
-      → (filled k es env).variables y ≡ env.variables y
-  other_kept k [] env y other = refl
-  other_kept k (e ∷ es) env y other =
-      other_kept (k + 1) es (step k e env) y other
-      ∙ ap (λ (b : Bool). cond b (slice_set (env.variables x) k (value_in env.variables e)) (env.variables y)) other
-
   controls_kept : (k : ℕ) (es : List TermTree) (env : StraightState) (c : ℕ)
       → (filled k es env).controls c ≡ env.controls c
   controls_kept k [] env c = refl
   controls_kept k (e ∷ es) env c = controls_kept (k + 1) es (step k e env) c
 
-  values_there : (k : ℕ) (es : List TermTree) (env : StraightState) (front back : List ℕ)
+  filled_is : (k : ℕ) (es : List TermTree) (env : StraightState) (front back : List ℕ)
       → AllSuit (types_but z.code.profile z.declared x) word es
-      → env.variables x ≡ front ++ back → length front ≡ k → length back ≡ length es
-      → (filled k es env).variables x ≡ front ++ map (value_in env.variables) es
-  values_there k [] env front back suits is long short = is
-      ∙ ap (λ (b : List ℕ). front ++ b) (nil_from_length back short)
-  values_there k (e ∷ es) env front [] suits is long short = absurd (omega (arith, short))
-  values_there k (e ∷ es) env front (b ∷ back) suits is long short =
+      → env.variables x ≡ front ++ back → length front ≡ k → length back ≡ length es → (y : ℕ)
+      → (filled k es env).variables y
+      ≡ (with_variable env x (front ++ map (value_in env.variables) es)).variables y
+  filled_is k [] env front back suits is long short y =
+      cond_both (y == x) (front ++ []) (env.variables y) (λ (l : List ℕ). env.variables y ≡ l)
+      (λ same. ap env.variables (eqb-true y x same)
+      ∙ (is ∙ ap (λ (b : List ℕ). front ++ b) (nil_from_length back short)))
+      (λ other. refl)
+  filled_is k (e ∷ es) env front [] suits is long short y = absurd (omega (arith, short))
+  filled_is k (e ∷ es) env front (b ∷ back) suits is long short y =
       let v = value_in env.variables e in
-      let own : (step k e env).variables x ≡ slice_set (env.variables x) k v =
-      ap (λ (t : Bool). cond t (slice_set (env.variables x) k v) (env.variables x)) (eq-eqb x x refl) in
+      let own : (step k e env).variables x ≡ slice_set (env.variables x) k v = rw (eq-eqb x x refl) refl in
       let seam : slice_set (front ++ b ∷ back) k v ≡ front ++ v ∷ back =
       subst (λ n. slice_set (front ++ b ∷ back) n v ≡ front ++ v ∷ back) long (set-append_seam front b back v) in
       let all = own ∙ (ap (λ (l : List ℕ). slice_set l k v) is ∙ (seam ∙ sym (append_assoc front (v ∷ []) back))) in
       let more = length-append front (v ∷ []) in
-      values_there (k + 1) es (step k e env) (front ++ v ∷ []) back suits.1 all (omega (arith, more, long))
-      (omega (arith, short))
-      ∙ (append_assoc front (v ∷ []) (map (value_in (step k e env).variables) es)
-      ∙ ap (λ (vs : List ℕ). front ++ v ∷ vs)
-      (sym (all_values (types_but z.code.profile z.declared x) env.variables (step k e env).variables
-      (λ y f there seen. unread z.code.profile z.declared x env.variables _ y f there) word es suits.1)))
-
-  all_filled : (values : List TermTree) (env : StraightState)
-      → AllSuit (types_but z.code.profile z.declared x) word values
-      → length (env.variables x) ≡ length values → (y : ℕ)
-      → (filled 0 values env).variables y ≡ (with_variable env x (map (value_at env) values)).variables y
-  all_filled values env suits long y = by_number (y == x) refl
-    where
-      by_number : (b : Bool) → (y == x) ≡ b → (filled 0 values env).variables y
-          ≡ cond b (map (value_at env) values) (env.variables y)
-      by_number true is = ap (λ n. (filled 0 values env).variables n) (eqb-true y x is)
-          ∙ values_there 0 values env [] (env.variables x) suits refl refl long
-      by_number false is = other_kept 0 values env y is
+      filled_is (k + 1) es (step k e env) (front ++ v ∷ []) back suits.1 all (omega (arith, more, long))
+      (omega (arith, short)) y
+      ∙ elim (cases_Bool (y == x)) [
+        | inl same ↦ rw same (append_assoc front (v ∷ []) (map (value_in (step k e env).variables) es)
+            ∙ ap (λ (vs : List ℕ). front ++ v ∷ vs)
+            (sym (all_values (types_but z.code.profile z.declared x) env.variables (step k e env).variables
+            (λ n f there seen. unread z.code.profile z.declared x env.variables _ n f there) word es suits.1)))
+        | inr other ↦ rw other refl
+      ]
 
 pub fill_runs : (z : Setting) (depth x size : ℕ) (e : TermTree) (es : List TermTree)
     → IsFilled z.code.profile z.declared x size (e ∷ es)
@@ -279,8 +267,8 @@ fill_runs z depth x size e es typed room within =
       ready =
           ready_same z (filled z depth within x size typed.word typed.mutable typed.known 0 values env)
           (with_variable env x (map (value_at env) values)) t
-          (all_filled z depth within x size typed.word typed.mutable typed.known values env typed.suit
-          ((ready.fits x d typed.known).count ∙ sym long))
+          (filled_is z depth within x size typed.word typed.mutable typed.known 0 values env [] (env.variables x)
+          typed.suit refl refl ((ready.fits x d typed.known).count ∙ sym long))
           (controls_kept z depth within x size typed.word typed.mutable typed.known 0 values env) done.ready;
       hidden = done.hidden;
     })

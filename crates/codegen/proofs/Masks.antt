@@ -13,6 +13,7 @@ use Rattle.codegen.proofs.Logic.{HeldAt, mask_of, apart, Setting, base_of, Kept,
 use Rattle.codegen.proofs.Logic.{variables_kept, HomesKept, IsHome, homes_moved, kept_number, home_there, is_free, idle}
 use Rattle.codegen.proofs.Logic.{put, Runs, kept_less, kept_then}
 use Rattle.codegen.proofs.expression_code_lemmas.Moves.{is_left}
+use Rattle.codegen.proofs.expression_code_lemmas.Operands.{put_wrote}
 use Rattle.codegen.proofs.expression_code_lemmas.WorkRegisters.{IsFree, cases_Option}
 use Rattle.rv_machine.specs.Machine as machine
 use Rattle.codegen.proofs.Slots.{Hidden, hidden_wrote, other_number}
@@ -190,11 +191,7 @@ module _ (z : Setting) where
           (λ away. weaken
           (λ env s fine given. given.0)
           (λ env s t fine given moved.
-          let wrote : Wrote z 4 o (v env) s t = record {
-            held = moved.held;
-            written = moved.bytes ∙ ap (λ w. with_number s.bytes 4 (z.frame + o) w) (given.2 read away);
-            homes = homes_moved z (put Sw r o ∷ []) env s t refl moved;
-          } in
+          let wrote : Wrote z 4 o (v env) s t = put_wrote z Sw r o (v env) env s t (given.2 read away) moved in
           record {
             held = moved.held;
             others = is_left s.regs 28 _ moved.regs;

@@ -20,7 +20,9 @@ use Rattle.codegen.proofs.Logic.{homes_moved, kept_number, place_before, place_t
 use Rattle.codegen.proofs.Logic.{lt-ltb, works_at, IsTarget, Leaves, put, then_moves, setting, Runs, gives, cheaper}
 use Rattle.codegen.proofs.Logic.{kept_less, kept_by, ready_below, along, home_allowed, home_there, known}
 use Rattle.codegen.proofs.Logic.{none, quiet, ready_after, register-at, value_fits}
+use Rattle.codegen.specs.expression_code.Allocation.{slot_of}
 use Rattle.inline.specs.FlatSize.{words_of}
+use Rattle.codegen.proofs.expression_code_lemmas.Operands.{put_wrote}
 use Rattle.codegen.proofs.expression_code_lemmas.Moves.{is_left, put_code, putting}
 use Rattle.codegen.proofs.expression_code_lemmas.WorkRegisters.{cases_Option}
 use Rattle.codegen.proofs.expression_code_lemmas.Values.{kind_fits}
@@ -124,8 +126,9 @@ module _ (z : Setting) where
         elim (cases_eq j i) [
           | inl same ↦
               let long = (ready.fits x d known).count in
-              rw same (ap (λ (b : ByteMap). number_at b (bytes_of d) (z.frame + place_of z.declared x d i)) wrote.written
-              ∙ (number_at-with_number s.bytes (bytes_of d) (z.frame + place_of z.declared x d i) w
+              let at = z.frame + place_of z.declared x d i in
+              rw same (ap (λ (b : ByteMap). number_at b (bytes_of d) at) wrote.written
+              ∙ (number_at-with_number s.bytes (bytes_of d) at w
               ∙ ap Some (cut ∙ sym (get_or-set_same old i v 0 (omega (arith, long, below))))))
           | inr other ↦
               other_number (bytes_of d) (place_of z.declared x d i) w (bytes_of d) (place_of z.declared x d j) s t wrote
@@ -278,7 +281,7 @@ module _ (z : Setting) where
         | inr at ↦ rw at (cheaper (omega arith)
             (gives {P = Ready z}
             (λ env s t fine ready done.
-            assumption (kept_less z (base_of z) (base_of z + 4 * (place - z.allocation.count)) s t (omega arith) done.kept))
+            assumption (kept_less z (base_of z) (slot_of z.allocation.count (base_of z) place) s t (omega arith) done.kept))
             (into_runs z (base_of z) (omega arith) (omega arith) has place r target room)))
       ]
 
@@ -364,12 +367,7 @@ module _ (z : Setting) where
       (λ env s t fine given done. record {
         middle = done.middle;
         first = done.first;
-        second = record {
-          held = done.second.held;
-          written = done.second.bytes
-              ∙ ap (λ w. with_number done.middle.bytes 4 (z.frame + o) w) (has env s done.middle given done.first).1;
-          homes = homes_moved z (put Sw r o ∷ []) env done.middle t refl done.second;
-        };
+        second = put_wrote z Sw r o (v env) env done.middle t (has env s done.middle given done.first).1 done.second;
       })
       (then_moves z (put Sw r o ∷ []) (simp ok) ((even, inside), tt) runs
       (λ env s t given done. (has env s t given done).0)))

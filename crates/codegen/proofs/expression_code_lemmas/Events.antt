@@ -46,7 +46,6 @@ module _ (z : Setting) where
     told = λ i. refl;
     seen = λ i path. refl;
     good = λ i path fine. fine.0;
-    fine = λ i path fine. fine.1;
   }
 
   abbrev pub condition_kind : Kind (setting z) ℕ (λ v. Unit {0})
@@ -56,7 +55,6 @@ module _ (z : Setting) where
     told = λ v. refl;
     seen = λ v path. refl;
     good = λ v path fine. tt;
-    fine = λ v path fine. fine.1;
   }
 
   -- the bounds of a loop: no more turns than are counted for its counter
@@ -67,7 +65,6 @@ module _ (z : Setting) where
     told = λ b. refl;
     seen = λ b path. refl;
     good = λ b path fine. fine.0;
-    fine = λ b path fine. fine.1;
   }
 
   abbrev operands_kind : Place → Kind (setting z) (ℕ × ℕ) (λ o. 0 < o.1)
@@ -77,7 +74,6 @@ module _ (z : Setting) where
     told = λ o. refl;
     seen = λ o path. refl;
     good = λ o path fine. fine.0;
-    fine = λ o path fine. fine.1;
   }
 
   -- code behind a mark, where a test says of what it carries whether that is good

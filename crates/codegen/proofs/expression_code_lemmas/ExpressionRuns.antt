@@ -35,7 +35,8 @@ use Rattle.codegen.proofs.expression_code_lemmas.Homes.{conversion_kept}
 use Rattle.codegen.proofs.expression_code_lemmas.Places.{kind_known}
 use Rattle.codegen.proofs.expression_code_lemmas.TermLengths.{height, constant_length, move_length, convert_length}
 use Rattle.codegen.proofs.expression_code_lemmas.TermLengths.{number_length, prefix_length, rotate_length}
-use Rattle.codegen.proofs.expression_code_lemmas.Values.{Leaves, Ready, Valued, ValuedIn, kind_fits, value_word, place_ends}
+use Rattle.codegen.proofs.expression_code_lemmas.Values.{Leaves, Ready, Valued, ValuedIn, kind_fits, place_ends}
+use Rattle.codegen.proofs.expression_code_lemmas.Values.{value_word}
 use Rattle.codegen.proofs.expression_code_lemmas.Elements.{near_runs, picked}
 use Rattle.codegen.proofs.expression_code_lemmas.OperandRuns.{found, found_apart, found_free, found_is, HasSlot, Lies}
 use Rattle.codegen.proofs.expression_code_lemmas.OperandRuns.{made, none_yet, one_fetched, one_more, operands, placed}

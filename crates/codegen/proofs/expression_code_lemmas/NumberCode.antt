@@ -59,22 +59,6 @@ of_zero : (P : NumberRow → Type 0) (n : ℕ) (one other : Option NumberRow) (r
 of_zero P n one other row is zero more =
     cond_both (n == 0) one other (λ (o : Option NumberRow). o ≡ Some row → P row) zero (λ e. more) is
 
-is_equal : (a n : ℕ) → a < 2 ^ 32 → n < 2 ^ 32 → word_of (nat_lt (sum_of a (negated W32 n)) 1) ≡ word_of (a == n)
-is_equal a n p q = grind (arith, nat_tests)
-
-is_unequal : (a n : ℕ) → a < 2 ^ 32 → n < 2 ^ 32
-    → word_of (nat_lt 0 (sum_of a (negated W32 n))) ≡ word_of (not (a == n))
-is_unequal a n p q = grind (arith, nat_tests)
-
-at_most : (a n : ℕ) → word_of (nat_lt a (n + 1)) ≡ word_of (nat_le a n)
-at_most a n = grind (arith, nat_tests)
-
-not_at_most : (a n : ℕ) → word_of (nat_lt (word_of (nat_lt a (n + 1))) 1) ≡ word_of (nat_lt n a)
-not_at_most a n = grind (arith, nat_tests)
-
-not_less : (a n : ℕ) → word_of (nat_lt (word_of (nat_lt a n)) 1) ≡ word_of (nat_le n a)
-not_less a n = grind (arith, nat_tests)
-
 -- the low five bits of an amount, twice
 low_again : (n : ℕ) → n % 32 % 32 ≡ n % 32
 low_again n = omega arith
@@ -181,12 +165,6 @@ near_known declared a x index o is = by_number (number_of index) refl (when_some
 
 -- Operators that are turned round.
 
-equal_turned : (a b : ℕ) → word_of (b == a) ≡ word_of (a == b)
-equal_turned a b = grind (arith, nat_tests)
-
-unequal_turned : (a b : ℕ) → word_of (not (b == a)) ≡ word_of (not (a == b))
-unequal_turned a b = grind (arith, nat_tests)
-
 sum_turned : (w : Width) (a b : ℕ) → (b + a) % 2 ^ bits w ≡ (a + b) % 2 ^ bits w
 sum_turned w a b = let e : b + a ≡ a + b = omega arith in ap (λ n. n % 2 ^ bits w) e
 
@@ -197,8 +175,8 @@ module _ (w : Width) (a b : ℕ) where
 
   pub turned_same : (operator p : BinaryOperator) → turned_of operator ≡ Some p
       → operated p w b a ≡ operated operator w a b
-  turned_same Equal p is = turned_by Equal Equal p is (equal_turned a b)
-  turned_same Unequal p is = turned_by Unequal Unequal p is (unequal_turned a b)
+  turned_same Equal p is = turned_by Equal Equal p is (grind (arith, nat_tests))
+  turned_same Unequal p is = turned_by Unequal Unequal p is (grind (arith, nat_tests))
   turned_same Less p is = turned_by Less Greater p is refl
   turned_same LessOrEqual p is = turned_by LessOrEqual GreaterOrEqual p is refl
   turned_same Greater p is = turned_by Greater Less p is refl
@@ -317,19 +295,19 @@ module _ {d t : ℕ} (pair : ArePair d t) (works : ℕ → Bool) (wd : works d �
       of_zero (Means Equal n) n _ _ row is
       (λ zero same. immediate Equal n Sltiu Alone 1 row same
       (λ w v below. grind (arith, nat_tests, eqb-true n 0 zero)))
-      (λ same. immediate Equal n Addi GivesZero (negated W32 n) row same (λ w v below. is_equal v n below fits))
+      (λ same. immediate Equal n Addi GivesZero (negated W32 n) row same (λ w v below. grind (arith, nat_tests)))
   number_means Unequal n fits row is =
       of_zero (Means Unequal n) n _ _ row is
       (λ zero same. above Unequal n row same (λ v w. grind (arith, nat_tests, eqb-true n 0 zero)))
-      (λ same. immediate Unequal n Addi GivesMore (negated W32 n) row same (λ w v below. is_unequal v n below fits))
+      (λ same. immediate Unequal n Addi GivesMore (negated W32 n) row same (λ w v below. grind (arith, nat_tests)))
   number_means Less n fits row is = immediate Less n Sltiu Alone n row is (λ w v below. refl)
-  number_means LessOrEqual n fits row is = immediate LessOrEqual n Sltiu Alone (n + 1) row is (λ w v below. at_most v n)
+  number_means LessOrEqual n fits row is = immediate LessOrEqual n Sltiu Alone (n + 1) row is (λ w v below. grind (arith, nat_tests))
   number_means Greater n fits row is =
       of_zero (Means Greater n) n _ _ row is
       (λ zero same. above Greater n row same (λ v w. ap (λ x. word_of (nat_lt x v)) (sym (eqb-true n 0 zero))))
-      (λ same. immediate Greater n Sltiu GivesZero (n + 1) row same (λ w v below. not_at_most v n))
+      (λ same. immediate Greater n Sltiu GivesZero (n + 1) row same (λ w v below. grind (arith, nat_tests)))
   number_means GreaterOrEqual n fits row is =
-      immediate GreaterOrEqual n Sltiu GivesZero n row is (λ w v below. not_less v n)
+      immediate GreaterOrEqual n Sltiu GivesZero n row is (λ w v below. grind (arith, nat_tests))
   number_means BitOr n fits row is = immediate BitOr n Ori Alone n row is (λ w v below. refl)
   number_means BitXor n fits row is = immediate BitXor n Xori Alone n row is (λ w v below. refl)
   number_means BitAnd n fits row is = bits_mean n fits row is

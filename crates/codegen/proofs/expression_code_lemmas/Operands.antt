@@ -15,6 +15,9 @@ use Rattle.rv_code.specs.declared.instructions.Instr.TheVariants as instr
 use Rattle.rv_code.specs.declared.operations.DivideOperation.TheVariants.{Divu, Remu}
 use Rattle.rv_code.specs.declared.operations.MultiplyOperation.TheVariants.{Mul}
 use Rattle.rv_code.specs.declared.operations.StoreOperation.TheVariants.{Sw}
+use Rattle.rv_code.specs.declared.operations.StoreOperation.{StoreOperation}
+use Rattle.rv_machine.specs.Effects.{store_size}
+use Rattle.rv_machine.specs.Sizes.{byte_count}
 use Rattle.codegen.proofs.expression_code_lemmas.Events.{Moves, multiplying, dividing}
 use Rattle.codegen.proofs.expression_code_lemmas.Frame.{Setting, Steps, Before, Runs, HeldAt, held_regs}
 use Rattle.codegen.proofs.expression_code_lemmas.WorkRegisters.{IsFree, ArePair, at_operand, not_written}
@@ -41,6 +44,15 @@ pub took : (z : Setting) (r o v : ℕ) (env : StraightState) (s t : State) → r
     → number_at s.bytes 4 (z.frame + o) ≡ Some v → Moved z (take r o ∷ []) env s t → Fetched z r r v s t
 took z r o v env s t nonzero there moved =
     assumption (is_written s.regs r _ moved.regs nonzero ∙ ap number_or_zero there, is_left s.regs r _ moved.regs)
+
+-- a register's low bytes in the frame, and nothing else
+pub put_wrote : (z : Setting) (operation : StoreOperation) (r o v : ℕ) (env : StraightState) (s t : State)
+    → s.regs r ≡ v → Moved z (put operation r o ∷ []) env s t → Wrote z (byte_count (store_size operation)) o v s t
+put_wrote z operation r o v env s t is moved = record {
+  held = moved.held;
+  written = moved.bytes ∙ ap (λ w. with_number s.bytes (byte_count (store_size operation)) (z.frame + o) w) is;
+  homes = λ q home. is_left s.regs 28 _ moved.regs q (λ e. omega (arith, home.1, e));
+}
 
 -- a register has this value, and neither the registers that do not work nor any byte has changed
 pub record Outcome (z : Setting) (works : ℕ → Bool) (d v : ℕ) (s t : State) : Type 0 where
@@ -97,11 +109,7 @@ module _ (z : Setting) (free : ℕ) (aligned : free % 4 ≡ 0) (place : ℕ)
         weaken
         (λ env s fine given. given.0)
         (λ env s t fine given moved.
-        let wrote : Wrote z 4 k (v env) s t = record {
-          held = moved.held;
-          written = moved.bytes ∙ ap (λ w. with_number s.bytes 4 (z.frame + k) w) given.1;
-          homes = λ r home. is_left s.regs 28 _ moved.regs r (λ e. omega (arith, home.1, e));
-        } in
+        let wrote : Wrote z 4 k (v env) s t = put_wrote z Sw 29 k (v env) env s t given.1 moved in
         assumption (
           wrote_there z k (v env) s t wrote given.2,
           wrote_kept z 4 k (v env) s t wrote,

@@ -1,6 +1,6 @@
 -- What is shown of the state of straight code, and what the code of an expression leaves.
-use Rattle.std.proofs.Common.{inl, inr, ◌≡◌, ◌≢◌, ℕ, ◌+◌, ◌-◌, ◌%◌, ◌^◌, ◌<◌, ◌≤◌, Bool, false, nat_lt, List, None, Some}
-use Rattle.std.proofs.Common.{length, slice_get, slice_index, ap, ◌∙◌, arith, sym}
+use Rattle.std.proofs.Common.{◌≡◌, ◌≢◌, ℕ, ◌+◌, ◌-◌, ◌%◌, ◌^◌, ◌<◌, ◌≤◌, Bool, false, nat_lt, List, None, Some}
+use Rattle.std.proofs.Common.{inl, inr, length, slice_get, slice_index, ap, ◌∙◌, arith, sym}
 use Rattle.codegen.proofs.expression_code_lemmas.Below.{ByteMap, control_location, control_offset, is_unread}
 use Rattle.codegen.proofs.expression_code_lemmas.Below.{Fits, FlatVariable, HasType, home_of, InRegister, InSlot}
 use Rattle.codegen.proofs.expression_code_lemmas.Below.{IsWithinKind, Kind, Location, ltb-false, ltb-true, next_offset}

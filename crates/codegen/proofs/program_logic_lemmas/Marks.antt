@@ -13,7 +13,6 @@ pub record Kind (z : Setting) (A : Type 0) (Good : A → Type 0) : Type 0 where
   pub told : (x : A) → read (mark x) ≡ Some x
   pub seen : (x : A) (path : List z.Mark) → z.seen (mark x ∷ path) ≡ mark x ∷ z.seen path
   pub good : (x : A) (path : List z.Mark) → z.Fine (mark x ∷ path) → Good x
-  pub fine : (x : A) (path : List z.Mark) → z.Fine (mark x ∷ path) → z.Fine path
 
 -- what the mark carries is this
 pub record Known (z : Setting) (A : Type 0) (Good : A → Type 0) (P : Before z) (value : z.Beside
@@ -44,7 +43,7 @@ module _ {z : Setting} {A : Type 0} {Good : A → Type 0} (kind : Kind z A Good)
           let x = value env in
           let piece = (each x).placed_at p placed in
           let leak = λ (y : A). ((each y).placed_at p placed).leak in
-          ends_by (piece.runs env s rest at (kind.fine x (steps env) fine)
+          ends_by (piece.runs env s rest at (z.fine_right (kind.mark x ∷ []) (steps env) fine)
           (record { given = fit; is = refl; good = kind.good x (steps env) fine }))
           (ap (λ (path : List z.Mark). by_mark_leak kind.read leak (path ++ rest)) (kind.seen x (steps env))
           ∙ ap (by_value leak (z.seen (steps env) ++ rest)) (kind.told x));

@@ -23,13 +23,6 @@ seen_then z one other rest =
 pub seen_nothing : (z : Setting) (rest : List z.Mark) → z.seen [] ++ rest ≡ rest
 seen_nothing z rest = ap (λ (front : List z.Mark). front ++ rest) z.seen_none
 
-both_seen : {M : Type 0} (one two : List M → List Observation × List M) (path middle rest : List M)
-    (seen more : List Observation) → one path ≡ (seen, middle) → two middle ≡ (more, rest)
-    → both one two path ≡ (seen ++ more, rest)
-both_seen {M = M} one two path middle rest seen more a b =
-    ap (λ (r : List Observation × List M). (r.0 ++ (two r.1).0, (two r.1).1)) a
-    ∙ ap (λ (r : List Observation × List M). (seen ++ r.0, r.1)) b
-
 pub All-one : (P : Observation → Type 0) (x : Observation) → P x → All P (x ∷ [])
 All-one P x h = All-cons P x [] h (All-nil P)
 
@@ -78,7 +71,7 @@ module _ {z : Setting} where
       → Ends z m q one path middle Q s
       → ((t : State) → t.pc ≡ q → Q t → Ends z n r two middle rest R t)
       → Ends z (m + n) r (both one two) path rest R s
-  then_ends {one = one} {two = two} {path = path} {middle = middle} {rest = rest} {s = s} e next =
+  then_ends {s = s} e next =
       let f = next e.end e.at e.done in
       let i = e.within in
       let j = f.within in
@@ -88,7 +81,7 @@ module _ {z : Setting} where
         seen = e.seen ++ f.seen;
         leads = Leads-append e.leads f.leads;
         within = omega (arith, i, j);
-        shown = both_seen one two path middle rest e.seen f.seen e.shown f.shown;
+        shown = rw (e.shown, f.shown) refl;
         inside = All-append (λ (o : Observation). z.Allows o.event) e.seen f.seen e.inside f.inside;
         keeps = z.keeps_then s e.end f.end e.keeps f.keeps;
         at = f.at;
