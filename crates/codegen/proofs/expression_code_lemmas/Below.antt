@@ -47,7 +47,7 @@ pub use Rattle.language.specs.declared.signature.Param.{Param}
 pub use Rattle.language.specs.declared.operators.BinaryOperator.{BinaryOperator}
 pub use Rattle.language.specs.declared.operators.PrefixOperator.{PrefixOperator}
 pub use Rattle.language.specs.declared.typing.WordType.{WordType}
-pub use Rattle.codegen.proofs.program_logic_lemmas.Computing.{after_append, all_straight, no_access_fit, no_access_met}
+pub use Rattle.codegen.proofs.program_logic_lemmas.Computing.{after_append, all_straight, no_access}
 pub use Rattle.codegen.proofs.program_logic_lemmas.Computing.{only_computes, plain_append, register_left}
 pub use Rattle.codegen.proofs.program_logic_lemmas.Computing.{registers_after, registers_of}
 pub use Rattle.codegen.proofs.program_logic_lemmas.Face.{All-one, along, along_fit, always, as_code, beside, both_left}

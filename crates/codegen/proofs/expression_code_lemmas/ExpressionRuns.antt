@@ -27,9 +27,9 @@ use Rattle.codegen.proofs.expression_code_lemmas.Moves.{take, move_runs, written
 use Rattle.codegen.proofs.expression_code_lemmas.NumberCode.{known, known_word, left_known, number_means, right_known}
 use Rattle.codegen.proofs.expression_code_lemmas.NumberCode.{row_quiet, turned_quiet, turned_same, zero_known}
 use Rattle.codegen.proofs.expression_code_lemmas.Operands.{Outcome, took, worked, emitted_runs}
-use Rattle.codegen.proofs.expression_code_lemmas.OperatorCode.{constant_plain, constant_after, move_plain, move_made}
-use Rattle.codegen.proofs.expression_code_lemmas.OperatorCode.{convert_plain, convert_made, prefix_plain, prefix_made}
-use Rattle.codegen.proofs.expression_code_lemmas.OperatorCode.{rotate_plain, rotate_made, choice_plain, choice_made}
+use Rattle.codegen.proofs.expression_code_lemmas.OperatorCode.{Applies, constant_plain, constant_after, move_applies}
+use Rattle.codegen.proofs.expression_code_lemmas.OperatorCode.{convert_applies, prefix_applies}
+use Rattle.codegen.proofs.expression_code_lemmas.OperatorCode.{rotate_applies, choice_plain, choice_made}
 use Rattle.codegen.proofs.expression_code_lemmas.OperatorCode.{choice_or_zero_plain, choice_or_zero_made, truth_fits}
 use Rattle.codegen.proofs.expression_code_lemmas.Homes.{conversion_kept}
 use Rattle.codegen.proofs.expression_code_lemmas.Places.{kind_known}
@@ -140,25 +140,23 @@ module _ (z : Setting) (free : ℕ) (aligned : free % 4 ≡ 0) (above : base_of 
     copied {x = x} {word = word} {mutable = mutable} is (Some home) at =
         let there = z.allocated.allowed x home at in
         let source : IsFree home = free_from home (omega (arith, there.0)) (omega (arith, there.1)) in
+        let moves = move_applies spare works own spare_own source in
         cheaper (omega (arith, move_length d home))
-        (worked z works none_low {P = Ready z} d (move_code d home) (move_plain spare works own spare_own source)
+        (worked z works none_low {P = Ready z} d (move_code d home) moves.plain
         (λ env. slice_index (env.variables x) 0)
         (λ env s ready.
         let here = ready.homes_there x home (word_as word mutable) is at in
         let small = fits (of_variable {mutable = mutable} is) env s ready in
-        (ready.held, move_made spare source s.regs (omega (arith, here, small)) ∙ here)))
+        (ready.held, moves.made s.regs (omega (arith, here, small)) ∙ here)))
 
     -- A value, and then few instructions that make another of it.
     applied : {e whole : TermTree} {one : WordType} → Typed slots e one → HasSlot slots place
-        → (is : List Instr) → length is ≤ 7 → only_computes works is ≡ true
-        → (f : ℕ → ℕ)
-        → ((regs : ℕ → ℕ) → regs (found slots place e 29) < 2 ^ 32
-        → registers_after is regs d ≡ f (regs (found slots place e 29)))
+        → (is : List Instr) → length is ≤ 7 → {f : ℕ → ℕ} → Applies works (found slots place e 29) (2 ^ 32) d is f
         → ((m : Values) → f (value_in m e) ≡ value_in m whole)
         → Lies slots e place
         → Runs z (16 * (1 + term_nodes e) - 3) (steps_of e) (placed_at place e ++ fetched place e 29 ++ is) (Ready z)
         (ValuedIn z whole free d place)
-    applied {e = e} {whole = whole} has room is short plain f value same runs =
+    applied {e = e} {whole = whole} has room is short {f = f} makes same runs =
         let r = found slots place e 29 in
         along (λ env. sym (append-nil (steps_of e env)))
         (cheaper (omega (arith, short))
@@ -166,10 +164,10 @@ module _ (z : Setting) (free : ℕ) (aligned : free % 4 ≡ 0) (above : base_of 
         (one_more slots place (λ j. e) 0 (none_yet slots place (λ j. e)) runs))
         (worked z works none_low {P = λ env s. HeldAt z s × (s.regs r ≡ value_in env.variables e)
         × (value_in env.variables e < 2 ^ 32)}
-        d is plain (λ env. value_in env.variables whole)
+        d is makes.plain (λ env. value_in env.variables whole)
         (λ env s given. (
           given.0,
-          value s.regs (omega (arith, given.1, given.2)) ∙ (ap f given.1 ∙ same env.variables),
+          makes.made s.regs (omega (arith, given.1, given.2)) ∙ (ap f given.1 ∙ same env.variables),
         )))
         (λ env s t ready done. (done.held, done.fetched 0 (omega arith), fits has env s ready))))
 
@@ -185,8 +183,8 @@ module _ (z : Setting) (free : ℕ) (aligned : free % 4 ≡ 0) (above : base_of 
         let means =
         number_means spare works own spare_own (found_free slots place 0 e (omega arith)) operator n fits row is in
         along (λ env. (same env.variables).1)
-        (applied has room (number_code d r w row) (omega (arith, number_length d r w row)) (means.plain w)
-        (λ v. operated operator w v n) (means.value w) (λ m. (same m).0) runs)
+        (applied has room (number_code d r w row) (omega (arith, number_length d r w row)) (means w)
+        (λ m. (same m).0) runs)
 
     -- An operator between two operands, where either may be in its instruction.
     operated_runs : (source : Place) (operator : BinaryOperator) (width : Width) {left right : TermTree}
@@ -357,9 +355,8 @@ module _ (z : Setting) (free : ℕ) (aligned : free % 4 ≡ 0) (above : base_of 
       let pair = spare place d target in
       applied place d target has (omega (arith, room)) (prefix_code d r operator width)
       (omega (arith, prefix_length d r operator width))
-      (prefix_plain pair (works_at count place d) (own place d target) (spare_own place d target) source
-      operator width)
-      (prefix_value operator width) (prefix_made pair source operator width) (λ m. refl)
+      (prefix_applies pair (works_at count place d) (own place d target) (spare_own place d target) source operator width)
+      (λ m. refl)
       (lies has place room (into_runs has place))
   into_runs (of_binary {place = source} {operator = operator} {width = width} has more makes same) place d target room =
       operated_runs place d target source operator width has more makes (omega (arith, room))
@@ -375,9 +372,9 @@ module _ (z : Setting) (free : ℕ) (aligned : free % 4 ≡ 0) (above : base_of 
       (found_is slots place operand 29) in
       applied place d target has (omega (arith, room)) (rotate_code d r width amount)
       (rotate_length d r width amount)
-      (rotate_plain pair (works_at count place d) (own place d target) (spare_own place d target) source
+      (rotate_applies pair (works_at count place d) (own place d target) (spare_own place d target) source apart
       width amount)
-      (λ v. rotated_left width v amount) (rotate_made pair source apart width amount) (λ m. refl)
+      (λ m. refl)
       (lies has place room (into_runs has place))
   into_runs (of_conversion {kind = kind} {operand = operand} has numeric) place d target room =
       let r = found slots place operand 29 in
@@ -390,9 +387,9 @@ module _ (z : Setting) (free : ℕ) (aligned : free % 4 ≡ 0) (above : base_of 
       (into_runs has place d target room)))
       (λ cuts. applied place d target has (omega (arith, room)) (convert_code d r (width_of kind))
       (omega (arith, convert_length d r (width_of kind)))
-      (convert_plain pair (works_at count place d) (own place d target) (spare_own place d target) source
+      (convert_applies pair (works_at count place d) (own place d target) (spare_own place d target) source
       (width_of kind))
-      (converted (width_of kind)) (convert_made pair source (width_of kind)) (λ m. refl)
+      (λ m. refl)
       (lies has place room (into_runs has place)))
   into_runs (of_selection has chooses more) place d target room =
       chosen_runs place d target has chooses more (omega (arith, room))

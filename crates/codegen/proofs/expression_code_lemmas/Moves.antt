@@ -7,7 +7,7 @@ use Rattle.codegen.proofs.expression_code_lemmas.Below.{Event, IsInside, address
 use Rattle.codegen.proofs.expression_code_lemmas.Below.{both_right, byte_count, ByteMap, cheaper, Contents, contents_of}
 use Rattle.codegen.proofs.expression_code_lemmas.Below.{fun_ext, gives, idle, Instr, load_code, load_size}
 use Rattle.codegen.proofs.expression_code_lemmas.Below.{LoadOperation, lower_part, lt-ltb, ltb-true, nat_tests}
-use Rattle.codegen.proofs.expression_code_lemmas.Below.{no_access_fit, no_access_met, none, number_at, number_or_zero}
+use Rattle.codegen.proofs.expression_code_lemmas.Below.{no_access, none, number_at, number_or_zero}
 use Rattle.codegen.proofs.expression_code_lemmas.Below.{only_computes, quiet, register, registers_after, registers_of}
 use Rattle.codegen.proofs.expression_code_lemmas.Below.{sign_extended, Size, State, store_size, StoreOperation}
 use Rattle.codegen.proofs.expression_code_lemmas.Below.{StraightState, sum_of, Then, upper_part, with_number}
@@ -134,17 +134,17 @@ pub record Computed (z : Setting) (is : List Instr) (env : StraightState) (s t :
 pub computing_within : (z : Setting) (works : ℕ → Bool) (is : List Instr) → only_computes works is ≡ true
     → ((r : ℕ) → r < 5 → works r ≡ false) → Runs z (length is) none is (Held z) (Computed z is)
 computing_within z works is plain low =
+    let access = no_access works (λ e. IsInside z.frame z.size e) is plain in
     gives
     (λ env s t fine held done.
     let c = registers_of works is (contents_of s) plain in
     assumption (done.1.regs ∙ ap (λ (d : Contents). d.regs) c, done.1.bytes ∙ ap (λ (d : Contents). d.bytes) c))
-    (frame_runs z {P = Held z} works is [] (all_straight works is plain) low (no_access_fit works _ is plain)
-    (λ env s held. (held, no_access_met works is (contents_of s) plain)))
+    (frame_runs z {P = Held z} works is [] (all_straight works is plain) low access.0
+    (λ env s held. (held, access.1 (contents_of s))))
 
 even_at : (size : Size) (frame o : ℕ) → frame % 4 ≡ 0 → o % byte_count size ≡ 0 → (frame + o) % byte_count size ≡ 0
 even_at Byte frame o even aligned = omega (arith, even, aligned)
-even_at Half frame o even aligned = omega (arith, even, aligned)
-even_at Word frame o even aligned = omega (arith, even, aligned)
+even_at size frame o even aligned = omega (arith, even, aligned)
 
 -- a register and an offset are the address of a place in the frame
 abbrev Addresses : Setting → ℕ → ℕ → ℕ → Before

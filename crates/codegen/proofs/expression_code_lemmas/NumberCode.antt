@@ -19,7 +19,7 @@ use Rattle.codegen.proofs.expression_code_lemmas.Below.{right_row, shift_value, 
 use Rattle.codegen.proofs.expression_code_lemmas.Below.{turned_of, Types, value_in, Values, variable_offset, Width}
 use Rattle.codegen.proofs.expression_code_lemmas.Below.{word_of, immediate_value}
 use Rattle.codegen.proofs.expression_code_lemmas.OperatorCode.{cut_composed, cut_plain, cut_value, cut_whole, d0, d32}
-use Rattle.codegen.proofs.expression_code_lemmas.OperatorCode.{dd, q0, q32, truth_fits}
+use Rattle.codegen.proofs.expression_code_lemmas.OperatorCode.{dd, Applies, q0, q32, truth_fits}
 use Rattle.codegen.proofs.expression_code_lemmas.Values.{kind_fits}
 use Rattle.codegen.proofs.expression_code_lemmas.WorkRegisters.{ArePair, IsFree, when_some}
 use Rattle.codegen.specs.declared.expression_code.numbers.Finish.TheVariants.{Alone, GivesZero, GivesMore, Narrowed}
@@ -221,11 +221,9 @@ module _ {d t : ℕ} (pair : ArePair d t) (works : ℕ → Bool) (wd : works d �
   finish_made w Narrowed regs = cut_composed pair w regs
   finish_made w finish regs = simp (dd pair, d0 pair)
 
-  -- it only computes, and makes what the operator means
-  pub record Means (operator : BinaryOperator) (n : ℕ) (row : NumberRow) : Type 0 where
-    pub plain : (w : Width) → only_computes works (number_code d r w row) ≡ true
-    pub value : (w : Width) (regs : ℕ → ℕ) → regs r < 2 ^ 32
-        → registers_after (number_code d r w row) regs d ≡ operated operator w (regs r) n
+  -- it makes what the operator means
+  abbrev pub Means : BinaryOperator → ℕ → NumberRow → Type 0
+  Means operator n row = (w : Width) → Applies works r (2 ^ 32) d (number_code d r w row) (λ v. operated operator w v n)
 
   immediate : (operator : BinaryOperator) (n : ℕ) (operation : ImmediateOperation) (finish : Finish) (m : ℕ)
       (row : NumberRow) → held operation finish m ≡ Some row
@@ -234,11 +232,11 @@ module _ {d t : ℕ} (pair : ArePair d t) (works : ℕ → Bool) (wd : works d �
       → Means operator n row
   immediate operator n operation finish m row is made =
       of_held (Means operator n) operation finish m row is
-      (λ short. record {
-        plain = λ w.
-            let small = lt-ltb (m % 4096) 4096 (lower_fits m) in
-            simp (wd, d32 pair, q32 pair source, small, finish_plain w finish);
-        value = λ w regs below.
+      (λ short w.
+      let small = lt-ltb (m % 4096) 4096 (lower_fits m) in
+      record {
+        plain = simp (wd, d32 pair, q32 pair source, small, finish_plain w finish);
+        made = λ regs below.
             finish_made w finish _ ∙ simp (dd pair, d0 pair, q0 pair source)
             (ap (λ x. finished finish w (immediate_value operation (regs r) x)) (short_held m short)
             ∙ made w (regs r) below);
@@ -248,9 +246,9 @@ module _ {d t : ℕ} (pair : ArePair d t) (works : ℕ → Bool) (wd : works d �
       → ((v : ℕ) (w : Width) → word_of (nat_lt 0 v) ≡ operated operator w v n) → Means operator n row
   above operator n row is same =
       of_row (Means operator n) above_zero row is
-      (record {
-        plain = λ w. simp (wd, d32 pair, q32 pair source);
-        value = λ w regs below. simp (dd pair, d0 pair, q0 pair source) (same (regs r) w);
+      (λ w. record {
+        plain = simp (wd, d32 pair, q32 pair source);
+        made = λ regs below. simp (dd pair, d0 pair, q0 pair source) (same (regs r) w);
       })
 
   moved : (operator : BinaryOperator) (n : ℕ) (operation : ShiftOperation) (row : NumberRow)
@@ -259,11 +257,11 @@ module _ {d t : ℕ} (pair : ArePair d t) (works : ℕ → Bool) (wd : works d �
       → Means operator n row
   moved operator n operation row is made =
       of_row (Means operator n) (shifted operation n) row is
-      (record {
-        plain = λ w.
-            let small = lt-ltb (n % 32) 32 (mod_below n 32 (omega arith)) in
-            simp (wd, d32 pair, q32 pair source, small, cut_plain pair works wd wt w);
-        value = λ w regs below. cut_composed pair w _ ∙ simp (dd pair, d0 pair, q0 pair source) (made w (regs r));
+      (λ w.
+      let small = lt-ltb (n % 32) 32 (mod_below n 32 (omega arith)) in
+      record {
+        plain = simp (wd, d32 pair, q32 pair source, small, cut_plain pair works wd wt w);
+        made = λ regs below. cut_composed pair w _ ∙ simp (dd pair, d0 pair, q0 pair source) (made w (regs r));
       })
 
   low_means : (n : ℕ) → n < 2 ^ 32 → 0 < n → (row : NumberRow) → low_bits n ≡ Some row → Means BitAnd n row
@@ -272,11 +270,11 @@ module _ {d t : ℕ} (pair : ArePair d t) (works : ℕ → Bool) (wd : works d �
       let top = leading_top 32 n some fits in
       let both = cond_some (n + 1 == 2 ^ (32 - others)) _ row is in
       subst (Means BitAnd n) both.1
-      (record {
-        plain = λ w.
-            let small = lt-ltb (others % 32) 32 (mod_below others 32 (omega arith)) in
-            simp (wd, d32 pair, q32 pair source, small);
-        value = λ w regs below.
+      (λ w.
+      let small = lt-ltb (others % 32) 32 (mod_below others 32 (omega arith)) in
+      record {
+        plain = simp (wd, d32 pair, q32 pair source, small);
+        made = λ regs below.
             simp (dd pair, d0 pair, q0 pair source)
             (low_kept (regs r) n (32 - others) others below (omega (arith, top.1)) (omega (arith, top.1))
             (eqb-true (n + 1) (2 ^ (32 - others)) both.0));

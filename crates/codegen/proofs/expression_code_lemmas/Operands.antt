@@ -159,11 +159,10 @@ module _ (z : Setting) (works : ℕ → Bool) (none_low : (q : ℕ) → q < 5 �
           (worked d (operator_code d t l r operator width)
           (operator_plain pair works wd wt second first operator width alone)
           (λ env. operated operator width (a env) (b env))
-          (λ env s given.
-          let fits = λ (v w : ℕ) (is : v ≡ w) (below : w < 2 ^ 32). subst (λ x. x < 2 ^ 32) (sym is) below in (
+          (λ env s given. (
             given.held,
-            operator_made pair second first apart operator width alone s.regs (fits _ _ given.left given.left_fits)
-                (fits _ _ given.right given.right_fits) ∙ ap₂ (operated operator width) given.left given.right,
+            operator_made pair second first apart operator width alone s.regs (omega arith) (omega arith)
+                ∙ ap₂ (operated operator width) given.left given.right,
           )))
 
       -- an instruction that shows its operands, and then code that only computes
@@ -189,9 +188,6 @@ module _ (z : Setting) (works : ℕ → Bool) (none_low : (q : ℕ) → q < 5 �
             value env u.regs given.left_fits given.right_fits moves.there,
           )))
 
-      divided_by : (n : ℕ) (some : 0 < n) (x y : ℕ) → cond (n == 0) x y ≡ y
-      divided_by n some x y = rw (ne_eqb n 0 (λ e. omega (arith, some, e)))
-
       -- a division by what the path says is not 0
       quotient : (operator : BinaryOperator) (operation : DivideOperation)
           → ((env : StraightState) → 0 < b env
@@ -208,8 +204,9 @@ module _ (z : Setting) (works : ℕ → Bool) (none_low : (q : ℕ) → q < 5 �
           → Runs z 4 (λ env. marks_of source operator (a env) (b env)) (operator_code d t l r operator width)
           (Operands a b) (Operated operator)
       operator_runs Divide =
-          quotient Divide Divu (λ env some. divided_by (b env) some (2 ^ 32 - 1) (a env / b env))
-      operator_runs Remainder = quotient Remainder Remu (λ env some. divided_by (b env) some (a env) (a env % b env))
+          quotient Divide Divu (λ env some. rw (ne_eqb (b env) 0 (λ e. omega (arith, some, e))))
+      operator_runs Remainder =
+          quotient Remainder Remu (λ env some. rw (ne_eqb (b env) 0 (λ e. omega (arith, some, e))))
       operator_runs Multiply =
           cheaper (omega (arith, narrow_length d d width))
           (shown (λ env. multiply_value Mul (a env) (b env)) (λ env. operated Multiply width (a env) (b env))

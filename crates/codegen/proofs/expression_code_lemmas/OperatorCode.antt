@@ -104,6 +104,21 @@ is_plain _ = false
 abbrev pub either_of : ℕ → ℕ → ℕ → Bool
 either_of l r q = (q == l) || (q == r)
 
+-- code only computes, and makes something in d of what is in r and below a bound
+pub record Applies (works : ℕ → Bool) (r bound d : ℕ) (is : List Instr) (f : ℕ → ℕ) : Type 0 where
+  pub plain : only_computes works is ≡ true
+  pub made : (regs : ℕ → ℕ) → regs r < bound → registers_after is regs d ≡ f (regs r)
+
+applies_then : {works : ℕ → Bool} {r bound m other d : ℕ} {is js : List Instr} {f g : ℕ → ℕ} → Applies works r bound m is f
+    → Applies works m other d js g → ((v : ℕ) → v < bound → f v < other) → Applies works r bound d (is ++ js) (λ v. g (f v))
+applies_then {works = works} {r = r} {other = other} {d = d} {is = is} {js = js} {g = g} one two below = record {
+  plain = plain_append works is js one.plain two.plain;
+  made = λ regs fits.
+      let first = one.made regs fits in
+      ap (λ (after : ℕ → ℕ). after d) (after_append is js regs)
+      ∙ (two.made (registers_after is regs) (subst (λ v. v < other) (sym first) (below (regs r) fits)) ∙ ap g first);
+}
+
 -- Into the register d, where t may be written as well.
 module _ {d t : ℕ} (pair : ArePair d t) where
   -- the tests that are met
@@ -156,62 +171,22 @@ module _ {d t : ℕ} (pair : ArePair d t) where
     pub q32 : nat_lt q 32 ≡ true
     q32 = lt-ltb q 32 source.small
 
-    -- Moves.
-
-    pub move_made : (regs : ℕ → ℕ) → regs q < 2 ^ 32 → registers_after (move_code d q) regs d ≡ regs q
-    move_made regs fits =
-        cond_both (d == q) [] (instr.Immediate Addi d q 0 ∷ [])
-        (λ (is : List Instr). registers_after is regs d ≡ regs q)
-        (λ e. ap regs (eqb-true d q e)) (λ e. simp (dd, d0, q0) (omega (arith, fits)))
-
-    -- Cuts.
-
-    narrow_composed : (w : Width) (regs : ℕ → ℕ)
-        → registers_after (narrow_code d q w) regs (narrowed_in d q w) ≡ cut_value w (regs q)
-    narrow_composed W32 regs = refl
-    narrow_composed width regs = simp (dd, d0, q0)
-
-    narrow_made : (w : Width) (regs : ℕ → ℕ) → regs q < 2 ^ 32
-        → registers_after (narrow_code d q w) regs (narrowed_in d q w) ≡ converted w (regs q)
-    narrow_made w regs fits = narrow_composed w regs ∙ cut_computes w (regs q) fits
-
-    pub narrowed_free : (w : Width) → IsFree (narrowed_in d q w)
+    narrowed_free : (w : Width) → IsFree (narrowed_in d q w)
     narrowed_free W32 = source
     narrowed_free width = pair.one
 
-    pub prefix_made : (operator : PrefixOperator) (w : Width) (regs : ℕ → ℕ) → regs q < 2 ^ 32
-        → registers_after (prefix_code d q operator w) regs d ≡ prefix_value operator w (regs q)
-    prefix_made Not w regs fits = simp (dd, d0, q0) (grind (arith, nat_tests))
-    prefix_made Complement w regs fits =
-        cut_composed w _ ∙ simp (dd, d0, q0) (ap (cut_value w) (one_less (regs q) fits)
-        ∙ cut_whole w (2 ^ 32 - 1 - regs q) ∙ cut_complement w (regs q) fits)
-    prefix_made Negate w regs fits =
-        let v = regs q in
-        let less : 0 + (2 ^ bits w - v % 2 ^ bits w) ≡ 2 ^ bits w - v % 2 ^ bits w = omega arith in
-        cut_composed w _ ∙ simp (dd, d0, q0) (cut_whole w (0 + (2 ^ 32 - v % 2 ^ 32))
-        ∙ (cut_difference w 0 v fits ∙ ap (λ x. x % 2 ^ bits w) less))
+  narrowed_apart : {r : ℕ} → r ≢ t → (w : Width) → narrowed_in d r w ≢ t
+  narrowed_apart apart W32 = apart
+  narrowed_apart apart width = pair.apart
 
-    -- Rotations, with what is moved up in t.
+  -- a rotation of what is in q, with what is moved up in t
 
-    abbrev moved_around : Width → ℕ → List Instr
-    moved_around w amount = instr.Shift Slli t q amount ∷ instr.Shift Srli d q (bits w - amount)
-        ∷ instr.Register register.Add d t d ∷ cut_code d w
+  abbrev moved_around : ℕ → Width → ℕ → List Instr
+  moved_around q w amount = instr.Shift Slli t q amount ∷ instr.Shift Srli d q (bits w - amount)
+      ∷ instr.Register register.Add d t d ∷ cut_code d w
 
-    abbrev around_by : Width → ℕ → List Instr
-    around_by w amount = cond (amount == 0) (move_code d q) (moved_around w amount)
-
-    around_made : q ≢ t → (w : Width) (amount : ℕ) (regs : ℕ → ℕ) → amount < bits w → regs q < 2 ^ bits w
-        → registers_after (around_by w amount) regs d
-        ≡ (regs q * 2 ^ amount + regs q / 2 ^ (bits w - amount)) % 2 ^ bits w
-    around_made apart w amount regs within fits =
-        cond_both (amount == 0) (move_code d q) (moved_around w amount)
-        (λ (is : List Instr). registers_after is regs d
-        ≡ (regs q * 2 ^ amount + regs q / 2 ^ (bits w - amount)) % 2 ^ bits w)
-        (λ h. move_made regs (word_fits w (regs q) fits)
-        ∙ (unmoved w (regs q) fits
-        ∙ ap (λ n. (regs q * 2 ^ n + regs q / 2 ^ (bits w - n)) % 2 ^ bits w) (sym (eqb-true amount 0 h))))
-        (λ h. cut_composed w _ ∙ simp (dd, tt', td, d0, t0, q0, ne_eqb q t apart)
-        (around w (regs q) amount (grind (arith, nat_tests)) within))
+  abbrev around_by : ℕ → Width → ℕ → List Instr
+  around_by q w amount = cond (amount == 0) (move_code d q) (moved_around q w amount)
 
   -- Of code that writes registers that work.
   module _ (works : ℕ → Bool) (wd : works d ≡ true) (wt : works t ≡ true) where
@@ -220,41 +195,79 @@ module _ {d t : ℕ} (pair : ArePair d t) where
     cut_plain width = simp (d32, wd)
 
     module _ {q : ℕ} (source : IsFree q) where
-      pub move_plain : only_computes works (move_code d q) ≡ true
-      move_plain =
-          cond_both (d == q) [] (instr.Immediate Addi d q 0 ∷ []) (λ (is : List Instr). only_computes works is ≡ true)
-          (λ e. refl) (λ e. simp (d32, q32 source, wd))
+      pub move_applies : Applies works q (2 ^ 32) d (move_code d q) (λ v. v)
+      move_applies =
+          cond_both (d == q) [] (instr.Immediate Addi d q 0 ∷ []) (λ (is : List Instr). Applies works q (2 ^ 32) d is (λ v. v))
+          (λ e. record { plain = refl; made = λ regs fits. ap regs (eqb-true d q e) })
+          (λ e. record {
+            plain = simp (d32, q32 source, wd);
+            made = λ regs fits. simp (dd, d0, q0 source) (omega (arith, fits));
+          })
 
-      narrow_plain : (w : Width) → only_computes works (narrow_code d q w) ≡ true
-      narrow_plain W32 = refl
-      narrow_plain width = simp (d32, q32 source, wd)
+      narrow_applies : (w : Width) → Applies works q (2 ^ 32) (narrowed_in d q w) (narrow_code d q w) (converted w)
+      narrow_applies W32 = record { plain = refl; made = λ regs fits. cut_computes W32 (regs q) fits }
+      narrow_applies width = record {
+        plain = simp (d32, q32 source, wd);
+        made = λ regs fits. simp (dd, d0, q0 source) (cut_computes width (regs q) fits);
+      }
 
-      pub prefix_plain : (operator : PrefixOperator) (w : Width)
-          → only_computes works (prefix_code d q operator w) ≡ true
-      prefix_plain Not w = simp (d32, q32 source, wd)
-      prefix_plain operator w = simp (d32, q32 source, wd, cut_plain w)
+      pub prefix_applies : (operator : PrefixOperator) (w : Width)
+          → Applies works q (2 ^ 32) d (prefix_code d q operator w) (prefix_value operator w)
+      prefix_applies Not w = record {
+        plain = simp (d32, q32 source, wd);
+        made = λ regs fits. simp (dd, d0, q0 source) (grind (arith, nat_tests));
+      }
+      prefix_applies Complement w = record {
+        plain = simp (d32, q32 source, wd, cut_plain w);
+        made = λ regs fits. cut_composed w _ ∙ simp (dd, d0, q0 source) (ap (cut_value w) (one_less (regs q) fits)
+            ∙ cut_whole w (2 ^ 32 - 1 - regs q) ∙ cut_complement w (regs q) fits);
+      }
+      prefix_applies Negate w = record {
+        plain = simp (d32, q32 source, wd, cut_plain w);
+        made = λ regs fits.
+            let v = regs q in
+            let less : 0 + (2 ^ bits w - v % 2 ^ bits w) ≡ 2 ^ bits w - v % 2 ^ bits w = omega arith in
+            cut_composed w _ ∙ simp (dd, d0, q0 source) (cut_whole w (0 + (2 ^ 32 - v % 2 ^ 32))
+            ∙ (cut_difference w 0 v fits ∙ ap (λ x. x % 2 ^ bits w) less));
+      }
 
-      around_plain : (w : Width) (amount : ℕ) → amount < bits w → only_computes works (around_by source w amount) ≡ true
-      around_plain w amount within =
-          cond_both (amount == 0) (move_code d q) (moved_around source w amount)
-          (λ (is : List Instr). only_computes works is ≡ true) (λ h. move_plain)
+      around_applies : q ≢ t → (w : Width) (amount : ℕ) → amount < bits w → Applies works q (2 ^ bits w) d (around_by q w amount)
+          (λ v. (v * 2 ^ amount + v / 2 ^ (bits w - amount)) % 2 ^ bits w)
+      around_applies apart w amount within =
+          cond_both (amount == 0) (move_code d q) (moved_around q w amount)
+          (λ (is : List Instr). Applies works q (2 ^ bits w) d is
+          (λ v. (v * 2 ^ amount + v / 2 ^ (bits w - amount)) % 2 ^ bits w))
+          (λ h. record {
+            plain = move_applies.plain;
+            made = λ regs fits.
+                move_applies.made regs (word_fits w (regs q) fits)
+                ∙ (unmoved w (regs q) fits
+                ∙ ap (λ n. (regs q * 2 ^ n + regs q / 2 ^ (bits w - n)) % 2 ^ bits w) (sym (eqb-true amount 0 h)));
+          })
           (λ h.
           let some : 0 < amount = grind (arith, nat_tests, h) in
           let up = lt-ltb amount 32 (omega (arith, (narrow w).1)) in
           let down = lt-ltb (bits w - amount) 32 (omega (arith, (narrow w).1)) in
-          simp (wd, wt, d32, t32, q32 source, up, down, cut_plain w))
+          record {
+            plain = simp (wd, wt, d32, t32, q32 source, up, down, cut_plain w);
+            made = λ regs fits. cut_composed w _ ∙ simp (dd, tt', td, d0, t0, q0 source, ne_eqb q t apart)
+                (around w (regs q) amount some within);
+          })
 
     module _ {r : ℕ} (source : IsFree r) where
-      pub convert_plain : (w : Width) → only_computes works (convert_code d r w) ≡ true
-      convert_plain w = plain_append works (narrow_code d r w) (move_code d (narrowed_in d r w))
-          (narrow_plain source w) (move_plain (narrowed_free source w))
+      pub convert_applies : (w : Width) → Applies works r (2 ^ 32) d (convert_code d r w) (converted w)
+      convert_applies w =
+          applies_then (narrow_applies source w) (move_applies (narrowed_free source w))
+          (λ v fits. word_fits w (converted w v) (mod_below v (2 ^ bits w) (pow_pos (bits w))))
 
-      pub rotate_plain : (w : Width) (amount : ℕ)
-          → only_computes works (narrow_code d r w ++ around_by (narrowed_free source w) w (amount % bits w)) ≡ true
-      rotate_plain w amount =
-          let n = amount % bits w in
-          plain_append works (narrow_code d r w) (around_by (narrowed_free source w) w n) (narrow_plain source w)
-          (around_plain (narrowed_free source w) w n (mod_below amount (bits w) (narrow w).0))
+      pub rotate_applies : r ≢ t → (w : Width) (amount : ℕ)
+          → Applies works r (2 ^ 32) d (narrow_code d r w ++ around_by (narrowed_in d r w) w (amount % bits w))
+          (λ v. rotated_left w v amount)
+      rotate_applies apart w amount =
+          applies_then (narrow_applies source w)
+          (around_applies (narrowed_free source w) (narrowed_apart apart w) w (amount % bits w)
+          (mod_below amount (bits w) (narrow w).0))
+          (λ v fits. mod_below v (2 ^ bits w) (pow_pos (bits w)))
 
       -- Operators.
       pub operator_plain : {l : ℕ} → IsFree l → (operator : BinaryOperator) (w : Width)
@@ -275,33 +288,6 @@ module _ {d t : ℕ} (pair : ArePair d t) where
       choice_or_zero_plain mask wm condition = simp (wd, wm, d32, q32 mask, q32 condition, q32 source)
 
   module _ {r : ℕ} (source : IsFree r) where
-    pub convert_made : (w : Width) (regs : ℕ → ℕ) → regs r < 2 ^ 32
-        → registers_after (convert_code d r w) regs d ≡ converted w (regs r)
-    convert_made w regs fits =
-        let cut = narrow_made source w regs fits in
-        ap (λ (after : ℕ → ℕ). after d) (after_append (narrow_code d r w) (move_code d (narrowed_in d r w)) regs)
-        ∙ (move_made (narrowed_free source w) (registers_after (narrow_code d r w) regs)
-        (subst (λ v. v < 2 ^ 32) (sym cut)
-        (word_fits w (converted w (regs r)) (mod_below (regs r) (2 ^ bits w) (pow_pos (bits w)))))
-        ∙ cut)
-
-    narrowed_apart : r ≢ t → (w : Width) → narrowed_in d r w ≢ t
-    narrowed_apart apart W32 = apart
-    narrowed_apart apart width = pair.apart
-
-    pub rotate_made : r ≢ t → (w : Width) (amount : ℕ) (regs : ℕ → ℕ) → regs r < 2 ^ 32
-        → registers_after (narrow_code d r w ++ around_by (narrowed_free source w) w (amount % bits w)) regs d
-        ≡ rotated_left w (regs r) amount
-    rotate_made apart w amount regs fits =
-        let n = amount % bits w in
-        let cut = narrow_made source w regs fits in
-        ap (λ (after : ℕ → ℕ). after d)
-        (after_append (narrow_code d r w) (around_by (narrowed_free source w) w n) regs)
-        ∙ (around_made (narrowed_free source w) (narrowed_apart apart w) w n
-        (registers_after (narrow_code d r w) regs) (mod_below amount (bits w) (narrow w).0)
-        (subst (λ v. v < 2 ^ bits w) (sym cut) (mod_below (regs r) (2 ^ bits w) (pow_pos (bits w))))
-        ∙ ap (λ v. (v * 2 ^ n + v / 2 ^ (bits w - n)) % 2 ^ bits w) cut)
-
     -- A choice between a value and 0, with the mask in m.
     pub choice_or_zero_made : {m c : ℕ} → IsFree m → IsFree c → r ≢ m → (regs : ℕ → ℕ)
         → registers_after (choice_or_zero_code d m c r) regs d ≡ chosen_or_zero (regs c) (regs r)

@@ -74,11 +74,9 @@ expressions_are_computed e word site has fit =
           record {
             turns = run.turns;
             end = run.end;
-            leads = subst (λ (seen : List Observation). Leads site.code run.turns s seen run.end) same run.leads;
+            leads = rw same at run.leads;
             few = run.within;
-            inside =
-                subst (λ (seen : List Observation). All (λ (o : Observation). IsInside site.frame site.size o.event)
-                seen) same run.inside;
+            inside = rw same at run.inside;
             behind = run.at;
             value = read e site fit (operand site.allocation site.free site.place e) (value_in m e) run.end
                 run.done.there;

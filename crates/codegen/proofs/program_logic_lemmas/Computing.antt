@@ -71,18 +71,14 @@ module _ (works : ℕ → Bool) where
   registers_of (Register operation rd rs1 rs2 ∷ is) c h = registers_of is _ (both_right _ _ h)
   registers_of (i ∷ is) c h = absurd (false≢true h)
 
-  pub no_access_fit : (Allows : Option Event → Type 0) (is : List Instr) → only_computes works is ≡ true
-      → AreFit Allows is []
-  no_access_fit Allows [] h = tt
-  no_access_fit Allows (Load operation rd rs1 offset ∷ is) h = absurd (false≢true h)
-  no_access_fit Allows (Store operation rs2 rs1 offset ∷ is) h = absurd (false≢true h)
-  no_access_fit Allows (i ∷ is) h = no_access_fit Allows is (both_right (computes works i) (only_computes works is) h)
-
-  pub no_access_met : (is : List Instr) (c : Contents) → only_computes works is ≡ true → AreMet is [] c
-  no_access_met [] c h = tt
-  no_access_met (Load operation rd rs1 offset ∷ is) c h = absurd (false≢true h)
-  no_access_met (Store operation rs2 rs1 offset ∷ is) c h = absurd (false≢true h)
-  no_access_met (i ∷ is) c h = no_access_met is (after i 0 c) (both_right (computes works i) (only_computes works is) h)
+  pub no_access : (Allows : Option Event → Type 0) (is : List Instr) → only_computes works is ≡ true
+      → AreFit Allows is [] × ((c : Contents) → AreMet is [] c)
+  no_access Allows [] h = (tt, λ c. tt)
+  no_access Allows (Load operation rd rs1 offset ∷ is) h = absurd (false≢true h)
+  no_access Allows (Store operation rs2 rs1 offset ∷ is) h = absurd (false≢true h)
+  no_access Allows (i ∷ is) h =
+      let rest = no_access Allows is (both_right (computes works i) (only_computes works is) h) in
+      (rest.0, λ c. rest.1 (after i 0 c))
 
 -- a register that none of them may write is as it was
 pub register_left : (works : ℕ → Bool) (is : List Instr) (regs : ℕ → ℕ) (q : ℕ) → only_computes works is ≡ true

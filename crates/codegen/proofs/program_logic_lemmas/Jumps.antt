@@ -38,15 +38,10 @@ none_in : (regs : ℕ → ℕ) (r : ℕ) → r ≢ 0 → regs r ≡ 0 → not (r
 none_in regs r nonzero none' = rw (ne_eqb r 0 nonzero, eq-eqb (regs r) 0 none') refl
 
 forward : (p n : ℕ) → 2 * n + 2 < 2 ^ 19 → p + 4 + 4 * n < 2 ^ 32 → jump_target p (2 * n + 2) ≡ p + 4 + 4 * n
-forward p n near below =
-    let same : sign_extended 21 ((2 * n + 2) * 2) ≡ (2 * n + 2) * 2 = grind (arith, nat_tests) in
-    ap (λ x. sum_of p x) same ∙ (omega (arith, below))
+forward p n near below = grind (arith, nat_tests)
 
 backward : (p n : ℕ) → 0 < n → 2 * n ≤ 2 ^ 19 → 4 * n ≤ p → p < 2 ^ 32 → jump_target p (2 ^ 20 - 2 * n) ≡ p - 4 * n
-backward p n some near low below =
-    let same : sign_extended 21 ((2 ^ 20 - 2 * n) * 2) ≡ (2 ^ 20 - 2 * n) * 2 + (2 ^ 32 - 2 ^ 21) =
-    grind (arith, nat_tests) in
-    ap (λ x. sum_of p x) same ∙ (omega (arith, some, near, low, below))
+backward p n some near low below = grind (arith, nat_tests)
 
 -- what a branch makes of a state
 pub moved_still : (s : State) (target : ℕ) → Still s (moved_to s target)

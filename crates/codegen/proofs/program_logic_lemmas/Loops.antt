@@ -155,10 +155,7 @@ module _ {z : Setting} (r : ℕ) (small : r < 32) (nonzero : r ≢ 0) {m n : ℕ
 
 back_target : (p n : ℕ) → 0 < n → 2 * n ≤ 2 ^ 11 → 4 * n ≤ p → p < 2 ^ 32
     → branch_target p (2 ^ 12 - 2 * n) ≡ p - 4 * n
-back_target p n some near low below =
-    let same : sign_extended 13 ((2 ^ 12 - 2 * n) * 2) ≡ (2 ^ 12 - 2 * n) * 2 + (2 ^ 32 - 2 ^ 13) =
-    grind (arith, nat_tests) in
-    ap (λ x. sum_of p x) same ∙ (omega (arith, some, near, low, below))
+back_target p n some near low below = grind (arith, nat_tests)
 
 module _ {z : Setting} (r q : ℕ) (small : r < 32) (small' : q < 32) {n : ℕ} {body : List Instr} {C : ℕ → ℕ
     → Before z} {D : ℕ → ℕ → After z}

@@ -148,10 +148,7 @@ straight_code_leads works Allows code p (i ∷ is) places c plain placed fit met
     (rest_met i a c _ met) in
     let behind : p + 4 + 4 * length is ≡ p + 4 * suc (length is) = omega arith in
     let count : 1 + length is ≡ suc (length is) = omega arith in
-    let to = after_all is (left_by i places) (after i a c) in
-    let list = shown_by p (i ∷ is) places in
-    subst (λ n. Leads code n (state_at p c) list (state_at (p + 4 * suc (length is)) to)) count
-    (subst (λ q. Leads code (1 + length is) (state_at p c) list (state_at q to)) behind (Leads-append one more))
+    rw (behind, count) at (Leads-append one more)
 
 -- What it shows is allowed.
 

@@ -19,9 +19,7 @@ use Rattle.rv_machine.specs.Registers.{register}
 use Rattle.rv_machine.specs.declared.observation.Observation.{Observation}
 
 ahead : (p n : ℕ) → 2 * n + 2 < 2 ^ 11 → p + 4 + 4 * n < 2 ^ 32 → branch_target p (2 * n + 2) ≡ p + 4 + 4 * n
-ahead p n near below =
-    let same : sign_extended 13 ((2 * n + 2) * 2) ≡ (2 * n + 2) * 2 = grind (arith, nat_tests) in
-    ap (λ x. sum_of p x) same ∙ (omega (arith, below))
+ahead p n near below = grind (arith, nat_tests)
 
 -- what a jump over a piece shows, where the piece has instructions
 abbrev leave_leak : {M : Type 0} → ℕ → List Instr → List M → List Observation × List M
