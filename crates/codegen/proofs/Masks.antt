@@ -1,16 +1,16 @@
 -- Masks of control values: the registers that have them, how they come there and into their slots, and what is shown
 -- once both of a condition are set.
-use Rattle.std.proofs.Common.{◌≡◌, ℕ, ◌+◌, ◌^◌, ◌<◌, ◌≤◌, ◌==◌, ◌≢◌, Bool, true, false, cond, nat_lt, List, [], ◌∷◌}
+use Rattle.std.proofs.Common.{◌≡◌, ℕ, ◌+◌, ◌^◌, ◌<◌, ◌≤◌, ◌==◌, ◌≢◌, Bool, true, false, cond, nat_lt, List}
 use Rattle.std.proofs.Common.{length, None, Some, refl, sym, ap, ◌∙◌, arith, inl, inr, ◌⊎◌, ◌&&◌, not, ne_eqb}
 use Rattle.std.proofs.lemmas.Bool.{cases_eq, eq-eqb, true≢false}
 use Rattle.codegen.proofs.Machine.{control_offset, number_at, at_home, control_location, fetch_code, InSlot}
-use Rattle.codegen.proofs.Machine.{is_unread, kept_code, read_register, register_of, unless_unread, with_number}
+use Rattle.codegen.proofs.Machine.{is_unread, kept_code, read_register, register_of, unless_unread}
 use Rattle.codegen.proofs.Machine.{home_of, home_of_term, Instr, Sw}
 use Rattle.codegen.proofs.Language.{StraightState, with_controls, TermTree, WordType, types_of, HasType}
 use Rattle.codegen.proofs.Logic.{free_from, none-some, at_control, control_stays, Fetched}
 use Rattle.codegen.proofs.Logic.{fetch_runs, HasRoom, Holds, move_runs, none, slice_get_within, weaken}
 use Rattle.codegen.proofs.Logic.{HeldAt, mask_of, apart, Setting, base_of, Kept, Ready, Wrote, wrote_kept, wrote_there}
-use Rattle.codegen.proofs.Logic.{variables_kept, HomesKept, IsHome, homes_moved, kept_number, home_there, is_free, idle}
+use Rattle.codegen.proofs.Logic.{variables_kept, HomesKept, IsHome, kept_number, home_there, is_free, idle}
 use Rattle.codegen.proofs.Logic.{put, Runs, kept_less, kept_then}
 use Rattle.codegen.proofs.expression_code_lemmas.Moves.{is_left}
 use Rattle.codegen.proofs.expression_code_lemmas.Operands.{put_wrote}

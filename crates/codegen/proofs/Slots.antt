@@ -1,22 +1,23 @@
 -- What is shown once a number of a variable is written, and what is shown after a piece of a statement's code.
-use Rattle.std.proofs.Common.{◌≡◌, ℕ, ◌+◌, ◌*◌, ◌%◌, ◌^◌, ◌<◌, ◌≤◌, ◌==◌, ◌≢◌, ◌-◌, Bool, true, false, cond}
+use Rattle.std.proofs.Common.{◌≡◌, ℕ, ◌+◌, ◌*◌, ◌%◌, ◌^◌, ◌<◌, ◌≤◌, ◌==◌, ◌≢◌, Bool, true, false, cond}
 use Rattle.std.proofs.Common.{if◌then◌else◌, nat_lt, List, [], ◌∷◌, length, None, Some, slice_get, slice_index, refl}
-use Rattle.std.proofs.Common.{sym, ap, ◌∙◌, subst, arith, inl, inr, ◌⊎◌, ◌&&◌, not, ne_eqb, Option, ◌++◌}
+use Rattle.std.proofs.Common.{ap₂, sym, ap, ◌∙◌, subst, arith, inl, inr, ◌⊎◌, ◌&&◌, not, ne_eqb, Option, ◌++◌}
+use Rattle.std.proofs.Math.Path.{fun_ext}
 use Rattle.std.specs.Prelude.{slice_set}
 use Rattle.codegen.proofs.Machine.{variable_offset, control_offset, next_offset, result_offset, ByteMap, number_at}
-use Rattle.codegen.proofs.Machine.{assign_code, byte_count, control_location, home_of_term, home_or, read_code}
+use Rattle.codegen.proofs.Machine.{assign_code, byte_count, home_of_term, home_or, read_code}
 use Rattle.codegen.proofs.Machine.{read_register, store_size, stored_code, stored_register, gives_zero}
-use Rattle.codegen.proofs.Machine.{with_number, slots_to, height_of, home_of, into_code, store_code, Instr, Sw, State}
+use Rattle.codegen.proofs.Machine.{slots_to, height_of, home_of, into_code, store_code, Instr, Sw, State}
 use Rattle.codegen.proofs.Language.{StraightState, with_variable, with_element, FlatVariable, numbers_in, IsWithinKind}
 use Rattle.codegen.proofs.Language.{word_as, TermTree, term_nodes, Boolean, WordType, value_in, types_of, IsHeld, Fits}
 use Rattle.codegen.proofs.Language.{Kind, bits_of, Values, HasType, Suits, Profile}
 use Rattle.codegen.proofs.Logic.{length-set, get_or-set_same, get_or-set_other, set-get_or, All-set, none-some}
-use Rattle.codegen.proofs.Logic.{same_Some, eqb-true, controls_kept, Holds, number_at_apart}
+use Rattle.codegen.proofs.Logic.{same_Some, eqb-true, controls_kept, number_at_apart}
 use Rattle.codegen.proofs.Logic.{number_at-with_number, HeldAt, mask_of, bytes_by, bytes_of, place_of, place_within}
 use Rattle.codegen.proofs.Logic.{ends_before_result, apart_from, elements_apart, Setting, base_of, Kept, Ready, Wrote}
 use Rattle.codegen.proofs.Logic.{wrote_kept, variables_kept, Before, After, Steps, Then, Still, steps_of, into_runs}
 use Rattle.codegen.proofs.Logic.{Held, held_regs, HomesKept, IsHome, ValuedIn, home_beside, home_target, homes_by}
-use Rattle.codegen.proofs.Logic.{homes_moved, kept_number, place_before, place_target, variables_home, is_free, idle}
+use Rattle.codegen.proofs.Logic.{kept_number, place_before, place_target, variables_home, is_free, idle}
 use Rattle.codegen.proofs.Logic.{lt-ltb, works_at, IsTarget, Leaves, put, then_moves, setting, Runs, gives, cheaper}
 use Rattle.codegen.proofs.Logic.{kept_less, kept_by, ready_below, along, home_allowed, home_there, known}
 use Rattle.codegen.proofs.Logic.{none, quiet, ready_after, register-at, value_fits}
@@ -57,16 +58,11 @@ module _ (z : Setting) where
   -- a state that is shown by the same values
   pub ready_same : (one other : StraightState) (s : machine.State) → ((x : ℕ) → one.variables x ≡ other.variables x)
       → ((c : ℕ) → one.controls c ≡ other.controls c) → Ready z one s → Ready z other s
-  ready_same one other s same_variables same_controls ready = record {
-    held = ready.held;
-    fits = λ x d is. subst (λ (l : List ℕ). IsHeld d l) (same_variables x) (ready.fits x d is);
-    homes_there = λ x home d is at. ready.homes_there x home d is at
-        ∙ ap (λ (l : List ℕ). slice_index l 0) (same_variables x);
-    variables_there = λ x d i is away below. ready.variables_there x d i is away below
-        ∙ ap (λ (l : List ℕ). Some (slice_index l i)) (same_variables x);
-    controls_there = λ c below read. subst (λ (b : Bool). Holds z (control_location z.declared z.allocation c) s (mask_of b))
-        (same_controls c) (ready.controls_there c below read);
-  }
+  ready_same one other s same_variables same_controls ready =
+      let same : one ≡ other =
+      ap₂ (λ (m : Values) (c : ℕ → Bool). let env : StraightState = record { variables = m; controls = c } in
+      env) (fun_ext same_variables) (fun_ext same_controls) in
+      subst (λ (env : StraightState). Ready z env s) same ready
 
   -- the numbers of a variable without a home are others, and all that lies outside its words is as it was
   module _ (x : ℕ) (d : FlatVariable) (known : slice_get z.declared x ≡ Some d)
@@ -281,7 +277,8 @@ module _ (z : Setting) where
         | inr at ↦ rw at (cheaper (omega arith)
             (gives {P = Ready z}
             (λ env s t fine ready done.
-            assumption (kept_less z (base_of z) (slot_of z.allocation.count (base_of z) place) s t (omega arith) done.kept))
+            let before = slot_of z.allocation.count (base_of z) place in
+            assumption (kept_less z (base_of z) before s t (omega arith) done.kept))
             (into_runs z (base_of z) (omega arith) (omega arith) has place r target room)))
       ]
 

@@ -5,15 +5,15 @@ use Rattle.std.proofs.Common.{inl, if◌then◌else◌, ◌==◌}
 use Rattle.codegen.proofs.expression_code_lemmas.Below.{along, at_home, array_as, as_code, binary, BinaryOperator}
 use Rattle.codegen.proofs.expression_code_lemmas.Below.{by_test, near_element, Profile, State, StraightState, cheaper}
 use Rattle.codegen.proofs.expression_code_lemmas.Below.{Boolean, choice_code, choice_or_zero_code, chooses_zero, Label}
-use Rattle.codegen.proofs.expression_code_lemmas.Below.{constant_code, convert_code, converted, copy_code, keeps_words}
+use Rattle.codegen.proofs.expression_code_lemmas.Below.{constant_code, convert_code, copy_code, keeps_words}
 use Rattle.codegen.proofs.expression_code_lemmas.Below.{Kind, element_code, expr_code, fetch_code, gives, HasType}
 use Rattle.codegen.proofs.expression_code_lemmas.Below.{height_of, home_of, InSlot, Instr, into_code, left_row, lt-ltb}
 use Rattle.codegen.proofs.expression_code_lemmas.Below.{move_code, none, number_at, number_code, number_row, NumberRow}
 use Rattle.codegen.proofs.expression_code_lemmas.Below.{of_binary, of_conversion, of_element, of_number, of_prefix}
-use Rattle.codegen.proofs.expression_code_lemmas.Below.{of_rotation, of_selection, of_truth, of_variable, only_computes}
+use Rattle.codegen.proofs.expression_code_lemmas.Below.{of_rotation, of_selection, of_truth, of_variable}
 use Rattle.codegen.proofs.expression_code_lemmas.Below.{operand, operated, Path, path_in, Place, prefix_code}
-use Rattle.codegen.proofs.expression_code_lemmas.Below.{prefix_value, registers_after, right_row, rotate_code}
-use Rattle.codegen.proofs.expression_code_lemmas.Below.{rotated_left, select, slots_to, term_nodes, TermTree, types_of}
+use Rattle.codegen.proofs.expression_code_lemmas.Below.{right_row, rotate_code}
+use Rattle.codegen.proofs.expression_code_lemmas.Below.{select, slots_to, term_nodes, TermTree, types_of}
 use Rattle.codegen.proofs.expression_code_lemmas.Below.{value_fits, value_in, Values, variable, variable_offset, weaken}
 use Rattle.codegen.proofs.expression_code_lemmas.Below.{Width, width_of, word_as, word_of, WordType, working_register}
 use Rattle.codegen.proofs.expression_code_lemmas.Events.{by_index}
@@ -355,7 +355,8 @@ module _ (z : Setting) (free : ℕ) (aligned : free % 4 ≡ 0) (above : base_of 
       let pair = spare place d target in
       applied place d target has (omega (arith, room)) (prefix_code d r operator width)
       (omega (arith, prefix_length d r operator width))
-      (prefix_applies pair (works_at count place d) (own place d target) (spare_own place d target) source operator width)
+      (prefix_applies pair (works_at count place d) (own place d target) (spare_own place d target) source
+      operator width)
       (λ m. refl)
       (lies has place room (into_runs has place))
   into_runs (of_binary {place = source} {operator = operator} {width = width} has more makes same) place d target room =

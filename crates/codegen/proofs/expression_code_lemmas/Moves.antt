@@ -20,7 +20,7 @@ use Rattle.rv_code.specs.declared.instructions.Instr.TheVariants as instr
 use Rattle.rv_code.specs.declared.operations.LoadOperation.TheVariants.{Lw}
 use Rattle.rv_code.specs.declared.operations.RegisterOperation.TheVariants.{Add}
 use Rattle.rv_code.specs.declared.operations.UpperOperation.TheVariants.{Lui}
-use Rattle.rv_machine.specs.declared.memory.Size.TheVariants.{Byte, Half, Word}
+use Rattle.rv_machine.specs.declared.memory.Size.TheVariants.{Byte}
 
 -- Registers.
 

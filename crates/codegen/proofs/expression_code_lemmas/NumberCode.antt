@@ -1,6 +1,6 @@
 -- Of the code of an operator with a number in its instruction: that it only computes, and what it makes in its
 -- target, which is what the operator means.
-use Rattle.std.proofs.Common.{◌≡◌, ℕ, ◌+◌, ◌-◌, ◌*◌, ◌/◌, ◌%◌, ◌^◌, ◌<◌, ◌==◌, Bool, true, cond, not, nat_lt, nat_le}
+use Rattle.std.proofs.Common.{◌≡◌, ℕ, ◌+◌, ◌-◌, ◌*◌, ◌/◌, ◌%◌, ◌^◌, ◌<◌, ◌==◌, Bool, true, cond, nat_lt}
 use Rattle.std.proofs.Common.{List, [], Option, None, Some, bit_and, refl, sym, ap, ◌∙◌, ap₂, arith, subst}
 use Rattle.std.proofs.Math.Nat.{mod-le, mul-div_cancel, mul-mod_left}
 use Rattle.std.proofs.lemmas.Nat.{and_comm, or_comm, xor_comm, mod_below, mod-pow-add, leading_top, pow_pos}
@@ -15,7 +15,7 @@ use Rattle.codegen.proofs.expression_code_lemmas.Below.{nat_tests, near_element,
 use Rattle.codegen.proofs.expression_code_lemmas.Below.{number_row, NumberRow, of_number, of_truth, and_mask}
 use Rattle.codegen.proofs.expression_code_lemmas.Below.{both_right, only_computes, operated, path_in, Place}
 use Rattle.codegen.proofs.expression_code_lemmas.Below.{registers_after, chooses_zero, false≢true, is_known_zero}
-use Rattle.codegen.proofs.expression_code_lemmas.Below.{right_row, shift_value, sign_extended, sum_of, TermTree}
+use Rattle.codegen.proofs.expression_code_lemmas.Below.{right_row, shift_value, sign_extended, TermTree}
 use Rattle.codegen.proofs.expression_code_lemmas.Below.{turned_of, Types, value_in, Values, variable_offset, Width}
 use Rattle.codegen.proofs.expression_code_lemmas.Below.{word_of, immediate_value}
 use Rattle.codegen.proofs.expression_code_lemmas.OperatorCode.{cut_composed, cut_plain, cut_value, cut_whole, d0, d32}
@@ -299,7 +299,8 @@ module _ {d t : ℕ} (pair : ArePair d t) (works : ℕ → Bool) (wd : works d �
       (λ zero same. above Unequal n row same (λ v w. grind (arith, nat_tests, eqb-true n 0 zero)))
       (λ same. immediate Unequal n Addi GivesMore (negated W32 n) row same (λ w v below. grind (arith, nat_tests)))
   number_means Less n fits row is = immediate Less n Sltiu Alone n row is (λ w v below. refl)
-  number_means LessOrEqual n fits row is = immediate LessOrEqual n Sltiu Alone (n + 1) row is (λ w v below. grind (arith, nat_tests))
+  number_means LessOrEqual n fits row is =
+      immediate LessOrEqual n Sltiu Alone (n + 1) row is (λ w v below. grind (arith, nat_tests))
   number_means Greater n fits row is =
       of_zero (Means Greater n) n _ _ row is
       (λ zero same. above Greater n row same (λ v w. ap (λ x. word_of (nat_lt x v)) (sym (eqb-true n 0 zero))))

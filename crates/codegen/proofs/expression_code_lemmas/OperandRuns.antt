@@ -1,15 +1,15 @@
 -- Operands of an expression: each is computed into its place, unless it is at home, and is then fetched into its
 -- register.
-use Rattle.std.proofs.Common.{◌≡◌, ◌≢◌, ℕ, zero, suc, ◌+◌, ◌-◌, ◌*◌, ◌%◌, ◌<◌, ◌≤◌, List, [], ◌++◌, Option, None, Some}
-use Rattle.std.proofs.Common.{below_more, is_some, refl, ◌∙◌, arith, cond}
-use Rattle.codegen.proofs.expression_code_lemmas.Below.{along, at_home, cheaper, home_of_term, expr_code, fetch_code}
-use Rattle.codegen.proofs.expression_code_lemmas.Below.{gives, HasType, height_of, idle, Instr, into_code, keep_code}
+use Rattle.std.proofs.Common.{◌≡◌, ◌≢◌, ℕ, zero, suc, ◌+◌, ◌-◌, ◌*◌, ◌%◌, ◌<◌, ◌≤◌, List, [], ◌++◌}
+use Rattle.std.proofs.Common.{inl, inr, below_more, refl, ◌∙◌, arith}
+use Rattle.codegen.proofs.expression_code_lemmas.Below.{along, cheaper, home_of_term, expr_code, fetch_code}
+use Rattle.codegen.proofs.expression_code_lemmas.Below.{gives, HasType, height_of, idle, Instr, into_code}
 use Rattle.codegen.proofs.expression_code_lemmas.Below.{Location, none, operand, path_in, quiet, register_of, seq}
-use Rattle.codegen.proofs.expression_code_lemmas.Below.{slot_of, slots_to, State, StraightState, temporary, term_nodes}
+use Rattle.codegen.proofs.expression_code_lemmas.Below.{slot_of, slots_to, State, StraightState, term_nodes}
 use Rattle.codegen.proofs.expression_code_lemmas.Below.{TermTree, types_of, value_in, WordType, working_register}
 use Rattle.codegen.proofs.expression_code_lemmas.Frame.{Setting, base_of, Steps, Before, Runs, HeldAt}
 use Rattle.codegen.proofs.expression_code_lemmas.WorkRegisters.{IsFree, IsOperand, operand_apart, operand_free}
-use Rattle.codegen.proofs.expression_code_lemmas.WorkRegisters.{operand_not, is_operand, works_in, works_at}
+use Rattle.codegen.proofs.expression_code_lemmas.WorkRegisters.{operand_not, cases_Option, is_operand, works_in, works_at}
 use Rattle.codegen.proofs.expression_code_lemmas.WorkRegisters.{higher_stays, beside_stays, own_stays}
 use Rattle.codegen.proofs.expression_code_lemmas.Operands.{Outcome, fetch_runs, operand_room, keep_runs}
 use Rattle.codegen.proofs.expression_code_lemmas.Homes.{home_there}
@@ -199,56 +199,38 @@ module _ (slots : Slots) where
   abbrev own_code : ℕ → TermTree → List Instr
   own_code place e = into_code z.declared z.allocation free (working_register count place 29) place e
 
-  -- what is so of where an expression's value is, behind its code
-  abbrev Found : TermTree → ℕ → Location → StraightState → State → State → Type 0
-  Found e place l env s t = HeldAt z t × Holds z l t (value_in env.variables e) × Kept z (slot place) s t
-      × Leaves (works_in count place) s t
-
-  kept_there : {e : TermTree} {word : WordType} {n : ℕ} {steps : Steps} {is : List Instr} → Typed e word → (place : ℕ)
-      → HasSlot place
-      → Runs z n steps is (Ready z) (ValuedIn z e free (working_register count place 29) place)
-      → Runs z (n + 3) steps (is ++ keep_code (temporary count free place)) (Ready z)
-      (Found e place (temporary count free place))
-  kept_there {e = e} {word = word} has place room runs =
-      let k = slot place in
-      gives
-      (λ env s t fine ready done.
-      let u = done.middle in
-      let one = done.first in
-      let two = done.second in
-      assumption (
-        kept_then z k s u t one.kept two.2,
-        leaves_then (works_in count place) s u t (λ q h. one.lower q (own_stays count place q few h))
-            (leaves_spare count place 28 u t (omega arith) two.3),
-      ))
-      (quiet runs
-      (keep_runs z free aligned place room (λ env. value_in env.variables e))
-      (λ env s t ready done. assumption (value_word z.code.profile z.declared e word env.variables ready.fits has)))
-
-  -- an expression is in its home, or comes into a place
-  found_there : {e : TermTree} {word : WordType} → Typed e word → (place : ℕ) → HasSlot place → {n : ℕ}
-      → Runs z n (steps_of e) (own_code place e) (Ready z) (ValuedIn z e free (working_register count place 29) place)
-      → Runs z (n + 3) (steps_of e) (expr_code z.declared z.allocation free place e) (Ready z)
-      (Found e place (operand z.allocation free place e))
-  found_there {e = e} has place room {n = n} runs = by_home (home_of_term z.allocation e) refl
-    where
-      by_home : (h : Option ℕ) → home_of_term z.allocation e ≡ h
-          → Runs z (n + 3) (steps_of e)
-          (cond (is_some h) [] (own_code place e ++ keep_code (temporary count free place))) (Ready z)
-          (Found e place (at_home h (temporary count free place)))
-      by_home None at = kept_there has place room runs
-      by_home (Some home) at =
-          let home_is = home_there z has home at in
-          along (λ env. home_is.quiet env.variables)
-          (cheaper {m = 0} (omega arith)
-          (idle (λ env s ready. assumption (home_is.there env s ready))))
-
-  -- so each expression is, where its code is such code behind which its value is in the register of a place
+  -- so each expression is where it is found, if its code brings its value into the register of a place
   pub placed : {e : TermTree} {word : WordType} → Typed e word → (place : ℕ)
       → free + 4 * slots_to count (height_of e + place) ≤ z.size
       → Runs z (16 * term_nodes e - 3) (steps_of e) (own_code place e) (Ready z)
       (ValuedIn z e free (working_register count place 29) place)
       → Lies e place
-  placed {e = e} has place room runs =
-      cheaper (omega (arith, height e))
-      (gives (λ env s t fine ready done. assumption) (found_there has place (omega (arith, room)) runs))
+  placed {e = e} {word = word} has place room runs =
+      elim (cases_Option (home_of_term z.allocation e)) [
+        | inl found ↦
+            let home_is = home_there z has found.0 found.1 in
+            rw found.1 (along (λ env. home_is.quiet env.variables)
+            (cheaper {m = 0} (omega arith)
+            (idle (λ env s ready.
+            let there : Holds z (operand z.allocation free place e) s (value_in env.variables e) =
+            rw found.1 (home_is.there env s ready) in
+            assumption))))
+        | inr at ↦
+            let k = slot place in
+            rw at (cheaper (omega (arith, height e))
+            (gives
+            (λ env s t fine ready done.
+            let u = done.middle in
+            let one = done.first in
+            let two = done.second in
+            let there : Holds z (operand z.allocation free place e) t (value_in env.variables e) = rw at two.1 in
+            assumption (
+              kept_then z k s u t one.kept two.2,
+              leaves_then (works_in count place) s u t (λ q h. one.lower q (own_stays count place q few h))
+                  (leaves_spare count place 28 u t (omega arith) two.3),
+            ))
+            (quiet runs
+            (keep_runs z free aligned place (omega (arith, room)) (λ env. value_in env.variables e))
+            (λ env s t ready done.
+            assumption (value_word z.code.profile z.declared e word env.variables ready.fits has)))))
+      ]

@@ -1,6 +1,6 @@
 -- Temporaries: how an operator's are fetched, worked on and kept.
-use Rattle.std.proofs.Common.{◌≡◌, ◌≢◌, ℕ, ◌+◌, ◌-◌, ◌*◌, ◌/◌, ◌%◌, ◌^◌, ◌<◌, ◌≤◌, ◌==◌, Bool, true, false, cond}
-use Rattle.std.proofs.Common.{nat_lt, List, [], ◌∷◌, length, Some, refl, sym, ap, ap₂, ◌∙◌, subst, arith, ne_eqb}
+use Rattle.std.proofs.Common.{◌≡◌, ◌≢◌, ℕ, ◌+◌, ◌*◌, ◌%◌, ◌^◌, ◌<◌, ◌≤◌, Bool, true, false, cond}
+use Rattle.std.proofs.Common.{nat_lt, List, [], ◌∷◌, length, Some, refl, ap, ap₂, ◌∙◌, subst, arith, ne_eqb}
 use Rattle.codegen.proofs.expression_code_lemmas.Below.{Allocation, along, BinaryOperator, cheaper, cut_code}
 use Rattle.codegen.proofs.expression_code_lemmas.Below.{divide_value, divided, DivideOperation, emitted_operator}
 use Rattle.codegen.proofs.expression_code_lemmas.Below.{IsWithinKind, Profile, WordType, fetch_code, gives, idle}

@@ -109,8 +109,9 @@ pub record Applies (works : ℕ → Bool) (r bound d : ℕ) (is : List Instr) (f
   pub plain : only_computes works is ≡ true
   pub made : (regs : ℕ → ℕ) → regs r < bound → registers_after is regs d ≡ f (regs r)
 
-applies_then : {works : ℕ → Bool} {r bound m other d : ℕ} {is js : List Instr} {f g : ℕ → ℕ} → Applies works r bound m is f
-    → Applies works m other d js g → ((v : ℕ) → v < bound → f v < other) → Applies works r bound d (is ++ js) (λ v. g (f v))
+applies_then : {works : ℕ → Bool} {r bound m other d : ℕ} {is js : List Instr} {f g : ℕ → ℕ}
+    → Applies works r bound m is f → Applies works m other d js g → ((v : ℕ) → v < bound → f v < other)
+    → Applies works r bound d (is ++ js) (λ v. g (f v))
 applies_then {works = works} {r = r} {other = other} {d = d} {is = is} {js = js} {g = g} one two below = record {
   plain = plain_append works is js one.plain two.plain;
   made = λ regs fits.
@@ -197,7 +198,8 @@ module _ {d t : ℕ} (pair : ArePair d t) where
     module _ {q : ℕ} (source : IsFree q) where
       pub move_applies : Applies works q (2 ^ 32) d (move_code d q) (λ v. v)
       move_applies =
-          cond_both (d == q) [] (instr.Immediate Addi d q 0 ∷ []) (λ (is : List Instr). Applies works q (2 ^ 32) d is (λ v. v))
+          cond_both (d == q) [] (instr.Immediate Addi d q 0 ∷ [])
+          (λ (is : List Instr). Applies works q (2 ^ 32) d is (λ v. v))
           (λ e. record { plain = refl; made = λ regs fits. ap regs (eqb-true d q e) })
           (λ e. record {
             plain = simp (d32, q32 source, wd);
@@ -231,7 +233,8 @@ module _ {d t : ℕ} (pair : ArePair d t) where
             ∙ (cut_difference w 0 v fits ∙ ap (λ x. x % 2 ^ bits w) less));
       }
 
-      around_applies : q ≢ t → (w : Width) (amount : ℕ) → amount < bits w → Applies works q (2 ^ bits w) d (around_by q w amount)
+      around_applies : q ≢ t → (w : Width) (amount : ℕ) → amount < bits w
+          → Applies works q (2 ^ bits w) d (around_by q w amount)
           (λ v. (v * 2 ^ amount + v / 2 ^ (bits w - amount)) % 2 ^ bits w)
       around_applies apart w amount within =
           cond_both (amount == 0) (move_code d q) (moved_around q w amount)

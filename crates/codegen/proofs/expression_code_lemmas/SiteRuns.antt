@@ -1,7 +1,7 @@
 -- The law of expressions: the code of one, at a site.
-use Rattle.std.proofs.Common.{◌≡◌, ℕ, ◌+◌, ◌<◌, List, [], Some, sym, ap, arith, append-nil, false, nat_lt, subst, All}
-use Rattle.codegen.proofs.expression_code_lemmas.Below.{HasType, InRegister, InSlot, IsComputed, IsInside, IsSiteOf}
-use Rattle.codegen.proofs.expression_code_lemmas.Below.{Leads, Location, ltb-false, ltb-true, Observation, operand}
+use Rattle.std.proofs.Common.{◌≡◌, ℕ, ◌+◌, ◌<◌, List, [], Some, sym, ap, arith, append-nil, false, nat_lt}
+use Rattle.codegen.proofs.expression_code_lemmas.Below.{HasType, InRegister, InSlot, IsComputed, IsSiteOf}
+use Rattle.codegen.proofs.expression_code_lemmas.Below.{Location, ltb-false, ltb-true, Observation, operand}
 use Rattle.codegen.proofs.expression_code_lemmas.Below.{Path, path_in, Site, slot_of, State, StraightState, TermTree}
 use Rattle.codegen.proofs.expression_code_lemmas.Below.{types_of, value_in, Values, word_in, WordType, ends_on}
 use Rattle.codegen.specs.expression_code.Computed.{temporary_in}

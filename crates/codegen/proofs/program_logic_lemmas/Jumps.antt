@@ -18,7 +18,7 @@ use Rattle.rv_code.specs.declared.operations.BranchTest.TheVariants.{Bne}
 use Rattle.codegen.proofs.program_logic_lemmas.Below.{with_link-pc, with_link-regs, with_link-bytes, moved_to-pc}
 use Rattle.codegen.proofs.program_logic_lemmas.Below.{moved_to-regs, moved_to-bytes, jump_leads, branch_leads}
 use Rattle.codegen.proofs.program_logic_lemmas.Below.{branch_passes}
-use Rattle.rv_machine.specs.Effects.{holds, jump_target, branch_target, sign_extended, sum_of}
+use Rattle.rv_machine.specs.Effects.{holds, jump_target, branch_target}
 use Rattle.rv_machine.specs.Machine.{State, with_link, moved_to, next}
 use Rattle.rv_machine.specs.Registers.{register, with_register}
 use Rattle.rv_machine.specs.declared.observation.Observation.{Observation}

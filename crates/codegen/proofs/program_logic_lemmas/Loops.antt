@@ -15,7 +15,7 @@ use Rattle.rv_code.specs.Words.{IsInstr}
 use Rattle.rv_code.specs.declared.instructions.Instr.{Instr}
 use Rattle.rv_code.specs.declared.instructions.Instr.TheVariants as instr
 use Rattle.rv_code.specs.declared.operations.BranchTest.TheVariants.{Bne}
-use Rattle.rv_machine.specs.Effects.{branch_target, sign_extended, sum_of}
+use Rattle.rv_machine.specs.Effects.{branch_target}
 use Rattle.rv_machine.specs.Machine.{State}
 use Rattle.rv_machine.specs.Registers.{register}
 

@@ -1,6 +1,6 @@
 -- Of two pieces one, by a test of two registers: a branch jumps over the first piece where they pass it.
 use Rattle.std.proofs.Common.{true, false, ◌≡◌, ◌≢◌, ℕ, ◌+◌, ◌*◌, ◌^◌, ◌<◌, ◌==◌, if◌then◌else◌, List, [], ◌∷◌, ◌++◌}
-use Rattle.std.proofs.Common.{length, refl, sym, subst, ap, ◌∙◌, arith, length-append, eq-eqb, ne_eqb}
+use Rattle.std.proofs.Common.{length, refl, sym, subst, ◌∙◌, arith, length-append, eq-eqb, ne_eqb}
 use Rattle.std.proofs.lemmas.Bool.Decides.{nat_tests}
 use Rattle.codegen.proofs.program_logic_lemmas.Jumps.{Way, arm_runs, by_known, over_ends, shown_at, taken_ends}
 use Rattle.codegen.proofs.program_logic_lemmas.Jumps.{untaken_ends}
@@ -13,7 +13,7 @@ use Rattle.rv_code.specs.Words.{IsInstr}
 use Rattle.rv_code.specs.declared.instructions.Instr.{Instr}
 use Rattle.rv_code.specs.declared.instructions.Instr.TheVariants as instr
 use Rattle.rv_code.specs.declared.operations.BranchTest.{BranchTest}
-use Rattle.rv_machine.specs.Effects.{branch_target, holds, sign_extended, sum_of}
+use Rattle.rv_machine.specs.Effects.{branch_target, holds}
 use Rattle.rv_machine.specs.Machine.{State}
 use Rattle.rv_machine.specs.Registers.{register}
 use Rattle.rv_machine.specs.declared.observation.Observation.{Observation}
