@@ -1,6 +1,6 @@
 -- The code that sets an element of an array, or fills an array with values.
-use Rattle.std.proofs.Common.{◌≡◌, ℕ, ◌+◌, ◌*◌, ◌%◌, ◌<◌, ◌≤◌, ◌==◌, Bool, true, false, cond, List, [], ◌∷◌, ◌++◌}
-use Rattle.std.proofs.Common.{inl, inr, length, map, None, Some, slice_get, refl, sym, ap, ◌∙◌, subst, arith, eq-eqb}
+use Rattle.std.proofs.Common.{◌≡◌, ℕ, ◌+◌, ◌*◌, ◌%◌, ◌<◌, ◌≤◌, ◌==◌, Bool, true, false, cond, List, [], ◌∷◌, ◌++◌, inl}
+use Rattle.std.proofs.Common.{inr, length, map, None, Some, slice_get, refl, sym, ap, ◌∙◌, subst, arith, eq-eqb}
 use Rattle.std.proofs.Common.{append_assoc, length-append}
 use Rattle.std.proofs.lemmas.Bool.{cases_Bool, cond_both}
 use Rattle.std.specs.Prelude.{slice_set}
@@ -37,7 +37,7 @@ offered_element z r low kind o even room =
     let bytes = store_bytes kind in
     gives
     (λ env s t fine held wrote. subst (λ n. Wrote z n o (register s.regs r) s t) bytes wrote)
-    (offered_put z (store_by kind) r o low (ap (λ n. o % n) bytes ∙ even) (omega (arith, room, bytes)))
+    (offered_put z (store_by kind) r o low (ap (λ n. o % n) bytes ∙ even) (omega arith))
 
 -- a value into an element of a fixed place
 one_at : (z : Setting) (depth : ℕ) → depth ≤ z.depths → (x size : ℕ) (word : WordType) (mutable : Bool)
@@ -69,7 +69,7 @@ one_at z depth within x size word mutable known k e below suits room =
     record {
       ready = ready_put z x k v w d known (z.allocated.words x d size known refl) below fits env m t
           (ready_offered z other env s m ready done.first) wrote (is_cut.cut env.variables fits);
-      hidden = hidden_valued z depth within other env n at w s m t (omega (arith, before)) done.first wrote;
+      hidden = hidden_valued z depth within other env n at w s m t (omega arith) done.first wrote;
     })
     (quiet (offered_runs z is_cut.has_type (omega (arith, room, height)))
     (offered_element z r (offered_low z other) word.kind at (place_even z.declared x d k)
@@ -128,15 +128,15 @@ module _ (z : Setting) (depth : ℕ) (place : Place) (x size : ℕ) (index value
       let v = value_in env.variables value in
       let w = value_in env.variables put_value in
       let six : m.regs value_register ≡ w =
-      one.others value_register (value_beside z access) (λ e. omega (arith, source.high, e)) ∙ aimed.six in
+      one.others value_register (value_beside z access) (omega arith) ∙ aimed.six in
       let fits = suits_fits z.code.profile z.declared typed.word value env.variables aimed.ready.fits typed.suits in
       let end = put_at z access i v w below fits (is_cut.cut env.variables fits) env s m t aimed.ready one.held one.same
       (homes_beside z 5 s m refl one.others)
       (wrote_as z (element_bytes kind) (element_at z access i) (m.regs value_register) w m t six done.second) in
       (end.0, λ is. subst (λ j. Ready z (with_element env x j v) t) (sym is) end.1))
       (quiet (addressed_at z access i below)
-      (stores z access value_register (let source = value_source z access in omega (arith, source.high))
-      (λ e. let source = value_source z access in omega (arith, source.low, e)) i below)
+      (stores z access value_register (omega (arith, (value_source z access).high))
+      (omega (arith, (value_source z access).low)) i below)
       (λ env s t aimed done. (done.held, done.address))))))
 
   -- where the store holds the element's offset the value is read as a first temporary
@@ -153,7 +153,7 @@ module _ (z : Setting) (depth : ℕ) (place : Place) (x size : ℕ) (index value
       (λ i o below is near.
       as_code (ap near_stored (sym is))
       (one_at z depth within x size typed.word typed.mutable typed.known i value below typed.suits
-      (omega (arith, room))))
+      (omega arith)))
       put_far)
 
 -- All elements, at fixed places.
@@ -207,11 +207,11 @@ module _ (z : Setting) (depth : ℕ) (within : depth ≤ z.depths) (x size : ℕ
       (seq
       (as_code (ap (λ p. into_element_code z.declared z.allocation (base_of z) word.kind p
       (stored_value z.allocation word.kind e)) is)
-      (one_runs k e (omega (arith, few)) suits.0 (omega (arith, room))))
+      (one_runs k e (omega arith) suits.0 (omega arith)))
       (along (λ env. one_path_all (types_but z.code.profile z.declared x) env.variables (step k e env).variables
       (λ y f there seen. unread z.code.profile z.declared x env.variables _ y f there) word es suits.1)
-      (beside (step k e) (fill_from (k + 1) (o + element_bytes word.kind) es (omega (arith, is)) suits.1
-      (omega (arith, few)) (omega (arith, room)))))
+      (beside (step k e) (fill_from (k + 1) (o + element_bytes word.kind) es (omega arith) suits.1
+      (omega arith) (omega arith))))
       (λ env s t ready done. done.ready)))
 
   -- What is held then.
@@ -231,7 +231,7 @@ module _ (z : Setting) (depth : ℕ) (within : depth ≤ z.depths) (x size : ℕ
       (λ same. ap env.variables (eqb-true y x same)
       ∙ (is ∙ ap (λ (b : List ℕ). front ++ b) (nil_from_length back short)))
       (λ other. refl)
-  filled_is k (e ∷ es) env front [] suits is long short y = absurd (omega (arith, short))
+  filled_is k (e ∷ es) env front [] suits is long short y = absurd (omega arith)
   filled_is k (e ∷ es) env front (b ∷ back) suits is long short y =
       let v = value_in env.variables e in
       let own : (step k e env).variables x ≡ slice_set (env.variables x) k v = rw (eq-eqb x x refl) refl in
@@ -239,8 +239,8 @@ module _ (z : Setting) (depth : ℕ) (within : depth ≤ z.depths) (x size : ℕ
       subst (λ n. slice_set (front ++ b ∷ back) n v ≡ front ++ v ∷ back) long (set-append_seam front b back v) in
       let all = own ∙ (ap (λ (l : List ℕ). slice_set l k v) is ∙ (seam ∙ sym (append_assoc front (v ∷ []) back))) in
       let more = length-append front (v ∷ []) in
-      filled_is (k + 1) es (step k e env) (front ++ v ∷ []) back suits.1 all (omega (arith, more, long))
-      (omega (arith, short)) y
+      filled_is (k + 1) es (step k e env) (front ++ v ∷ []) back suits.1 all (omega arith)
+      (omega arith) y
       ∙ elim (cases_Bool (y == x)) [
         | inl same ↦ rw same (append_assoc front (v ∷ []) (map (value_in (step k e env).variables) es)
             ∙ ap (λ (vs : List ℕ). front ++ v ∷ vs)
@@ -273,4 +273,4 @@ fill_runs z depth x size e es typed room within =
       hidden = done.hidden;
     })
     (fill_from z depth within x size typed.word typed.mutable typed.known 0 (variable_offset z.declared x) values
-    (omega arith) typed.suit (omega (arith, long)) room)))
+    (omega arith) typed.suit (omega arith) room)))

@@ -3,9 +3,9 @@ use Rattle.std.proofs.Common.{◌≡◌, ℕ, ◌+◌, ◌*◌, ◌%◌, ◌^◌
 use Rattle.std.proofs.Common.{slice_index, refl, sym, ap, ◌∙◌, subst, arith, inl, inr}
 use Rattle.codegen.proofs.Language.{FlatVariable, StraightState, with_element, element_bytes, TermTree, array_as}
 use Rattle.codegen.proofs.Language.{term_nodes, value_in, after, IsPut, Kind, bits_of, Place, types_of}
-use Rattle.codegen.proofs.Logic.{lower_fits, steps_of, homes_beside, load_bytes, load_plain, loading}
-use Rattle.codegen.proofs.Logic.{place_of, place_even, place_ends, Setting, base_of, none, Runs, gives, cheaper}
-use Rattle.codegen.proofs.Logic.{as_code, number_or_zero, Ready, Wrote, near_address, Fetched, free_from, weaken}
+use Rattle.codegen.proofs.Logic.{lower_fits, steps_of, homes_beside, load_bytes, load_plain, loading, place_of}
+use Rattle.codegen.proofs.Logic.{place_even, place_ends, Setting, base_of, none, Runs, gives, cheaper, as_code}
+use Rattle.codegen.proofs.Logic.{number_or_zero, Ready, Wrote, near_address, Fetched, free_from, weaken}
 use Rattle.codegen.proofs.Machine.{code_by, near_element, slots_to, load_by, number_at, sign_extended, sum_of}
 use Rattle.codegen.proofs.Machine.{put_under_code, put_under_near_code, statement_code, variable_offset}
 use Rattle.codegen.proofs.Machine.{control_location, is_unread, Location, lower_part, address_of, index_code}
@@ -64,14 +64,14 @@ module _ (z : Setting) (depth : ℕ) (place : Place) (x size : ℕ) (index value
       (λ env s fine given. (given.0.held, given.1))
       (λ env s t fine given load. record {
         held = load.0;
-        there = is_written s.regs q _ load.1.regs (λ e. omega (arith, low, e))
+        there = is_written s.regs q _ load.1.regs (omega arith)
             ∙ (load_plain kind _ ∙ ap number_or_zero (ap (λ k. number_at s.bytes k (z.frame + place_at i)) n
             ∙ given.0.variables_there x array i typed.known (away z access) below));
         others = is_left s.regs q _ load.1.regs;
         same = load.1.bytes;
       })
       (loading z rs field (place_at i) small fits (load_by kind) q low high
-      (ap (λ m. place_at i % m) n ∙ place_even z.declared x array i) (omega (arith, h, n)))
+      (ap (λ m. place_at i % m) n ∙ place_even z.declared x array i) (omega arith))
 
   -- at an index in a register
   under_far : Puts z access (Some c) value (index_code z.declared z.allocation (base_of z) index value
@@ -94,23 +94,23 @@ module _ (z : Setting) (depth : ℕ) (place : Place) (x size : ℕ) (index value
       ))
       (number_under z depth within c among read x i array typed.known (away z access) below new_value new_fits
       {New = λ regs v. regs r ≡ v} {Aims = λ regs. address_of regs 5 (lower_part offset) ≡ z.frame + place_at i} 7 29 6
-      (omega arith) (omega arith) (free_from 29 (omega arith) (omega arith)) six (λ e. omega (arith, e))
+      (omega arith) (omega arith) (free_from 29 (omega arith) (omega arith)) six (omega arith)
       (inr (omega arith))
-      (λ regs after v same there. same r (source_apart z source 7 (omega arith) (λ e. omega (arith, e)))
-      (λ e. omega (arith, source.high, e)) ∙ there)
+      (λ regs after v same there. same r (source_apart z source 7 (omega arith) (omega arith))
+      (omega arith) ∙ there)
       (λ regs after same aims. ap (λ b. sum_of b (sign_extended 12 (lower_part offset)))
-      (same 5 (λ e. omega (arith, e)) (λ e. omega (arith, e)) (λ e. omega (arith, e))) ∙ aims)
+      (same 5 (omega arith) (omega arith) (omega arith)) ∙ aims)
       (old_runs i 5 (lower_part offset) 7 below (omega arith) (lower_fits offset) (omega arith) (omega arith))
       (merges (λ q. q == 6) 6 6 7 k refl refl six six seven (mask_free z c 29 (omega arith) (omega arith))
-      (λ e. omega (arith, e)) (mask_apart z c 29 6 (omega arith) (λ e. omega (arith, e))) r
-      (free_from r (omega (arith, source.low)) (omega (arith, source.high))))
-      (stores z access 6 (omega arith) (λ e. omega (arith, e)) i below)
+      (omega arith) (mask_apart z c 29 6 (omega arith) (omega arith)) r
+      (free_from r (omega arith) (omega arith)))
+      (stores z access 6 (omega arith) (omega arith) i below)
       (gives
       (λ env s t fine aimed one. (
         (
           ready_with z env s t aimed.ready one.held one.same (homes_beside z 5 s t refl one.others),
           hidden_by z depth s t one.same,
-          one.others r (value_beside z access) (λ e. omega (arith, source.high, e)) ∙ aimed.six,
+          one.others r (value_beside z access) (omega arith) ∙ aimed.six,
         ),
         one.address,
       ))
@@ -131,28 +131,28 @@ module _ (z : Setting) (depth : ℕ) (place : Place) (x size : ℕ) (index value
       cheaper (omega arith)
       (number_under z depth within c among read x i array typed.known (away z access) below new_value new_fits
       {New = λ regs v. regs r ≡ v} {Aims = λ regs. Unit {0}} 6 7 5 (omega arith) (omega arith)
-      (free_from 7 (omega arith) (omega arith)) five (λ e. omega (arith, e)) (inl (omega arith))
-      (λ regs after v same there. same r (source_apart z source 6 (omega arith) (λ e. omega (arith, e)))
-      (source_apart z source 7 (omega arith) (λ e. omega (arith, e))) ∙ there)
+      (free_from 7 (omega arith) (omega arith)) five (omega arith) (inl (omega arith))
+      (λ regs after v same there. same r (source_apart z source 6 (omega arith) (omega arith))
+      (source_apart z source 7 (omega arith) (omega arith)) ∙ there)
       (λ regs after same aims. aims)
       (weaken
       (λ env s fine given. (
         given.0,
         ap (λ b. sum_of b (sign_extended 12 o)) given.0.held.base
-            ∙ (near_address z.frame o near (omega (arith, h, z.ends, is)) ∙ ap (λ a. z.frame + a) (sym is)),
+            ∙ (near_address z.frame o near (omega arith) ∙ ap (λ a. z.frame + a) (sym is)),
       ))
       (λ env s t fine given done. done)
-      (old_runs i 2 o 6 below (omega arith) (omega (arith, near)) (omega arith) (omega arith)))
+      (old_runs i 2 o 6 below (omega arith) (omega arith) (omega arith) (omega arith)))
       (merges (λ q. q == 5) 5 5 6 k refl refl five five six (mask_free z c 7 (omega arith) (omega arith))
-      (λ e. omega (arith, e)) (mask_apart z c 7 5 (omega arith) (λ e. omega (arith, e))) r
-      (free_from r source.low (omega (arith, source.high))))
+      (omega arith) (mask_apart z c 7 5 (omega arith) (omega arith)) r
+      (free_from r source.low (omega arith)))
       (weaken
       (λ env s fine given. given.0)
       (λ env s t fine given wrote. subst (λ a. Wrote z (element_bytes kind) a (s.regs 5) s t) (sym is) wrote)
       (offered_element z 5 (omega arith) kind o
-      (ap (λ a. a % element_bytes kind) (sym is) ∙ place_even z.declared x array i) (omega (arith, h, is))))
+      (ap (λ a. a % element_bytes kind) (sym is) ∙ place_even z.declared x array i) (omega arith)))
       (gives (λ env s t fine ready done. (done, tt))
-      (read_begun z depth within c among read typed.suits.has_type (omega (arith, room)))))
+      (read_begun z depth within c among read typed.suits.has_type (omega arith))))
 
   pub put_under_runs : Puts z access (Some c) value (statement_code z.declared z.allocation z.controls z.depths depth
       (straight.put (Some c) place x size index value))

@@ -1,15 +1,14 @@
 -- Where an element of an array lies, and how its index and a value for it come into registers.
-use Rattle.std.proofs.Common.{◌≡◌, ℕ, ◌+◌, ◌*◌, ◌%◌, ◌^◌, ◌<◌, ◌≤◌, Bool, if◌then◌else◌, List, []}
-use Rattle.std.proofs.Common.{◌∷◌, ◌++◌, Option, None, Some, slice_get, refl, sym, ap, ap₂, subst, ◌∙◌, arith, ◌≢◌}
-use Rattle.std.proofs.Common.{append_assoc}
+use Rattle.std.proofs.Common.{◌≡◌, ℕ, ◌+◌, ◌*◌, ◌%◌, ◌^◌, ◌<◌, ◌≤◌, Bool, if◌then◌else◌, List, [], ◌∷◌, ◌++◌, Option}
+use Rattle.std.proofs.Common.{None, Some, slice_get, refl, sym, ap, ap₂, subst, ◌∙◌, arith, ◌≢◌, append_assoc}
 use Rattle.codegen.proofs.Language.{FlatVariable, StraightState, with_element, element_bytes, TermTree, array_as}
 use Rattle.codegen.proofs.Language.{term_nodes, value_in, path_in, indexed, WordType, Kind, Boolean, bits_of, Place}
 use Rattle.codegen.proofs.Language.{HasType, counter_type, holds, path_at, put, IsPut, types_of}
 use Rattle.codegen.proofs.Logic.{register-at, lower_fits, Addressed, address_runs, steps_of, kind_known, HomesKept}
 use Rattle.codegen.proofs.Logic.{homes_by, HeldAt, free_from, storing, place_of, place_even, place_before, place_ends}
 use Rattle.codegen.proofs.Logic.{Setting, setting, base_of, Known, by_index, by_known_index, by_option, none, Runs}
-use Rattle.codegen.proofs.Logic.{quiet, weaken, gives, as_code}
-use Rattle.codegen.proofs.Logic.{Ready, Wrote, NearElement, near_known, known, along, cheaper}
+use Rattle.codegen.proofs.Logic.{quiet, weaken, gives, as_code, Ready, Wrote, NearElement, near_known, known, along}
+use Rattle.codegen.proofs.Logic.{cheaper}
 use Rattle.codegen.proofs.Machine.{store_by, slots_to, kind_at, Instr, variable_offset, home_of, lower_part, store_size}
 use Rattle.codegen.proofs.Machine.{address_of, byte_count, index_code, read_code, read_register, height_of_put}
 use Rattle.codegen.proofs.Machine.{address_code, with_number, code_by, near_element}
@@ -103,7 +102,7 @@ module _ (z : Setting) (access : ElementAccess z) where
 
   -- the value is not in the register of the first temporary
   pub value_beside : value_register ≢ 5
-  value_beside = source_apart z value_source 5 (omega arith) (λ e. omega (arith, e))
+  value_beside = source_apart z value_source 5 (omega arith) (omega arith)
 
   -- an index and a value are in their registers
   pub record Aimed (i : ℕ) (env : StraightState) (s : machine.State) : Type 0 where
@@ -117,10 +116,10 @@ module _ (z : Setting) (access : ElementAccess z) where
   addressed_at i below =
       let h = place_ends z access.x array i access.known below in
       weaken
-      (λ env s fine aimed. (aimed.ready.held, aimed.five, omega (arith, h, z.ends)))
+      (λ env s fine aimed. (aimed.ready.held, aimed.five, omega arith))
       (λ env s t fine aimed done. done)
       (address_runs z 5 index_register (free_from 5 (omega arith) (omega arith))
-      (free_from index_register index_source.low (omega (arith, index_source.high))) (λ e. omega (arith, e))
+      (free_from index_register index_source.low (omega (arith, index_source.high))) (omega arith)
       kind offset (λ env. i))
 
   -- a register into an element
@@ -139,7 +138,7 @@ module _ (z : Setting) (access : ElementAccess z) where
         homes = homes_by z s t done.1.regs;
       })
       (storing z 5 (lower_part offset) (element_at i) (omega arith) (lower_fits offset) (store_by kind) r small
-      (ap (λ m. element_at i % m) n ∙ place_even z.declared access.x array i) (omega (arith, h, n)))
+      (ap (λ m. element_at i % m) n ∙ place_even z.declared access.x array i) (omega arith))
 
   -- what an element's store leaves, where only registers had changed before
   pub put_at : (i v w : ℕ) → i < access.size → v < 2 ^ bits_of kind → w % 256 ^ element_bytes kind ≡ v
@@ -149,7 +148,7 @@ module _ (z : Setting) (access : ElementAccess z) where
   put_at i v w below fits cut env s m t ready held same homes wrote =
       let b = place_before z access.x array i access.known below in (
         hidden_then z access.depth s m t (hidden_by z access.depth s m same)
-            (hidden_wrote z access.depth (element_bytes kind) (element_at i) w m t (omega (arith, b)) wrote),
+            (hidden_wrote z access.depth (element_bytes kind) (element_at i) w m t (omega arith) wrote),
         ready_put z access.x i v w array access.known away below fits env m t
             (ready_with z env s m ready held same homes) wrote cut,
       )
@@ -166,7 +165,7 @@ module _ (z : Setting) (access : ElementAccess z) where
       (λ env s fine given. given.given)
       (λ env s t fine given both.
       assumption (both.first_there ∙ given.is, hidden_kept z access.depth s t access.within both.kept))
-      (second_runs z access.index access.value access.value_type (omega (arith, access.room)))
+      (second_runs z access.index access.value access.value_type (omega arith))
 
   -- The index, and behind its mark what is done at it.
   pub at_element : {n : ℕ} {tail : List Instr} (change : StraightState → StraightState)
@@ -181,7 +180,7 @@ module _ (z : Setting) (access : ElementAccess z) where
   at_element {tail = tail} change act =
       as_code (append_assoc (read_code z.declared z.allocation (base_of z) 5 0 access.index)
       (read_code z.declared z.allocation (base_of z) 6 1 access.value) tail)
-      (read_then z access.depth access.within access.index_type (omega (arith, access.room))
+      (read_then z access.depth access.within access.index_type (omega arith)
       (by_index z {P = FirstRead z access.index} access.place access.size number_of
       (λ i below.
       gives {R = Shown z access.depth change}
@@ -222,7 +221,7 @@ module _ (z : Setting) (access : ElementAccess z) where
             let number_is = λ (env : StraightState). known access.index near.i near.is env.variables in
             along (λ env. ap (λ p. p ++ indexed access.place access.size (number_of env)
             ∷ path_in env.variables value) (number_is env).1)
-            (cheaper (omega (arith, few))
+            (cheaper (omega arith)
             (by_known_index z access.place access.size number_of near.i (λ env. (number_is env).0)
             (λ below. gives
             (λ env s t fine ready done. record {

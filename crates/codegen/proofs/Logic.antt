@@ -4,21 +4,20 @@ pub use Rattle.branch_removal.proofs.Values.{all_values, one_path_all}
 pub use Rattle.codegen.proofs.expression_code_lemmas.Arithmetic.{lower_fits, mask_fits, mask_of, mask_otherwise}
 pub use Rattle.codegen.proofs.expression_code_lemmas.Arithmetic.{mask_when, masks_join, merge, merged, near_address}
 pub use Rattle.codegen.proofs.expression_code_lemmas.Below.{after_append, All-one, along, along_fit, as_code, beside}
-pub use Rattle.codegen.proofs.expression_code_lemmas.Below.{branching_at, by_mark, cheaper, gives, idle, Known}
-pub use Rattle.codegen.proofs.expression_code_lemmas.Below.{looping, never, none, number_or_zero, only_computes}
-pub use Rattle.codegen.proofs.expression_code_lemmas.Below.{Placed, Placed-left, Placed-right, plain_append, quiet}
-pub use Rattle.codegen.proofs.expression_code_lemmas.Below.{quietly, registers_after, seq, Still, Straight, Then}
-pub use Rattle.codegen.proofs.expression_code_lemmas.Below.{weaken}
+pub use Rattle.codegen.proofs.expression_code_lemmas.Below.{branching_at, by_mark, cheaper, gives, idle, Known, looping}
+pub use Rattle.codegen.proofs.expression_code_lemmas.Below.{never, none, number_or_zero, only_computes, Placed}
+pub use Rattle.codegen.proofs.expression_code_lemmas.Below.{Placed-left, Placed-right, plain_append, quiet, quietly}
+pub use Rattle.codegen.proofs.expression_code_lemmas.Below.{registers_after, seq, Still, Straight, Then, weaken}
 pub use Rattle.codegen.proofs.expression_code_lemmas.Elements.{address_runs, Addressed, load_bytes, load_plain}
 pub use Rattle.codegen.proofs.expression_code_lemmas.Events.{by_bounds, by_index, by_known_index, condition_kind}
 pub use Rattle.codegen.proofs.expression_code_lemmas.ExpressionRuns.{into_runs}
-pub use Rattle.codegen.proofs.expression_code_lemmas.Frame.{After, base_of, Before, by_option, frame_runs}
-pub use Rattle.codegen.proofs.expression_code_lemmas.Frame.{frame_there, Held, held_regs, HeldAt, Runs, seen_by}
-pub use Rattle.codegen.proofs.expression_code_lemmas.Frame.{Setting, setting, Steps}
+pub use Rattle.codegen.proofs.expression_code_lemmas.Frame.{After, base_of, Before, by_option, frame_runs, frame_there}
+pub use Rattle.codegen.proofs.expression_code_lemmas.Frame.{Held, held_regs, HeldAt, Runs, seen_by, Setting, setting}
+pub use Rattle.codegen.proofs.expression_code_lemmas.Frame.{Steps}
 pub use Rattle.codegen.proofs.expression_code_lemmas.Homes.{home_there}
 pub use Rattle.codegen.proofs.expression_code_lemmas.Moves.{computing_within, does, is_free, loading, move_runs}
 pub use Rattle.codegen.proofs.expression_code_lemmas.Moves.{moves_run, none_low, put, register-at, storing, take}
-pub use Rattle.codegen.proofs.expression_code_lemmas.Moves.{then_moves, unwritten, written}
+pub use Rattle.codegen.proofs.expression_code_lemmas.Moves.{unwritten, written}
 pub use Rattle.codegen.proofs.expression_code_lemmas.NumberCode.{known, near_known, NearElement}
 pub use Rattle.codegen.proofs.expression_code_lemmas.OperandRuns.{steps_of}
 pub use Rattle.codegen.proofs.expression_code_lemmas.Operands.{fetch_runs, Fetched, HasRoom, took}
@@ -32,12 +31,12 @@ pub use Rattle.codegen.proofs.expression_code_lemmas.TermLengths.{address_length
 pub use Rattle.codegen.proofs.expression_code_lemmas.TermLengths.{fetch_length, height, into_length, load_length}
 pub use Rattle.codegen.proofs.expression_code_lemmas.TermLengths.{move_length, one_of, store_length, typed_among}
 pub use Rattle.codegen.proofs.expression_code_lemmas.TermLengths.{typed_within}
-pub use Rattle.codegen.proofs.expression_code_lemmas.Values.{at_control, control_stays, controls_kept, Holds}
-pub use Rattle.codegen.proofs.expression_code_lemmas.Values.{homes_by, homes_then, HomesKept, Kept, kept_by}
-pub use Rattle.codegen.proofs.expression_code_lemmas.Values.{kept_less, kept_number, kept_then, Leaves, number_same}
-pub use Rattle.codegen.proofs.expression_code_lemmas.Values.{place_before, place_ends, Ready, ready_after}
-pub use Rattle.codegen.proofs.expression_code_lemmas.Values.{ready_below, value_word, ValuedIn, variables_home}
-pub use Rattle.codegen.proofs.expression_code_lemmas.Values.{variables_kept, Wrote, wrote_kept, wrote_there}
+pub use Rattle.codegen.proofs.expression_code_lemmas.Values.{at_control, control_stays, controls_kept, Holds, homes_by}
+pub use Rattle.codegen.proofs.expression_code_lemmas.Values.{homes_then, HomesKept, Kept, kept_by, kept_less}
+pub use Rattle.codegen.proofs.expression_code_lemmas.Values.{kept_number, kept_then, Leaves, number_same, place_before}
+pub use Rattle.codegen.proofs.expression_code_lemmas.Values.{place_ends, Ready, ready_after, ready_below, value_word}
+pub use Rattle.codegen.proofs.expression_code_lemmas.Values.{ValuedIn, variables_home, variables_kept, Wrote}
+pub use Rattle.codegen.proofs.expression_code_lemmas.Values.{wrote_kept, wrote_there}
 pub use Rattle.codegen.proofs.expression_code_lemmas.WorkRegisters.{free_from, home_allowed, home_beside, home_target}
 pub use Rattle.codegen.proofs.expression_code_lemmas.WorkRegisters.{IsHome, IsTarget, place_target, works_at}
 pub use Rattle.inline.proofs.Fitting.{value_fits}

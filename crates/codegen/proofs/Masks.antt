@@ -1,17 +1,16 @@
 -- Masks of control values: the registers that have them, how they come there and into their slots, and what is shown
 -- once both of a condition are set.
-use Rattle.std.proofs.Common.{◌≡◌, ℕ, ◌+◌, ◌^◌, ◌<◌, ◌≤◌, ◌==◌, ◌≢◌, Bool, true, false, cond, nat_lt, List}
-use Rattle.std.proofs.Common.{length, None, Some, refl, sym, ap, ◌∙◌, arith, inl, inr, ◌⊎◌, ◌&&◌, not, ne_eqb}
+use Rattle.std.proofs.Common.{◌≡◌, ℕ, ◌+◌, ◌^◌, ◌<◌, ◌≤◌, ◌==◌, ◌≢◌, Bool, true, false, cond, nat_lt, List, length}
+use Rattle.std.proofs.Common.{None, Some, refl, sym, ap, ◌∙◌, arith, inl, inr, ◌⊎◌, ◌&&◌, not, ne_eqb}
 use Rattle.std.proofs.lemmas.Bool.{cases_eq, eq-eqb, true≢false}
-use Rattle.codegen.proofs.Machine.{control_offset, number_at, at_home, control_location, fetch_code, InSlot}
-use Rattle.codegen.proofs.Machine.{is_unread, kept_code, read_register, register_of, unless_unread}
-use Rattle.codegen.proofs.Machine.{home_of, home_of_term, Instr, Sw}
+use Rattle.codegen.proofs.Machine.{control_offset, number_at, at_home, control_location, fetch_code, InSlot, is_unread}
+use Rattle.codegen.proofs.Machine.{kept_code, read_register, register_of, unless_unread, home_of, home_of_term, Instr}
+use Rattle.codegen.proofs.Machine.{Sw}
 use Rattle.codegen.proofs.Language.{StraightState, with_controls, TermTree, WordType, types_of, HasType}
-use Rattle.codegen.proofs.Logic.{free_from, none-some, at_control, control_stays, Fetched}
-use Rattle.codegen.proofs.Logic.{fetch_runs, HasRoom, Holds, move_runs, none, slice_get_within, weaken}
-use Rattle.codegen.proofs.Logic.{HeldAt, mask_of, apart, Setting, base_of, Kept, Ready, Wrote, wrote_kept, wrote_there}
-use Rattle.codegen.proofs.Logic.{variables_kept, HomesKept, IsHome, kept_number, home_there, is_free, idle}
-use Rattle.codegen.proofs.Logic.{put, Runs, kept_less, kept_then}
+use Rattle.codegen.proofs.Logic.{free_from, none-some, at_control, control_stays, Fetched, fetch_runs, HasRoom, Holds}
+use Rattle.codegen.proofs.Logic.{move_runs, none, slice_get_within, weaken, HeldAt, mask_of, apart, Setting, base_of}
+use Rattle.codegen.proofs.Logic.{Kept, Ready, Wrote, wrote_kept, wrote_there, variables_kept, HomesKept, IsHome}
+use Rattle.codegen.proofs.Logic.{kept_number, home_there, is_free, idle, put, Runs, kept_less, kept_then}
 use Rattle.codegen.proofs.expression_code_lemmas.Moves.{is_left}
 use Rattle.codegen.proofs.expression_code_lemmas.Operands.{put_wrote}
 use Rattle.codegen.proofs.expression_code_lemmas.WorkRegisters.{IsFree, cases_Option}
@@ -22,7 +21,7 @@ module _ (z : Setting) where
   -- two control values lie apart
   controls_apart : (y c : ℕ) → (y == c) ≡ false → (control_offset z.declared y + 4 ≤ control_offset z.declared c)
       ⊎ (control_offset z.declared c + 4 ≤ control_offset z.declared y)
-  controls_apart y c h = apart c y _ h (λ below. inl (omega (arith, below))) (λ above. inr (omega (arith, above)))
+  controls_apart y c h = apart c y _ h (λ below. inl (omega arith)) (λ above. inr (omega arith))
 
   -- the register of a control value's mask: its home, or a spare one
   abbrev pub mask_register : ℕ → ℕ → ℕ
@@ -48,7 +47,7 @@ module _ (z : Setting) where
   mask_free c spare low high =
       at_control z c (λ l. IsFree (register_of l spare))
       (λ home at. let is = z.allocated.allowed (length z.declared + c) home at in
-      free_from home (omega (arith, is.0)) (omega (arith, is.1)))
+      free_from home (omega arith) (omega arith))
       (λ away. free_from spare low high)
 
   -- The mask of a control value in its register.
@@ -60,17 +59,17 @@ module _ (z : Setting) where
       (λ env s fine ready. (ready.held, ready.controls_there c among read))
       (λ env s t fine ready done. done)
       (fetch_runs z spare low high (λ env. mask_of (env.controls c)) (control_location z.declared z.allocation c)
-      (at_control z c (HasRoom z) (λ home at. tt) (λ away. (omega arith, omega (arith, among, z.room)))))
+      (at_control z c (HasRoom z) (λ home at. tt) (λ away. (omega arith, omega arith))))
 
   -- none of the first three temporaries is a home
   pub home_apart : (q n : ℕ) → IsHome z.allocation.count q → n < 8 → q ≢ n
-  home_apart q n home low e = let some = z.allocated.some in omega (arith, some, home.0, low, e)
+  home_apart q n home low e = let some = z.allocated.some in omega arith
 
   -- so no home is written by that
   pub fetched_homes : (r spare v : ℕ) (s t : machine.State) → (spare < 8) ⊎ (27 < spare) → Fetched z r spare v s t
       → HomesKept z s t
   fetched_homes r spare v s t (inl low) fetched q home = fetched.others q (home_apart q spare home low)
-  fetched_homes r spare v s t (inr high) fetched q home = fetched.others q (λ e. omega (arith, home.1, e, high))
+  fetched_homes r spare v s t (inr high) fetched q home = fetched.others q (λ e. omega arith)
 
   -- a control value's register, where it is one of the first three temporaries, is put into its slot, unless nothing
   -- reads it
@@ -97,7 +96,7 @@ module _ (z : Setting) where
 
     stays : HomesKept z m u
     stays r home =
-        two.others r (λ e. omega (arith, home.1, e)) ∙ one.others r (λ e. omega (arith, home.1, e))
+        two.others r (omega arith) ∙ one.others r (omega arith)
 
     -- a word that is neither of them
     others : (y home : ℕ) → y ≢ n + c → y ≢ n + (c + 1) → home_of z.allocation.homes y ≡ Some home
@@ -134,10 +133,10 @@ module _ (z : Setting) where
                 (two.written own))
             | inr another ↦ rw (ne_eqb y (c + 1) another)
                 (control_stays z y (mask_of (env.controls y)) s u
-                (λ home at. others (n + y) home (λ e. other (omega (arith, e))) (λ e. another (omega (arith, e))) at)
+                (λ home at. others (n + y) home (λ e. other (omega arith)) (λ e. another (omega arith)) at)
                 (two.apart 4 (control_offset z.declared y) (controls_apart y (c + 1) (ne_eqb y (c + 1) another))
                 ∙ (one.apart 4 (control_offset z.declared y) (controls_apart y c (ne_eqb y c other))
-                ∙ kept_number z (base_of z) s m kept 4 (control_offset z.declared y) (omega (arith, below))))
+                ∙ kept_number z (base_of z) s m kept 4 (control_offset z.declared y) (omega arith)))
                 (ready.controls_there y below read))
           ])
         ]
@@ -148,13 +147,13 @@ module _ (z : Setting) where
       fits = ready.fits;
       homes_there = λ x home d is at.
           let below = slice_get_within z.declared x d is in
-          others x home (λ e. omega (arith, below, e)) (λ e. omega (arith, below, e)) at
+          others x home (omega arith) (omega arith) at
           ∙ ready.homes_there x home d is at;
       variables_there =
           variables_kept z (control_offset z.declared c) env s u (omega arith) ready
           (kept_then z (control_offset z.declared c) s t u
           (kept_then z (control_offset z.declared c) s m t
-          (kept_less z (control_offset z.declared c) (base_of z) s m (omega (arith, among)) kept) one.lower)
+          (kept_less z (control_offset z.declared c) (base_of z) s m (omega arith) kept) one.lower)
           (kept_less z (control_offset z.declared c) (control_offset z.declared (c + 1)) t u (omega arith) two.lower));
       controls_there = control_there;
     }
@@ -198,9 +197,9 @@ module _ (z : Setting) where
             written = λ is out. wrote_there z o (v env) s t wrote given.1;
             apart = λ n x beside. other_number z 4 o (v env) n x s t wrote beside;
             lower = wrote_kept z 4 o (v env) s t wrote;
-            hidden = λ depth. hidden_wrote z depth 4 o (v env) s t (omega (arith, among)) wrote;
+            hidden = λ depth. hidden_wrote z depth 4 o (v env) s t (omega arith) wrote;
           })
-          (move_runs z (put Sw r o) (simp ok) (omega arith, omega (arith, among, z.room))))
+          (move_runs z (put Sw r o) (simp ok) (omega arith, omega arith)))
 
 -- what is read is not in the register of a control value
 pub read_beside : (z : Setting) (c : ℕ) {e : TermTree} {word : WordType}
@@ -209,7 +208,6 @@ read_beside z c {e = e} has =
     elim (cases_Option (home_of_term z.allocation e)) [
       | inl found ↦
           let home_is = home_there z has found.0 found.1 in
-          let below = home_is.declared in
-          rw found.1 (mask_beside z c 7 home_is.x found.0 (omega arith) (λ f. omega (arith, below, f)) home_is.at)
-      | inr at ↦ rw at (λ f. mask_apart z c 7 5 (omega arith) (λ g. omega (arith, g)) (sym f))
+          rw found.1 (mask_beside z c 7 home_is.x found.0 (omega arith) (omega arith) home_is.at)
+      | inr at ↦ rw at (λ f. mask_apart z c 7 5 (omega arith) (omega arith) (sym f))
     ]

@@ -1,26 +1,25 @@
 -- What is shown once a number of a variable is written, and what is shown after a piece of a statement's code.
-use Rattle.std.proofs.Common.{◌≡◌, ℕ, ◌+◌, ◌*◌, ◌%◌, ◌^◌, ◌<◌, ◌≤◌, ◌==◌, ◌≢◌, Bool, true, false, cond}
-use Rattle.std.proofs.Common.{if◌then◌else◌, nat_lt, List, [], ◌∷◌, length, None, Some, slice_get, slice_index, refl}
-use Rattle.std.proofs.Common.{ap₂, sym, ap, ◌∙◌, subst, arith, inl, inr, ◌⊎◌, ◌&&◌, not, ne_eqb, Option, ◌++◌}
+use Rattle.std.proofs.Common.{◌≡◌, ℕ, ◌+◌, ◌*◌, ◌%◌, ◌^◌, ◌<◌, ◌≤◌, ◌==◌, ◌≢◌, Bool, true, false, cond, if◌then◌else◌}
+use Rattle.std.proofs.Common.{nat_lt, List, [], ◌∷◌, length, None, Some, slice_get, slice_index, refl, ap₂, sym, ap}
+use Rattle.std.proofs.Common.{◌∙◌, subst, arith, inl, inr, ◌⊎◌, ◌&&◌, not, ne_eqb, Option, ◌++◌}
 use Rattle.std.proofs.Math.Path.{fun_ext}
 use Rattle.std.specs.Prelude.{slice_set}
 use Rattle.codegen.proofs.Machine.{variable_offset, control_offset, next_offset, result_offset, ByteMap, number_at}
-use Rattle.codegen.proofs.Machine.{assign_code, byte_count, home_of_term, home_or, read_code}
-use Rattle.codegen.proofs.Machine.{read_register, store_size, stored_code, stored_register, gives_zero}
-use Rattle.codegen.proofs.Machine.{slots_to, height_of, home_of, into_code, store_code, Instr, Sw, State}
+use Rattle.codegen.proofs.Machine.{assign_code, byte_count, home_of_term, home_or, read_code, read_register, store_size}
+use Rattle.codegen.proofs.Machine.{stored_code, stored_register, gives_zero, slots_to, height_of, home_of, into_code}
+use Rattle.codegen.proofs.Machine.{store_code, Instr, Sw, State}
 use Rattle.codegen.proofs.Language.{StraightState, with_variable, with_element, FlatVariable, numbers_in, IsWithinKind}
 use Rattle.codegen.proofs.Language.{word_as, TermTree, term_nodes, Boolean, WordType, value_in, types_of, IsHeld, Fits}
 use Rattle.codegen.proofs.Language.{Kind, bits_of, Values, HasType, Suits, Profile}
 use Rattle.codegen.proofs.Logic.{length-set, get_or-set_same, get_or-set_other, set-get_or, All-set, none-some}
-use Rattle.codegen.proofs.Logic.{same_Some, eqb-true, controls_kept, number_at_apart}
-use Rattle.codegen.proofs.Logic.{number_at-with_number, HeldAt, mask_of, bytes_by, bytes_of, place_of, place_within}
-use Rattle.codegen.proofs.Logic.{ends_before_result, apart_from, elements_apart, Setting, base_of, Kept, Ready, Wrote}
-use Rattle.codegen.proofs.Logic.{wrote_kept, variables_kept, Before, After, Steps, Then, Still, steps_of, into_runs}
-use Rattle.codegen.proofs.Logic.{Held, held_regs, HomesKept, IsHome, ValuedIn, home_beside, home_target, homes_by}
-use Rattle.codegen.proofs.Logic.{kept_number, place_before, place_target, variables_home, is_free, idle}
-use Rattle.codegen.proofs.Logic.{lt-ltb, works_at, IsTarget, Leaves, put, then_moves, setting, Runs, gives, cheaper}
-use Rattle.codegen.proofs.Logic.{kept_less, kept_by, ready_below, along, home_allowed, home_there, known}
-use Rattle.codegen.proofs.Logic.{none, quiet, ready_after, register-at, value_fits}
+use Rattle.codegen.proofs.Logic.{same_Some, eqb-true, controls_kept, number_at_apart, number_at-with_number, HeldAt}
+use Rattle.codegen.proofs.Logic.{mask_of, bytes_by, bytes_of, place_of, place_within, ends_before_result, apart_from}
+use Rattle.codegen.proofs.Logic.{elements_apart, Setting, base_of, Kept, Ready, Wrote, wrote_kept, variables_kept}
+use Rattle.codegen.proofs.Logic.{Before, After, Steps, Then, Still, steps_of, into_runs, Held, held_regs, HomesKept}
+use Rattle.codegen.proofs.Logic.{IsHome, ValuedIn, home_beside, home_target, homes_by, kept_number, place_before}
+use Rattle.codegen.proofs.Logic.{place_target, variables_home, is_free, idle, lt-ltb, works_at, IsTarget, Leaves, put}
+use Rattle.codegen.proofs.Logic.{move_runs, setting, Runs, gives, cheaper, kept_less, kept_by, ready_below, along}
+use Rattle.codegen.proofs.Logic.{home_allowed, home_there, known, none, quiet, ready_after, register-at, value_fits}
 use Rattle.codegen.specs.expression_code.Allocation.{slot_of}
 use Rattle.inline.specs.FlatSize.{words_of}
 use Rattle.codegen.proofs.expression_code_lemmas.Operands.{put_wrote}
@@ -39,12 +38,12 @@ use Rattle.codegen.proofs.expression_code_lemmas.NumberCode.{zero_known}
 pub cut_number : (kind : Kind) (elements : Option ℕ) (v : ℕ) → v < 2 ^ bits_of kind
     → v % 256 ^ bytes_by kind elements ≡ v
 cut_number kind None v h = omega (arith, kind_fits kind v h)
-cut_number Boolean (Some size) v h = omega (arith, h)
-cut_number kind (Some size) v h = omega (arith, h)
+cut_number Boolean (Some size) v h = omega arith
+cut_number kind (Some size) v h = omega arith
 
 pub alone : (l : List ℕ) (v : ℕ) → length l ≡ 1 → slice_set l 0 v ≡ v ∷ []
 alone (x ∷ []) v one = refl
-alone l v one = absurd (omega (arith, one))
+alone l v one = absurd (omega arith)
 
 module _ (z : Setting) where
   -- a number elsewhere is as it was
@@ -53,7 +52,7 @@ module _ (z : Setting) where
   other_number n o w m x s t wrote apart =
       ap (λ (b : ByteMap). number_at b m (z.frame + x)) wrote.written
       ∙ number_at_apart s.bytes n (z.frame + o) w m (z.frame + x)
-      (elim apart [ inl h ↦ inl (omega (arith, h)) | inr h ↦ inr (omega (arith, h)) ])
+      (elim apart [ inl h ↦ inl (omega arith) | inr h ↦ inr (omega arith) ])
 
   -- a state that is shown by the same values
   pub ready_same : (one other : StraightState) (s : machine.State) → ((x : ℕ) → one.variables x ≡ other.variables x)
@@ -104,7 +103,7 @@ module _ (z : Setting) where
               apart (bytes_of f) (place_of z.declared n f j) (apart_from z.declared x n d f j known is more q)
               ∙ ready.variables_there n f j is out more) y e;
           controls_there = λ c among read. controls_kept z env s t ready homes c among read
-              (apart 4 (control_offset z.declared c) (inr (omega (arith, first))));
+              (apart 4 (control_offset z.declared c) (inr (omega arith)));
         }
 
   module _ (x i v w : ℕ) (d : FlatVariable) (known : slice_get z.declared x ≡ Some d)
@@ -125,7 +124,7 @@ module _ (z : Setting) where
               let at = z.frame + place_of z.declared x d i in
               rw same (ap (λ (b : ByteMap). number_at b (bytes_of d) at) wrote.written
               ∙ (number_at-with_number s.bytes (bytes_of d) at w
-              ∙ ap Some (cut ∙ sym (get_or-set_same old i v 0 (omega (arith, long, below))))))
+              ∙ ap Some (cut ∙ sym (get_or-set_same old i v 0 (omega arith)))))
           | inr other ↦
               other_number (bytes_of d) (place_of z.declared x d i) w (bytes_of d) (place_of z.declared x d j) s t wrote
               (elements_apart z.declared x d i j (ne_eqb j i other))
@@ -137,7 +136,7 @@ module _ (z : Setting) where
     outside n o apart =
         let p = place_within z.declared x d i below in
         other_number (bytes_of d) (place_of z.declared x d i) w n o s t wrote
-        (elim apart [ inl h ↦ inl (omega (arith, h)) | inr h ↦ inr (omega (arith, h, p)) ])
+        (elim apart [ inl h ↦ inl (omega arith) | inr h ↦ inr (omega arith) ])
 
     -- a number of a variable is set
     pub ready_put : Ready z (with_element env x i v) t
@@ -169,7 +168,7 @@ module _ (z : Setting) where
         let first : variable_offset z.declared x ≡ place_of z.declared x (word_as word mutable) 0 = omega arith in
         ready_alone env x v t (ready.fits x (word_as word mutable) known).count
         (ready_put x 0 v v (word_as word mutable) known away (omega arith) fits env s t ready
-        (subst (λ o. Wrote z 4 o v s t) first wrote) (omega (arith, small)))
+        (subst (λ o. Wrote z 4 o v s t) first wrote) (omega arith))
 
   -- an element is set or kept
   pub ready_chosen : (b : Bool) (x i v : ℕ) (env : StraightState) (t : machine.State)
@@ -199,7 +198,7 @@ laid_same z free above env s t laid held kept = record {
   slots_there = λ x d i is below. kept_number z free s t kept (bytes_of d) (place_of z.declared x d i)
       (omega (arith, place_before z x d i is below, above)) ∙ laid.slots_there x d i is below;
   controls_there = λ c below. kept_number z free s t kept 4 (control_offset z.declared c)
-      (omega (arith, below, above)) ∙ laid.controls_there c below;
+      (omega arith) ∙ laid.controls_there c below;
 }
 
 -- the state that is made of the one before is shown, and the words of the loops around are as they were
@@ -229,7 +228,7 @@ read_source z e asked low high =
     elim (cases_Option (home_of_term z.allocation e)) [
       | inl found ↦
           let allowed = home_allowed z.declared z.allocation z.allocated e found.0 found.1 in
-          rw found.1 (record { low = omega (arith, allowed.0); high = allowed.1; is = inr allowed })
+          rw found.1 (record { low = omega arith; high = allowed.1; is = inr allowed })
       | inr at ↦ rw at (record { low = low; high = high; is = inl refl })
     ]
 
@@ -242,8 +241,8 @@ source_apart z source q low other e =
 pub puts : (z : Setting) {asked r : ℕ} → IsSource z asked r → (is_free r && (nat_lt r 32 && not (r == 28))) ≡ true
 puts z {asked = asked} {r = r} source =
     let free : is_free r ≡ true = lt-ltb 4 r source.low in
-    let few : nat_lt r 32 ≡ true = lt-ltb r 32 (omega (arith, source.high)) in
-    let beside : (r == 28) ≡ false = ne_eqb r 28 (λ e. omega (arith, source.high, e)) in
+    let few : nat_lt r 32 ≡ true = lt-ltb r 32 (omega arith) in
+    let beside : (r == 28) ≡ false = ne_eqb r 28 (omega arith) in
     simp (free, few, beside)
 
 -- a value that suits a type is within the type's kind
@@ -288,14 +287,13 @@ module _ (z : Setting) where
       → Runs z (16 * term_nodes e) (steps_of e) (read_code z.declared z.allocation (base_of z) 5 0 e) (Ready z)
       (Evaluated z e (read_register z.allocation 5 e))
   read_runs has room =
-      let some = z.allocated.some in
       let count = z.allocation.count in
       gives
       (λ env s t fine ready done.
       let homes : HomesKept z s t = λ r home.
-      done.lower r (home_beside count 0 5 r home.0 home.1 (λ e. omega (arith, some, home.0, e))) in
+      done.lower r (home_beside count 0 5 r home.0 home.1 (omega arith)) in
       assumption)
-      (reads 5 0 (place_target count 0 z.allocated.few (omega (arith, some))) has (omega (arith, room)))
+      (reads 5 0 (place_target count 0 z.allocated.few (omega arith)) has (omega arith))
 
   -- An expression into a home.
   pub homed_runs : {e : TermTree} {word : WordType} (home : ℕ) → IsHome z.allocation.count home
@@ -306,7 +304,7 @@ module _ (z : Setting) where
   homed_runs home is has room =
       cheaper (omega arith)
       (into_runs z (base_of z) (omega arith) (omega arith) has 0 home
-      (home_target z.allocation.count 0 home z.allocated.few is) (omega (arith, room)))
+      (home_target z.allocation.count 0 home z.allocated.few is) (omega arith))
 
   -- the state is shown after an expression as before it
   pub ready_valued : (e : TermTree) {r : ℕ} (env : StraightState) (s t : machine.State) → Ready z env s
@@ -359,15 +357,13 @@ module _ (z : Setting) where
       → HeldAt z t × (t.regs r ≡ v env))
       → Runs z (n + 3) steps (xs ++ store_code r o) P (Then (setting z) Q (λ env s t. Wrote z 4 o (v env) s t))
   stored r o v ok even inside runs has =
-      cheaper (omega arith)
-      (gives
+      gives
       (λ env s t fine given done. record {
         middle = done.middle;
         first = done.first;
         second = put_wrote z Sw r o (v env) env done.middle t (has env s done.middle given done.first).1 done.second;
       })
-      (then_moves z (put Sw r o ∷ []) (simp ok) ((even, inside), tt) runs
-      (λ env s t given done. (has env s t given done).0)))
+      (quiet runs (move_runs z (put Sw r o) (simp ok) (even, inside)) (λ env s t given done. (has env s t given done).0))
 
   -- A value that is stored: its register reads as what the expression means, and only temporaries are written.
   pub record Offered (e : TermTree) (r : ℕ) (env : StraightState) (s t : machine.State) : Type 0 where
@@ -395,7 +391,7 @@ module _ (z : Setting) where
             let source = read_source z e 5 (omega arith) (omega arith) in
             rw is (gives
             (λ env s t fine ready done. assumption (
-            register-at t.regs (read_register z.allocation 5 e) (λ f. omega (arith, source.low, f)) ∙ done.there))
+            register-at t.regs (read_register z.allocation 5 e) (omega arith) ∙ done.there))
             (read_runs has room))
       ]
 
@@ -407,9 +403,9 @@ module _ (z : Setting) where
   offered_put operation r o low even inside =
       gives
       (λ env s t fine held done.
-      let homes : HomesKept z s t = λ q home. is_left s.regs 28 _ done.1 q (λ e. omega (arith, home.1, e)) in
+      let homes : HomesKept z s t = λ q home. is_left s.regs 28 _ done.1 q (omega arith) in
       assumption)
-      (putting z operation r o (omega (arith, low)) (λ e. omega (arith, low, e)) even inside)
+      (putting z operation r o (omega (arith, low)) (omega (arith, low)) even inside)
 
   -- an expression's value
   pub assigned : {e : TermTree} {word : WordType} (o : ℕ) → HasType (types_of z.code.profile z.declared) e word

@@ -14,7 +14,7 @@ parts n below = grind (arith, nat_tests)
 -- and with a base added between them an address
 pub far_address : (frame n : ℕ) → frame + n < 2 ^ 32
     → sum_of (sum_of (upper_part n * 2 ^ 12) frame) (sign_extended 12 (lower_part n)) ≡ frame + n
-far_address frame n below = omega (arith, parts n (omega (arith, below)), below)
+far_address frame n below = omega (arith, parts n (omega arith), below)
 
 pub near_address : (frame n : ℕ) → n < 2048 → frame + n < 2 ^ 32 → sum_of frame (sign_extended 12 n) ≡ frame + n
 near_address frame n near below = grind (arith, nat_tests)

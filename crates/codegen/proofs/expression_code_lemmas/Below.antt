@@ -20,10 +20,10 @@ pub use Rattle.codegen.specs.expression_code.TermCode.{expr_code, fetch_code, fi
 pub use Rattle.codegen.specs.expression_code.TermCode.{home_of_term, is_at_home, keep_code, keeps_words, load_by}
 pub use Rattle.codegen.specs.expression_code.TermCode.{load_code, narrow_code, narrowed_in, near_code, near_element}
 pub use Rattle.codegen.specs.expression_code.TermCode.{near_offset, number_code, of_truths, operand, operator_code}
-pub use Rattle.codegen.specs.expression_code.TermCode.{prefix_code, raise_code, rotate_code, row_of}
-pub use Rattle.codegen.specs.expression_code.TermCode.{scale_code, Step, lower_part, move_code, step_code, store_code}
-pub use Rattle.codegen.specs.expression_code.TermCode.{turned, upper_part, choice_or_zero_code, emitted_operator}
-pub use Rattle.codegen.specs.expression_code.TermCode.{kind_at, number_step_code, of_bits}
+pub use Rattle.codegen.specs.expression_code.TermCode.{prefix_code, raise_code, rotate_code, row_of, scale_code, Step}
+pub use Rattle.codegen.specs.expression_code.TermCode.{lower_part, move_code, step_code, store_code, turned, upper_part}
+pub use Rattle.codegen.specs.expression_code.TermCode.{choice_or_zero_code, emitted_operator, kind_at, number_step_code}
+pub use Rattle.codegen.specs.expression_code.TermCode.{of_bits}
 pub use Rattle.branch_removal.specs.Heights.{height_of}
 pub use Rattle.codegen.specs.declared.expression_code.locations.Location.{Location}
 pub use Rattle.codegen.specs.declared.expression_code.locations.Location.TheVariants.{InRegister, InSlot}
@@ -47,9 +47,9 @@ pub use Rattle.language.specs.declared.signature.Param.{Param}
 pub use Rattle.language.specs.declared.operators.BinaryOperator.{BinaryOperator}
 pub use Rattle.language.specs.declared.operators.PrefixOperator.{PrefixOperator}
 pub use Rattle.language.specs.declared.typing.WordType.{WordType}
-pub use Rattle.codegen.proofs.program_logic_lemmas.Computing.{after_append, all_straight, no_access}
-pub use Rattle.codegen.proofs.program_logic_lemmas.Computing.{only_computes, plain_append, register_left}
-pub use Rattle.codegen.proofs.program_logic_lemmas.Computing.{registers_after, registers_of}
+pub use Rattle.codegen.proofs.program_logic_lemmas.Computing.{after_append, all_straight, no_access, only_computes}
+pub use Rattle.codegen.proofs.program_logic_lemmas.Computing.{plain_append, register_left, registers_after}
+pub use Rattle.codegen.proofs.program_logic_lemmas.Computing.{registers_of}
 pub use Rattle.codegen.proofs.program_logic_lemmas.Face.{All-one, along, along_fit, always, as_code, beside, both_left}
 pub use Rattle.codegen.proofs.program_logic_lemmas.Face.{both_right, branching_at, by_mark, cheaper, Contents}
 pub use Rattle.codegen.proofs.program_logic_lemmas.Face.{contents_of, ends_on, by_test, gives, idle, Known, looping}

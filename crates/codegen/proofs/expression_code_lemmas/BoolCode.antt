@@ -16,19 +16,19 @@ of_two f g none right left both zero zero low high = none
 of_two f g none right left both zero (suc zero) low high = right
 of_two f g none right left both (suc zero) zero low high = left
 of_two f g none right left both (suc zero) (suc zero) low high = both
-of_two f g none right left both (suc (suc a)) b low high = absurd (omega (arith, low))
-of_two f g none right left both a (suc (suc b)) low high = absurd (omega (arith, high))
+of_two f g none right left both (suc (suc a)) b low high = absurd (omega arith)
+of_two f g none right left both a (suc (suc b)) low high = absurd (omega arith)
 
 module _ (w : Width) (a b : ℕ) where
   bits_same : {profile : Profile} {one other whole : WordType} → IsWithinKind one.kind a → IsWithinKind other.kind b
       → (operator : BinaryOperator) → Makes profile (operation_of operator) one other whole
       → operated (of_bits operator) w a b ≡ operated operator w a b
   bits_same low high Either logic =
-      of_two bit_or (λ x y. word_of (truth_of x || truth_of y)) refl refl refl refl a b (omega (arith, low))
-      (omega (arith, high))
+      of_two bit_or (λ x y. word_of (truth_of x || truth_of y)) refl refl refl refl a b (omega arith)
+      (omega arith)
   bits_same low high Both logic =
-      of_two bit_and (λ x y. word_of (truth_of x && truth_of y)) refl refl refl refl a b (omega (arith, low))
-      (omega (arith, high))
+      of_two bit_and (λ x y. word_of (truth_of x && truth_of y)) refl refl refl refl a b (omega arith)
+      (omega arith)
   bits_same low high operator makes = refl
 
   pub emitted_same : {profile : Profile} {one other whole : WordType} → IsWithinKind one.kind a

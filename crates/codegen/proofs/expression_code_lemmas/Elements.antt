@@ -10,10 +10,10 @@ use Rattle.codegen.proofs.expression_code_lemmas.Below.{element_bytes, Instr, Ki
 use Rattle.codegen.proofs.expression_code_lemmas.Below.{lower_part, lt-ltb, nat_tests, none, only_computes}
 use Rattle.codegen.proofs.expression_code_lemmas.Below.{plain_append, registers_after, scale_code, sign_extended, State}
 use Rattle.codegen.proofs.expression_code_lemmas.Below.{StraightState, sum_of, upper_part, weaken, along, array_as}
-use Rattle.codegen.proofs.expression_code_lemmas.Below.{as_code, ByteMap, element, element_code, gives}
-use Rattle.codegen.proofs.expression_code_lemmas.Below.{indexed, kind_at, Known, near_code, near_element}
-use Rattle.codegen.proofs.expression_code_lemmas.Below.{number_at, number_or_zero, Path, Place, quiet, TermTree}
-use Rattle.codegen.proofs.expression_code_lemmas.Below.{value_in, variable_offset, WordType}
+use Rattle.codegen.proofs.expression_code_lemmas.Below.{as_code, ByteMap, element, element_code, gives, indexed}
+use Rattle.codegen.proofs.expression_code_lemmas.Below.{kind_at, Known, near_code, near_element, number_at}
+use Rattle.codegen.proofs.expression_code_lemmas.Below.{number_or_zero, Path, Place, quiet, TermTree, value_in}
+use Rattle.codegen.proofs.expression_code_lemmas.Below.{variable_offset, WordType}
 use Rattle.language.specs.declared.signature.Kind.TheVariants.{Boolean, Uint16}
 use Rattle.codegen.proofs.expression_code_lemmas.Arithmetic.{upper_fits, lower_fits, near_address}
 use Rattle.codegen.proofs.expression_code_lemmas.OperatorCode.{either_of, dd, td, d0, d32, q0, q32, low_beside}
@@ -60,7 +60,7 @@ module _ (z : Setting) (d r : ℕ) (target : IsFree d) (source : IsFree r) (apar
   pair = record { one = target; other = free_from 28 (omega arith) (omega arith); apart = apart }
 
   d2 : (2 == d) ≡ false
-  d2 = ne_eqb 2 d (λ e. omega (arith, target.low, e))
+  d2 = ne_eqb 2 d (omega arith)
 
   -- an index times the bytes of an element, on the base
   scaled : (kind : Kind) → (only_computes (either_of d 28) (scale_code d r kind) ≡ true)
@@ -69,11 +69,11 @@ module _ (z : Setting) (d r : ℕ) (target : IsFree d) (source : IsFree r) (apar
   scaled Uint16 = (
     simp (dd pair, d32 pair, q32 pair source),
     λ regs below.
-        simp (dd pair, d0 pair, q0 pair source, d2) (omega (arith, below)),
+        simp (dd pair, d0 pair, q0 pair source, d2) (omega arith),
   )
   scaled kind = (
     simp (dd pair, d32 pair, q32 pair source),
-    λ regs below. simp (dd pair, d0 pair, q0 pair source, d2) (omega (arith, below)),
+    λ regs below. simp (dd pair, d0 pair, q0 pair source, d2) (omega arith),
   )
 
   -- the upper part of an offset
@@ -102,16 +102,15 @@ module _ (z : Setting) (d r : ℕ) (target : IsFree d) (source : IsFree r) (apar
       (λ env s fine fit. fit.0)
       (λ env s t fine fit done.
       let i = element_bytes kind * index env in
-      let below = fit.2 in
       let is : element_bytes kind * s.regs r ≡ i = ap (λ x. element_bytes kind * x) fit.1 in
       let all : t.regs d ≡ raised near o (sum_of i z.frame) =
       ap (λ (regs : ℕ → ℕ). regs d) (done.registers ∙ after_append scale (raise_by near o) s.regs)
       ∙ ((raises near o).1 (registers_after scale s.regs)
-      ∙ ap (raised near o) ((scaled kind).1 s.regs (omega (arith, below, is)) ∙ ap₂ sum_of is fit.0.base)) in
+      ∙ ap (raised near o) ((scaled kind).1 s.regs (omega arith) ∙ ap₂ sum_of is fit.0.base)) in
       record {
         held = done.held;
         address = ap (λ x. sum_of x (sign_extended 12 (lower_part o))) (register-at t.regs d target.nonzero ∙ all)
-            ∙ element_address z.frame o i below;
+            ∙ element_address z.frame o i fit.2;
         others = λ q other another. ap (λ (regs : ℕ → ℕ). regs q) done.registers
             ∙ kept_beside pair (scale ++ raise_by near o) plain s.regs q other another;
         same = done.same;
@@ -158,7 +157,7 @@ module _ (slots : Slots) (place d : ℕ) (target : IsTarget slots.z.allocation.c
         same = two.1.bytes;
       })
       (loading z rs offset a small short (load_by word.kind) d target.free.low target.free.small
-      (ap (λ n. a % n) bytes ∙ place_even z.declared x array i) (omega (arith, h, bytes)))
+      (ap (λ n. a % n) bytes ∙ place_even z.declared x array i) (omega arith))
 
   -- and that at an index that is in a register
   pub picked : (r : ℕ) → IsFree r
@@ -185,7 +184,7 @@ module _ (slots : Slots) (place d : ℕ) (target : IsTarget slots.z.allocation.c
       assumption (two.same ∙ one.same))
       (quiet
       (weaken
-      (λ env s fine given. (given.given.0.held, given.given.1 ∙ given.is, omega (arith, h, z.ends)))
+      (λ env s fine given. (given.given.0.held, given.given.1 ∙ given.is, omega arith))
       (λ env s t fine given done. done)
       (address_runs z d r target.free at target.no_address word.kind o (λ env. i)))
       (loaded source x size word mutable i index known below d (lower_part o) target.free.small (lower_fits o))
@@ -217,10 +216,10 @@ module _ (slots : Slots) (place d : ℕ) (target : IsTarget slots.z.allocation.c
       (λ env s fine ready. (
         ready.held,
         ap (λ b. sum_of b (sign_extended 12 o)) ready.held.base
-            ∙ (near_address z.frame o near.near (omega (arith, h, z.ends, at)) ∙ ap (λ a. z.frame + a) (sym at)),
+            ∙ (near_address z.frame o near.near (omega arith) ∙ ap (λ a. z.frame + a) (sym at)),
         ready.variables_there x array near.i is (z.allocated.words x array size is refl) below,
         (known index near.i near.is env.variables).0,
       ))
       (λ env s t fine given done. done)
-      (loaded source x size word mutable near.i index is below 2 o (omega arith) (omega (arith, near.near)))))
+      (loaded source x size word mutable near.i index is below 2 o (omega arith) (omega arith))))
       (λ env s t ready done. still_ready slots place env s t ready done.held done.kept done.lower)))

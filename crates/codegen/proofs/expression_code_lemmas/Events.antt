@@ -1,8 +1,8 @@
 -- The marks of a path, by what they carry, and the instructions that show their operands: divisions and
 -- multiplications.
-use Rattle.std.proofs.Common.{◌≡◌, ◌≢◌, ℕ, ◌-◌, ◌<◌, ◌≤◌, Bool, true, nat_lt, nat_le, List, [], ◌∷◌, ◌++◌}
-use Rattle.std.proofs.Common.{Option, Some, None, slice_index, refl, sym, ap, ap₂, ◌∙◌, arith, inl, inr}
-use Rattle.std.proofs.lemmas.Bool.{cases_Bool, cases_eq}
+use Rattle.std.proofs.Common.{◌≡◌, ◌≢◌, ℕ, ◌-◌, ◌<◌, ◌≤◌, Bool, true, nat_lt, nat_le, List, [], ◌∷◌, ◌++◌, Option, Some}
+use Rattle.std.proofs.Common.{None, slice_index, refl, sym, ap, ap₂, ◌∙◌, arith, inl, inr}
+use Rattle.std.proofs.lemmas.Bool.{cases_eq, cases_lt}
 use Rattle.codegen.proofs.expression_code_lemmas.Below.{always, bounded, by_mark, ByteMap, decided, divide_leads}
 use Rattle.codegen.proofs.expression_code_lemmas.Below.{divide_value, divided, DivideOperation, Event, indexed, Instr}
 use Rattle.codegen.proofs.expression_code_lemmas.Below.{IsAt, IsInside, IsInstr, Known, Leads, lt-ltb, ltb-true, Mark}
@@ -76,27 +76,17 @@ module _ (z : Setting) where
     good = λ o path fine. fine.0;
   }
 
-  -- code behind a mark, where a test says of what it carries whether that is good
-  by_tested : {A : Type 0} {Good : A → Type 0} (kind : Kind (setting z) A Good) (test : A → Bool)
-      → ((x : A) → test x ≡ true → Good x) → ((x : A) → Good x → test x ≡ true)
-      → {n : ℕ} {steps : Steps} {is : List Instr} {P : Before} {Q : After} (value : StraightState → A)
-      → ((x : A) → Good x → Runs z n steps is (Known (setting z) A Good P value x) Q)
-      → Runs z n (λ env. kind.mark (value env) ∷ steps env) is P Q
-  by_tested kind test good met value one =
-      by_mark kind value
-      (λ x. elim (cases_Bool (test x)) [
-        | inl e ↦ one x (good x e)
-        | inr e ↦ never (λ env s given. true≢false (sym (met x given.good) ∙ e))
-      ])
-
   -- code behind an index below the size
   pub by_index : {n : ℕ} {steps : Steps} {is : List Instr} {P : Before} {Q : After} (place : Place) (size : ℕ)
       (index : StraightState → ℕ)
       → ((i : ℕ) → i < size → Runs z n steps is (Known (setting z) ℕ (λ j. j < size) P index i) Q)
       → Runs z n (λ env. indexed place size (index env) ∷ steps env) is P Q
   by_index place size index one =
-      by_tested (index_kind place size) (λ i. nat_lt i size) (λ i e. ltb-true i size e)
-      (λ i below. lt-ltb i size below) index one
+      by_mark (index_kind place size) index
+      (λ i. elim (cases_lt i size) [
+        | inl below ↦ one i below
+        | inr past ↦ never (λ env s given. omega arith)
+      ])
 
   -- so code for the one index that there can be, where it is known to be a number
   pub by_known_index : {n : ℕ} {steps : Steps} {is : List Instr} {P : Before} {Q : After} (place : Place) (size : ℕ)
@@ -116,8 +106,12 @@ module _ (z : Setting) where
       → ((b : ℕ × ℕ) → b.1 - b.0 ≤ slice_index z.counts x
       → Runs z n steps is (Known (setting z) (ℕ × ℕ) (λ c. c.1 - c.0 ≤ slice_index z.counts x) P bounds b) Q)
       → Runs z n (λ env. bounded x (bounds env).0 (bounds env).1 ∷ steps env) is P Q
-  by_bounds x bounds one = by_tested (bounds_kind x) (λ b. nat_le (b.1 - b.0) (slice_index z.counts x))
-      (λ b e. grind (arith, nat_tests)) (λ b few. grind (arith, nat_tests)) bounds one
+  by_bounds x bounds one =
+      by_mark (bounds_kind x) bounds
+      (λ b. elim (cases_lt (slice_index z.counts x) (b.1 - b.0)) [
+        | inl more ↦ never (λ env s given. omega arith)
+        | inr few ↦ one b few
+      ])
 
   -- One register is written.
 
@@ -154,7 +148,7 @@ module _ (z : Setting) where
               (leads s (stands z.code p i [] placed ok s at)) (ap₂ shows first second)
               (inside (left env) (right env))
               (record {
-                regs = λ q low. is_left s.regs d v (with_value-regs s d v) q (λ e. omega (arith, target.low, low, e));
+                regs = λ q low. is_left s.regs d v (with_value-regs s d v) q (omega arith);
                 beside = λ a apart. ap (λ (b : ByteMap). b a) (with_value-bytes s d v);
               })
               (shown p env s rest fit) (omega (arith, at, placed.1, with_value-pc s d v)) (record {

@@ -5,17 +5,16 @@ use Rattle.std.proofs.Common.{inl, if◌then◌else◌, ◌==◌}
 use Rattle.codegen.proofs.expression_code_lemmas.Below.{along, at_home, array_as, as_code, binary, BinaryOperator}
 use Rattle.codegen.proofs.expression_code_lemmas.Below.{by_test, near_element, Profile, State, StraightState, cheaper}
 use Rattle.codegen.proofs.expression_code_lemmas.Below.{Boolean, choice_code, choice_or_zero_code, chooses_zero, Label}
-use Rattle.codegen.proofs.expression_code_lemmas.Below.{constant_code, convert_code, copy_code, keeps_words}
-use Rattle.codegen.proofs.expression_code_lemmas.Below.{Kind, element_code, expr_code, fetch_code, gives, HasType}
-use Rattle.codegen.proofs.expression_code_lemmas.Below.{height_of, home_of, InSlot, Instr, into_code, left_row, lt-ltb}
-use Rattle.codegen.proofs.expression_code_lemmas.Below.{move_code, none, number_at, number_code, number_row, NumberRow}
-use Rattle.codegen.proofs.expression_code_lemmas.Below.{of_binary, of_conversion, of_element, of_number, of_prefix}
-use Rattle.codegen.proofs.expression_code_lemmas.Below.{of_rotation, of_selection, of_truth, of_variable}
-use Rattle.codegen.proofs.expression_code_lemmas.Below.{operand, operated, Path, path_in, Place, prefix_code}
-use Rattle.codegen.proofs.expression_code_lemmas.Below.{right_row, rotate_code}
-use Rattle.codegen.proofs.expression_code_lemmas.Below.{select, slots_to, term_nodes, TermTree, types_of}
-use Rattle.codegen.proofs.expression_code_lemmas.Below.{value_fits, value_in, Values, variable, variable_offset, weaken}
-use Rattle.codegen.proofs.expression_code_lemmas.Below.{Width, width_of, word_as, word_of, WordType, working_register}
+use Rattle.codegen.proofs.expression_code_lemmas.Below.{constant_code, convert_code, copy_code, keeps_words, Kind}
+use Rattle.codegen.proofs.expression_code_lemmas.Below.{element_code, expr_code, fetch_code, gives, HasType, height_of}
+use Rattle.codegen.proofs.expression_code_lemmas.Below.{home_of, InSlot, Instr, into_code, left_row, lt-ltb, move_code}
+use Rattle.codegen.proofs.expression_code_lemmas.Below.{none, number_at, number_code, number_row, NumberRow, of_binary}
+use Rattle.codegen.proofs.expression_code_lemmas.Below.{of_conversion, of_element, of_number, of_prefix, of_rotation}
+use Rattle.codegen.proofs.expression_code_lemmas.Below.{of_selection, of_truth, of_variable, operand, operated, Path}
+use Rattle.codegen.proofs.expression_code_lemmas.Below.{path_in, Place, prefix_code, right_row, rotate_code, select}
+use Rattle.codegen.proofs.expression_code_lemmas.Below.{slots_to, term_nodes, TermTree, types_of, value_fits, value_in}
+use Rattle.codegen.proofs.expression_code_lemmas.Below.{Values, variable, variable_offset, weaken, Width, width_of}
+use Rattle.codegen.proofs.expression_code_lemmas.Below.{word_as, word_of, WordType, working_register}
 use Rattle.codegen.proofs.expression_code_lemmas.Events.{by_index}
 use Rattle.codegen.proofs.expression_code_lemmas.Frame.{Setting, base_of, by_option, Runs, HeldAt, Held}
 use Rattle.codegen.proofs.expression_code_lemmas.WorkRegisters.{place_works, IsFree, ArePair, IsTarget, free_from}
@@ -28,9 +27,9 @@ use Rattle.codegen.proofs.expression_code_lemmas.NumberCode.{known, known_word, 
 use Rattle.codegen.proofs.expression_code_lemmas.NumberCode.{row_quiet, turned_quiet, turned_same, zero_known}
 use Rattle.codegen.proofs.expression_code_lemmas.Operands.{Outcome, took, worked, emitted_runs}
 use Rattle.codegen.proofs.expression_code_lemmas.OperatorCode.{Applies, constant_plain, constant_after, move_applies}
-use Rattle.codegen.proofs.expression_code_lemmas.OperatorCode.{convert_applies, prefix_applies}
-use Rattle.codegen.proofs.expression_code_lemmas.OperatorCode.{rotate_applies, choice_plain, choice_made}
-use Rattle.codegen.proofs.expression_code_lemmas.OperatorCode.{choice_or_zero_plain, choice_or_zero_made, truth_fits}
+use Rattle.codegen.proofs.expression_code_lemmas.OperatorCode.{convert_applies, prefix_applies, rotate_applies}
+use Rattle.codegen.proofs.expression_code_lemmas.OperatorCode.{choice_plain, choice_made, choice_or_zero_plain}
+use Rattle.codegen.proofs.expression_code_lemmas.OperatorCode.{choice_or_zero_made, truth_fits}
 use Rattle.codegen.proofs.expression_code_lemmas.Homes.{conversion_kept}
 use Rattle.codegen.proofs.expression_code_lemmas.Places.{kind_known}
 use Rattle.codegen.proofs.expression_code_lemmas.TermLengths.{height, constant_length, move_length, convert_length}
@@ -136,10 +135,10 @@ module _ (z : Setting) (free : ℕ) (aligned : free % 4 ≡ 0) (above : base_of 
         let others : Leaves works s t = λ q h. got.others q (not_written works q d h own) in
         assumption)
         (move_runs z (take d o) (simp (lt-ltb 4 d target.free.low, lt-ltb d 32 target.free.small))
-        (omega arith, omega (arith, below)))
+        (omega arith, omega arith))
     copied {x = x} {word = word} {mutable = mutable} is (Some home) at =
         let there = z.allocated.allowed x home at in
-        let source : IsFree home = free_from home (omega (arith, there.0)) (omega (arith, there.1)) in
+        let source : IsFree home = free_from home (omega arith) (omega arith) in
         let moves = move_applies spare works own spare_own source in
         cheaper (omega (arith, move_length d home))
         (worked z works none_low {P = Ready z} d (move_code d home) moves.plain
@@ -147,19 +146,19 @@ module _ (z : Setting) (free : ℕ) (aligned : free % 4 ≡ 0) (above : base_of 
         (λ env s ready.
         let here = ready.homes_there x home (word_as word mutable) is at in
         let small = fits (of_variable {mutable = mutable} is) env s ready in
-        (ready.held, moves.made s.regs (omega (arith, here, small)) ∙ here)))
+        (ready.held, moves.made s.regs (omega arith) ∙ here)))
 
     -- A value, and then few instructions that make another of it.
     applied : {e whole : TermTree} {one : WordType} → Typed slots e one → HasSlot slots place
-        → (is : List Instr) → length is ≤ 7 → {f : ℕ → ℕ} → Applies works (found slots place e 29) (2 ^ 32) d is f
+        → {is : List Instr} {f : ℕ → ℕ} → length is ≤ 7 → Applies works (found slots place e 29) (2 ^ 32) d is f
         → ((m : Values) → f (value_in m e) ≡ value_in m whole)
         → Lies slots e place
         → Runs z (16 * (1 + term_nodes e) - 3) (steps_of e) (placed_at place e ++ fetched place e 29 ++ is) (Ready z)
         (ValuedIn z whole free d place)
-    applied {e = e} {whole = whole} has room is short {f = f} makes same runs =
+    applied {e = e} {whole = whole} has room {is = is} {f = f} short makes same runs =
         let r = found slots place e 29 in
         along (λ env. sym (append-nil (steps_of e env)))
-        (cheaper (omega (arith, short))
+        (cheaper (omega arith)
         (made slots place (λ j. e) d (one_fetched slots place (λ j. e) 0 (omega arith) (omega arith) room
         (one_more slots place (λ j. e) 0 (none_yet slots place (λ j. e)) runs))
         (worked z works none_low {P = λ env s. HeldAt z s × (s.regs r ≡ value_in env.variables e)
@@ -167,7 +166,7 @@ module _ (z : Setting) (free : ℕ) (aligned : free % 4 ≡ 0) (above : base_of 
         d is makes.plain (λ env. value_in env.variables whole)
         (λ env s given. (
           given.0,
-          makes.made s.regs (omega (arith, given.1, given.2)) ∙ (ap f given.1 ∙ same env.variables),
+          makes.made s.regs (omega arith) ∙ (ap f given.1 ∙ same env.variables),
         )))
         (λ env s t ready done. (done.held, done.fetched 0 (omega arith), fits has env s ready))))
 
@@ -183,7 +182,7 @@ module _ (z : Setting) (free : ℕ) (aligned : free % 4 ≡ 0) (above : base_of 
         let means =
         number_means spare works own spare_own (found_free slots place 0 e (omega arith)) operator n fits row is in
         along (λ env. (same env.variables).1)
-        (applied has room (number_code d r w row) (omega (arith, number_length d r w row)) (means w)
+        (applied has room (omega (arith, number_length d r w row)) (means w)
         (λ m. (same m).0) runs)
 
     -- An operator between two operands, where either may be in its instruction.
@@ -208,7 +207,7 @@ module _ (z : Setting) (free : ℕ) (aligned : free % 4 ≡ 0) (above : base_of 
               (row_quiet source (value_in m left) (value_in m right) operator numbered.n row numbered.row_is)
               ∙ (append-nil (path_in m left ++ []) ∙ append-nil (path_in m left)),
         ))
-        has (omega (arith, room)) first))
+        has (omega arith) first))
         (λ not_right. by_option (left_row z.allocation operator left)
         (λ row is.
         let turned = left_known z.allocation operator left row is in
@@ -223,16 +222,16 @@ module _ (z : Setting) (free : ℕ) (aligned : free % 4 ≡ 0) (above : base_of 
               (turned_quiet source (value_in m left) (value_in m right) operator turned.other turned.is)
               ∙ append-nil (path_in m right),
         ))
-        more (omega (arith, room)) alone))
+        more (omega arith) alone))
         (λ not_left.
         cheaper (omega (arith, height left, height right))
         (made slots place e d
         (one_fetched slots place e 1 (omega arith) (omega arith) room
-        (one_fetched slots place e 0 (omega arith) (omega arith) (omega (arith, room))
+        (one_fetched slots place e 0 (omega arith) (omega arith) (omega arith)
         (one_more slots place e 1 (one_more slots place e 0 (none_yet slots place e) first) second)))
         (emitted_runs z works none_low pair
         (found_free slots place 0 left (omega arith)) (found_free slots place 1 right (omega arith))
-        (found_apart slots place 0 1 left (λ f. omega (arith, f))) own next_own
+        (found_apart slots place 0 1 left (omega arith)) own next_own
         source width (λ env. value_in env.variables left) (λ env. value_in env.variables right) z.allocation operator
         makes)
         (λ env s u ready done. assumption (
@@ -267,7 +266,7 @@ module _ (z : Setting) (free : ℕ) (aligned : free % 4 ≡ 0) (above : base_of 
         let c_free = found_free slots place 0 condition (omega arith) in
         let l_free = found_free slots place 1 accepted (omega arith) in
         let r_free = found_free slots place 2 otherwise (omega arith) in
-        let lm = found_apart slots place 1 0 accepted (λ f. omega (arith, f)) in
+        let lm = found_apart slots place 1 0 accepted (omega arith) in
         let two = one_more slots place e 1 (one_more slots place e 0 (none_yet slots place e) first) second in
         let value = λ (env : StraightState) (v : TermTree). value_in env.variables v in
         let truth = λ (env : StraightState) (s : State) (ready : Ready z env s).
@@ -279,8 +278,8 @@ module _ (z : Setting) (free : ℕ) (aligned : free % 4 ≡ 0) (above : base_of 
         (zero env.variables).1)
         (cheaper (omega arith)
         (made slots place e d
-        (one_fetched slots place e 1 (omega arith) (omega arith) (omega (arith, room))
-        (one_fetched slots place e 0 (omega arith) (omega arith) (omega (arith, room)) two))
+        (one_fetched slots place e 1 (omega arith) (omega arith) (omega arith)
+        (one_fetched slots place e 0 (omega arith) (omega arith) (omega arith) two))
         (worked z works none_low {P = λ env s. HeldAt z s
         × (chosen_or_zero (s.regs c) (s.regs l) ≡ value_in env.variables whole)}
         d (choice_or_zero_code d mask c l)
@@ -291,7 +290,7 @@ module _ (z : Setting) (free : ℕ) (aligned : free % 4 ≡ 0) (above : base_of 
         let truth' = truth env s ready in (
           done.held,
           ap₂ chosen_or_zero (done.fetched 0 (omega arith)) (done.fetched 1 (omega arith))
-              ∙ (choice_or_zero (value env condition) (value env accepted) (omega (arith, truth'))
+              ∙ (choice_or_zero (value env condition) (value env accepted) (omega arith)
               (fits chooses env s ready)
               ∙ ap (λ v. if value env condition == 0 then v else value env accepted) (sym (zero env.variables).0)),
         )))))
@@ -300,8 +299,8 @@ module _ (z : Setting) (free : ℕ) (aligned : free % 4 ≡ 0) (above : base_of 
         (cheaper (omega (arith, height condition, height accepted, height otherwise))
         (made slots place e d
         (one_fetched slots place e 2 (omega arith) (omega arith) room
-        (one_fetched slots place e 1 (omega arith) (omega arith) (omega (arith, room))
-        (one_fetched slots place e 0 (omega arith) (omega arith) (omega (arith, room))
+        (one_fetched slots place e 1 (omega arith) (omega arith) (omega arith)
+        (one_fetched slots place e 0 (omega arith) (omega arith) (omega arith)
         (one_more slots place e 2 two third))))
         (worked z works none_low {P = λ env s. HeldAt z s
         × (chosen (s.regs c) (s.regs l) (s.regs r) ≡ value_in env.variables whole)}
@@ -312,17 +311,17 @@ module _ (z : Setting) (free : ℕ) (aligned : free % 4 ≡ 0) (above : base_of 
         (λ env s given. (
           given.0,
           choice_made pair r_free l_free mask_free c_free
-              (operand_apart count place (place + 1) 29 30 mask few (λ f. omega (arith, f)) (omega arith) (omega arith)
-              (λ f. omega (arith, f)) (inl refl)) lm
-              (found_apart slots place 2 0 otherwise (λ f. omega (arith, f)))
-              (found_apart slots place 2 1 otherwise (λ f. omega (arith, f))) s.regs ∙ given.1,
+              (operand_apart count place (place + 1) 29 30 mask few (omega arith) (omega arith) (omega arith)
+              (omega arith) (inl refl)) lm
+              (found_apart slots place 2 0 otherwise (omega arith))
+              (found_apart slots place 2 1 otherwise (omega arith)) s.regs ∙ given.1,
         )))
         (λ env s u ready done.
         let truth' = truth env s ready in (
           done.held,
           ap (λ v. chosen v (u.regs l) (u.regs r)) (done.fetched 0 (omega arith))
               ∙ (ap₂ (chosen (value env condition)) (done.fetched 1 (omega arith)) (done.fetched 2 (omega arith))
-              ∙ choice (value env condition) (value env accepted) (value env otherwise) (omega (arith, truth'))
+              ∙ choice (value env condition) (value env accepted) (value env otherwise) (omega arith)
               (fits chooses env s ready) (fits more env s ready)),
         )))))
 
@@ -353,26 +352,24 @@ module _ (z : Setting) (free : ℕ) (aligned : free % 4 ≡ 0) (above : base_of 
       let r = found slots place operand 29 in
       let source = found_free slots place 0 operand (omega arith) in
       let pair = spare place d target in
-      applied place d target has (omega (arith, room)) (prefix_code d r operator width)
-      (omega (arith, prefix_length d r operator width))
+      applied place d target has (omega arith) (omega (arith, prefix_length d r operator width))
       (prefix_applies pair (works_at count place d) (own place d target) (spare_own place d target) source
       operator width)
       (λ m. refl)
       (lies has place room (into_runs has place))
   into_runs (of_binary {place = source} {operator = operator} {width = width} has more makes same) place d target room =
-      operated_runs place d target source operator width has more makes (omega (arith, room))
-      (lies has place (omega (arith, room)) (into_runs has place))
-      (lies more place (omega (arith, room)) (into_runs more place))
-      (lies more (place + 1) (omega (arith, room)) (into_runs more (place + 1)))
+      operated_runs place d target source operator width has more makes (omega arith)
+      (lies has place (omega arith) (into_runs has place))
+      (lies more place (omega arith) (into_runs more place))
+      (lies more (place + 1) (omega arith) (into_runs more (place + 1)))
   into_runs (of_rotation {width = width} {operand = operand} {amount = amount} has numeric low high same) place d
       target room =
       let r = found slots place operand 29 in
       let source = found_free slots place 0 operand (omega arith) in
       let pair = spare place d target in
-      let apart = operand_not count place 29 30 r few (omega arith) (λ f. omega (arith, f))
+      let apart = operand_not count place 29 30 r few (omega arith) (omega arith)
       (found_is slots place operand 29) in
-      applied place d target has (omega (arith, room)) (rotate_code d r width amount)
-      (rotate_length d r width amount)
+      applied place d target has (omega arith) (rotate_length d r width amount)
       (rotate_applies pair (works_at count place d) (own place d target) (spare_own place d target) source apart
       width amount)
       (λ m. refl)
@@ -386,17 +383,16 @@ module _ (z : Setting) (free : ℕ) (aligned : free % 4 ≡ 0) (above : base_of 
       (gives
       (λ env s t fine ready done. assumption (done.there ∙ conversion_kept z kind keeps has env s ready))
       (into_runs has place d target room)))
-      (λ cuts. applied place d target has (omega (arith, room)) (convert_code d r (width_of kind))
-      (omega (arith, convert_length d r (width_of kind)))
+      (λ cuts. applied place d target has (omega arith) (omega (arith, convert_length d r (width_of kind)))
       (convert_applies pair (works_at count place d) (own place d target) (spare_own place d target) source
       (width_of kind))
       (λ m. refl)
       (lies has place room (into_runs has place)))
   into_runs (of_selection has chooses more) place d target room =
-      chosen_runs place d target has chooses more (omega (arith, room))
-      (lies has place (omega (arith, room)) (into_runs has place))
-      (lies chooses (place + 1) (omega (arith, room)) (into_runs chooses (place + 1)))
-      (lies more (place + 2) (omega (arith, room)) (into_runs more (place + 2)))
+      chosen_runs place d target has chooses more (omega arith)
+      (lies has place (omega arith) (into_runs has place))
+      (lies chooses (place + 1) (omega arith) (into_runs chooses (place + 1)))
+      (lies more (place + 2) (omega arith) (into_runs more (place + 2)))
   into_runs (of_element {place = source} {x = x} {size = size} {index = index} {word = word} {mutable =
       mutable} is has) place d target room =
       let e = λ (j : ℕ). index in
@@ -408,7 +404,7 @@ module _ (z : Setting) (free : ℕ) (aligned : free % 4 ≡ 0) (above : base_of 
       (λ far. as_code (ap (λ kind. placed_at place index ++ fetched place index 29
       ++ element_code d r kind (variable_offset z.declared x)) kind)
       (cheaper (omega (arith, height index))
-      (made slots place e d (one_fetched slots place e 0 (omega arith) (omega arith) (omega (arith, room))
+      (made slots place e d (one_fetched slots place e 0 (omega arith) (omega arith) (omega arith)
       (one_more slots place e 0 (none_yet slots place e) (lies has place room (into_runs has place))))
       (by_index z source size (λ env. value_in env.variables index)
       (λ i below. picked slots place d target r (found_free slots place 0 index (omega arith)) source x size word

@@ -116,19 +116,18 @@ pub number_there : (bytes : ByteMap) (n a : ℕ) → ((i : ℕ) → i < n → is
     → is_some (number_at bytes n a) ≡ true
 number_there bytes zero a there = ap is_some (number_at-zero bytes a)
 number_there bytes (suc n) a there =
-    let here : a + 0 ≡ a = omega arith in
-    let head : is_some (bytes a) ≡ true = ap (λ x. is_some (bytes x)) (sym here) ∙ there 0 (omega arith) in
+    let here : a ≡ a + 0 = omega arith in
+    let head : is_some (bytes a) ≡ true = ap (λ x. is_some (bytes x)) here ∙ there 0 (omega arith) in
     let tail = number_there bytes n (a + 1) (λ i below. let e : a + 1 + i ≡ a + suc i = omega arith in
-    ap (λ x. is_some (bytes x)) e ∙ there (suc i) (omega (arith, below))) in
-    ap is_some (number_at-suc bytes n a)
-    ∙ (is_some-joined (bytes a) (number_at bytes n (a + 1)) ∙ ap₂ (λ x y. x && y) head tail)
+    ap (λ x. is_some (bytes x)) e ∙ there (suc i) (omega arith)) in
+    rw (number_at-suc, is_some-joined, head, tail) refl
 
 -- so many bytes in the frame are data
 pub frame_there : (z : Setting) (s : State) → HeldAt z s → (n o : ℕ) → o + n ≤ z.size
     → is_some (number_at s.bytes n (z.frame + o)) ≡ true
 frame_there z s held n o inside =
     number_there s.bytes n (z.frame + o) (λ i below. let e : z.frame + o + i ≡ z.frame + (o + i) = omega arith in
-    ap (λ x. is_some (s.bytes x)) e ∙ held.data_there (o + i) (omega (arith, below, inside)))
+    ap (λ x. is_some (s.bytes x)) e ∙ held.data_there (o + i) (omega arith))
 
 -- where registers change, but x2 does not
 pub held_regs : (z : Setting) (s t : State) → t.regs 2 ≡ s.regs 2 → t.bytes ≡ s.bytes → HeldAt z s → HeldAt z t
@@ -143,9 +142,9 @@ store_beside : (z : Setting) (a : ℕ) → (a < z.frame) ⊎ (z.frame + z.size �
     → (bytes : ByteMap) (size : Size) (at v : ℕ) → IsInside z.frame z.size (Some (event.Store at size))
     → with_number bytes (byte_count size) at v a ≡ bytes a
 store_beside z a (inl below) bytes size at v inside =
-    with_number_below bytes (byte_count size) at v a (omega (arith, below, inside))
+    with_number_below bytes (byte_count size) at v a (omega arith)
 store_beside z a (inr above) bytes size at v inside =
-    with_number_above bytes (byte_count size) at v a (omega (arith, above, inside))
+    with_number_above bytes (byte_count size) at v a (omega arith)
 
 pub frame_runs : (z : Setting) {P : Before} (works : ℕ → Bool) (is : List Instr) (places : List ℕ)
     → logic.are_straight works is ≡ true → ((r : ℕ) → r < 5 → works r ≡ false)

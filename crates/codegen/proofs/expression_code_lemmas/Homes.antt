@@ -13,7 +13,7 @@ use Rattle.language.specs.declared.signature.Kind.TheVariants.{Uint32}
 -- a conversion that keeps words keeps each
 pub word_kept : (a : Allocation) (kind : Kind) → keeps_words a kind ≡ true → (v : ℕ) → v < 2 ^ 32
     → converted (width_of kind) v ≡ v
-word_kept a Uint32 keeps v below = omega (arith, below)
+word_kept a Uint32 keeps v below = omega arith
 word_kept a kind keeps v below = grind (arith, keeps, below)
 
 -- such a conversion of a well-typed expression has its value

@@ -7,11 +7,10 @@ use Rattle.codegen.proofs.expression_code_lemmas.Below.{Event, IsInside, address
 use Rattle.codegen.proofs.expression_code_lemmas.Below.{both_right, byte_count, ByteMap, cheaper, Contents, contents_of}
 use Rattle.codegen.proofs.expression_code_lemmas.Below.{fun_ext, gives, idle, Instr, load_code, load_size}
 use Rattle.codegen.proofs.expression_code_lemmas.Below.{LoadOperation, lower_part, lt-ltb, ltb-true, nat_tests}
-use Rattle.codegen.proofs.expression_code_lemmas.Below.{no_access, none, number_at, number_or_zero}
-use Rattle.codegen.proofs.expression_code_lemmas.Below.{only_computes, quiet, register, registers_after, registers_of}
-use Rattle.codegen.proofs.expression_code_lemmas.Below.{sign_extended, Size, State, store_size, StoreOperation}
-use Rattle.codegen.proofs.expression_code_lemmas.Below.{StraightState, sum_of, Then, upper_part, with_number}
-use Rattle.codegen.proofs.expression_code_lemmas.Below.{with_register, with_result}
+use Rattle.codegen.proofs.expression_code_lemmas.Below.{no_access, none, number_at, number_or_zero, only_computes}
+use Rattle.codegen.proofs.expression_code_lemmas.Below.{quiet, register, registers_after, registers_of, sign_extended}
+use Rattle.codegen.proofs.expression_code_lemmas.Below.{Size, State, store_size, StoreOperation, StraightState, sum_of}
+use Rattle.codegen.proofs.expression_code_lemmas.Below.{Then, upper_part, with_number, with_register, with_result}
 use Rattle.codegen.proofs.expression_code_lemmas.Arithmetic.{far_address, near_address, upper_fits}
 use Rattle.codegen.proofs.expression_code_lemmas.Frame.{Setting, Before, After, Steps, Runs, setting, HeldAt, Held}
 use Rattle.codegen.proofs.expression_code_lemmas.Frame.{frame_there, frame_runs}
@@ -143,8 +142,8 @@ computing_within z works is plain low =
     (λ env s held. (held, access.1 (contents_of s))))
 
 even_at : (size : Size) (frame o : ℕ) → frame % 4 ≡ 0 → o % byte_count size ≡ 0 → (frame + o) % byte_count size ≡ 0
-even_at Byte frame o even aligned = omega (arith, even, aligned)
-even_at size frame o even aligned = omega (arith, even, aligned)
+even_at Byte frame o even aligned = omega arith
+even_at size frame o even aligned = omega arith
 
 -- a register and an offset are the address of a place in the frame
 abbrev Addresses : Setting → ℕ → ℕ → ℕ → Before
@@ -172,7 +171,7 @@ module _ (z : Setting) (rs offset a : ℕ) (rs_small : rs < 32) (offset_small : 
       frame_runs z {P = Addresses z rs offset a} is_free (instr.Load operation rd rs offset ∷ [])
       ((z.frame + a) ∷ [])
       (simp (lt-ltb 4 rd low, lt-ltb rd 32 small, lt-ltb rs 32 rs_small, lt-ltb offset 4096 offset_small)) none_low
-      (fit (load_size operation) _ even (omega arith, omega (arith, inside)), tt)
+      (fit (load_size operation) _ even (omega arith, omega arith), tt)
       (λ env s given. (given.0, (met _ inside s given.0 given.1, tt)))
 
   pub storing : (operation : StoreOperation) (rs2 : ℕ) → rs2 < 32 → a % byte_count (store_size operation) ≡ 0
@@ -181,7 +180,7 @@ module _ (z : Setting) (rs offset a : ℕ) (rs_small : rs < 32) (offset_small : 
       frame_runs z {P = Addresses z rs offset a} is_free (instr.Store operation rs2 rs offset ∷ [])
       ((z.frame + a) ∷ [])
       (simp (lt-ltb rs2 32 small, lt-ltb rs 32 rs_small, lt-ltb offset 4096 offset_small)) none_low
-      (fit (store_size operation) _ even (omega arith, omega (arith, inside)), tt)
+      (fit (store_size operation) _ even (omega arith, omega arith), tt)
       (λ env s given. (given.0, (met _ inside s given.0 given.1, tt)))
 
 -- An access of a slot: the address of a far one is first made in a register.
@@ -218,11 +217,9 @@ module _ (z : Setting) where
       × (t.regs ≡ cond near s.regs (with_register s.regs r (sum_of (upper_part o * 2 ^ 12) z.frame)))
       × (t.bytes ≡ s.bytes))
   reached r o low small inside true h =
-      let ends = z.ends in
       idle (λ env s held. assumption (ap (λ (x : ℕ). sum_of x (sign_extended 12 o)) held.base
-      ∙ near_address z.frame o (ltb-true o 2048 h) (omega (arith, ends, inside))))
+      ∙ near_address z.frame o (ltb-true o 2048 h) (omega arith)))
   reached r o low small inside false h =
-      let ends = z.ends in
       gives
       (λ env s t fine held done.
       let regs : t.regs ≡ with_register s.regs r (sum_of (upper_part o * 2 ^ 12) z.frame) = done.registers
@@ -230,8 +227,8 @@ module _ (z : Setting) where
         (
           done.held,
           ap (λ (after : ℕ → ℕ). address_of after r (lower_part o)) regs
-              ∙ rw (ne_eqb r 0 (λ e. omega (arith, low, e)), eq-eqb r r refl)
-              (far_address z.frame o (omega (arith, ends, inside))),
+              ∙ rw (ne_eqb r 0 (omega arith), eq-eqb r r refl)
+              (far_address z.frame o (omega arith)),
         ),
         regs,
         done.same,
@@ -258,7 +255,7 @@ module _ (z : Setting) where
             done.first.2 (ap (λ (regs : ℕ → ℕ). register regs r) done.first.1 ∙ source s.regs r _ near other),
       ))
       (quiet
-      (reached 28 o (omega arith) (omega arith) (omega (arith, inside)) near refl)
+      (reached 28 o (omega arith) (omega arith) (omega arith) near refl)
       (storing z (cond near 2 28) (cond near o (lower_part o)) o (grind (arith, nat_tests)) (grind (arith, nat_tests))
       operation r small even inside)
       (λ env s t held done. done.0)))
@@ -282,7 +279,7 @@ module _ (z : Setting) where
         bytes = done.second.1.bytes ∙ done.first.2;
       })
       (quiet
-      (reached r o low small (omega (arith, slot.1)) near refl)
+      (reached r o low small (omega arith) near refl)
       (loading z (cond near 2 r) (cond near o (lower_part o)) o (grind (arith, nat_tests)) (grind (arith, nat_tests))
       Lw r low small slot.0 slot.1)
       (λ env s t held done. done.0)))
@@ -309,7 +306,7 @@ module _ (z : Setting) where
       )
 
   -- code, and then moves
-  pub then_moves : (ms : List Move) → are_moves ms ≡ true → AreSlots z ms
+  then_moves : (ms : List Move) → are_moves ms ≡ true → AreSlots z ms
       → {n : ℕ} {steps : Steps} {xs : List Instr} {P : Before} {Q : After}
       → Runs z n steps xs P Q → ((env : StraightState) (s t : State) → P env s → Q env s t → HeldAt z t)
       → Runs z (n + moves_cost ms) steps (behind xs ms) P (Then (setting z) Q (Moved z ms))

@@ -65,8 +65,8 @@ low_again n = omega arith
 
 less_by : (w : Width) (a n : ℕ) → n < 2 ^ 32
     → (a + negated W32 n) % 2 ^ bits w ≡ (a + (2 ^ bits w - n % 2 ^ bits w)) % 2 ^ bits w
-less_by W8 a n fits = omega (arith, fits)
-less_by width a n fits = omega (arith, fits)
+less_by W8 a n fits = omega arith
+less_by width a n fits = omega arith
 
 -- a word that is moved up and back keeps its low bits
 moved_back : (v k others : ℕ) → k + others ≡ 32 → v * 2 ^ others % 2 ^ 32 / 2 ^ others ≡ v % 2 ^ k
@@ -84,8 +84,8 @@ moved_back v k others is =
 low_kept : (v n k others : ℕ) → v < 2 ^ 32 → k + others ≡ 32 → others < 32 → n + 1 ≡ 2 ^ k
     → shift_value Srli (shift_value Slli v (others % 32)) (others % 32) ≡ bit_and v n
 low_kept v n k others fits is less ones =
-    let amount : others % 32 % 32 ≡ others = omega (arith, less) in
-    let number : n ≡ 2 ^ k - 1 = omega (arith, ones) in
+    let amount : others % 32 % 32 ≡ others = omega arith in
+    let number : n ≡ 2 ^ k - 1 = omega arith in
     let small : v % 2 ^ k % 2 ^ 32 ≡ v % 2 ^ k = omega (arith, fits, mod-le v (2 ^ k)) in
     ap (λ x. v * 2 ^ x % 2 ^ 32 / 2 ^ x % 2 ^ 32) amount
     ∙ (ap (λ x. x % 2 ^ 32) (moved_back v k others is) ∙ (small ∙ sym (ap (bit_and v) number ∙ and_mask v k)))
@@ -276,7 +276,7 @@ module _ {d t : ℕ} (pair : ArePair d t) (works : ℕ → Bool) (wd : works d �
         plain = simp (wd, d32 pair, q32 pair source, small);
         made = λ regs below.
             simp (dd pair, d0 pair, q0 pair source)
-            (low_kept (regs r) n (32 - others) others below (omega (arith, top.1)) (omega (arith, top.1))
+            (low_kept (regs r) n (32 - others) others below (omega arith) (omega arith)
             (eqb-true (n + 1) (2 ^ (32 - others)) both.0));
       })
 

@@ -1,16 +1,16 @@
 -- Operands of an expression: each is computed into its place, unless it is at home, and is then fetched into its
 -- register.
-use Rattle.std.proofs.Common.{◌≡◌, ◌≢◌, ℕ, zero, suc, ◌+◌, ◌-◌, ◌*◌, ◌%◌, ◌<◌, ◌≤◌, List, [], ◌++◌}
-use Rattle.std.proofs.Common.{inl, inr, below_more, refl, ◌∙◌, arith}
-use Rattle.codegen.proofs.expression_code_lemmas.Below.{along, cheaper, home_of_term, expr_code, fetch_code}
-use Rattle.codegen.proofs.expression_code_lemmas.Below.{gives, HasType, height_of, idle, Instr, into_code}
-use Rattle.codegen.proofs.expression_code_lemmas.Below.{Location, none, operand, path_in, quiet, register_of, seq}
-use Rattle.codegen.proofs.expression_code_lemmas.Below.{slot_of, slots_to, State, StraightState, term_nodes}
-use Rattle.codegen.proofs.expression_code_lemmas.Below.{TermTree, types_of, value_in, WordType, working_register}
+use Rattle.std.proofs.Common.{◌≡◌, ◌≢◌, ℕ, zero, suc, ◌+◌, ◌-◌, ◌*◌, ◌%◌, ◌<◌, ◌≤◌, List, [], ◌++◌, inl, inr}
+use Rattle.std.proofs.Common.{below_more, refl, ◌∙◌, arith}
+use Rattle.codegen.proofs.expression_code_lemmas.Below.{along, cheaper, home_of_term, expr_code, fetch_code, gives}
+use Rattle.codegen.proofs.expression_code_lemmas.Below.{HasType, height_of, idle, Instr, into_code, Location, none}
+use Rattle.codegen.proofs.expression_code_lemmas.Below.{operand, path_in, quiet, register_of, seq, slot_of, slots_to}
+use Rattle.codegen.proofs.expression_code_lemmas.Below.{State, StraightState, term_nodes, TermTree, types_of, value_in}
+use Rattle.codegen.proofs.expression_code_lemmas.Below.{WordType, working_register}
 use Rattle.codegen.proofs.expression_code_lemmas.Frame.{Setting, base_of, Steps, Before, Runs, HeldAt}
 use Rattle.codegen.proofs.expression_code_lemmas.WorkRegisters.{IsFree, IsOperand, operand_apart, operand_free}
-use Rattle.codegen.proofs.expression_code_lemmas.WorkRegisters.{operand_not, cases_Option, is_operand, works_in, works_at}
-use Rattle.codegen.proofs.expression_code_lemmas.WorkRegisters.{higher_stays, beside_stays, own_stays}
+use Rattle.codegen.proofs.expression_code_lemmas.WorkRegisters.{operand_not, cases_Option, is_operand, works_in}
+use Rattle.codegen.proofs.expression_code_lemmas.WorkRegisters.{works_at, higher_stays, beside_stays, own_stays}
 use Rattle.codegen.proofs.expression_code_lemmas.Operands.{Outcome, fetch_runs, operand_room, keep_runs}
 use Rattle.codegen.proofs.expression_code_lemmas.Homes.{home_there}
 use Rattle.codegen.proofs.expression_code_lemmas.TermLengths.{height}
@@ -74,7 +74,7 @@ module _ (slots : Slots) where
   -- that of the operand of a number is a free one, and not the one that another place works in
   pub found_free : (place j : ℕ) (e : TermTree) → j < 3 → IsFree (found (place_by place j) e (29 + j))
   found_free place j e small =
-      operand_free count (place_by place j) (29 + j) _ few (omega arith) (omega (arith, small))
+      operand_free count (place_by place j) (29 + j) _ few (omega arith) (omega arith)
       (found_is (place_by place j) e (29 + j))
 
   pub found_apart : (place j k : ℕ) (e : TermTree) → j ≢ k
@@ -82,7 +82,7 @@ module _ (slots : Slots) where
   found_apart place j k e other =
       operand_apart count (place_by place j) (place_by place k) (29 + j) (29 + k) _ few
       (λ f. other (omega (arith, f, place_is place j, place_is place k))) (omega arith) (omega arith)
-      (λ f. other (omega (arith, f))) (found_is (place_by place j) e (29 + j))
+      (λ f. other (omega arith)) (found_is (place_by place j) e (29 + j))
 
   -- the code of an expression brings its value to where it is found
   abbrev pub Lies : TermTree → ℕ → Type 0
@@ -115,8 +115,8 @@ module _ (slots : Slots) where
     none_yet =
         idle (λ env s ready. record {
           held = ready.held;
-          fetched = λ j below. absurd (omega (arith, below));
-          waiting = λ j low below. absurd (omega (arith, below));
+          fetched = λ j below. absurd (omega arith);
+          waiting = λ j low below. absurd (omega arith);
           kept = λ o below. refl;
           lower = λ q h. refl;
         })
@@ -135,13 +135,13 @@ module _ (slots : Slots) where
         let two = done.second in
         record {
           held = two.held;
-          fetched = λ j below. absurd (omega (arith, below));
+          fetched = λ j below. absurd (omega arith);
           waiting = λ j low.
               below_more (λ i. Holds z (location i) t (value_in env.variables (e i))) n
               (λ i less. holds_lower z free (place_by place i) p _ u t
               (omega (arith, less, place_is place i, place_is place n)) two.kept two.lower (e i)
               (one.waiting i (omega arith) less)) two.there j;
-          kept = kept_then z k s u t one.kept (kept_less z k (slot p) u t (omega (arith, higher)) two.kept);
+          kept = kept_then z k s u t one.kept (kept_less z k (slot p) u t (omega arith) two.kept);
           lower = leaves_then (works_in count place) s u t one.lower
               (λ q h. two.lower q (higher_stays count place p q higher h));
         })
@@ -162,16 +162,16 @@ module _ (slots : Slots) where
               below_more (λ j. t.regs (register_of (location j) (29 + j)) ≡ value_in env.variables (e j)) k
               (λ j below.
               two.others _ (operand_not count (place_by place j) (29 + j) (29 + k) _ few (omega arith)
-              (λ same. omega (arith, below, same)) (found_is (place_by place j) (e j) (29 + j)))
+              (omega arith) (found_is (place_by place j) (e j) (29 + j)))
               ∙ one.fetched j below) two.there;
           waiting = λ j low below. holds_still z free (place_by place j) place _ u t (29 + k) (omega arith) two.others
-              two.same (e j) (one.waiting j (omega (arith, low)) below);
+              two.same (e j) (one.waiting j (omega arith) below);
           kept = kept_then z (slot place) s u t one.kept (kept_by z (slot place) u t two.same);
           lower = leaves_then (works_in count place) s u t one.lower
               (leaves_spare count place (29 + k) u t (omega arith) two.others);
         })
         (quiet runs
-        (fetch_runs z (29 + k) (omega arith) (omega (arith, small)) (λ env. value_in env.variables (e k)) (location k)
+        (fetch_runs z (29 + k) (omega arith) (omega arith) (λ env. value_in env.variables (e k)) (location k)
         (operand_room z free aligned (place_by place k) room (e k)))
         (λ env s t ready done. (done.held, done.waiting k (omega arith) less)))
 
@@ -230,7 +230,7 @@ module _ (slots : Slots) where
                   (leaves_spare count place 28 u t (omega arith) two.3),
             ))
             (quiet runs
-            (keep_runs z free aligned place (omega (arith, room)) (λ env. value_in env.variables e))
+            (keep_runs z free aligned place (omega arith) (λ env. value_in env.variables e))
             (λ env s t ready done.
             assumption (value_word z.code.profile z.declared e word env.variables ready.fits has)))))
       ]

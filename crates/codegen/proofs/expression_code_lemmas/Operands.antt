@@ -1,6 +1,6 @@
 -- Temporaries: how an operator's are fetched, worked on and kept.
-use Rattle.std.proofs.Common.{◌≡◌, ◌≢◌, ℕ, ◌+◌, ◌*◌, ◌%◌, ◌^◌, ◌<◌, ◌≤◌, Bool, true, false, cond}
-use Rattle.std.proofs.Common.{nat_lt, List, [], ◌∷◌, length, Some, refl, ap, ap₂, ◌∙◌, subst, arith, ne_eqb}
+use Rattle.std.proofs.Common.{◌≡◌, ◌≢◌, ℕ, ◌+◌, ◌*◌, ◌%◌, ◌^◌, ◌<◌, ◌≤◌, Bool, true, false, cond, nat_lt, List, [], ◌∷◌}
+use Rattle.std.proofs.Common.{length, Some, refl, ap, ap₂, ◌∙◌, subst, arith, ne_eqb}
 use Rattle.codegen.proofs.expression_code_lemmas.Below.{Allocation, along, BinaryOperator, cheaper, cut_code}
 use Rattle.codegen.proofs.expression_code_lemmas.Below.{divide_value, divided, DivideOperation, emitted_operator}
 use Rattle.codegen.proofs.expression_code_lemmas.Below.{IsWithinKind, Profile, WordType, fetch_code, gives, idle}
@@ -51,7 +51,7 @@ pub put_wrote : (z : Setting) (operation : StoreOperation) (r o v : ℕ) (env : 
 put_wrote z operation r o v env s t is moved = record {
   held = moved.held;
   written = moved.bytes ∙ ap (λ w. with_number s.bytes (byte_count (store_size operation)) (z.frame + o) w) is;
-  homes = λ q home. is_left s.regs 28 _ moved.regs q (λ e. omega (arith, home.1, e));
+  homes = λ q home. is_left s.regs 28 _ moved.regs q (omega arith);
 }
 
 -- a register has this value, and neither the registers that do not work nor any byte has changed
@@ -76,8 +76,8 @@ module _ (z : Setting) (spare : ℕ) (low : 4 < spare) (high : spare < 32) (v : 
   fetch_runs (InSlot o) room =
       weaken
       (λ env s fine given. given.0)
-      (λ env s t fine given moved. took z spare o (v env) env s t (λ e. omega (arith, low, e)) given.1 moved)
-      (move_runs z (take spare o) (simp (lt-ltb 4 spare (omega (arith, low)), lt-ltb spare 32 high)) room)
+      (λ env s t fine given moved. took z spare o (v env) env s t (omega arith) given.1 moved)
+      (move_runs z (take spare o) (simp (lt-ltb 4 spare (omega arith), lt-ltb spare 32 high)) room)
 
 -- A temporary in a place, where its slot lies in the frame.
 module _ (z : Setting) (free : ℕ) (aligned : free % 4 ≡ 0) (place : ℕ)
@@ -92,7 +92,7 @@ module _ (z : Setting) (free : ℕ) (aligned : free % 4 ≡ 0) (place : ℕ)
   operand_room =
       at_operand z.declared z.allocation z.allocated free place (HasRoom z)
       (cond_both (nat_lt place count) (InRegister (5 + place)) (InSlot (slot_of count free place)) (HasRoom z) (λ h. tt)
-      (λ h. (omega (arith, aligned), omega (arith, room, ltb-false _ _ h))))
+      (λ h. (omega arith, omega (arith, room, ltb-false _ _ h))))
       (λ home is. tt)
 
   -- what is in the register of a place is kept there
@@ -115,7 +115,7 @@ module _ (z : Setting) (free : ℕ) (aligned : free % 4 ≡ 0) (place : ℕ)
           wrote_kept z 4 k (v env) s t wrote,
           is_left s.regs 28 _ moved.regs,
         ))
-        (move_runs z (put Sw 29 k) refl (omega (arith, aligned), omega (arith, room, ltb-false _ _ h)))
+        (move_runs z (put Sw 29 k) refl (omega arith, omega (arith, room, ltb-false _ _ h)))
 
     pub keep_runs : Runs z 3 none (keep_code (temporary count free place)) (λ env s. HeldAt z s
         × (s.regs (working_register count place 29) ≡ v env) × (v env < 2 ^ 32))
@@ -184,7 +184,7 @@ module _ (z : Setting) (works : ℕ → Bool) (none_low : (q : ℕ) → q < 5 �
           (worked {P = λ env s. HeldAt z s × (registers_after rest s.regs d ≡ w env)} d rest plain w
           (λ env s given. given))
           (λ env s u given moves. (
-            held_regs z s u (moves.others 2 (λ e. omega (arith, pair.one.low, e))) moves.same given.held,
+            held_regs z s u (moves.others 2 (omega arith)) moves.same given.held,
             value env u.regs given.left_fits given.right_fits moves.there,
           )))
 
@@ -204,9 +204,9 @@ module _ (z : Setting) (works : ℕ → Bool) (none_low : (q : ℕ) → q < 5 �
           → Runs z 4 (λ env. marks_of source operator (a env) (b env)) (operator_code d t l r operator width)
           (Operands a b) (Operated operator)
       operator_runs Divide =
-          quotient Divide Divu (λ env some. rw (ne_eqb (b env) 0 (λ e. omega (arith, some, e))))
+          quotient Divide Divu (λ env some. rw (ne_eqb (b env) 0 (omega arith)))
       operator_runs Remainder =
-          quotient Remainder Remu (λ env some. rw (ne_eqb (b env) 0 (λ e. omega (arith, some, e))))
+          quotient Remainder Remu (λ env some. rw (ne_eqb (b env) 0 (omega arith)))
       operator_runs Multiply =
           cheaper (omega (arith, narrow_length d d width))
           (shown (λ env. multiply_value Mul (a env) (b env)) (λ env. operated Multiply width (a env) (b env))

@@ -85,7 +85,7 @@ around w n j some within =
 
 word_fits : (w : Width) (n : ℕ) → n < 2 ^ bits w → n < 2 ^ 32
 word_fits W32 n fits = fits
-word_fits width n fits = omega (arith, fits)
+word_fits width n fits = omega arith
 
 -- a truth is a word of 32 bits
 pub truth_fits : (c : Bool) → word_of c < 2 ^ 32
@@ -203,7 +203,7 @@ module _ {d t : ℕ} (pair : ArePair d t) where
           (λ e. record { plain = refl; made = λ regs fits. ap regs (eqb-true d q e) })
           (λ e. record {
             plain = simp (d32, q32 source, wd);
-            made = λ regs fits. simp (dd, d0, q0 source) (omega (arith, fits));
+            made = λ regs fits. simp (dd, d0, q0 source) (omega arith);
           })
 
       narrow_applies : (w : Width) → Applies works q (2 ^ 32) (narrowed_in d q w) (narrow_code d q w) (converted w)

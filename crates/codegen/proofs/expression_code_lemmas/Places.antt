@@ -16,12 +16,12 @@ use Rattle.language.specs.declared.signature.Form.TheVariants.{SingleWord}
 
 in_words : (word : WordType) (elements : Option ℕ) (i : ℕ) → i < numbers_in elements
     → bytes_by word.kind elements * i + bytes_by word.kind elements ≤ 4 * words_by word elements
-in_words word None i below = omega (arith, below)
+in_words word None i below = omega arith
 in_words word (Some size) i below = scaled word.kind
   where
     scaled : (kind : Kind) → element_bytes kind * i + element_bytes kind ≤ 4 * ((size * element_bytes kind + 3) / 4)
-    scaled Boolean = omega (arith, below)
-    scaled kind = omega (arith, below)
+    scaled Boolean = omega arith
+    scaled kind = omega arith
 
 pub place_within : (declared : List FlatVariable) (x : ℕ) (d : FlatVariable) (i : ℕ) → i < numbers_in d.elements
     → place_of declared x d i + bytes_of d ≤ variable_offset declared x + 4 * words_of d
@@ -44,8 +44,8 @@ words_before : (declared : List FlatVariable) (x y : ℕ) (d : FlatVariable) →
     → declared_words (take x declared) + words_of d ≤ declared_words (take y declared)
 words_before [] x y d is below = absurd (cc)
 words_before (e ∷ ds) zero (suc y) d is below = omega (arith, ap words_of (same_Some e d is))
-words_before (e ∷ ds) (suc x) (suc y) d is below = omega (arith, words_before ds x y d is (omega (arith, below)))
-words_before (e ∷ ds) x zero d is below = absurd (omega (arith, below))
+words_before (e ∷ ds) (suc x) (suc y) d is below = omega (arith, words_before ds x y d is (omega arith))
+words_before (e ∷ ds) x zero d is below = absurd (omega arith)
 
 -- a variable ends where the result begins, or before
 pub ends_before_result : (declared : List FlatVariable) (x : ℕ) (d : FlatVariable) → slice_get declared x ≡ Some d
@@ -75,8 +75,8 @@ pub elements_apart : (declared : List FlatVariable) (x : ℕ) (d : FlatVariable)
     ⊎ (place_of declared x d i + bytes_of d ≤ place_of declared x d j)
 elements_apart declared x d i j other =
     let b = bytes_of d in
-    apart i j _ other (λ lower. inl (omega (arith, mul-le b (j + 1) b i (omega arith) (omega (arith, lower)))))
-    (λ higher. inr (omega (arith, mul-le b (i + 1) b j (omega arith) (omega (arith, higher)))))
+    apart i j _ other (λ lower. inl (omega (arith, mul-le b (j + 1) b i (omega arith) (omega arith))))
+    (λ higher. inr (omega (arith, mul-le b (i + 1) b j (omega arith) (omega arith))))
 
 -- Offsets as they are listed.
 
@@ -88,9 +88,9 @@ offsets_count low (d ∷ ds) = omega (arith, offsets_count (low + 4 * words_of d
 offset_at : (low : ℕ) (ds : List FlatVariable) (x e : ℕ) → x < length ds + 1
     → get_or (offsets_from low ds) x e ≡ low + 4 * declared_words (take x ds)
 offset_at low [] zero e below = omega arith
-offset_at low [] (suc x) e below = absurd (omega (arith, below))
+offset_at low [] (suc x) e below = absurd (omega arith)
 offset_at low (d ∷ ds) zero e below = omega arith
-offset_at low (d ∷ ds) (suc x) e below = omega (arith, offset_at (low + 4 * words_of d) ds x e (omega (arith, below)))
+offset_at low (d ∷ ds) (suc x) e below = omega (arith, offset_at (low + 4 * words_of d) ds x e (omega arith))
 
 pub offset_listed : (ds : List FlatVariable) (x e : ℕ) → x < length ds + 1
     → get_or (offsets_from 0 ds) x e ≡ variable_offset ds x
@@ -102,7 +102,7 @@ pub offset_found : (ds : List FlatVariable) (x : ℕ) → x < length ds
 offset_found ds x below =
     ap (λ (o : Option ℕ). unwrap_or o 0)
     (slice_get-get_or (offsets_from 0 ds) x 0 (omega (arith, below, offsets_count 0 ds)))
-    ∙ offset_listed ds x 0 (omega (arith, below))
+    ∙ offset_listed ds x 0 (omega arith)
 
 pub end_listed : (ds : List FlatVariable) (e : ℕ) → get_or (offsets_from 0 ds) (length ds) e ≡ result_offset ds
 end_listed ds e = offset_listed ds (length ds) e (omega arith)

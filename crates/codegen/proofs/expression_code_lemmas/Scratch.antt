@@ -18,8 +18,7 @@ scratch_low q low = grind (arith, nat_tests)
 
 pub scratch_home : (z : Setting) (r : ℕ) → IsHome z.allocation.count r → is_scratch r ≡ false
 scratch_home z r home =
-    let some = z.allocated.some in
-    let low : 8 ≤ r = omega (arith, some, home.0) in
+    let low : 8 ≤ r = omega arith in
     let high : r < 28 = home.1 in
     grind (arith, nat_tests)
 

@@ -1,9 +1,9 @@
 -- The law of expressions: the code of one, at a site.
 use Rattle.std.proofs.Common.{◌≡◌, ℕ, ◌+◌, ◌<◌, List, [], Some, sym, ap, arith, append-nil, false, nat_lt}
-use Rattle.codegen.proofs.expression_code_lemmas.Below.{HasType, InRegister, InSlot, IsComputed, IsSiteOf}
-use Rattle.codegen.proofs.expression_code_lemmas.Below.{Location, ltb-false, ltb-true, Observation, operand}
-use Rattle.codegen.proofs.expression_code_lemmas.Below.{Path, path_in, Site, slot_of, State, StraightState, TermTree}
-use Rattle.codegen.proofs.expression_code_lemmas.Below.{types_of, value_in, Values, word_in, WordType, ends_on}
+use Rattle.codegen.proofs.expression_code_lemmas.Below.{HasType, InRegister, InSlot, IsComputed, IsSiteOf, Location}
+use Rattle.codegen.proofs.expression_code_lemmas.Below.{ltb-false, ltb-true, Observation, operand, Path, path_in, Site}
+use Rattle.codegen.proofs.expression_code_lemmas.Below.{slot_of, State, StraightState, TermTree, types_of, value_in}
+use Rattle.codegen.proofs.expression_code_lemmas.Below.{Values, word_in, WordType, ends_on}
 use Rattle.codegen.specs.expression_code.Computed.{temporary_in}
 use Rattle.std.proofs.lemmas.Bool.{cond_both}
 use Rattle.codegen.proofs.expression_code_lemmas.Frame.{Setting, seen_by}
@@ -25,7 +25,7 @@ setting_of e site fit = record {
   allocated = fit.allocated;
   even = fit.even;
   ends = fit.ends;
-  room = omega (arith, fit.above, fit.room);
+  room = omega arith;
 }
 
 abbrev state_of : Values → StraightState
@@ -56,7 +56,7 @@ pub expressions_are_computed : (e : TermTree) (word : WordType) (site : Site)
     → HasType (types_of site.code.profile site.declared) e word → IsSiteOf e site → IsComputed e site
 expressions_are_computed e word site has fit =
     let z = setting_of e site fit in
-    let piece = (expr_runs z site.free fit.aligned (omega (arith, fit.above)) has site.place fit.room).placed_at
+    let piece = (expr_runs z site.free fit.aligned (omega arith) has site.place fit.room).placed_at
     site.start fit.placed in
     record {
       shown = λ path. (piece.leak path).0;
@@ -67,7 +67,7 @@ expressions_are_computed e word site has fit =
             fits = there.fits;
             homes_there = there.homes_there;
             variables_there = there.variables_there;
-            controls_there = λ c below read. absurd (omega (arith, below));
+            controls_there = λ c below read. absurd (omega arith);
           } in
           let run = ends_on (piece.runs (state_of m) s [] at fine ready) (sym (append-nil path)) in
           let same : run.seen ≡ (piece.leak path).0 = sym (ap (λ (r : List Observation × Path). r.0) run.shown) in
@@ -84,6 +84,6 @@ expressions_are_computed e word site has fit =
                 (fit.allocated.allowed x home is);
             lower = λ place less. stays e site fit place site.place s run.end less run.done.kept run.done.lower;
             base = run.done.held.base;
-            kept = λ o below. run.done.kept o (omega (arith, below));
+            kept = λ o below. run.done.kept o (omega arith);
           };
     }

@@ -1,8 +1,8 @@
 -- What is shown of the state of straight code, and what the code of an expression leaves.
-use Rattle.std.proofs.Common.{◌≡◌, ◌≢◌, ℕ, ◌+◌, ◌-◌, ◌%◌, ◌^◌, ◌<◌, ◌≤◌, Bool, false, nat_lt, List, None, Some}
-use Rattle.std.proofs.Common.{inl, inr, length, slice_get, slice_index, ap, ◌∙◌, arith, sym}
-use Rattle.codegen.proofs.expression_code_lemmas.Below.{ByteMap, control_location, control_offset, is_unread}
-use Rattle.codegen.proofs.expression_code_lemmas.Below.{Fits, FlatVariable, HasType, home_of, InRegister, InSlot}
+use Rattle.std.proofs.Common.{◌≡◌, ◌≢◌, ℕ, ◌+◌, ◌-◌, ◌%◌, ◌^◌, ◌<◌, ◌≤◌, Bool, false, nat_lt, List, None, Some, inl}
+use Rattle.std.proofs.Common.{inr, length, slice_get, slice_index, ap, ◌∙◌, arith, sym}
+use Rattle.codegen.proofs.expression_code_lemmas.Below.{ByteMap, control_location, control_offset, is_unread, Fits}
+use Rattle.codegen.proofs.expression_code_lemmas.Below.{FlatVariable, HasType, home_of, InRegister, InSlot}
 use Rattle.codegen.proofs.expression_code_lemmas.Below.{IsWithinKind, Kind, Location, ltb-false, ltb-true, next_offset}
 use Rattle.codegen.proofs.expression_code_lemmas.Below.{number_at, number_at-with_number, number_at_same, numbers_in}
 use Rattle.codegen.proofs.expression_code_lemmas.Below.{operand, Profile, result_offset, slot_of, State, StraightState}
@@ -68,15 +68,15 @@ pub number_same : (z : Setting) (s t : State) (n o : ℕ)
 number_same z s t n o same =
     number_at_same s.bytes t.bytes n (z.frame + o)
     (λ x low high.
-    let e : z.frame + (x - z.frame) ≡ x = omega (arith, low) in
-    ap t.bytes (sym e) ∙ (same (x - z.frame) (omega (arith, low)) (omega (arith, low, high)) ∙ ap s.bytes e))
+    let e : z.frame + (x - z.frame) ≡ x = omega arith in
+    ap t.bytes (sym e) ∙ (same (x - z.frame) (omega arith) (omega arith) ∙ ap s.bytes e))
 
 pub kept_number : (z : Setting) (free : ℕ) (s t : State) → Kept z free s t → (n o : ℕ) → o + n ≤ free
     → number_at t.bytes n (z.frame + o) ≡ number_at s.bytes n (z.frame + o)
-kept_number z free s t kept n o inside = number_same z s t n o (λ b low high. kept b (omega (arith, high, inside)))
+kept_number z free s t kept n o inside = number_same z s t n o (λ b low high. kept b (omega arith))
 
 pub kept_less : (z : Setting) (low free : ℕ) (s t : State) → low ≤ free → Kept z free s t → Kept z low s t
-kept_less z low free s t less kept o below = kept o (omega (arith, below, less))
+kept_less z low free s t less kept o below = kept o (omega arith)
 
 pub kept_by : (z : Setting) (free : ℕ) (s t : State) → t.bytes ≡ s.bytes → Kept z free s t
 kept_by z free s t same o below = ap (λ (b : ByteMap). b (z.frame + o)) same
@@ -93,12 +93,12 @@ pub record Wrote (z : Setting) (n o w : ℕ) (s t : State) : Type 0 where
 pub wrote_kept : (z : Setting) (n o w : ℕ) (s t : State) → Wrote z n o w s t → Kept z o s t
 wrote_kept z n o w s t wrote x below =
     ap (λ (b : ByteMap). b (z.frame + x)) wrote.written
-    ∙ with_number_below s.bytes n (z.frame + o) w (z.frame + x) (omega (arith, below))
+    ∙ with_number_below s.bytes n (z.frame + o) w (z.frame + x) (omega arith)
 
 pub wrote_there : (z : Setting) (o v : ℕ) (s t : State) → Wrote z 4 o v s t → v < 2 ^ 32
     → number_at t.bytes 4 (z.frame + o) ≡ Some v
 wrote_there z o v s t wrote below =
-    let cut : v % 256 ^ 4 ≡ v = omega (arith, below) in
+    let cut : v % 256 ^ 4 ≡ v = omega arith in
     ap (λ (b : ByteMap). number_at b 4 (z.frame + o)) wrote.written
     ∙ (number_at-with_number s.bytes 4 (z.frame + o) v ∙ ap Some cut)
 
@@ -181,9 +181,9 @@ ready_below z free above env s t ready held kept homes = record {
   held = held;
   fits = ready.fits;
   homes_there = variables_home z env s t ready homes;
-  variables_there = variables_kept z free env s t (omega (arith, above)) ready kept;
+  variables_there = variables_kept z free env s t (omega arith) ready kept;
   controls_there = λ c below read. controls_kept z env s t ready homes c below read
-      (kept_number z free s t kept 4 (control_offset z.declared c) (omega (arith, below, above)));
+      (kept_number z free s t kept 4 (control_offset z.declared c) (omega arith));
 }
 
 pub ready_after : (z : Setting) (env : StraightState) (s t : State) → Ready z env s → Held z env t
@@ -193,7 +193,7 @@ ready_after z env s t = ready_below z (base_of z) (omega arith) env s t
 -- what is within a kind is a word
 pub kind_fits : (kind : Kind) (v : ℕ) → IsWithinKind kind v → v < 2 ^ 32
 kind_fits Uint32 v h = h
-kind_fits kind v h = omega (arith, h)
+kind_fits kind v h = omega arith
 
 -- a well-typed expression's value is a word
 pub value_word : (profile : Profile) (declared : List FlatVariable) (e : TermTree) (word : WordType) (m : Values)
@@ -209,7 +209,7 @@ leaves_then works s t u one other q h = other q h ∙ one q h
 -- where only a spare register has changed
 pub leaves_spare : (count place spare : ℕ) (s t : State) → 27 < spare → ((q : ℕ) → q ≢ spare → t.regs q ≡ s.regs q)
     → Leaves (works_in count place) s t
-leaves_spare count place spare s t low others q h = others q (λ e. omega (arith, stays_spare count place q h, low, e))
+leaves_spare count place spare s t low others q h = others q (omega (arith, stays_spare count place q h, low))
 
 -- What is at the operand of a place stays where its register, its slot and the homes do: where the code of a higher
 -- place has run, and where only a spare register has changed.
@@ -235,12 +235,12 @@ module _ (z : Setting) (free less place v : ℕ) (s t : State) where
   holds_lower below kept lower =
       operand_stays (λ small. lower (5 + less) (lower_stays count place less below small z.allocated.few))
       (λ high. kept_number z (slot_of count free place) s t kept 4 (slot_of count free less)
-      (omega (arith, below, high)))
+      (omega arith))
       (homes_left z place s t lower)
 
   pub holds_still : (spare : ℕ) → 27 < spare → ((q : ℕ) → q ≢ spare → t.regs q ≡ s.regs q) → t.bytes ≡ s.bytes
       → (e : TermTree) → Stays (operand z.allocation free less e)
   holds_still spare low others same =
-      operand_stays (λ small. others (5 + less) (λ e. omega (arith, small, z.allocated.few, low, e)))
+      operand_stays (λ small. others (5 + less) (omega arith))
       (λ high. ap (λ (b : ByteMap). number_at b 4 (z.frame + slot_of count free less)) same)
-      (λ home is. others home (λ e. omega (arith, is.1, low, e)))
+      (λ home is. others home (omega arith))

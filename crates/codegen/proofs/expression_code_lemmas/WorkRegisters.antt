@@ -4,10 +4,9 @@ use Rattle.std.proofs.Common.{◌≡◌, ◌≢◌, ◌⊎◌, inl, inr, ℕ, �
 use Rattle.std.proofs.Common.{Bool, true, false, List, Option, None, Some, refl, sym, ap, ◌∙◌, arith}
 use Rattle.std.proofs.lemmas.Bool.{cases_Bool}
 use Rattle.std.proofs.lemmas.Option.{none-some}
-use Rattle.codegen.proofs.expression_code_lemmas.Below.{Allocation, convert, FlatVariable}
-use Rattle.codegen.proofs.expression_code_lemmas.Below.{home_of_term, InRegister, keeps_words}
-use Rattle.codegen.proofs.expression_code_lemmas.Below.{IsAllocation, Location, lt-ltb, nat_tests, operand, register_of}
-use Rattle.codegen.proofs.expression_code_lemmas.Below.{temporary, TermTree, true≢false, variable}
+use Rattle.codegen.proofs.expression_code_lemmas.Below.{Allocation, convert, FlatVariable, home_of_term, InRegister}
+use Rattle.codegen.proofs.expression_code_lemmas.Below.{keeps_words, IsAllocation, Location, lt-ltb, nat_tests, operand}
+use Rattle.codegen.proofs.expression_code_lemmas.Below.{register_of, temporary, TermTree, true≢false, variable}
 use Rattle.codegen.proofs.expression_code_lemmas.Below.{working_register}
 
 -- a register that code may work on
@@ -90,7 +89,7 @@ pub operand_free : (count place spare r : ℕ) → count ≤ 16 → 28 < spare �
     → IsOperand count place spare r → IsFree r
 operand_free count place spare r few low high (inl e) =
     free_from r (grind (arith, nat_tests, e)) (grind (arith, nat_tests, e))
-operand_free count place spare r few low high (inr home) = free_from r (omega (arith, home.0)) (omega (arith, home.1))
+operand_free count place spare r few low high (inr home) = free_from r (omega arith) (omega arith)
 
 pub working_free : (count place spare : ℕ) → count ≤ 16 → 28 < spare → spare < 32
     → IsFree (working_register count place spare)
@@ -120,10 +119,10 @@ pub record IsTarget (count place d : ℕ) : Type 0 where
 pub operand_target : (count place d : ℕ) → count ≤ 16 → IsOperand count place 29 d → IsTarget count place d
 operand_target count place d few is = record {
   free = operand_free count place 29 d few (omega arith) (omega arith) is;
-  no_address = operand_not count place 29 28 d few (omega arith) (λ e. omega (arith, e)) is;
-  no_spare = operand_not count place 29 30 d few (omega arith) (λ e. omega (arith, e)) is;
-  no_next = operand_apart count place (place + 1) 29 30 d few (λ e. omega (arith, e)) (omega arith) (omega arith)
-      (λ e. omega (arith, e)) is;
+  no_address = operand_not count place 29 28 d few (omega arith) (omega arith) is;
+  no_spare = operand_not count place 29 30 d few (omega arith) (omega arith) is;
+  no_next = operand_apart count place (place + 1) 29 30 d few (omega arith) (omega arith) (omega arith)
+      (omega arith) is;
 }
 
 pub own_target : (count place : ℕ) → count ≤ 16 → IsTarget count place (working_register count place 29)

@@ -80,19 +80,16 @@ module _ {z : Setting} where
       → p + 4 + 4 * n < 2 ^ 32
       → (s : State) → s.pc ≡ p → Ends z 1 (p + 4 + 4 * n) (always (shown_at p)) rest rest (λ t. Still s t) s
   over_ends p n rest placed near below s at =
-      let even = placed.0 in
-      jump_ends p (2 * n + 2) (p + 4 + 4 * n) rest placed (omega (arith, near)) (forward p n near below)
-      (omega (arith, even)) s at
+      jump_ends p (2 * n + 2) (p + 4 + 4 * n) rest placed (omega arith) (forward p n near below)
+      (omega arith) s at
 
   pub back_ends : (p n q : ℕ) (rest : List z.Mark) → Placed z.code q (back n ∷ []) → 0 < n → 2 * n ≤ 2 ^ 19
       → q ≡ p + 4 * n
       → (s : State) → s.pc ≡ q → Ends z 1 p (always (shown_at q)) rest rest (λ t. Still s t) s
   back_ends p n q rest placed some near is s at =
-      let even = placed.0 in
-      let below = placed.1 in
-      let to : q - 4 * n ≡ p = omega (arith, is) in
-      jump_ends q (2 ^ 20 - 2 * n) p rest placed (omega (arith, some))
-      (backward q n some near (omega (arith, is)) (omega (arith, below)) ∙ to) (omega (arith, even, is)) s at
+      let to : q - 4 * n ≡ p = omega arith in
+      jump_ends q (2 ^ 20 - 2 * n) p rest placed (omega arith)
+      (backward q n some near (omega arith) (omega arith) ∙ to) (omega arith) s at
 
   -- A branch, whose registers pass its test or do not.
   module _ (test : BranchTest) (l r halves p : ℕ) (fields : IsInstr (instr.Branch test l r halves))
@@ -111,8 +108,7 @@ module _ {z : Setting} where
     pub untaken_ends : holds test (register s.regs l) (register s.regs r) ≡ false
         → Ends z 1 (p + 4) (always (shown_at p)) rest rest (λ t. Still s t) s
     untaken_ends failed =
-        let below = placed.1 in
-        let to : next s ≡ p + 4 = omega (arith, at, below) in
+        let to : next s ≡ p + 4 = omega arith in
         turn_ends None None (moved_to s (next s)) at
         (branch_passes z.code s test l r halves (stands z.code p _ [] placed fields s at) failed) refl z.silence
         (z.keeps_still s _ (moved_still s _)) refl (moved_to-pc s (next s) ∙ to) (moved_still s _)
@@ -162,9 +158,8 @@ module _ {z : Setting} where
         → s.pc ≡ p → s.regs r ≢ 0
         → Ends z 1 (p + 4 + 4) (always (shown_at p)) rest rest (λ t. Still s t) s
     skip_ends p rest placed below s at some =
-        let even = placed.0 in
-        taken_ends Bne r 0 4 p (small, omega arith, omega arith) placed rest s at (p + 4 + 4) (omega (arith, below))
-        (omega (arith, even)) (some_in s.regs r nonzero some)
+        taken_ends Bne r 0 4 p (small, omega arith, omega arith) placed rest s at (p + 4 + 4) (omega arith)
+        (omega arith) (some_in s.regs r nonzero some)
 
     -- the register is 0
     pub pass_ends : (p : ℕ) (rest : List z.Mark) → Placed z.code p (skip r ∷ []) → (s : State) → s.pc ≡ p
@@ -197,29 +192,25 @@ module _ {z : Setting} where
         after_arm = Placed-right z.code (p + 4 + 4) xs (over (length ys) ∷ ys) after_first
 
         last : p + 4 + 4 + 4 * length xs + 4 + 4 * length ys ≡ p + 4 * length (branch_code r xs ys)
-        last = let e = length-append xs (over (length ys) ∷ ys) in omega (arith, e)
+        last = let e = length-append xs (over (length ys) ∷ ys) in omega arith
 
         first_way : Way z p 1 1 (λ s. s.regs r ≢ 0) (branch_code r xs ys) xs Still
         first_way =
-            let arm = after_arm.1 in
-            let below = Placed-below z.code (middle + 4) ys after_arm.3 arm in
-            let e = last in
+            let below = Placed-below z.code (middle + 4) ys after_arm.3 after_arm.1 in
             record {
               start = p + 4 + 4;
               stands_there = Placed-left z.code (p + 4 + 4) xs (over (length ys) ∷ ys) after_first;
               into = always (shown_at p);
               out = always (shown_at middle);
               enters = λ s rest at some.
-                  skip_ends p rest (placed.0, placed.1, placed.2, tt) (omega (arith, arm)) s at some;
+                  skip_ends p rest (placed.0, placed.1, placed.2, tt) (omega (arith, after_arm.1)) s at some;
               leaves = λ u rest there.
                   ends_to (over_ends middle (length ys) rest (after_arm.0, after_arm.1, after_arm.2, tt)
-                  (omega (arith, near)) below u there) (omega (arith, e)) (λ v still. still);
+                  (omega arith) below u there) (omega (arith, last)) (λ v still. still);
             }
 
         second_way : Way z p 2 0 (λ s. s.regs r ≡ 0) (branch_code r xs ys) ys (λ u v. v ≡ u)
         second_way =
-            let arm = after_arm.1 in
-            let e = last in
             let past : p + 4 + 4 + 4 * (length xs + 1) ≡ middle + 4 = omega arith in
             record {
               start = middle + 4;
@@ -230,9 +221,9 @@ module _ {z : Setting} where
                   then_ends (pass_ends p rest (placed.0, placed.1, placed.2, tt) s at none')
                   (λ t there still.
                   ends_to (over_ends (p + 4) (length xs + 1) rest (placed.3.0, placed.3.1, placed.3.2, tt)
-                  (omega (arith, near)) (omega (arith, arm, past)) t there) past
+                  (omega arith) (omega (arith, after_arm.1, past)) t there) past
                   (λ u again. record { regs = again.regs ∙ still.regs; bytes = again.bytes ∙ still.bytes }));
-              leaves = λ u rest there. stop_here u (omega (arith, there, e)) refl;
+              leaves = λ u rest there. stop_here u (omega (arith, there, last)) refl;
             }
 
       -- where the value is known to be 0

@@ -64,7 +64,7 @@ module _ {z : Setting} (r : ℕ) (small : r < 32) (nonzero : r ≢ 0) {m n : ℕ
     ended =
         let e = length-append test behind_test in
         let f = length-append body jump in
-        omega (arith, e, f)
+        omega arith
 
     test_at : (left i : ℕ) → Straight z p m none test (A left i) (B left i)
     test_at left i = (tests left i).placed_at p (Placed-left z.code p test behind_test placed)
@@ -89,8 +89,6 @@ module _ {z : Setting} (r : ℕ) (small : r < 32) (nonzero : r ≢ 0) {m n : ℕ
         → Ends z (m + n + 2) (p + 4 * length (loop_code r test body)) (leak_at 0 i) rest rest (Over env o) s
     unfolding leak_at
     last_ends i env o s rest at inv =
-        let e = ended in
-        let b = from_back.1 in
         let past : tested_at + 4 + 4 + 4 * (length body + 1) ≡ back_at + 4 = omega arith in
         ends_as
         (then_ends (test_ends 0 i env s rest at (enters 0 i env o s inv))
@@ -101,10 +99,10 @@ module _ {z : Setting} (r : ℕ) (small : r < 32) (nonzero : r ≢ 0) {m n : ℕ
         (λ u there still.
         ends_to {R = Over env o}
         (over_ends (tested_at + 4) (length body + 1) rest (from_skip.3.0, from_skip.3.1, from_skip.3.2, tt)
-        (omega (arith, near)) (omega (arith, b, past)) u there) past
+        (omega arith) (omega (arith, from_back.1, past)) u there) past
         (λ v more. leaves i env o s t v inv done
         (record { regs = more.regs ∙ still.regs; bytes = more.bytes ∙ still.bytes })))))
-        (omega arith) e (λ t done. done)
+        (omega arith) ended (λ t done. done)
 
     runs_at : (left i : ℕ) (env : z.Beside) (o s : State) (rest : List z.Mark) → s.pc ≡ p
         → z.Fine (turns_path left i turn path env) → Inv left i env o s
@@ -116,8 +114,6 @@ module _ {z : Setting} (r : ℕ) (small : r < 32) (nonzero : r ≢ 0) {m n : ℕ
     runs_at (suc left) i env o s rest at fine inv =
         let tail = turns_path left (i + 1) turn path (turn i env) in
         let more = z.seen tail ++ rest in
-        let e = ended in
-        let b = from_back.1 in
         let there' : back_at ≡ p + 4 * (length test + 2 + length body) = omega arith in
         ends_as
         (ends_on
@@ -126,14 +122,15 @@ module _ {z : Setting} (r : ℕ) (small : r < 32) (nonzero : r ≢ 0) {m n : ℕ
         (λ t there done.
         then_ends
         (skip_ends r small nonzero tested_at (z.seen (path i env) ++ more)
-        (from_skip.0, from_skip.1, from_skip.2, tt) (omega (arith, b)) t there (goes left i env o s t inv done))
+        (from_skip.0, from_skip.1, from_skip.2, tt) (omega (arith, from_back.1)) t there
+        (goes left i env o s t inv done))
         (λ u there still.
         then_ends
         ((body_at left i).runs env u more there (z.fine_left (path i env) tail fine)
         (prepares left i env o s t u inv done still))
         (λ v there made.
         then_ends
-        (back_ends p (length test + 2 + length body) back_at more from_back (omega arith) (omega (arith, near))
+        (back_ends p (length test + 2 + length body) back_at more from_back (omega arith) (omega arith)
         there' v there)
         (λ w there back. runs_at left (i + 1) (turn i env) o w rest there (z.fine_right (path i env) tail fine)
         (turned left i env o s t u v w inv done still made back))))))
@@ -185,18 +182,17 @@ module _ {z : Setting} (r q : ℕ) (small : r < 32) (small' : q < 32) {n : ℕ} 
     from_branch = Placed-right z.code p body (branch ∷ []) placed
 
     behind : branch_at + 4 ≡ p + 4 * length (again_code r q body)
-    behind = let e = length-append body (branch ∷ []) in omega (arith, e)
+    behind = let e = length-append body (branch ∷ []) in omega arith
 
     round_at : (left i : ℕ) → Straight z p n (path i) body (C left i) (D left i)
     round_at left i = (bodies left i).placed_at p (Placed-left z.code p body (branch ∷ []) placed)
 
     fields : IsInstr branch
-    fields = (small, small', omega (arith, some))
+    fields = (small, small', omega arith)
 
     target : branch_target branch_at (2 ^ 12 - 2 * length body) ≡ p
     target =
-        let below = from_branch.1 in
-        back_target branch_at (length body) some near (omega arith) (omega (arith, below)) ∙ omega arith
+        back_target branch_at (length body) some near (omega arith) (omega (arith, from_branch.1)) ∙ omega arith
 
     again_leak : ℕ → ℕ → Leak z
     again_leak zero i = both (round_at 0 i).leak (always (shown_at branch_at))
@@ -223,14 +219,13 @@ module _ {z : Setting} (r q : ℕ) (small : r < 32) (small' : q < 32) {n : ℕ} 
     again_at (suc left) i env o s rest at fine inv =
         let tail = turns_path (suc left) (i + 1) turn path (turn i env) in
         let more = z.seen tail ++ rest in
-        let even = from_branch.0 in
         ends_as
         (ends_on
         (then_ends ((round_at (suc left) i).runs env s more at (z.fine_left (path i env) tail fine)
         (enters (suc left) i env o s inv))
         (λ t there done.
         then_ends
-        (taken_ends Bne r q _ branch_at fields from_branch more t there p target (omega (arith, even))
+        (taken_ends Bne r q _ branch_at fields from_branch more t there p target (omega (arith, from_branch.0))
         (ap not (ne_eqb _ _ (goes left i env o s t inv done))))
         (λ w there still. again_at left (i + 1) (turn i env) o w rest there (z.fine_right (path i env) tail fine)
         (turned left i env o s t w inv done still))))

@@ -73,14 +73,12 @@ module _ {z : Setting} where
       → Ends z (m + n) r (both one two) path rest R s
   then_ends {s = s} e next =
       let f = next e.end e.at e.done in
-      let i = e.within in
-      let j = f.within in
       record {
         turns = e.turns + f.turns;
         end = f.end;
         seen = e.seen ++ f.seen;
         leads = Leads-append e.leads f.leads;
-        within = omega (arith, i, j);
+        within = omega arith;
         shown = rw (e.shown, f.shown) refl;
         inside = All-append (λ (o : Observation). z.Allows o.event) e.seen f.seen e.inside f.inside;
         keeps = z.keeps_then s e.end f.end e.keeps f.keeps;
@@ -92,13 +90,12 @@ module _ {z : Setting} where
   pub ends_as : {m n q r : ℕ} {leak : Leak z} {path rest : List z.Mark} {Q R : State → Type 0} {s : State}
       → Ends z m q leak path rest Q s → m ≤ n → q ≡ r → ((t : State) → Q t → R t) → Ends z n r leak path rest R s
   ends_as e more same give =
-      let i = e.within in
       record {
         turns = e.turns;
         end = e.end;
         seen = e.seen;
         leads = e.leads;
-        within = omega (arith, i, more);
+        within = omega arith;
         shown = e.shown;
         inside = e.inside;
         keeps = e.keeps;
@@ -141,7 +138,7 @@ module _ {z : Setting} where
   idle still = record {
     placed_at = λ p placed. record {
       leak = always [];
-      runs = λ env s rest at fine fit. ends_on (stop_here s (omega (arith, at)) (still env s fit))
+      runs = λ env s rest at fine fit. ends_on (stop_here s (omega arith) (still env s fit))
           (seen_nothing z rest);
     };
   }
@@ -163,7 +160,7 @@ module _ {z : Setting} where
               (then_ends (x.runs env s (z.seen (b env) ++ rest) at (z.fine_left (a env) (b env) fine) fit)
               (λ t there done.
               ends_as (y.runs env t rest there (z.fine_right (a env) (b env) fine) (link env s t fit done))
-              (omega arith) (omega (arith, e)) (λ u made. record { middle = t; first = done; second = made })))
+              (omega arith) (omega arith) (λ u made. record { middle = t; first = done; second = made })))
               (seen_then z (a env) (b env) rest);
         };
   }

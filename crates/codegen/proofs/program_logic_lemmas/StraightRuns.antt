@@ -48,7 +48,7 @@ module _ (code : Code) (p : ℕ) (below : p + 4 < 2 ^ 32) (c : Contents) where
   valued : (rd value : ℕ) → with_value (state_at p c) rd value ≡ state_at (p + 4) (with_result rd value c)
   unfolding with_value
   valued rd value =
-      let e : (p + 4) % 2 ^ 32 ≡ p + 4 = omega (arith, below) in
+      let e : (p + 4) % 2 ^ 32 ≡ p + 4 = omega arith in
       ap (λ q. state_at q (with_result rd value c)) e
 
   stored : (operation : StoreOperation) (a value : ℕ)
@@ -59,7 +59,7 @@ module _ (code : Code) (p : ℕ) (below : p + 4 < 2 ^ 32) (c : Contents) where
       })
   unfolding with_stored
   stored operation a value =
-      let e : (p + 4) % 2 ^ 32 ≡ p + 4 = omega (arith, below) in
+      let e : (p + 4) % 2 ^ 32 ≡ p + 4 = omega arith in
       ap
       (λ q. state_at q (record {
         regs = c.regs;

@@ -1,7 +1,7 @@
 -- Straight-line code as a piece, and what it keeps.
 use Rattle.std.specs.Prelude.{is_some}
-use Rattle.std.proofs.Common.{◌≡◌, ℕ, ◌+◌, ◌*◌, Bool, true, false, List, [], ◌∷◌, length, Option, Some, refl, sym}
-use Rattle.std.proofs.Common.{◌∙◌, subst, arith}
+use Rattle.std.proofs.Common.{◌≡◌, ℕ, ◌+◌, ◌*◌, Bool, true, false, List, [], ◌∷◌, length, Option, Some, refl, sym, ◌∙◌}
+use Rattle.std.proofs.Common.{subst, arith}
 use Rattle.std.proofs.lemmas.Bool.Decides.{nat_tests}
 use Rattle.codegen.proofs.program_logic_lemmas.Pieces.{seen_nothing, ends_on}
 use Rattle.codegen.proofs.program_logic_lemmas.StraightRuns.{straight_code_leads, shown_allowed, rest_fit, rest_met}

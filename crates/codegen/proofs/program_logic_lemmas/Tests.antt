@@ -31,7 +31,7 @@ module _ {z : Setting} where
       → 2 * length ys + 2 < 2 ^ 19
       → (s : State) → s.pc ≡ q
       → Ends z 1 (q + 4 * length (leave ys ++ ys)) (leave_leak q ys) rest rest (λ t. Still s t) s
-  leave_ends [] q rest placed near s at = stop_here s (omega (arith, at)) (record { regs = refl; bytes = refl })
+  leave_ends [] q rest placed near s at = stop_here s (omega arith) (record { regs = refl; bytes = refl })
   leave_ends (y ∷ ys) q rest placed near s at =
       ends_to
       (over_ends q (length (y ∷ ys)) rest (placed.0, placed.1, placed.2, tt) near
@@ -56,8 +56,8 @@ module _ {z : Setting} where
       count = length xs + length (leave ys)
 
       count_near : (is : List Instr) → 2 * (length xs + length (leave is)) + 2 < 2 ^ 11
-      count_near [] = omega (arith, short)
-      count_near (i ∷ is) = omega (arith, short)
+      count_near [] = omega arith
+      count_near (i ∷ is) = omega arith
 
       module _ (p : ℕ) (placed : Placed z.code p (unless_code test l r xs ys)) where
         -- where the first piece has ended
@@ -65,13 +65,13 @@ module _ {z : Setting} where
         middle = p + 4 + 4 * length xs
 
         fields : IsInstr (instr.Branch test l r (2 * count + 2))
-        fields = let near' = count_near ys in (small, small', omega (arith, near'))
+        fields = let near' = count_near ys in (small, small', omega arith)
 
         after_arm : Placed z.code middle (leave ys ++ ys)
         after_arm = Placed-right z.code (p + 4) xs (leave ys ++ ys) placed.3
 
         last : middle + 4 * length (leave ys ++ ys) ≡ p + 4 * length (unless_code test l r xs ys)
-        last = let e = length-append xs (leave ys ++ ys) in omega (arith, e)
+        last = let e = length-append xs (leave ys ++ ys) in omega arith
 
         -- where the second begins
         start_is : middle + 4 * length (leave ys) ≡ p + 4 + 4 * count
@@ -82,7 +82,7 @@ module _ {z : Setting} where
             let all = Placed-below z.code (p + 4) (xs ++ (leave ys ++ ys)) placed.3 placed.1 in
             let e = length-append xs (leave ys ++ ys) in
             let f = length-append (leave ys) ys in
-            omega (arith, all, e, f)
+            omega arith
 
         first_way : Way z p 1 1 (λ s. holds test (register s.regs l) (register s.regs r) ≡ false)
             (unless_code test l r xs ys) xs Still
@@ -99,8 +99,6 @@ module _ {z : Setting} where
         second_way : Way z p 1 0 (λ s. holds test (register s.regs l) (register s.regs r) ≡ true)
             (unless_code test l r xs ys) ys (λ u v. v ≡ u)
         second_way =
-            let even = placed.0 in
-            let e = last in
             let f = length-append (leave ys) ys in
             record {
               start = middle + 4 * length (leave ys);
@@ -110,8 +108,8 @@ module _ {z : Setting} where
               enters = λ s rest at passed.
                   taken_ends test l r (2 * count + 2) p fields (placed.0, placed.1, placed.2, tt) rest s at
                   (middle + 4 * length (leave ys)) (ahead p count (count_near ys) below ∙ sym start_is)
-                  (omega (arith, even)) passed;
-              leaves = λ u rest there. stop_here u (omega (arith, there, e, f)) refl;
+                  (omega arith) passed;
+              leaves = λ u rest there. stop_here u (omega (arith, there, last, f)) refl;
             }
 
       -- where the value is known, the first piece where it is not 0, and else the second
