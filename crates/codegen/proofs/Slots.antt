@@ -363,7 +363,8 @@ module _ (z : Setting) where
         first = done.first;
         second = put_wrote z Sw r o (v env) env done.middle t (has env s done.middle given done.first).1 done.second;
       })
-      (quiet runs (move_runs z (put Sw r o) (simp ok) (even, inside)) (λ env s t given done. (has env s t given done).0))
+      (quiet runs (move_runs z (put Sw r o) (simp ok) (even, inside))
+      (λ env s t given done. (has env s t given done).0))
 
   -- A value that is stored: its register reads as what the expression means, and only temporaries are written.
   pub record Offered (e : TermTree) (r : ℕ) (env : StraightState) (s t : machine.State) : Type 0 where

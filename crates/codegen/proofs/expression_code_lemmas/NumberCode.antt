@@ -1,7 +1,7 @@
 -- Of the code of an operator with a number in its instruction: that it only computes, and what it makes in its
 -- target, which is what the operator means.
-use Rattle.std.proofs.Common.{◌≡◌, ℕ, ◌+◌, ◌-◌, ◌*◌, ◌/◌, ◌%◌, ◌^◌, ◌<◌, ◌==◌, Bool, true, cond, nat_lt}
-use Rattle.std.proofs.Common.{List, [], Option, None, Some, bit_and, refl, sym, ap, ◌∙◌, ap₂, arith, subst}
+use Rattle.std.proofs.Common.{◌≡◌, ℕ, ◌+◌, ◌-◌, ◌*◌, ◌/◌, ◌%◌, ◌^◌, ◌<◌, ◌==◌, Bool, true, cond, nat_lt, List, []}
+use Rattle.std.proofs.Common.{Option, None, Some, bit_and, refl, sym, ap, ◌∙◌, ap₂, arith, subst}
 use Rattle.std.proofs.Math.Nat.{mod-le, mul-div_cancel, mul-mod_left}
 use Rattle.std.proofs.lemmas.Nat.{and_comm, or_comm, xor_comm, mod_below, mod-pow-add, leading_top, pow_pos}
 use Rattle.std.specs.Int.Count.{count_leading_zeros}
@@ -15,9 +15,9 @@ use Rattle.codegen.proofs.expression_code_lemmas.Below.{nat_tests, near_element,
 use Rattle.codegen.proofs.expression_code_lemmas.Below.{number_row, NumberRow, of_number, of_truth, and_mask}
 use Rattle.codegen.proofs.expression_code_lemmas.Below.{both_right, only_computes, operated, path_in, Place}
 use Rattle.codegen.proofs.expression_code_lemmas.Below.{registers_after, chooses_zero, false≢true, is_known_zero}
-use Rattle.codegen.proofs.expression_code_lemmas.Below.{right_row, shift_value, sign_extended, TermTree}
-use Rattle.codegen.proofs.expression_code_lemmas.Below.{turned_of, Types, value_in, Values, variable_offset, Width}
-use Rattle.codegen.proofs.expression_code_lemmas.Below.{word_of, immediate_value}
+use Rattle.codegen.proofs.expression_code_lemmas.Below.{right_row, shift_value, sign_extended, TermTree, turned_of}
+use Rattle.codegen.proofs.expression_code_lemmas.Below.{Types, value_in, Values, variable_offset, Width, word_of}
+use Rattle.codegen.proofs.expression_code_lemmas.Below.{immediate_value}
 use Rattle.codegen.proofs.expression_code_lemmas.OperatorCode.{cut_composed, cut_plain, cut_value, cut_whole, d0, d32}
 use Rattle.codegen.proofs.expression_code_lemmas.OperatorCode.{dd, Applies, q0, q32, truth_fits}
 use Rattle.codegen.proofs.expression_code_lemmas.Values.{kind_fits}

@@ -1,6 +1,6 @@
 -- Temporaries: how an operator's are fetched, worked on and kept.
-use Rattle.std.proofs.Common.{◌≡◌, ◌≢◌, ℕ, ◌+◌, ◌*◌, ◌%◌, ◌^◌, ◌<◌, ◌≤◌, Bool, true, false, cond, nat_lt, List, [], ◌∷◌}
-use Rattle.std.proofs.Common.{length, Some, refl, ap, ap₂, ◌∙◌, subst, arith, ne_eqb}
+use Rattle.std.proofs.Common.{inl, inr, ◌≡◌, ◌≢◌, ℕ, ◌+◌, ◌*◌, ◌%◌, ◌^◌, ◌<◌, ◌≤◌, Bool, true, false, cond, nat_lt}
+use Rattle.std.proofs.Common.{List, [], ◌∷◌, length, Some, refl, ap, ap₂, ◌∙◌, subst, arith, ne_eqb}
 use Rattle.codegen.proofs.expression_code_lemmas.Below.{Allocation, along, BinaryOperator, cheaper, cut_code}
 use Rattle.codegen.proofs.expression_code_lemmas.Below.{divide_value, divided, DivideOperation, emitted_operator}
 use Rattle.codegen.proofs.expression_code_lemmas.Below.{IsWithinKind, Profile, WordType, fetch_code, gives, idle}
@@ -28,7 +28,7 @@ use Rattle.codegen.proofs.expression_code_lemmas.OperatorCode.{product_made}
 use Rattle.codegen.proofs.expression_code_lemmas.TermLengths.{narrow_length, operator_length}
 use Rattle.codegen.proofs.expression_code_lemmas.BoolCode.{emitted_marks, emitted_same}
 use Rattle.codegen.proofs.expression_code_lemmas.Values.{Kept, Leaves, Holds, Wrote, wrote_kept, wrote_there}
-use Rattle.std.proofs.lemmas.Bool.{cond_both}
+use Rattle.std.proofs.lemmas.Bool.{cases_Bool, cond_both}
 use Rattle.language.specs.Operators.{operation_of}
 use Rattle.language.specs.WellTyped.{Makes}
 
@@ -85,9 +85,6 @@ module _ (z : Setting) (free : ℕ) (aligned : free % 4 ≡ 0) (place : ℕ)
   abbrev count : ℕ
   count = z.allocation.count
 
-  abbrev located : Bool → Location
-  located b = cond b (InRegister (5 + place)) (InSlot (slot_of count free place))
-
   pub operand_room : (e : TermTree) → HasRoom z (operand z.allocation free place e)
   operand_room =
       at_operand z.declared z.allocation z.allocated free place (HasRoom z)
@@ -97,31 +94,26 @@ module _ (z : Setting) (free : ℕ) (aligned : free % 4 ≡ 0) (place : ℕ)
 
   -- what is in the register of a place is kept there
   module _ (v : StraightState → ℕ) where
-    keep_by : (b : Bool) → nat_lt place count ≡ b
-        → Runs z 3 none (keep_code (located b)) (λ env s. HeldAt z s × (s.regs (cond b (5 + place) 29) ≡ v env)
-        × (v env < 2 ^ 32))
-        (λ env s t. HeldAt z t × Holds z (located b) t (v env) × Kept z (slot_of count free place) s t
-        × ((q : ℕ) → q ≢ 28 → t.regs q ≡ s.regs q))
-    keep_by true h =
-        idle (λ env s given. assumption)
-    keep_by false h =
-        let k = slot_of count free place in
-        weaken
-        (λ env s fine given. given.0)
-        (λ env s t fine given moved.
-        let wrote : Wrote z 4 k (v env) s t = put_wrote z Sw 29 k (v env) env s t given.1 moved in
-        assumption (
-          wrote_there z k (v env) s t wrote given.2,
-          wrote_kept z 4 k (v env) s t wrote,
-          is_left s.regs 28 _ moved.regs,
-        ))
-        (move_runs z (put Sw 29 k) refl (omega arith, omega (arith, room, ltb-false _ _ h)))
-
     pub keep_runs : Runs z 3 none (keep_code (temporary count free place)) (λ env s. HeldAt z s
         × (s.regs (working_register count place 29) ≡ v env) × (v env < 2 ^ 32))
         (λ env s t. HeldAt z t × Holds z (temporary count free place) t (v env)
         × Kept z (slot_of count free place) s t × ((q : ℕ) → q ≢ 28 → t.regs q ≡ s.regs q))
-    keep_runs = keep_by (nat_lt place count) refl
+    keep_runs =
+        let k = slot_of count free place in
+        elim (cases_Bool (nat_lt place count)) [
+          | inl h ↦ rw h (idle (λ env s given. assumption))
+          | inr h ↦ rw h
+              (weaken
+              (λ env s fine given. given.0)
+              (λ env s t fine given moved.
+              let wrote : Wrote z 4 k (v env) s t = put_wrote z Sw 29 k (v env) env s t given.1 moved in
+              assumption (
+                wrote_there z k (v env) s t wrote given.2,
+                wrote_kept z 4 k (v env) s t wrote,
+                is_left s.regs 28 _ moved.regs,
+              ))
+              (move_runs z (put Sw 29 k) refl (omega arith, omega (arith, ltb-false _ _ h))))
+        ]
 
 -- Code that writes registers that work.
 module _ (z : Setting) (works : ℕ → Bool) (none_low : (q : ℕ) → q < 5 → works q ≡ false) where
