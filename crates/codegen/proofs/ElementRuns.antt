@@ -3,6 +3,7 @@ use Rattle.std.proofs.Common.{◌≡◌, ℕ, ◌+◌, ◌*◌, ◌%◌, ◌<◌
 use Rattle.std.proofs.Common.{inr, length, map, None, Some, slice_get, refl, sym, ap, ◌∙◌, subst, arith, eq-eqb}
 use Rattle.std.proofs.Common.{append_assoc, length-append}
 use Rattle.std.proofs.lemmas.Bool.{cases_Bool, cond_both}
+use Rattle.std.proofs.lemmas.Option.{none-some}
 use Rattle.std.specs.Prelude.{slice_set}
 use Rattle.std.proofs.Math.Seq.{set-append_seam}
 use Rattle.codegen.proofs.Language.{FlatVariable, with_value, StraightState, with_variable, with_element, element_bytes}
@@ -161,11 +162,8 @@ module _ (z : Setting) (depth : ℕ) (place : Place) (x size : ℕ) (index value
 -- a variable that is not known by its type is not read
 unread : (profile : Profile) (declared : List FlatVariable) (x : ℕ) (m : Values) (l : List ℕ) (y : ℕ)
     (d : FlatVariable) → (types_but profile declared x).at y ≡ Some d → m y ≡ with_value m x l y
-unread profile declared x m l y d known = by_number (y == x) known
-  where
-    by_number : (b : Bool) → cond b None (slice_get declared y) ≡ Some d → m y ≡ cond b l (m y)
-    by_number true h = absurd cc
-    by_number false h = refl
+unread profile declared x m l y d known =
+    elim (cases_Bool (y == x)) [ inl same ↦ absurd (none-some d (rw same at known)) | inr other ↦ rw other refl ]
 
 module _ (z : Setting) (depth : ℕ) (within : depth ≤ z.depths) (x size : ℕ) (word : WordType) (mutable : Bool)
     (known : slice_get z.declared x ≡ Some (array_as word mutable size)) where

@@ -63,13 +63,13 @@ module _ (z : Setting) where
 
   -- none of the first three temporaries is a home
   pub home_apart : (q n : ℕ) → IsHome z.allocation.count q → n < 8 → q ≢ n
-  home_apart q n home low e = let some = z.allocated.some in omega arith
+  home_apart q n home low = omega (arith, z.allocated.some)
 
   -- so no home is written by that
   pub fetched_homes : (r spare v : ℕ) (s t : machine.State) → (spare < 8) ⊎ (27 < spare) → Fetched z r spare v s t
       → HomesKept z s t
-  fetched_homes r spare v s t (inl low) fetched q home = fetched.others q (home_apart q spare home low)
-  fetched_homes r spare v s t (inr high) fetched q home = fetched.others q (λ e. omega arith)
+  fetched_homes r spare v s t apart fetched q home =
+      fetched.others q (elim apart [ inl low ↦ home_apart q spare home low | inr high ↦ omega arith ])
 
   -- a control value's register, where it is one of the first three temporaries, is put into its slot, unless nothing
   -- reads it

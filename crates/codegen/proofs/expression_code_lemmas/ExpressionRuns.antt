@@ -14,15 +14,16 @@ use Rattle.codegen.proofs.expression_code_lemmas.Below.{of_selection, of_truth, 
 use Rattle.codegen.proofs.expression_code_lemmas.Below.{path_in, Place, prefix_code, right_row, rotate_code, select}
 use Rattle.codegen.proofs.expression_code_lemmas.Below.{slots_to, term_nodes, TermTree, types_of, value_fits, value_in}
 use Rattle.codegen.proofs.expression_code_lemmas.Below.{Values, variable, variable_offset, weaken, Width, width_of}
-use Rattle.codegen.proofs.expression_code_lemmas.Below.{word_as, word_of, WordType, working_register}
+use Rattle.codegen.proofs.expression_code_lemmas.Below.{only_computes, registers_after, word_as, word_of}
+use Rattle.codegen.proofs.expression_code_lemmas.Below.{WordType, working_register}
 use Rattle.codegen.proofs.expression_code_lemmas.Events.{by_index}
-use Rattle.codegen.proofs.expression_code_lemmas.Frame.{Setting, base_of, by_option, Runs, HeldAt, Held}
+use Rattle.codegen.proofs.expression_code_lemmas.Frame.{Setting, Steps, base_of, by_option, Runs, HeldAt}
 use Rattle.codegen.proofs.expression_code_lemmas.WorkRegisters.{place_works, IsFree, ArePair, IsTarget, free_from}
 use Rattle.codegen.proofs.expression_code_lemmas.WorkRegisters.{working_free, operand_apart, operand_not, own_target}
 use Rattle.codegen.proofs.expression_code_lemmas.WorkRegisters.{works_at, low_at, target_works, spare_works}
 use Rattle.codegen.proofs.expression_code_lemmas.WorkRegisters.{not_written}
 use Rattle.codegen.proofs.expression_code_lemmas.Arithmetic.{chosen, chosen_or_zero, choice, choice_or_zero}
-use Rattle.codegen.proofs.expression_code_lemmas.Moves.{take, move_runs, written}
+use Rattle.codegen.proofs.expression_code_lemmas.Moves.{is_written, take, move_runs}
 use Rattle.codegen.proofs.expression_code_lemmas.NumberCode.{known, known_word, left_known, number_means, right_known}
 use Rattle.codegen.proofs.expression_code_lemmas.NumberCode.{row_quiet, turned_quiet, turned_same, zero_known}
 use Rattle.codegen.proofs.expression_code_lemmas.Operands.{Outcome, took, worked, emitted_runs}
@@ -38,8 +39,8 @@ use Rattle.codegen.proofs.expression_code_lemmas.Values.{Leaves, Ready, Valued, 
 use Rattle.codegen.proofs.expression_code_lemmas.Values.{value_word}
 use Rattle.codegen.proofs.expression_code_lemmas.Elements.{near_runs, picked}
 use Rattle.codegen.proofs.expression_code_lemmas.OperandRuns.{found, found_apart, found_free, found_is, HasSlot, Lies}
-use Rattle.codegen.proofs.expression_code_lemmas.OperandRuns.{made, none_yet, one_fetched, one_more, operands, placed}
-use Rattle.codegen.proofs.expression_code_lemmas.OperandRuns.{Slots, steps_of, still_ready, Typed}
+use Rattle.codegen.proofs.expression_code_lemmas.OperandRuns.{made, Operands, none_yet, one_fetched, one_more, operands}
+use Rattle.codegen.proofs.expression_code_lemmas.OperandRuns.{placed, Slots, steps_of, still_ready, Typed}
 use Rattle.language.specs.Operators.{operation_of}
 use Rattle.language.specs.WellTyped.{Makes}
 
@@ -101,20 +102,30 @@ module _ (z : Setting) (free : ℕ) (aligned : free % 4 ≡ 0) (above : base_of 
     abbrev Comes : TermTree → ℕ → List Instr → Type 0
     Comes e n is = Runs z n (steps_of e) is (Ready z) (ValuedIn z e free d place)
 
+    -- Operands, and then code that computes a value from their registers.
+    computed : (e : ℕ → TermTree) {whole : TermTree} {k n m : ℕ} {a : Steps} {xs : List Instr} (is : List Instr)
+        → only_computes works is ≡ true → Runs z m a xs (Ready z) (Operands slots place e k n)
+        → ((env : StraightState) (s u : State) → Ready z env s → Operands slots place e k n env s u
+        → registers_after is u.regs d ≡ value_in env.variables whole)
+        → Runs z (m + length is) a (xs ++ is) (Ready z) (ValuedIn z whole free d place)
+    computed e {whole = whole} {a = a} is plain runs value =
+        along (λ env. sym (append-nil (a env)))
+        (made slots place e d runs
+        (worked z works none_low
+        {P = λ env s. HeldAt z s × (registers_after is s.regs d ≡ value_in env.variables whole)}
+        d is plain (λ env. value_in env.variables whole) (λ env s given. given))
+        (λ env s u ready done. (done.held, value env s u ready done)))
+
     -- A constant, which each state gives the expression.
     constant : {e : TermTree} (n : ℕ) → ((m : Values) → value_in m e ≡ n) → n < 2 ^ 32
         → Runs z 13 none (constant_code d n) (Ready z) (ValuedIn z e free d place)
     constant {e = e} n is below =
         cheaper (omega (arith, constant_length d n))
-        (made slots place (λ j. e) d (none_yet slots place (λ j. e))
-        (worked z works none_low {P = Held z} d (constant_code d n) (constant_plain works d n own target.free.small)
-        (λ env. value_in env.variables e)
-        (λ env s held. (
-          held,
-          ap (λ (regs : ℕ → ℕ). regs d) (constant_after d n target.free.nonzero below s.regs)
-              ∙ (written s.regs d n target.free.nonzero ∙ sym (is env.variables)),
-        )))
-        (λ env s t ready done. done.held))
+        (computed (λ j. e) (constant_code d n) (constant_plain works d n own target.free.small)
+        (none_yet slots place (λ j. e))
+        (λ env s u ready done.
+        is_written u.regs d n (constant_after d n target.free.nonzero below u.regs) target.free.nonzero
+        ∙ sym (is env.variables)))
 
     -- A variable, from its slot or its home.
     copied : {x : ℕ} {word : WordType} {mutable : Bool} → slice_get z.declared x ≡ Some (word_as word mutable)
@@ -155,20 +166,14 @@ module _ (z : Setting) (free : ℕ) (aligned : free % 4 ≡ 0) (above : base_of 
         → Lies slots e place
         → Runs z (16 * (1 + term_nodes e) - 3) (steps_of e) (placed_at place e ++ fetched place e 29 ++ is) (Ready z)
         (ValuedIn z whole free d place)
-    applied {e = e} {whole = whole} has room {is = is} {f = f} short makes same runs =
-        let r = found slots place e 29 in
-        along (λ env. sym (append-nil (steps_of e env)))
-        (cheaper (omega arith)
-        (made slots place (λ j. e) d (one_fetched slots place (λ j. e) 0 (omega arith) (omega arith) room
+    applied {e = e} has room {is = is} {f = f} short makes same runs =
+        cheaper (omega arith)
+        (computed (λ j. e) is makes.plain
+        (one_fetched slots place (λ j. e) 0 (omega arith) (omega arith) room
         (one_more slots place (λ j. e) 0 (none_yet slots place (λ j. e)) runs))
-        (worked z works none_low {P = λ env s. HeldAt z s × (s.regs r ≡ value_in env.variables e)
-        × (value_in env.variables e < 2 ^ 32)}
-        d is makes.plain (λ env. value_in env.variables whole)
-        (λ env s given. (
-          given.0,
-          makes.made s.regs (omega arith) ∙ (ap f given.1 ∙ same env.variables),
-        )))
-        (λ env s t ready done. (done.held, done.fetched 0 (omega arith), fits has env s ready))))
+        (λ env s u ready done.
+        let there = done.fetched 0 (omega arith) in
+        makes.made u.regs (omega (arith, there, fits has env s ready)) ∙ (ap f there ∙ same env.variables)))
 
     -- A value, and then an operator between it and a number.
     with_number : {e whole : TermTree} {one : WordType} (operator : BinaryOperator) (w : Width) (n : ℕ) → n < 2 ^ 32
@@ -255,7 +260,6 @@ module _ (z : Setting) (free : ℕ) (aligned : free % 4 ≡ 0) (above : base_of 
         (into_code z.declared z.allocation free d place (select condition accepted otherwise))
     chosen_runs {condition = condition} {accepted = accepted} {otherwise = otherwise} has chooses more room first
         second third =
-        let whole = select condition accepted otherwise in
         let e = operands condition accepted otherwise in
         let c = found slots place condition 29 in
         let l = found slots (place + 1) accepted 30 in
@@ -275,55 +279,37 @@ module _ (z : Setting) (free : ℕ) (aligned : free % 4 ≡ 0) (above : base_of 
         (λ is.
         let zero = known otherwise 0 (zero_known z.allocation otherwise is) in
         along (λ env. ap (λ (p : Path). path_in env.variables condition ++ path_in env.variables accepted ++ p)
-        (zero env.variables).1)
+        (zero env.variables).1 ∙ append-nil (path_in env.variables condition ++ path_in env.variables accepted))
         (cheaper (omega arith)
-        (made slots place e d
+        (computed e (choice_or_zero_code d mask c l)
+        (choice_or_zero_plain spare works own spare_own l_free mask_free mask_works c_free)
         (one_fetched slots place e 1 (omega arith) (omega arith) (omega arith)
         (one_fetched slots place e 0 (omega arith) (omega arith) (omega arith) two))
-        (worked z works none_low {P = λ env s. HeldAt z s
-        × (chosen_or_zero (s.regs c) (s.regs l) ≡ value_in env.variables whole)}
-        d (choice_or_zero_code d mask c l)
-        (choice_or_zero_plain spare works own spare_own l_free mask_free mask_works c_free)
-        (λ env. value_in env.variables whole)
-        (λ env s given. (given.0, choice_or_zero_made spare l_free mask_free c_free lm s.regs ∙ given.1)))
         (λ env s u ready done.
-        let truth' = truth env s ready in (
-          done.held,
-          ap₂ chosen_or_zero (done.fetched 0 (omega arith)) (done.fetched 1 (omega arith))
-              ∙ (choice_or_zero (value env condition) (value env accepted) (omega arith)
-              (fits chooses env s ready)
-              ∙ ap (λ v. if value env condition == 0 then v else value env accepted) (sym (zero env.variables).0)),
-        )))))
+        let truth' = truth env s ready in
+        choice_or_zero_made spare l_free mask_free c_free lm u.regs
+        ∙ (ap₂ chosen_or_zero (done.fetched 0 (omega arith)) (done.fetched 1 (omega arith))
+        ∙ (choice_or_zero (value env condition) (value env accepted) (omega arith) (fits chooses env s ready)
+        ∙ ap (λ v. if value env condition == 0 then v else value env accepted) (sym (zero env.variables).0)))))))
         (λ is.
-        along (λ env. sym (append-nil (steps_of whole env)))
-        (cheaper (omega (arith, height condition, height accepted, height otherwise))
-        (made slots place e d
+        cheaper (omega (arith, height condition, height accepted, height otherwise))
+        (computed e (choice_code d mask next c l r)
+        (choice_plain pair works own next_own r_free mask_free mask_works c_free l_free)
         (one_fetched slots place e 2 (omega arith) (omega arith) room
         (one_fetched slots place e 1 (omega arith) (omega arith) (omega arith)
         (one_fetched slots place e 0 (omega arith) (omega arith) (omega arith)
         (one_more slots place e 2 two third))))
-        (worked z works none_low {P = λ env s. HeldAt z s
-        × (chosen (s.regs c) (s.regs l) (s.regs r) ≡ value_in env.variables whole)}
-        d (choice_code d mask next c l r)
-        (choice_plain pair works own next_own r_free mask_free mask_works c_free
-        l_free)
-        (λ env. value_in env.variables whole)
-        (λ env s given. (
-          given.0,
-          choice_made pair r_free l_free mask_free c_free
-              (operand_apart count place (place + 1) 29 30 mask few (omega arith) (omega arith) (omega arith)
-              (omega arith) (inl refl)) lm
-              (found_apart slots place 2 0 otherwise (omega arith))
-              (found_apart slots place 2 1 otherwise (omega arith)) s.regs ∙ given.1,
-        )))
         (λ env s u ready done.
-        let truth' = truth env s ready in (
-          done.held,
-          ap (λ v. chosen v (u.regs l) (u.regs r)) (done.fetched 0 (omega arith))
-              ∙ (ap₂ (chosen (value env condition)) (done.fetched 1 (omega arith)) (done.fetched 2 (omega arith))
-              ∙ choice (value env condition) (value env accepted) (value env otherwise) (omega arith)
-              (fits chooses env s ready) (fits more env s ready)),
-        )))))
+        let truth' = truth env s ready in
+        choice_made pair r_free l_free mask_free c_free
+        (operand_apart count place (place + 1) 29 30 mask few (omega arith) (omega arith) (omega arith) (omega arith)
+        (inl refl)) lm
+        (found_apart slots place 2 0 otherwise (omega arith)) (found_apart slots place 2 1 otherwise (omega arith))
+        u.regs
+        ∙ (ap (λ v. chosen v (u.regs l) (u.regs r)) (done.fetched 0 (omega arith))
+        ∙ (ap₂ (chosen (value env condition)) (done.fetched 1 (omega arith)) (done.fetched 2 (omega arith))
+        ∙ choice (value env condition) (value env accepted) (value env otherwise) (omega arith)
+        (fits chooses env s ready) (fits more env s ready))))))
 
   -- an expression whose value can come into any register comes into its place
   lies : {e : TermTree} {word : WordType} → Typed slots e word → (place : ℕ)

@@ -63,7 +63,7 @@ expressions_are_computed e word site has fit =
       runs = λ m s at there fine.
           let path = seen_by z (path_in m e) in
           let ready : Ready z (state_of m) s = record {
-            held = record { base = there.base; data_there = there.data_there };
+            held = assumption;
             fits = there.fits;
             homes_there = there.homes_there;
             variables_there = there.variables_there;
