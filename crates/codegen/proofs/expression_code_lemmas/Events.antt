@@ -1,14 +1,14 @@
 -- The marks of a path, by what they carry, and the instructions that show their operands: divisions and
 -- multiplications.
-use Rattle.std.proofs.Common.{◌≡◌, ◌≢◌, ℕ, ◌-◌, ◌<◌, ◌≤◌, Bool, true, nat_lt, nat_le, List, [], ◌∷◌, ◌++◌, Option, Some}
+use Rattle.std.proofs.Common.{◌≡◌, ◌≢◌, ℕ, ◌-◌, ◌<◌, ◌≤◌, List, [], ◌∷◌, ◌++◌, Option, Some}
 use Rattle.std.proofs.Common.{None, slice_index, refl, sym, ap, ap₂, ◌∙◌, arith, inl, inr}
 use Rattle.std.proofs.lemmas.Bool.{cases_eq, cases_lt}
 use Rattle.codegen.proofs.expression_code_lemmas.Below.{always, bounded, by_mark, ByteMap, decided, divide_leads}
 use Rattle.codegen.proofs.expression_code_lemmas.Below.{divide_value, divided, DivideOperation, Event, indexed, Instr}
-use Rattle.codegen.proofs.expression_code_lemmas.Below.{IsAt, IsInside, IsInstr, Known, Leads, lt-ltb, ltb-true, Mark}
+use Rattle.codegen.proofs.expression_code_lemmas.Below.{IsAt, IsInside, IsInstr, Known, Leads, Mark}
 use Rattle.codegen.proofs.expression_code_lemmas.Below.{multiplied, multiply_leads, multiply_value, MultiplyOperation}
-use Rattle.codegen.proofs.expression_code_lemmas.Below.{nat_tests, never, Observation, Path, Place, product_shown}
-use Rattle.codegen.proofs.expression_code_lemmas.Below.{Profile, register, stands, State, StraightState, true≢false}
+use Rattle.codegen.proofs.expression_code_lemmas.Below.{never, Observation, Path, Place, product_shown}
+use Rattle.codegen.proofs.expression_code_lemmas.Below.{Profile, register, stands, State, StraightState}
 use Rattle.codegen.proofs.expression_code_lemmas.Below.{turn_ends, weaken, with_value, with_value-bytes, with_value-pc}
 use Rattle.codegen.proofs.expression_code_lemmas.Below.{with_value-regs}
 use Rattle.codegen.proofs.expression_code_lemmas.Frame.{Setting, Before, After, Steps, Runs, setting}

@@ -5,13 +5,13 @@ use Rattle.std.proofs.Common.{inl, if◌then◌else◌, ◌==◌}
 use Rattle.codegen.proofs.expression_code_lemmas.Below.{along, at_home, array_as, as_code, binary, BinaryOperator}
 use Rattle.codegen.proofs.expression_code_lemmas.Below.{by_test, near_element, Profile, State, StraightState, cheaper}
 use Rattle.codegen.proofs.expression_code_lemmas.Below.{Boolean, choice_code, choice_or_zero_code, chooses_zero, Label}
-use Rattle.codegen.proofs.expression_code_lemmas.Below.{constant_code, convert_code, copy_code, keeps_words, Kind}
+use Rattle.codegen.proofs.expression_code_lemmas.Below.{constant_code, copy_code, keeps_words, Kind}
 use Rattle.codegen.proofs.expression_code_lemmas.Below.{element_code, expr_code, fetch_code, gives, HasType, height_of}
 use Rattle.codegen.proofs.expression_code_lemmas.Below.{home_of, InSlot, Instr, into_code, left_row, lt-ltb, move_code}
 use Rattle.codegen.proofs.expression_code_lemmas.Below.{none, number_at, number_code, number_row, NumberRow, of_binary}
 use Rattle.codegen.proofs.expression_code_lemmas.Below.{of_conversion, of_element, of_number, of_prefix, of_rotation}
 use Rattle.codegen.proofs.expression_code_lemmas.Below.{of_selection, of_truth, of_variable, operand, operated, Path}
-use Rattle.codegen.proofs.expression_code_lemmas.Below.{path_in, Place, prefix_code, right_row, rotate_code, select}
+use Rattle.codegen.proofs.expression_code_lemmas.Below.{path_in, Place, right_row, select}
 use Rattle.codegen.proofs.expression_code_lemmas.Below.{slots_to, term_nodes, TermTree, types_of, value_fits, value_in}
 use Rattle.codegen.proofs.expression_code_lemmas.Below.{Values, variable, variable_offset, weaken, Width, width_of}
 use Rattle.codegen.proofs.expression_code_lemmas.Below.{only_computes, registers_after, word_as, word_of}

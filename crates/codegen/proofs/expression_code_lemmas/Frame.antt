@@ -1,7 +1,7 @@
 -- Where code and frame lie: the setting of all pieces of code here. They are run beside a state of straight code, the
 -- marks of a path are those of the inlined program, and all accesses stay inside the frame.
 use Rattle.std.proofs.Common.{◌≡◌, ◌⊎◌, inl, inr, ℕ, zero, suc, ◌+◌, ◌%◌, ◌^◌, ◌<◌, ◌≤◌, Bool, true, false, ◌&&◌, List}
-use Rattle.std.proofs.Common.{[], ◌∷◌, ◌++◌, length, Option, Some, None, is_some, refl, sym, ap, ap₂, ◌∙◌, arith}
+use Rattle.std.proofs.Common.{[], ◌∷◌, ◌++◌, length, Option, Some, None, is_some, refl, ap, ◌∙◌, arith}
 use Rattle.codegen.proofs.expression_code_lemmas.Below.{Allocation, AreFine, byte_count, ByteMap, Code, FlatVariable}
 use Rattle.codegen.proofs.expression_code_lemmas.Below.{Instr, code_by, IsAllocation, IsInside, joined, Mark, number_at}
 use Rattle.codegen.proofs.expression_code_lemmas.Below.{number_at-suc, number_at-zero, Path, seen-append, Size, State}
