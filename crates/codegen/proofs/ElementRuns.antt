@@ -52,7 +52,6 @@ one_at : (z : Setting) (depth : ℕ) → depth ≤ z.depths → (x size : ℕ) (
 one_at z depth within x size word mutable known k e below suits room =
     let d = array_as word mutable size in
     let at = place_of z.declared x d k in
-    let before = place_before z x d k known below in
     let n = element_bytes word.kind in
     let other = stored_value z.allocation word.kind e in
     let is_cut = stored_cut z.allocation word.kind suits.has_type in
@@ -70,7 +69,8 @@ one_at z depth within x size word mutable known k e below suits room =
     record {
       ready = ready_put z x k v w d known (z.allocated.words x d size known refl) below fits env m t
           (ready_offered z other env s m ready done.first) wrote (is_cut.cut env.variables fits);
-      hidden = hidden_valued z depth within other env n at w s m t (omega arith) done.first wrote;
+      hidden = hidden_valued z depth within other env n at w s m t (omega (arith, place_before z x d k known below))
+          done.first wrote;
     })
     (quiet (offered_runs z is_cut.has_type (omega (arith, room, height)))
     (offered_element z r (offered_low z other) word.kind at (place_even z.declared x d k)
@@ -125,11 +125,10 @@ module _ (z : Setting) (depth : ℕ) (place : Place) (x size : ℕ) (index value
       (λ env s t fine aimed done.
       let m = done.middle in
       let one = done.first in
-      let source = value_source z access in
       let v = value_in env.variables value in
       let w = value_in env.variables put_value in
       let six : m.regs value_register ≡ w =
-      one.others value_register (value_beside z access) (omega arith) ∙ aimed.six in
+      one.others value_register (value_beside z access) (omega (arith, (value_source z access).high)) ∙ aimed.six in
       let fits = suits_fits z.code.profile z.declared typed.word value env.variables aimed.ready.fits typed.suits in
       let end = put_at z access i v w below fits (is_cut.cut env.variables fits) env s m t aimed.ready one.held one.same
       (homes_beside z 5 s m refl one.others)
@@ -236,9 +235,8 @@ module _ (z : Setting) (depth : ℕ) (within : depth ≤ z.depths) (x size : ℕ
       let seam : slice_set (front ++ b ∷ back) k v ≡ front ++ v ∷ back =
       subst (λ n. slice_set (front ++ b ∷ back) n v ≡ front ++ v ∷ back) long (set-append_seam front b back v) in
       let all = own ∙ (ap (λ (l : List ℕ). slice_set l k v) is ∙ (seam ∙ sym (append_assoc front (v ∷ []) back))) in
-      let more = length-append front (v ∷ []) in
-      filled_is (k + 1) es (step k e env) (front ++ v ∷ []) back suits.1 all (omega arith)
-      (omega arith) y
+      filled_is (k + 1) es (step k e env) (front ++ v ∷ []) back suits.1 all
+      (omega (arith, length-append front (v ∷ []))) (omega arith) y
       ∙ elim (cases_Bool (y == x)) [
         | inl same ↦ rw same (append_assoc front (v ∷ []) (map (value_in (step k e env).variables) es)
             ∙ ap (λ (vs : List ℕ). front ++ v ∷ vs)

@@ -59,7 +59,6 @@ module _ (z : Setting) (depth : ℕ) (place : Place) (x size : ℕ) (index value
       (λ env s t. Fetched z q q (slice_index (env.variables x) i) s t)
   old_runs i rs field q below small fits low high =
       let n = load_bytes kind in
-      let h = place_ends z x array i typed.known below in
       weaken
       (λ env s fine given. (given.0.held, given.1))
       (λ env s t fine given load. record {
@@ -71,7 +70,8 @@ module _ (z : Setting) (depth : ℕ) (place : Place) (x size : ℕ) (index value
         same = load.1.bytes;
       })
       (loading z rs field (place_at i) small fits (load_by kind) q low high
-      (ap (λ m. place_at i % m) n ∙ place_even z.declared x array i) (omega arith))
+      (ap (λ m. place_at i % m) n ∙ place_even z.declared x array i)
+      (omega (arith, place_ends z x array i typed.known below)))
 
   -- at an index in a register
   under_far : Puts z access (Some c) value (index_code z.declared z.allocation (base_of z) index value

@@ -114,9 +114,9 @@ module _ (z : Setting) (access : ElementAccess z) where
       → Runs z 4 none (address_code 5 index_register kind offset) (Aimed i)
       (λ env s t. Addressed z 5 offset (element_at i) env s t)
   addressed_at i below =
-      let h = place_ends z access.x array i access.known below in
       weaken
-      (λ env s fine aimed. (aimed.ready.held, aimed.five, omega arith))
+      (λ env s fine aimed.
+      (aimed.ready.held, aimed.five, omega (arith, place_ends z access.x array i access.known below)))
       (λ env s t fine aimed done. done)
       (address_runs z 5 index_register (free_from 5 (omega arith) (omega arith))
       (free_from index_register index_source.low (omega (arith, index_source.high))) (omega arith)
@@ -129,7 +129,6 @@ module _ (z : Setting) (access : ElementAccess z) where
       (λ env s t. Wrote z (element_bytes kind) (element_at i) (s.regs r) s t)
   stores r small nonzero i below =
       let n = store_bytes kind in
-      let h = place_ends z access.x array i access.known below in
       gives
       (λ env s t fine given done. record {
         held = done.0;
@@ -138,7 +137,8 @@ module _ (z : Setting) (access : ElementAccess z) where
         homes = homes_by z s t done.1.regs;
       })
       (storing z 5 (lower_part offset) (element_at i) (omega arith) (lower_fits offset) (store_by kind) r small
-      (ap (λ m. element_at i % m) n ∙ place_even z.declared access.x array i) (omega arith))
+      (ap (λ m. element_at i % m) n ∙ place_even z.declared access.x array i)
+      (omega (arith, place_ends z access.x array i access.known below)))
 
   -- what an element's store leaves, where only registers had changed before
   pub put_at : (i v w : ℕ) → i < access.size → v < 2 ^ bits_of kind → w % 256 ^ element_bytes kind ≡ v

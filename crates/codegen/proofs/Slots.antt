@@ -87,7 +87,6 @@ module _ (z : Setting) where
 
     pub ready_changed : Ready z (with_variable env x l) t
     ready_changed =
-        let first = ends_before_result z.declared x d known in
         record {
           held = held;
           fits = at_each (λ y e m. IsHeld e m) holds (λ y e is q. ready.fits y e is);
@@ -103,7 +102,7 @@ module _ (z : Setting) where
               apart (bytes_of f) (place_of z.declared n f j) (apart_from z.declared x n d f j known is more q)
               ∙ ready.variables_there n f j is out more) y e;
           controls_there = λ c among read. controls_kept z env s t ready homes c among read
-              (apart 4 (control_offset z.declared c) (inr (omega arith)));
+              (apart 4 (control_offset z.declared c) (inr (omega (arith, ends_before_result z.declared x d known))));
         }
 
   module _ (x i v w : ℕ) (d : FlatVariable) (known : slice_get z.declared x ≡ Some d)
@@ -134,9 +133,8 @@ module _ (z : Setting) where
     outside : (n o : ℕ) → (o + n ≤ variable_offset z.declared x) ⊎ (variable_offset z.declared x + 4 * words_of d ≤ o)
         → number_at t.bytes n (z.frame + o) ≡ number_at s.bytes n (z.frame + o)
     outside n o apart =
-        let p = place_within z.declared x d i below in
         other_number (bytes_of d) (place_of z.declared x d i) w n o s t wrote
-        (elim apart [ inl h ↦ inl (omega arith) | inr h ↦ inr (omega arith) ])
+        (elim apart [ inl h ↦ inl (omega arith) | inr h ↦ inr (omega (arith, place_within z.declared x d i below)) ])
 
     -- a number of a variable is set
     pub ready_put : Ready z (with_element env x i v) t

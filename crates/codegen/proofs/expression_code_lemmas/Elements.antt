@@ -143,7 +143,6 @@ module _ (slots : Slots) (place d : ℕ) (target : IsTarget slots.z.allocation.c
       let array = array_as word mutable size in
       let a = place_of z.declared x array i in
       let bytes = load_bytes word.kind in
-      let h = place_ends z x array i known below in
       weaken
       (λ env s fine given. (given.0, given.1))
       (λ env s t fine given two. record {
@@ -157,7 +156,7 @@ module _ (slots : Slots) (place d : ℕ) (target : IsTarget slots.z.allocation.c
         same = two.1.bytes;
       })
       (loading z rs offset a small short (load_by word.kind) d target.free.low target.free.small
-      (ap (λ n. a % n) bytes ∙ place_even z.declared x array i) (omega arith))
+      (ap (λ n. a % n) bytes ∙ place_even z.declared x array i) (omega (arith, place_ends z x array i known below)))
 
   -- and that at an index that is in a register
   pub picked : (r : ℕ) → IsFree r
@@ -171,7 +170,6 @@ module _ (slots : Slots) (place d : ℕ) (target : IsTarget slots.z.allocation.c
       let o = variable_offset z.declared x in
       let array = array_as word mutable size in
       let a = place_of z.declared x array i in
-      let h = place_ends z x array i known below in
       let away = z.allocated.words x array size known refl in
       gives
       (λ env s t fine given done.
@@ -184,7 +182,7 @@ module _ (slots : Slots) (place d : ℕ) (target : IsTarget slots.z.allocation.c
       assumption (two.same ∙ one.same))
       (quiet
       (weaken
-      (λ env s fine given. (given.given.0.held, given.given.1 ∙ given.is, omega arith))
+      (λ env s fine given. (given.given.0.held, given.given.1 ∙ given.is, omega (arith, place_ends z x array i known below)))
       (λ env s t fine given done. done)
       (address_runs z d r target.free at target.no_address word.kind o (λ env. i)))
       (loaded source x size word mutable i index known below d (lower_part o) target.free.small (lower_fits o))
@@ -211,12 +209,12 @@ module _ (slots : Slots) (place d : ℕ) (target : IsTarget slots.z.allocation.c
       (by_known_index z source size (λ env. value_in env.variables index) near.i
       (λ env. (known index near.i near.is env.variables).0)
       (λ below.
-      let h = place_ends z x array near.i is below in
       weaken
       (λ env s fine ready. (
         ready.held,
         ap (λ b. sum_of b (sign_extended 12 o)) ready.held.base
-            ∙ (near_address z.frame o near.near (omega arith) ∙ ap (λ a. z.frame + a) (sym at)),
+            ∙ (near_address z.frame o near.near (omega (arith, place_ends z x array near.i is below))
+            ∙ ap (λ a. z.frame + a) (sym at)),
         ready.variables_there x array near.i is (z.allocated.words x array size is refl) below,
         (known index near.i near.is env.variables).0,
       ))

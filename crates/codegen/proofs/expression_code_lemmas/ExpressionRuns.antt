@@ -136,7 +136,6 @@ module _ (z : Setting) (free : ℕ) (aligned : free % 4 ≡ 0) (above : base_of 
         let v = word_as word mutable in
         let o = variable_offset z.declared x in
         let first : o + 4 * 0 ≡ o = omega arith in
-        let below = place_ends z x v 0 is (omega arith) in
         weaken
         (λ env s fine ready. ready.held)
         (λ env s t fine ready moved.
@@ -146,7 +145,7 @@ module _ (z : Setting) (free : ℕ) (aligned : free % 4 ≡ 0) (above : base_of 
         let others : Leaves works s t = λ q h. got.others q (not_written works q d h own) in
         assumption)
         (move_runs z (take d o) (simp (lt-ltb 4 d target.free.low, lt-ltb d 32 target.free.small))
-        (omega arith, omega arith))
+        (omega arith, omega (arith, place_ends z x v 0 is (omega arith))))
     copied {x = x} {word = word} {mutable = mutable} is (Some home) at =
         let there = z.allocated.allowed x home at in
         let source : IsFree home = free_from home (omega arith) (omega arith) in
@@ -157,7 +156,7 @@ module _ (z : Setting) (free : ℕ) (aligned : free % 4 ≡ 0) (above : base_of 
         (λ env s ready.
         let here = ready.homes_there x home (word_as word mutable) is at in
         let small = fits (of_variable {mutable = mutable} is) env s ready in
-        (ready.held, moves.made s.regs (omega arith) ∙ here)))
+        (ready.held, moves.made s.regs (omega (arith, here, small)) ∙ here)))
 
     -- A value, and then few instructions that make another of it.
     applied : {e whole : TermTree} {one : WordType} → Typed slots e one → HasSlot slots place
@@ -199,7 +198,6 @@ module _ (z : Setting) (free : ℕ) (aligned : free % 4 ≡ 0) (above : base_of 
         (into_code z.declared z.allocation free d place (binary source operator width left right))
     operated_runs source operator width {left = left} {right = right} has more makes room first alone second =
         let e = operands left right right in
-        let l = found slots place left 29 in
         by_option (right_row z.allocation operator right)
         (λ row is.
         let numbered = right_known z.allocation operator right row is in
@@ -286,10 +284,10 @@ module _ (z : Setting) (free : ℕ) (aligned : free % 4 ≡ 0) (above : base_of 
         (one_fetched slots place e 1 (omega arith) (omega arith) (omega arith)
         (one_fetched slots place e 0 (omega arith) (omega arith) (omega arith) two))
         (λ env s u ready done.
-        let truth' = truth env s ready in
         choice_or_zero_made spare l_free mask_free c_free lm u.regs
         ∙ (ap₂ chosen_or_zero (done.fetched 0 (omega arith)) (done.fetched 1 (omega arith))
-        ∙ (choice_or_zero (value env condition) (value env accepted) (omega arith) (fits chooses env s ready)
+        ∙ (choice_or_zero (value env condition) (value env accepted) (omega (arith, truth env s ready))
+        (fits chooses env s ready)
         ∙ ap (λ v. if value env condition == 0 then v else value env accepted) (sym (zero env.variables).0)))))))
         (λ is.
         cheaper (omega (arith, height condition, height accepted, height otherwise))
@@ -300,7 +298,6 @@ module _ (z : Setting) (free : ℕ) (aligned : free % 4 ≡ 0) (above : base_of 
         (one_fetched slots place e 0 (omega arith) (omega arith) (omega arith)
         (one_more slots place e 2 two third))))
         (λ env s u ready done.
-        let truth' = truth env s ready in
         choice_made pair r_free l_free mask_free c_free
         (operand_apart count place (place + 1) 29 30 mask few (omega arith) (omega arith) (omega arith) (omega arith)
         (inl refl)) lm
@@ -308,7 +305,7 @@ module _ (z : Setting) (free : ℕ) (aligned : free % 4 ≡ 0) (above : base_of 
         u.regs
         ∙ (ap (λ v. chosen v (u.regs l) (u.regs r)) (done.fetched 0 (omega arith))
         ∙ (ap₂ (chosen (value env condition)) (done.fetched 1 (omega arith)) (done.fetched 2 (omega arith))
-        ∙ choice (value env condition) (value env accepted) (value env otherwise) (omega arith)
+        ∙ choice (value env condition) (value env accepted) (value env otherwise) (omega (arith, truth env s ready))
         (fits chooses env s ready) (fits more env s ready))))))
 
   -- an expression whose value can come into any register comes into its place

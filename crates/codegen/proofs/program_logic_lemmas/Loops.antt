@@ -61,10 +61,7 @@ module _ {z : Setting} (r : ℕ) (small : r < 32) (nonzero : r ≢ 0) {m n : ℕ
     from_back = Placed-right z.code (tested_at + 4 + 4) body jump from_skip.3.3
 
     ended : back_at + 4 ≡ p + 4 * length (loop_code r test body)
-    ended =
-        let e = length-append test behind_test in
-        let f = length-append body jump in
-        omega arith
+    ended = omega (arith, length-append test behind_test, length-append body jump)
 
     test_at : (left i : ℕ) → Straight z p m none test (A left i) (B left i)
     test_at left i = (tests left i).placed_at p (Placed-left z.code p test behind_test placed)

@@ -152,7 +152,6 @@ module _ {z : Setting} where
     placed_at = λ p placed.
         let x = one.placed_at p (Placed-left z.code p xs ys placed) in
         let y = two.placed_at (p + 4 * length xs) (Placed-right z.code p xs ys placed) in
-        let e = length-append xs ys in
         record {
           leak = both x.leak y.leak;
           runs = λ env s rest at fine fit.
@@ -160,7 +159,8 @@ module _ {z : Setting} where
               (then_ends (x.runs env s (z.seen (b env) ++ rest) at (z.fine_left (a env) (b env) fine) fit)
               (λ t there done.
               ends_as (y.runs env t rest there (z.fine_right (a env) (b env) fine) (link env s t fit done))
-              (omega arith) (omega arith) (λ u made. record { middle = t; first = done; second = made })))
+              (omega arith) (omega (arith, length-append xs ys))
+              (λ u made. record { middle = t; first = done; second = made })))
               (seen_then z (a env) (b env) rest);
         };
   }

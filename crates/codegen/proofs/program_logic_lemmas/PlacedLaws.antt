@@ -22,9 +22,7 @@ Placed-right code p (x ∷ xs) ys h =
 pub Placed-below : (code : Code) (p : ℕ) (is : List Instr) → Placed code p is → p < 2 ^ 32
     → p + 4 * length is < 2 ^ 32
 Placed-below code p [] h below = omega arith
-Placed-below code p (i ∷ is) h below =
-    let rest = Placed-below code (p + 4) is h.3 h.1 in
-    omega arith
+Placed-below code p (i ∷ is) h below = omega (arith, Placed-below code (p + 4) is h.3 h.1)
 
 -- an instruction of placed code stands where the machine is
 pub stands : (code : Code) (p : ℕ) (i : Instr) (is : List Instr) → Placed code p (i ∷ is) → IsInstr i → (s : State)

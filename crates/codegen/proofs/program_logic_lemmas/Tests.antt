@@ -80,9 +80,7 @@ module _ {z : Setting} where
         below : p + 4 + 4 * count < 2 ^ 32
         below =
             let all = Placed-below z.code (p + 4) (xs ++ (leave ys ++ ys)) placed.3 placed.1 in
-            let e = length-append xs (leave ys ++ ys) in
-            let f = length-append (leave ys) ys in
-            omega arith
+            omega (arith, all, length-append xs (leave ys ++ ys), length-append (leave ys) ys)
 
         first_way : Way z p 1 1 (λ s. holds test (register s.regs l) (register s.regs r) ≡ false)
             (unless_code test l r xs ys) xs Still
