@@ -152,8 +152,7 @@ module _ (z : Setting) (depth : ℕ) (place : Place) (x size : ℕ) (index value
       (put_by z access None value (omega arith) near_stored
       (λ i o below is near.
       as_code (ap near_stored (sym is))
-      (one_at z depth within x size typed.word typed.mutable typed.known i value below typed.suits
-      (omega arith)))
+      (one_at z depth within x size typed.word typed.mutable typed.known i value below typed.suits (omega arith)))
       put_far)
 
 -- All elements, at fixed places.

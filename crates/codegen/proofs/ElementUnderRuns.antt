@@ -96,8 +96,7 @@ module _ (z : Setting) (depth : ℕ) (place : Place) (x size : ℕ) (index value
       {New = λ regs v. regs r ≡ v} {Aims = λ regs. address_of regs 5 (lower_part offset) ≡ z.frame + place_at i} 7 29 6
       (omega arith) (omega arith) (free_from 29 (omega arith) (omega arith)) six (omega arith)
       (inr (omega arith))
-      (λ regs after v same there. same r (source_apart z source 7 (omega arith) (omega arith))
-      (omega arith) ∙ there)
+      (λ regs after v same there. same r (source_apart z source 7 (omega arith) (omega arith)) (omega arith) ∙ there)
       (λ regs after same aims. ap (λ b. sum_of b (sign_extended 12 (lower_part offset)))
       (same 5 (omega arith) (omega arith) (omega arith)) ∙ aims)
       (old_runs i 5 (lower_part offset) 7 below (omega arith) (lower_fits offset) (omega arith) (omega arith))

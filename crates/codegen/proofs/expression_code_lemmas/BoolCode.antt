@@ -24,11 +24,9 @@ module _ (w : Width) (a b : ℕ) where
       → (operator : BinaryOperator) → Makes profile (operation_of operator) one other whole
       → operated (of_bits operator) w a b ≡ operated operator w a b
   bits_same low high Either logic =
-      of_two bit_or (λ x y. word_of (truth_of x || truth_of y)) refl refl refl refl a b (omega arith)
-      (omega arith)
+      of_two bit_or (λ x y. word_of (truth_of x || truth_of y)) refl refl refl refl a b (omega arith) (omega arith)
   bits_same low high Both logic =
-      of_two bit_and (λ x y. word_of (truth_of x && truth_of y)) refl refl refl refl a b (omega arith)
-      (omega arith)
+      of_two bit_and (λ x y. word_of (truth_of x && truth_of y)) refl refl refl refl a b (omega arith) (omega arith)
   bits_same low high operator makes = refl
 
   pub emitted_same : {profile : Profile} {one other whole : WordType} → IsWithinKind one.kind a

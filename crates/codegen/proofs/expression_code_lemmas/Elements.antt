@@ -182,7 +182,8 @@ module _ (slots : Slots) (place d : ℕ) (target : IsTarget slots.z.allocation.c
       assumption (two.same ∙ one.same))
       (quiet
       (weaken
-      (λ env s fine given. (given.given.0.held, given.given.1 ∙ given.is, omega (arith, place_ends z x array i known below)))
+      (λ env s fine given.
+      (given.given.0.held, given.given.1 ∙ given.is, omega (arith, place_ends z x array i known below)))
       (λ env s t fine given done. done)
       (address_runs z d r target.free at target.no_address word.kind o (λ env. i)))
       (loaded source x size word mutable i index known below d (lower_part o) target.free.small (lower_fits o))

@@ -234,8 +234,7 @@ module _ (z : Setting) (free less place v : ℕ) (s t : State) where
       → (e : TermTree) → Stays (operand z.allocation free less e)
   holds_lower below kept lower =
       operand_stays (λ small. lower (5 + less) (lower_stays count place less below small z.allocated.few))
-      (λ high. kept_number z (slot_of count free place) s t kept 4 (slot_of count free less)
-      (omega arith))
+      (λ high. kept_number z (slot_of count free place) s t kept 4 (slot_of count free less) (omega arith))
       (homes_left z place s t lower)
 
   pub holds_still : (spare : ℕ) → 27 < spare → ((q : ℕ) → q ≢ spare → t.regs q ≡ s.regs q) → t.bytes ≡ s.bytes

@@ -80,8 +80,7 @@ module _ {z : Setting} where
       → p + 4 + 4 * n < 2 ^ 32
       → (s : State) → s.pc ≡ p → Ends z 1 (p + 4 + 4 * n) (always (shown_at p)) rest rest (λ t. Still s t) s
   over_ends p n rest placed near below s at =
-      jump_ends p (2 * n + 2) (p + 4 + 4 * n) rest placed (omega arith) (forward p n near below)
-      (omega arith) s at
+      jump_ends p (2 * n + 2) (p + 4 + 4 * n) rest placed (omega arith) (forward p n near below) (omega arith) s at
 
   pub back_ends : (p n q : ℕ) (rest : List z.Mark) → Placed z.code q (back n ∷ []) → 0 < n → 2 * n ≤ 2 ^ 19
       → q ≡ p + 4 * n
@@ -192,7 +191,7 @@ module _ {z : Setting} where
         after_arm = Placed-right z.code (p + 4 + 4) xs (over (length ys) ∷ ys) after_first
 
         last : p + 4 + 4 + 4 * length xs + 4 + 4 * length ys ≡ p + 4 * length (branch_code r xs ys)
-        last = let e = length-append xs (over (length ys) ∷ ys) in omega arith
+        last = omega (arith, length-append xs (over (length ys) ∷ ys))
 
         first_way : Way z p 1 1 (λ s. s.regs r ≢ 0) (branch_code r xs ys) xs Still
         first_way =

@@ -179,7 +179,7 @@ module _ {z : Setting} (r q : ℕ) (small : r < 32) (small' : q < 32) {n : ℕ} 
     from_branch = Placed-right z.code p body (branch ∷ []) placed
 
     behind : branch_at + 4 ≡ p + 4 * length (again_code r q body)
-    behind = let e = length-append body (branch ∷ []) in omega arith
+    behind = omega (arith, length-append body (branch ∷ []))
 
     round_at : (left i : ℕ) → Straight z p n (path i) body (C left i) (D left i)
     round_at left i = (bodies left i).placed_at p (Placed-left z.code p body (branch ∷ []) placed)

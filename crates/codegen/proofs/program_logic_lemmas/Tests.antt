@@ -71,7 +71,7 @@ module _ {z : Setting} where
         after_arm = Placed-right z.code (p + 4) xs (leave ys ++ ys) placed.3
 
         last : middle + 4 * length (leave ys ++ ys) ≡ p + 4 * length (unless_code test l r xs ys)
-        last = let e = length-append xs (leave ys ++ ys) in omega arith
+        last = omega (arith, length-append xs (leave ys ++ ys))
 
         -- where the second begins
         start_is : middle + 4 * length (leave ys) ≡ p + 4 + 4 * count
