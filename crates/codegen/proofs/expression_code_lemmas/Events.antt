@@ -1,16 +1,15 @@
 -- The marks of a path, by what they carry, and the instructions that show their operands: divisions and
 -- multiplications.
-use Rattle.std.proofs.Common.{◌≡◌, ◌≢◌, ℕ, ◌-◌, ◌<◌, ◌≤◌, List, [], ◌∷◌, ◌++◌, Option, Some}
-use Rattle.std.proofs.Common.{None, slice_index, refl, sym, ap, ap₂, ◌∙◌, arith, inl, inr}
+use Rattle.std.proofs.Common.{◌≡◌, ◌≢◌, ℕ, ◌-◌, ◌<◌, ◌≤◌, List, [], ◌∷◌, ◌++◌, Option, Some, None, slice_index, refl}
+use Rattle.std.proofs.Common.{sym, ap, ap₂, ◌∙◌, arith, inl, inr}
 use Rattle.std.proofs.lemmas.Bool.{cases_eq, cases_lt}
 use Rattle.codegen.proofs.expression_code_lemmas.Below.{always, bounded, by_mark, ByteMap, decided, divide_leads}
 use Rattle.codegen.proofs.expression_code_lemmas.Below.{divide_value, divided, DivideOperation, Event, indexed, Instr}
-use Rattle.codegen.proofs.expression_code_lemmas.Below.{IsAt, IsInside, IsInstr, Known, Leads, Mark}
-use Rattle.codegen.proofs.expression_code_lemmas.Below.{multiplied, multiply_leads, multiply_value, MultiplyOperation}
-use Rattle.codegen.proofs.expression_code_lemmas.Below.{never, Observation, Path, Place, product_shown}
-use Rattle.codegen.proofs.expression_code_lemmas.Below.{Profile, register, stands, State, StraightState}
-use Rattle.codegen.proofs.expression_code_lemmas.Below.{turn_ends, weaken, with_value, with_value-bytes, with_value-pc}
-use Rattle.codegen.proofs.expression_code_lemmas.Below.{with_value-regs}
+use Rattle.codegen.proofs.expression_code_lemmas.Below.{IsAt, IsInside, IsInstr, Known, Leads, Mark, multiplied}
+use Rattle.codegen.proofs.expression_code_lemmas.Below.{multiply_leads, multiply_value, MultiplyOperation, never}
+use Rattle.codegen.proofs.expression_code_lemmas.Below.{Observation, Path, Place, product_shown, Profile, register}
+use Rattle.codegen.proofs.expression_code_lemmas.Below.{stands, State, StraightState, turn_ends, weaken, with_value}
+use Rattle.codegen.proofs.expression_code_lemmas.Below.{with_value-bytes, with_value-pc, with_value-regs}
 use Rattle.codegen.proofs.expression_code_lemmas.Frame.{Setting, Before, After, Steps, Runs, setting}
 use Rattle.codegen.proofs.expression_code_lemmas.Moves.{register-at, is_written, is_left}
 use Rattle.codegen.proofs.expression_code_lemmas.WorkRegisters.{IsFree}

@@ -5,17 +5,16 @@ use Rattle.std.proofs.Common.{inl, if◌then◌else◌, ◌==◌}
 use Rattle.codegen.proofs.expression_code_lemmas.Below.{along, at_home, array_as, as_code, binary, BinaryOperator}
 use Rattle.codegen.proofs.expression_code_lemmas.Below.{by_test, near_element, Profile, State, StraightState, cheaper}
 use Rattle.codegen.proofs.expression_code_lemmas.Below.{Boolean, choice_code, choice_or_zero_code, chooses_zero, Label}
-use Rattle.codegen.proofs.expression_code_lemmas.Below.{constant_code, copy_code, keeps_words, Kind}
-use Rattle.codegen.proofs.expression_code_lemmas.Below.{element_code, expr_code, fetch_code, gives, HasType, height_of}
-use Rattle.codegen.proofs.expression_code_lemmas.Below.{home_of, InSlot, Instr, into_code, left_row, lt-ltb, move_code}
-use Rattle.codegen.proofs.expression_code_lemmas.Below.{none, number_at, number_code, number_row, NumberRow, of_binary}
+use Rattle.codegen.proofs.expression_code_lemmas.Below.{constant_code, copy_code, keeps_words, Kind, element_code}
+use Rattle.codegen.proofs.expression_code_lemmas.Below.{expr_code, fetch_code, gives, HasType, height_of, home_of}
+use Rattle.codegen.proofs.expression_code_lemmas.Below.{InSlot, Instr, into_code, left_row, lt-ltb, move_code, none}
+use Rattle.codegen.proofs.expression_code_lemmas.Below.{number_at, number_code, number_row, NumberRow, of_binary}
 use Rattle.codegen.proofs.expression_code_lemmas.Below.{of_conversion, of_element, of_number, of_prefix, of_rotation}
 use Rattle.codegen.proofs.expression_code_lemmas.Below.{of_selection, of_truth, of_variable, operand, operated, Path}
-use Rattle.codegen.proofs.expression_code_lemmas.Below.{path_in, Place, right_row, select}
-use Rattle.codegen.proofs.expression_code_lemmas.Below.{slots_to, term_nodes, TermTree, types_of, value_fits, value_in}
-use Rattle.codegen.proofs.expression_code_lemmas.Below.{Values, variable, variable_offset, weaken, Width, width_of}
-use Rattle.codegen.proofs.expression_code_lemmas.Below.{only_computes, registers_after, word_as, word_of}
-use Rattle.codegen.proofs.expression_code_lemmas.Below.{WordType, working_register}
+use Rattle.codegen.proofs.expression_code_lemmas.Below.{path_in, Place, right_row, select, slots_to, term_nodes}
+use Rattle.codegen.proofs.expression_code_lemmas.Below.{TermTree, types_of, value_fits, value_in, Values, variable}
+use Rattle.codegen.proofs.expression_code_lemmas.Below.{variable_offset, weaken, Width, width_of, only_computes}
+use Rattle.codegen.proofs.expression_code_lemmas.Below.{registers_after, word_as, word_of, WordType, working_register}
 use Rattle.codegen.proofs.expression_code_lemmas.Events.{by_index}
 use Rattle.codegen.proofs.expression_code_lemmas.Frame.{Setting, Steps, base_of, by_option, Runs, HeldAt}
 use Rattle.codegen.proofs.expression_code_lemmas.WorkRegisters.{place_works, IsFree, ArePair, IsTarget, free_from}
@@ -29,8 +28,7 @@ use Rattle.codegen.proofs.expression_code_lemmas.NumberCode.{row_quiet, turned_q
 use Rattle.codegen.proofs.expression_code_lemmas.Operands.{Outcome, took, worked, emitted_runs}
 use Rattle.codegen.proofs.expression_code_lemmas.OperatorCode.{Applies, constant_plain, constant_after, move_applies}
 use Rattle.codegen.proofs.expression_code_lemmas.OperatorCode.{convert_applies, prefix_applies, rotate_applies}
-use Rattle.codegen.proofs.expression_code_lemmas.OperatorCode.{choice_plain, choice_made, choice_or_zero_plain}
-use Rattle.codegen.proofs.expression_code_lemmas.OperatorCode.{choice_or_zero_made, truth_fits}
+use Rattle.codegen.proofs.expression_code_lemmas.OperatorCode.{choice_made, choice_or_zero_made, truth_fits}
 use Rattle.codegen.proofs.expression_code_lemmas.Homes.{conversion_kept}
 use Rattle.codegen.proofs.expression_code_lemmas.Places.{kind_known}
 use Rattle.codegen.proofs.expression_code_lemmas.TermLengths.{height, constant_length, move_length, convert_length}
@@ -276,33 +274,32 @@ module _ (z : Setting) (free : ℕ) (aligned : free % 4 ≡ 0) (above : base_of 
         by_test (chooses_zero z.allocation otherwise)
         (λ is.
         let zero = known otherwise 0 (zero_known z.allocation otherwise is) in
+        let masked = choice_or_zero_made spare works own spare_own l_free mask_free mask_works c_free lm in
         along (λ env. ap (λ (p : Path). path_in env.variables condition ++ path_in env.variables accepted ++ p)
         (zero env.variables).1 ∙ append-nil (path_in env.variables condition ++ path_in env.variables accepted))
         (cheaper (omega arith)
-        (computed e (choice_or_zero_code d mask c l)
-        (choice_or_zero_plain spare works own spare_own l_free mask_free mask_works c_free)
+        (computed e (choice_or_zero_code d mask c l) masked.0
         (one_fetched slots place e 1 (omega arith) (omega arith) (omega arith)
         (one_fetched slots place e 0 (omega arith) (omega arith) (omega arith) two))
         (λ env s u ready done.
-        choice_or_zero_made spare l_free mask_free c_free lm u.regs
+        masked.1 u.regs
         ∙ (ap₂ chosen_or_zero (done.fetched 0 (omega arith)) (done.fetched 1 (omega arith))
         ∙ (choice_or_zero (value env condition) (value env accepted) (omega (arith, truth env s ready))
         (fits chooses env s ready)
         ∙ ap (λ v. if value env condition == 0 then v else value env accepted) (sym (zero env.variables).0)))))))
         (λ is.
+        let merged = choice_made pair works own next_own r_free mask_free mask_works c_free l_free
+        (operand_apart count place (place + 1) 29 30 mask few (omega arith) (omega arith) (omega arith) (omega arith)
+        (inl refl)) lm
+        (found_apart slots place 2 0 otherwise (omega arith)) (found_apart slots place 2 1 otherwise (omega arith)) in
         cheaper (omega (arith, height condition, height accepted, height otherwise))
-        (computed e (choice_code d mask next c l r)
-        (choice_plain pair works own next_own r_free mask_free mask_works c_free l_free)
+        (computed e (choice_code d mask next c l r) merged.0
         (one_fetched slots place e 2 (omega arith) (omega arith) room
         (one_fetched slots place e 1 (omega arith) (omega arith) (omega arith)
         (one_fetched slots place e 0 (omega arith) (omega arith) (omega arith)
         (one_more slots place e 2 two third))))
         (λ env s u ready done.
-        choice_made pair r_free l_free mask_free c_free
-        (operand_apart count place (place + 1) 29 30 mask few (omega arith) (omega arith) (omega arith) (omega arith)
-        (inl refl)) lm
-        (found_apart slots place 2 0 otherwise (omega arith)) (found_apart slots place 2 1 otherwise (omega arith))
-        u.regs
+        merged.1 u.regs
         ∙ (ap (λ v. chosen v (u.regs l) (u.regs r)) (done.fetched 0 (omega arith))
         ∙ (ap₂ (chosen (value env condition)) (done.fetched 1 (omega arith)) (done.fetched 2 (omega arith))
         ∙ choice (value env condition) (value env accepted) (value env otherwise) (omega (arith, truth env s ready))

@@ -1,6 +1,6 @@
 -- Temporaries: how an operator's are fetched, worked on and kept.
-use Rattle.std.proofs.Common.{inl, inr, ◌≡◌, ◌≢◌, ℕ, ◌+◌, ◌*◌, ◌%◌, ◌^◌, ◌<◌, ◌≤◌, Bool, true, false, nat_lt}
-use Rattle.std.proofs.Common.{List, [], ◌∷◌, length, Some, refl, ap, ap₂, ◌∙◌, subst, arith, ne_eqb}
+use Rattle.std.proofs.Common.{inl, inr, ◌≡◌, ◌≢◌, ℕ, ◌+◌, ◌*◌, ◌%◌, ◌^◌, ◌<◌, ◌≤◌, Bool, true, false, nat_lt, List, []}
+use Rattle.std.proofs.Common.{◌∷◌, length, Some, refl, ap, ap₂, ◌∙◌, subst, arith, ne_eqb}
 use Rattle.codegen.proofs.expression_code_lemmas.Below.{Allocation, along, BinaryOperator, cheaper, cut_code}
 use Rattle.codegen.proofs.expression_code_lemmas.Below.{divide_value, divided, DivideOperation, emitted_operator}
 use Rattle.codegen.proofs.expression_code_lemmas.Below.{IsWithinKind, Profile, WordType, fetch_code, gives, idle}

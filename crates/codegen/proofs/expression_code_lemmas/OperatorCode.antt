@@ -280,23 +280,30 @@ module _ {d t : ℕ} (pair : ArePair d t) where
       operator_plain first Remainder w plain = absurd (false≢true plain)
       operator_plain first operator w plain = simp (wd, wt, d32, t32, q32 first, q32 source, cut_plain w)
 
-      -- of which the mask comes into m
-      pub choice_plain : {m c l : ℕ} → IsFree m → works m ≡ true → IsFree c → IsFree l
-          → only_computes works (choice_code d m t c l r) ≡ true
-      choice_plain mask wm condition first =
-          simp (wd, wt, wm, d32, t32, q32 mask, q32 condition, q32 first, q32 source)
+      -- a choice, with the mask in m
+      pub choice_made : {m c l : ℕ} → IsFree m → works m ≡ true → IsFree c → IsFree l → m ≢ t → l ≢ m → r ≢ m → r ≢ t
+          → (only_computes works (choice_code d m t c l r) ≡ true)
+          × ((regs : ℕ → ℕ) → registers_after (choice_code d m t c l r) regs d ≡ chosen (regs c) (regs l) (regs r))
+      choice_made {m = m} {l = l} mask wm condition first mt lm rm rt =
+          let mm = eq-eqb m m refl in
+          let m_t = ne_eqb m t mt in
+          let l_m = ne_eqb l m lm in
+          let r_m = ne_eqb r m rm in
+          let r_t = ne_eqb r t rt in (
+            simp (wd, wt, wm, d32, t32, q32 mask, q32 condition, q32 first, q32 source),
+            λ regs. simp (dd, tt', mm, m_t, l_m, r_m, r_t, d0, t0, q0 mask, q0 condition, q0 first, q0 source),
+          )
 
-      pub choice_or_zero_plain : {m c : ℕ} → IsFree m → works m ≡ true → IsFree c
-          → only_computes works (choice_or_zero_code d m c r) ≡ true
-      choice_or_zero_plain mask wm condition = simp (wd, wm, d32, q32 mask, q32 condition, q32 source)
+      -- and one between a value and 0
+      pub choice_or_zero_made : {m c : ℕ} → IsFree m → works m ≡ true → IsFree c → r ≢ m
+          → (only_computes works (choice_or_zero_code d m c r) ≡ true)
+          × ((regs : ℕ → ℕ) → registers_after (choice_or_zero_code d m c r) regs d ≡ chosen_or_zero (regs c) (regs r))
+      choice_or_zero_made {m = m} mask wm condition rm = (
+        simp (wd, wm, d32, q32 mask, q32 condition, q32 source),
+        λ regs. simp (dd, eq-eqb m m refl, ne_eqb r m rm, d0, q0 mask, q0 condition, q0 source),
+      )
 
   module _ {r : ℕ} (source : IsFree r) where
-    -- A choice between a value and 0, with the mask in m.
-    pub choice_or_zero_made : {m c : ℕ} → IsFree m → IsFree c → r ≢ m → (regs : ℕ → ℕ)
-        → registers_after (choice_or_zero_code d m c r) regs d ≡ chosen_or_zero (regs c) (regs r)
-    choice_or_zero_made {m = m} mask condition rm regs =
-        simp (dd, eq-eqb m m refl, ne_eqb r m rm, d0, q0 mask, q0 condition, q0 source)
-
     module _ {l : ℕ} (first : IsFree l) where
       pub operator_made : l ≢ t → (operator : BinaryOperator) (w : Width) → is_plain (row_of operator).step ≡ true
           → (regs : ℕ → ℕ) → regs l < 2 ^ 32 → regs r < 2 ^ 32
@@ -319,14 +326,3 @@ module _ {d t : ℕ} (pair : ArePair d t) where
       operator_made apart Remainder w plain regs left right = absurd (false≢true plain)
       operator_made apart operator w plain regs left right =
           simp (dd, d0, q0 first, q0 source) (grind (arith, nat_tests))
-
-      -- Choices, with the mask in m.
-      pub choice_made : {m c : ℕ} → IsFree m → IsFree c → m ≢ t → l ≢ m → r ≢ m → r ≢ t → (regs : ℕ → ℕ)
-          → registers_after (choice_code d m t c l r) regs d ≡ chosen (regs c) (regs l) (regs r)
-      choice_made {m = m} {c = c} mask condition mt lm rm rt regs =
-          let mm = eq-eqb m m refl in
-          let m_t = ne_eqb m t mt in
-          let l_m = ne_eqb l m lm in
-          let r_m = ne_eqb r m rm in
-          let r_t = ne_eqb r t rt in
-          simp (dd, tt', mm, m_t, l_m, r_m, r_t, d0, t0, q0 mask, q0 condition, q0 first, q0 source)
