@@ -1,184 +1,224 @@
--- What the grammar gives a tree is made by its cases.
-use Rattle.std.proofs.Common.{ℕ, Bool, List, [], Option}
+-- What the grammar gives a tree is made by its cases, and the tree's heads are tokens of the text.
+use Rattle.std.proofs.Common.{ℕ, ◌+◌, ◌≤◌, Bool, List, [], ◌∷◌, Option, arith}
 use Rattle.word.specs.declared.place.Place.{Place}
 use Rattle.language.specs.declared.signature.Kind.{Kind}
-use Rattle.syntax.specs.declared.token.TokenKind.{TokenKind}
 use Rattle.language.specs.declared.typing.WordType.{WordType}
-use Rattle.syntax.specs.Beginning.{Whole, by_case, no_part, a_token, a_phrase}
-use Rattle.syntax.specs.Cases as cases
-use Rattle.syntax.specs.Grammar as grammar
-use Rattle.syntax.specs.Grammar.{level_of, left_level_of, rotation_level, prefix_level, ExprAt, MoreExprs, SomeExprs}
-use Rattle.syntax.specs.Grammar.{Arguments, Call, RightSide, Mutable, ArrayType, FirstValues, Statement, Conditional}
-use Rattle.syntax.specs.Grammar.{Statements, Block, Otherwise, Parameter, MoreParameters, Parameters, ResultType}
-use Rattle.syntax.specs.Grammar.{BodyEnd, Exported, Procedure, Procedures}
-use Rattle.syntax.specs.Lexeme.{Lexeme}
 use Rattle.language.specs.Tree.{ExprTree, CallTree, RightTree, StatementTree, BlockTree, ParameterTree, ReturnTree}
-use Rattle.language.specs.Tree.{ProcedureTree}
+use Rattle.language.specs.Tree.{ProcedureTree, ProgramTree}
+use Rattle.syntax.specs.declared.token.TokenKind.{TokenKind}
+use Rattle.syntax.specs.Beginning.{Whole, by_case, WholeParts, no_part, a_token, a_phrase}
+use Rattle.syntax.specs.Cases as cases
+use Rattle.syntax.specs.Cases.{Single, IsOne, Phrase, Part, one, all, Case}
+use Rattle.syntax.specs.Grammar as grammar
+use Rattle.syntax.specs.Grammar.{ExprAt, MoreExprs, SomeExprs, Arguments, Call, RightSide, Mutable, ArrayType}
+use Rattle.syntax.specs.Grammar.{FirstValues, Statement, Conditional, Statements, Block, Otherwise, Parameter}
+use Rattle.syntax.specs.Grammar.{MoreParameters, Parameters, ResultType, BodyEnd, Exported, Procedure, Procedures}
+use Rattle.syntax.specs.Grammar.{IsProgram}
+use Rattle.syntax.specs.Lexeme.{Lexeme}
+use Rattle.source_laws.specs.grammar_laws.Heads.{in_expr, in_exprs, in_values, in_call, in_right, in_statement}
+use Rattle.source_laws.specs.grammar_laws.Heads.{in_block, in_parameters, in_return, in_export, in_procedure}
+use Rattle.source_laws.specs.grammar_laws.Heads.{in_procedures, in_program}
 
-whole_expr : {level : ℕ} {tokens : List Lexeme} {tree : ExprTree} {rest : List Lexeme} → ExprAt level tokens tree rest
-    → Whole (cases.expr level) tokens rest
-whole_expr (grammar.a_number is_0) = by_case cases.a_number (a_token (_, _, is_0) no_part)
-whole_expr (grammar.a_true is_0) = by_case cases.a_true (a_token is_0 no_part)
-whole_expr (grammar.a_false is_0) = by_case cases.a_false (a_token is_0 no_part)
-whole_expr (grammar.a_name is_0) = by_case cases.a_name (a_token is_0 no_part)
-whole_expr (grammar.an_element is_0 is_1 made_2 is_3) =
-    by_case cases.an_element (a_token is_0 (a_token is_1 (a_phrase (whole_expr made_2) (a_token is_3 no_part))))
-whole_expr (grammar.in_brackets is_0 made_1 is_2) =
-    by_case cases.in_brackets (a_token is_0 (a_phrase (whole_expr made_1) (a_token is_2 no_part)))
-whole_expr (grammar.a_conversion is_0 is_1 made_2 is_3) =
-    by_case cases.a_conversion (a_token (_, is_0) (a_token is_1 (a_phrase (whole_expr made_2)
-    (a_token is_3 no_part))))
-whole_expr (grammar.a_select is_0 is_1 made_2 is_3 made_4 is_5 made_6 is_7) =
-    by_case cases.a_select (a_token is_0 (a_token is_1 (a_phrase (whole_expr made_2) (a_token is_3
-    (a_phrase (whole_expr made_4) (a_token is_5 (a_phrase (whole_expr made_6) (a_token is_7 no_part))))))))
-whole_expr (grammar.a_prefix is_0 made_1) =
-    by_case cases.a_prefix (a_token (_, is_0) (a_phrase (whole_expr made_1) no_part))
-whole_expr (grammar.a_rotation is_0 low made_2 is_3) =
-    by_case (cases.a_rotation low) (a_phrase (whole_expr made_2) (a_token is_0 (a_token (_, is_3) no_part)))
-whole_expr (grammar.a_binary is_0 low made_2 made_3) =
-    by_case (cases.a_binary low) (a_phrase (whole_expr made_2) (a_token is_0 (a_phrase (whole_expr made_3) no_part)))
+infixr 50 ◌▸◌
+infixr 50 ◌▹◌
+-- the weights of the tokens' places, summed
+abbrev pub among : (Place → ℕ) → List Lexeme → ℕ
+among w [] = 0
+among w (t ∷ tokens) = w t.place + among w tokens
 
-whole_more_exprs : {end : TokenKind} {tokens : List Lexeme} {trees : List ExprTree} {rest : List Lexeme}
-    → MoreExprs end tokens trees rest → Whole (cases.more_exprs end) tokens rest
-whole_more_exprs (grammar.no_more is_0) = by_case cases.no_more (a_token is_0 no_part)
-whole_more_exprs (grammar.one_more is_0 made_1 made_2) =
-    by_case cases.one_more (a_token is_0 (a_phrase (whole_expr made_1) (a_phrase (whole_more_exprs made_2) no_part)))
+abbrev Heads : Type 0
+Heads = (Place → ℕ) → ℕ
 
-whole_expr_list : {end : TokenKind} {tokens : List Lexeme} {trees : List ExprTree} {rest : List Lexeme}
-    → SomeExprs end tokens trees rest → Whole (cases.expr_list end) tokens rest
-whole_expr_list (grammar.some_exprs made_0 made_1) =
-    by_case cases.some_exprs (a_phrase (whole_expr made_0) (a_phrase (whole_more_exprs made_1) no_part))
+-- the tokens up to the rest are a whole phrase, and these heads are among them
+pub record Walked (phrase : Phrase) (tokens rest : List Lexeme) (heads : Heads) : Type 0 where
+  pub whole : Whole phrase tokens rest
+  pub heads_in : (w : Place → ℕ) → heads w + among w rest ≤ among w tokens
 
-whole_arguments : {tokens : List Lexeme} {tree : List ExprTree} {rest : List Lexeme} → Arguments tokens tree rest
-    → Whole cases.arguments tokens rest
-whole_arguments (grammar.no_arguments is_0) = by_case cases.no_arguments (a_token is_0 no_part)
-whole_arguments (grammar.some_arguments made_0) =
-    by_case cases.some_arguments (a_phrase (whole_expr_list made_0) no_part)
+-- a token and the parts behind it, or a phrase and the parts behind it
+data Parts : List Part → List Lexeme → List Lexeme → Heads → Type 0 where
+  done : {rest : List Lexeme} → Parts [] rest rest (λ w. 0)
+  ◌▸◌ : {single : Single} {parts : List Part} {t : Lexeme} {tokens rest : List Lexeme} {heads : Heads}
+      → IsOne single t → Parts parts tokens rest heads
+      → Parts (one single ∷ parts) (t ∷ tokens) rest (λ w. w t.place + heads w)
+  ◌▹◌ : {phrase : Phrase} {parts : List Part} {tokens second rest : List Lexeme} {own heads : Heads}
+      → Walked phrase tokens second own → Parts parts second rest heads
+      → Parts (all phrase ∷ parts) tokens rest (λ w. own w + heads w)
 
-whole_call : {tokens : List Lexeme} {tree : CallTree} {rest : List Lexeme} → Call tokens tree rest
-    → Whole cases.call tokens rest
-whole_call (grammar.a_call is_0 is_1 made_2) =
-    by_case cases.a_call (a_token is_0 (a_token is_1 (a_phrase (whole_arguments made_2) no_part)))
+whole_parts : {parts : List Part} {tokens rest : List Lexeme} {heads : Heads} → Parts parts tokens rest heads
+    → WholeParts parts tokens rest
+whole_parts done = no_part
+whole_parts (is ▸ parts) = a_token is (whole_parts parts)
+whole_parts (phrase ▹ parts) = a_phrase phrase.whole (whole_parts parts)
 
-whole_right_side : {tokens : List Lexeme} {tree : RightTree} {rest : List Lexeme} → RightSide tokens tree rest
-    → Whole cases.right_side tokens rest
-whole_right_side (grammar.a_call_value made_0) = by_case cases.a_call_value (a_phrase (whole_call made_0) no_part)
-whole_right_side (grammar.a_value made_0) = by_case cases.a_value (a_phrase (whole_expr made_0) no_part)
+parts_in : {parts : List Part} {tokens rest : List Lexeme} {heads : Heads} → Parts parts tokens rest heads
+    → (w : Place → ℕ) → heads w + among w rest ≤ among w tokens
+parts_in done w = omega arith
+parts_in (is ▸ parts) w = omega (arith, parts_in parts w)
+parts_in (phrase ▹ parts) w = omega (arith, phrase.heads_in w, parts_in parts w)
 
-whole_mutable : {tokens : List Lexeme} {tree : Bool} {rest : List Lexeme} → Mutable tokens tree rest
-    → Whole cases.mutable tokens rest
-whole_mutable grammar.no_mut = by_case cases.no_mut no_part
-whole_mutable (grammar.a_mut is_0) = by_case cases.a_mut (a_token is_0 no_part)
+by : {phrase : Phrase} {parts : List Part} {tokens rest : List Lexeme} {own heads : Heads} → Case phrase parts
+    → Parts parts tokens rest heads → ((w : Place → ℕ) → own w ≤ heads w) → Walked phrase tokens rest own
+by c parts fewer = record {
+  whole = by_case c (whole_parts parts);
+  heads_in = λ w. omega (arith, parts_in parts w, fewer w);
+}
 
-whole_array_type : {tokens : List Lexeme} {tree : Kind} {second : ℕ} {rest : List Lexeme}
-    → ArrayType tokens tree second rest → Whole cases.array_type tokens rest
-whole_array_type (grammar.an_array_type is_0 is_1 is_2 is_3) =
-    by_case cases.an_array_type (a_token (_, is_0) (a_token is_1 (a_token (_, is_2) (a_token is_3 no_part))))
+expr : {level : ℕ} {tokens rest : List Lexeme} {tree : ExprTree} → ExprAt level tokens tree rest
+    → Walked (cases.expr level) tokens rest (λ w. in_expr w tree)
+expr (grammar.a_number is) = by cases.a_number ((_, _, is) ▸ done) (λ w. omega arith)
+expr (grammar.a_true is) = by cases.a_true (is ▸ done) (λ w. omega arith)
+expr (grammar.a_false is) = by cases.a_false (is ▸ done) (λ w. omega arith)
+expr (grammar.a_name is) = by cases.a_name (is ▸ done) (λ w. omega arith)
+expr (grammar.an_element is opens in_index closes) =
+    by cases.an_element (is ▸ opens ▸ expr in_index ▹ closes ▸ done) (λ w. omega arith)
+expr (grammar.in_brackets opens in_tree closes) =
+    by cases.in_brackets (opens ▸ expr in_tree ▹ closes ▸ done) (λ w. omega arith)
+expr (grammar.a_conversion is opens in_tree closes) =
+    by cases.a_conversion ((_, is) ▸ opens ▸ expr in_tree ▹ closes ▸ done) (λ w. omega arith)
+expr (grammar.a_select is opens in_a is_comma in_b is_comma' in_c closes) =
+    by cases.a_select (is ▸ opens ▸ expr in_a ▹ is_comma ▸ expr in_b ▹ is_comma' ▸ expr in_c ▹ closes
+    ▸ done) (λ w. omega arith)
+expr (grammar.a_prefix is in_operand) = by cases.a_prefix ((_, is) ▸ expr in_operand ▹ done) (λ w. omega arith)
+expr (grammar.a_rotation is at in_operand is_amount) =
+    by (cases.a_rotation at) (expr in_operand ▹ is ▸ (_, is_amount) ▸ done) (λ w. omega arith)
+expr (grammar.a_binary is at in_left in_right) =
+    by (cases.a_binary at) (expr in_left ▹ is ▸ expr in_right ▹ done) (λ w. omega arith)
 
-whole_first_values : {tokens : List Lexeme} {tree : Option (List ExprTree)} {rest : List Lexeme}
-    → FirstValues tokens tree rest → Whole cases.first_values tokens rest
-whole_first_values grammar.no_values = by_case cases.no_values no_part
-whole_first_values (grammar.some_values is_0 is_1 made_2) =
-    by_case cases.some_values (a_token is_0 (a_token is_1 (a_phrase (whole_expr_list made_2) no_part)))
+more_exprs : {end : TokenKind} {tokens rest : List Lexeme} {trees : List ExprTree} → MoreExprs end tokens trees rest
+    → Walked (cases.more_exprs end) tokens rest (λ w. in_exprs w trees)
+more_exprs (grammar.no_more is) = by cases.no_more (is ▸ done) (λ w. omega arith)
+more_exprs (grammar.one_more is in_tree in_trees) =
+    by cases.one_more (is ▸ expr in_tree ▹ more_exprs in_trees ▹ done) (λ w. omega arith)
+
+expr_list : {end : TokenKind} {tokens rest : List Lexeme} {trees : List ExprTree} → SomeExprs end tokens trees rest
+    → Walked (cases.expr_list end) tokens rest (λ w. in_exprs w trees)
+expr_list (grammar.some_exprs in_tree in_trees) =
+    by cases.some_exprs (expr in_tree ▹ more_exprs in_trees ▹ done) (λ w. omega arith)
+
+arguments : {tokens rest : List Lexeme} {trees : List ExprTree} → Arguments tokens trees rest
+    → Walked cases.arguments tokens rest (λ w. in_exprs w trees)
+arguments (grammar.no_arguments is) = by cases.no_arguments (is ▸ done) (λ w. omega arith)
+arguments (grammar.some_arguments in_trees) = by cases.some_arguments (expr_list in_trees ▹ done) (λ w. omega arith)
+
+call : {tokens rest : List Lexeme} {tree : CallTree} → Call tokens tree rest
+    → Walked cases.call tokens rest (λ w. in_call w tree)
+call (grammar.a_call is opens in_arguments) =
+    by cases.a_call (is ▸ opens ▸ arguments in_arguments ▹ done) (λ w. omega arith)
+
+right_side : {tokens rest : List Lexeme} {tree : RightTree} → RightSide tokens tree rest
+    → Walked cases.right_side tokens rest (λ w. in_right w tree)
+right_side (grammar.a_call_value in_tree) = by cases.a_call_value (call in_tree ▹ done) (λ w. omega arith)
+right_side (grammar.a_value in_tree) = by cases.a_value (expr in_tree ▹ done) (λ w. omega arith)
+
+mutable : {tokens rest : List Lexeme} {is : Bool} → Mutable tokens is rest → Walked cases.mutable tokens rest (λ w. 0)
+mutable grammar.no_mut = by cases.no_mut done (λ w. omega arith)
+mutable (grammar.a_mut is) = by cases.a_mut (is ▸ done) (λ w. omega arith)
+
+array_type : {tokens rest : List Lexeme} {kind : Kind} {length : ℕ} → ArrayType tokens kind length rest
+    → Walked cases.array_type tokens rest (λ w. 0)
+array_type (grammar.an_array_type is opens is_length closes) =
+    by cases.an_array_type ((_, is) ▸ opens ▸ (_, is_length) ▸ closes ▸ done) (λ w. omega arith)
+
+first_values : {tokens rest : List Lexeme} {trees : Option (List ExprTree)} → FirstValues tokens trees rest
+    → Walked cases.first_values tokens rest (λ w. in_values w trees)
+first_values grammar.no_values = by cases.no_values done (λ w. omega arith)
+first_values (grammar.some_values is opens in_trees) =
+    by cases.some_values (is ▸ opens ▸ expr_list in_trees ▹ done) (λ w. omega arith)
 
 mutual
-  whole_statement : {tokens : List Lexeme} {tree : StatementTree} {rest : List Lexeme} → Statement tokens tree rest
-      → Whole cases.statement tokens rest
-  whole_statement (grammar.a_declaration is_0 made_1 is_2 is_3 is_4 made_5 is_6) =
-      by_case cases.a_declaration (a_token (_, is_0) (a_phrase (whole_mutable made_1) (a_token (_, is_2) (a_token is_3
-      (a_token is_4 (a_phrase (whole_right_side made_5) (a_token is_6 no_part)))))))
-  whole_statement (grammar.an_array is_0 made_1 made_2 is_3 made_4 is_5) =
-      by_case cases.an_array (a_token (_, is_0) (a_phrase (whole_mutable made_1) (a_phrase (whole_array_type made_2)
-      (a_token is_3 (a_phrase (whole_first_values made_4) (a_token is_5 no_part))))))
-  whole_statement (grammar.an_assignment is_0 is_1 made_2 is_3) =
-      by_case cases.an_assignment (a_token is_0 (a_token is_1 (a_phrase (whole_right_side made_2)
-      (a_token is_3 no_part))))
-  whole_statement (grammar.an_element_assignment is_0 is_1 made_2 is_3 is_4 made_5 is_6) =
-      by_case cases.an_element_assignment (a_token is_0 (a_token is_1 (a_phrase (whole_expr made_2) (a_token is_3
-      (a_token is_4 (a_phrase (whole_right_side made_5) (a_token is_6 no_part)))))))
-  whole_statement (grammar.a_call_statement made_0 is_1) =
-      by_case cases.a_call_statement (a_phrase (whole_call made_0) (a_token is_1 no_part))
-  whole_statement (grammar.a_conditional_statement made_0) =
-      by_case cases.a_conditional_statement (a_phrase (whole_conditional made_0) no_part)
-  whole_statement (grammar.a_loop is_0 is_1 is_2 is_3 is_4 made_5 is_6 made_7 is_8 made_9) =
-      by_case cases.a_loop (a_token is_0 (a_token is_1 (a_token is_2 (a_token is_3 (a_token is_4
-      (a_phrase (whole_expr made_5) (a_token is_6 (a_phrase (whole_expr made_7) (a_token is_8
-      (a_phrase (whole_block made_9) no_part))))))))))
+  statement : {tokens rest : List Lexeme} {tree : StatementTree} → Statement tokens tree rest
+      → Walked cases.statement tokens rest (λ w. in_statement w tree)
+  statement (grammar.a_declaration is in_mut is_kind is_name is_equals in_right ends) =
+      by cases.a_declaration ((_, is) ▸ mutable in_mut ▹ (_, is_kind) ▸ is_name ▸ is_equals ▸ right_side in_right
+      ▹ ends ▸ done) (λ w. omega arith)
+  statement (grammar.an_array is in_mut in_type is_name in_values ends) =
+      by cases.an_array ((_, is) ▸ mutable in_mut ▹ array_type in_type ▹ is_name ▸ first_values in_values ▹ ends
+      ▸ done) (λ w. omega arith)
+  statement (grammar.an_assignment is is_equals in_right ends) =
+      by cases.an_assignment (is ▸ is_equals ▸ right_side in_right ▹ ends ▸ done) (λ w. omega arith)
+  statement (grammar.an_element_assignment is opens in_index closes is_equals in_right ends) =
+      by cases.an_element_assignment (is ▸ opens ▸ expr in_index ▹ closes ▸ is_equals ▸ right_side in_right ▹ ends
+      ▸ done) (λ w. omega arith)
+  statement (grammar.a_call_statement in_call ends) =
+      by cases.a_call_statement (call in_call ▹ ends ▸ done) (λ w. omega arith)
+  statement (grammar.a_conditional_statement in_tree) =
+      by cases.a_conditional_statement (conditional in_tree ▹ done) (λ w. omega arith)
+  statement (grammar.a_loop is opens is_word is_name is_from in_low is_to in_high closes in_body) =
+      by cases.a_loop (is ▸ opens ▸ is_word ▸ is_name ▸ is_from ▸ expr in_low ▹ is_to ▸ expr in_high ▹ closes
+      ▸ block in_body ▹ done) (λ w. omega arith)
 
-  whole_conditional : {tokens : List Lexeme} {tree : StatementTree} {rest : List Lexeme}
-      → Conditional tokens tree rest → Whole cases.conditional tokens rest
-  whole_conditional (grammar.a_conditional is_0 is_1 made_2 is_3 made_4 made_5) =
-      by_case cases.a_conditional (a_token is_0 (a_token is_1 (a_phrase (whole_expr made_2) (a_token is_3
-      (a_phrase (whole_block made_4) (a_phrase (whole_otherwise made_5) no_part))))))
+  conditional : {tokens rest : List Lexeme} {tree : StatementTree} → Conditional tokens tree rest
+      → Walked cases.conditional tokens rest (λ w. in_statement w tree)
+  conditional (grammar.a_conditional is opens in_condition closes in_arm in_otherwise) =
+      by cases.a_conditional (is ▸ opens ▸ expr in_condition ▹ closes ▸ block in_arm ▹ otherwise in_otherwise
+      ▹ done) (λ w. omega arith)
 
-  whole_statements : {tokens : List Lexeme} {tree : BlockTree} {rest : List Lexeme} → Statements tokens tree rest
-      → Whole cases.statements tokens rest
-  whole_statements grammar.no_statement = by_case cases.no_statement no_part
-  whole_statements (grammar.one_statement made_0 made_1) =
-      by_case cases.one_statement (a_phrase (whole_statement made_0) (a_phrase (whole_statements made_1) no_part))
+  statements : {tokens rest : List Lexeme} {trees : BlockTree} → Statements tokens trees rest
+      → Walked cases.statements tokens rest (λ w. in_block w trees)
+  statements grammar.no_statement = by cases.no_statement done (λ w. omega arith)
+  statements (grammar.one_statement in_tree in_trees) =
+      by cases.one_statement (statement in_tree ▹ statements in_trees ▹ done) (λ w. omega arith)
 
-  whole_block : {tokens : List Lexeme} {tree : BlockTree} {rest : List Lexeme} → Block tokens tree rest
-      → Whole cases.block tokens rest
-  whole_block (grammar.a_block is_0 made_1 is_2) =
-      by_case cases.a_block (a_token is_0 (a_phrase (whole_statements made_1) (a_token is_2 no_part)))
+  block : {tokens rest : List Lexeme} {trees : BlockTree} → Block tokens trees rest
+      → Walked cases.block tokens rest (λ w. in_block w trees)
+  block (grammar.a_block opens in_trees closes) =
+      by cases.a_block (opens ▸ statements in_trees ▹ closes ▸ done) (λ w. omega arith)
 
-  whole_otherwise : {tokens : List Lexeme} {tree : BlockTree} {rest : List Lexeme} → Otherwise tokens tree rest
-      → Whole cases.otherwise tokens rest
-  whole_otherwise grammar.no_else = by_case cases.no_else no_part
-  whole_otherwise (grammar.an_else is_0 made_1) =
-      by_case cases.an_else (a_token is_0 (a_phrase (whole_block made_1) no_part))
-  whole_otherwise (grammar.an_else_if is_0 made_1) =
-      by_case cases.an_else_if (a_token is_0 (a_phrase (whole_conditional made_1) no_part))
+  otherwise : {tokens rest : List Lexeme} {trees : BlockTree} → Otherwise tokens trees rest
+      → Walked cases.otherwise tokens rest (λ w. in_block w trees)
+  otherwise grammar.no_else = by cases.no_else done (λ w. omega arith)
+  otherwise (grammar.an_else is in_arm) = by cases.an_else (is ▸ block in_arm ▹ done) (λ w. omega arith)
+  otherwise (grammar.an_else_if is in_tree) = by cases.an_else_if (is ▸ conditional in_tree ▹ done) (λ w. omega arith)
 
-whole_parameter : {tokens : List Lexeme} {tree : ParameterTree} {rest : List Lexeme} → Parameter tokens tree rest
-    → Whole cases.parameter tokens rest
-whole_parameter (grammar.a_word is_0 is_1 is_2) =
-    by_case cases.a_word (a_token (_, is_0) (a_token (_, is_1) (a_token is_2 no_part)))
-whole_parameter (grammar.a_fixed_array is_0 made_1 is_2) =
-    by_case cases.a_fixed_array (a_token (_, is_0) (a_phrase (whole_array_type made_1) (a_token is_2 no_part)))
-whole_parameter (grammar.a_mutable_array is_0 is_1 made_2 is_3) =
-    by_case cases.a_mutable_array (a_token (_, is_0) (a_token is_1 (a_phrase (whole_array_type made_2)
-    (a_token is_3 no_part))))
+parameter : {tokens rest : List Lexeme} {tree : ParameterTree} → Parameter tokens tree rest
+    → Walked cases.parameter tokens rest (λ w. w tree.place)
+parameter (grammar.a_word is is_kind is_name) =
+    by cases.a_word ((_, is) ▸ (_, is_kind) ▸ is_name ▸ done) (λ w. omega arith)
+parameter (grammar.a_fixed_array is in_type is_name) =
+    by cases.a_fixed_array ((_, is) ▸ array_type in_type ▹ is_name ▸ done) (λ w. omega arith)
+parameter (grammar.a_mutable_array is is_mut in_type is_name) =
+    by cases.a_mutable_array ((_, is) ▸ is_mut ▸ array_type in_type ▹ is_name ▸ done) (λ w. omega arith)
 
-whole_more_parameters : {tokens : List Lexeme} {tree : List ParameterTree} {rest : List Lexeme}
-    → MoreParameters tokens tree rest → Whole cases.more_parameters tokens rest
-whole_more_parameters (grammar.no_more_parameters is_0) = by_case cases.no_more_parameters (a_token is_0 no_part)
-whole_more_parameters (grammar.one_more_parameter is_0 made_1 made_2) =
-    by_case cases.one_more_parameter (a_token is_0 (a_phrase (whole_parameter made_1)
-    (a_phrase (whole_more_parameters made_2) no_part)))
+more_parameters : {tokens rest : List Lexeme} {trees : List ParameterTree} → MoreParameters tokens trees rest
+    → Walked cases.more_parameters tokens rest (λ w. in_parameters w trees)
+more_parameters (grammar.no_more_parameters is) = by cases.no_more_parameters (is ▸ done) (λ w. omega arith)
+more_parameters (grammar.one_more_parameter is in_tree in_trees) =
+    by cases.one_more_parameter (is ▸ parameter in_tree ▹ more_parameters in_trees ▹ done) (λ w. omega arith)
 
-whole_parameters : {tokens : List Lexeme} {tree : List ParameterTree} {rest : List Lexeme}
-    → Parameters tokens tree rest → Whole cases.parameters tokens rest
-whole_parameters (grammar.no_parameters is_0) = by_case cases.no_parameters (a_token is_0 no_part)
-whole_parameters (grammar.some_parameters made_0 made_1) =
-    by_case cases.some_parameters (a_phrase (whole_parameter made_0)
-    (a_phrase (whole_more_parameters made_1) no_part))
+parameters : {tokens rest : List Lexeme} {trees : List ParameterTree} → Parameters tokens trees rest
+    → Walked cases.parameters tokens rest (λ w. in_parameters w trees)
+parameters (grammar.no_parameters is) = by cases.no_parameters (is ▸ done) (λ w. omega arith)
+parameters (grammar.some_parameters in_tree in_trees) =
+    by cases.some_parameters (parameter in_tree ▹ more_parameters in_trees ▹ done) (λ w. omega arith)
 
-whole_result_type : {tokens : List Lexeme} {tree : Option WordType} {rest : List Lexeme} → ResultType tokens tree rest
-    → Whole cases.result_type tokens rest
-whole_result_type (grammar.a_void is_0) = by_case cases.a_void (a_token is_0 no_part)
-whole_result_type (grammar.a_type is_0 is_1) = by_case cases.a_type (a_token (_, is_0) (a_token (_, is_1) no_part))
+result_type : {tokens rest : List Lexeme} {result : Option WordType} → ResultType tokens result rest
+    → Walked cases.result_type tokens rest (λ w. 0)
+result_type (grammar.a_void is) = by cases.a_void (is ▸ done) (λ w. omega arith)
+result_type (grammar.a_type is is_kind) = by cases.a_type ((_, is) ▸ (_, is_kind) ▸ done) (λ w. omega arith)
 
-whole_body_end : {tokens : List Lexeme} {tree : Option ReturnTree} {rest : List Lexeme} → BodyEnd tokens tree rest
-    → Whole cases.body_end tokens rest
-whole_body_end (grammar.no_return is_0) = by_case cases.no_return (a_token is_0 no_part)
-whole_body_end (grammar.a_return is_0 made_1 is_2 is_3) =
-    by_case cases.a_return (a_token is_0 (a_phrase (whole_expr made_1) (a_token is_2 (a_token is_3 no_part))))
+body_end : {tokens rest : List Lexeme} {returned : Option ReturnTree} → BodyEnd tokens returned rest
+    → Walked cases.body_end tokens rest (λ w. in_return w returned)
+body_end (grammar.no_return is) = by cases.no_return (is ▸ done) (λ w. omega arith)
+body_end (grammar.a_return is in_tree ends closes) =
+    by cases.a_return (is ▸ expr in_tree ▹ ends ▸ closes ▸ done) (λ w. omega arith)
 
-whole_exported : {tokens : List Lexeme} {tree : Option Place} {rest : List Lexeme} → Exported tokens tree rest
-    → Whole cases.exported tokens rest
-whole_exported grammar.not_exported = by_case cases.not_exported no_part
-whole_exported (grammar.an_export is_0) = by_case cases.an_export (a_token is_0 no_part)
+exported : {tokens rest : List Lexeme} {place : Option Place} → Exported tokens place rest
+    → Walked cases.exported tokens rest (λ w. in_export w place)
+exported grammar.not_exported = by cases.not_exported done (λ w. omega arith)
+exported (grammar.an_export is) = by cases.an_export (is ▸ done) (λ w. omega arith)
 
-whole_procedure : {tokens : List Lexeme} {tree : ProcedureTree} {rest : List Lexeme} → Procedure tokens tree rest
-    → Whole cases.procedure tokens rest
-whole_procedure (grammar.a_procedure made_0 made_1 is_2 is_3 made_4 is_5 made_6 made_7) =
-    by_case cases.a_procedure (a_phrase (whole_exported made_0) (a_phrase (whole_result_type made_1) (a_token is_2
-    (a_token is_3 (a_phrase (whole_parameters made_4) (a_token is_5 (a_phrase (whole_statements made_6)
-    (a_phrase (whole_body_end made_7) no_part))))))))
+procedure : {tokens rest : List Lexeme} {tree : ProcedureTree} → Procedure tokens tree rest
+    → Walked cases.procedure tokens rest (λ w. in_procedure w tree)
+procedure (grammar.a_procedure in_export in_result is opens in_parameters opens' in_body in_end) =
+    by cases.a_procedure (exported in_export ▹ result_type in_result ▹ is ▸ opens ▸ parameters in_parameters
+    ▹ opens' ▸ statements in_body ▹ body_end in_end ▹ done) (λ w. omega arith)
 
-pub whole_procedures : {tokens : List Lexeme} {tree : List ProcedureTree} → Procedures tokens tree
-    → Whole cases.procedures tokens []
-whole_procedures grammar.no_procedure = by_case cases.no_procedure no_part
-whole_procedures (grammar.one_procedure made_0 made_1) =
-    by_case cases.one_procedure (a_phrase (whole_procedure made_0) (a_phrase (whole_procedures made_1) no_part))
+procedures : {tokens : List Lexeme} {trees : List ProcedureTree} → Procedures tokens trees
+    → Walked cases.procedures tokens [] (λ w. in_procedures w trees)
+procedures grammar.no_procedure = by cases.no_procedure done (λ w. omega arith)
+procedures (grammar.one_procedure in_tree in_trees) =
+    by cases.one_procedure (procedure in_tree ▹ procedures in_trees ▹ done) (λ w. omega arith)
+
+pub program : {tokens : List Lexeme} {tree : ProgramTree} → IsProgram tokens tree
+    → Walked cases.procedures tokens [] (λ w. in_program w tree)
+program (grammar.a_program in_trees) = procedures in_trees

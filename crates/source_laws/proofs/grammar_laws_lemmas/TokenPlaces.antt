@@ -1,13 +1,12 @@
 -- Each token stands at the place after the bytes before it.
-use Rattle.std.proofs.Common.{◌≡◌, ℕ, ◌+◌, List, [], ◌∷◌, ◌++◌, length, take, refl, sym, ap, ◌∙◌, arith, append_assoc}
+use Rattle.std.proofs.Common.{◌≡◌, ℕ, ◌+◌, List, [], ◌∷◌, ◌++◌, length, take, refl, ap, arith, append_assoc}
 use Rattle.std.specs.List.{All, AllByRecursion}
 use Rattle.std.proofs.lemmas.List.{take_at}
 use Rattle.std.proofs.lemmas.List.Elements.{All-from_recursion}
 use Rattle.word.specs.Places.{origin}
 use Rattle.word.specs.declared.place.Place.{Place}
 use Rattle.syntax.specs.Lexeme.{Lexeme}
-use Rattle.syntax.specs.Tokens.{Ending, Lexes, LexesFrom, at_end, past_space, past_token, at_bad_number}
-use Rattle.syntax.specs.Tokens.{at_unknown_character, place_after, next_place}
+use Rattle.syntax.specs.Tokens.{Ending, Lexes, LexesFrom, past_space, past_token, place_after, next_place}
 
 -- the token's place is that after the bytes before it
 abbrev pub IsPlacedIn : List ℕ → Lexeme → Type 0
@@ -15,7 +14,7 @@ IsPlacedIn text token = token.place ≡ place_after origin (take token.place.off
 
 pub offset_after : (place : Place) (bytes : List ℕ) → (place_after place bytes).offset ≡ place.offset + length bytes
 offset_after place [] = omega arith
-offset_after place (b ∷ bytes) = let next = offset_after (next_place place b) bytes in omega (arith, next)
+offset_after place (b ∷ bytes) = omega (arith, offset_after (next_place place b) bytes)
 
 after_both : (place : Place) (front bytes : List ℕ)
     → place_after place (front ++ bytes) ≡ place_after (place_after place front) bytes
@@ -25,36 +24,21 @@ after_both place (b ∷ front) bytes = after_both (next_place place b) front byt
 placed_at : (text front rest : List ℕ) (place : Place) → text ≡ front ++ rest → place ≡ place_after origin front
     → place ≡ place_after origin (take place.offset text)
 placed_at text front rest place parts is =
-    let many : place.offset ≡ length front = ap (λ (p : Place). p.offset) is ∙ offset_after origin front
-    ∙ omega arith in
-    is
-    ∙ ap (place_after origin) (sym (ap (λ n. take n text) many ∙ ap (take (length front)) parts
-    ∙ take_at front rest (length front) refl))
+    let many : place.offset ≡ length front =
+    omega (arith, ap (λ (p : Place). p.offset) is, offset_after origin front) in
+    let same : take place.offset text ≡ front = rw (many, parts) (take_at front rest (length front) refl) in
+    rw same is
 
--- past a piece
-further : (text front rest spelling others : List ℕ) → text ≡ front ++ rest → rest ≡ spelling ++ others
-    → text ≡ (front ++ spelling) ++ others
-further text front rest spelling others parts cut = parts ∙ ap (λ l. front ++ l) cut
-    ∙ sym (append_assoc front spelling others)
-
-after : (front spelling : List ℕ) (place : Place) → place ≡ place_after origin front
-    → place_after place spelling ≡ place_after origin (front ++ spelling)
-after front spelling place is = ap (λ p. place_after p spelling) is ∙ sym (after_both origin front spelling)
-
-placed_from : {place : Place} {rest : List ℕ} {tokens : List Lexeme} {end : Ending} → LexesFrom place rest tokens end
-    → (text front : List ℕ) → text ≡ front ++ rest → place ≡ place_after origin front
-    → AllByRecursion (IsPlacedIn text) tokens
-placed_from at_end text front parts is = tt
-placed_from (past_space {place} {text = rest} {spelling} {rest = others} begins h) text front parts is =
-    placed_from h text (front ++ spelling) (further text front rest spelling others parts begins.parts)
-    (after front spelling place is)
-placed_from (past_token {place} {text = rest} {spelling} {rest = others} begins h) text front parts is = (
+pub placed_from : {place : Place} {rest : List ℕ} {tokens : List Lexeme} {end : Ending}
+    → LexesFrom place rest tokens end → (text front : List ℕ) → text ≡ front ++ rest
+    → place ≡ place_after origin front → AllByRecursion (IsPlacedIn text) tokens
+placed_from (past_space {spelling} begins h) text front parts is =
+    placed_from h text (front ++ spelling) (rw (parts, begins.parts, append_assoc)) (rw (is, after_both))
+placed_from (past_token {place} {text = rest} {spelling} begins h) text front parts is = (
   placed_at text front rest place parts is,
-  placed_from h text (front ++ spelling) (further text front rest spelling others parts begins.parts)
-      (after front spelling place is),
+  placed_from h text (front ++ spelling) (rw (parts, begins.parts, append_assoc)) (rw (is, after_both)),
 )
-placed_from (at_bad_number begins) text front parts is = tt
-placed_from (at_unknown_character none) text front parts is = tt
+placed_from _ text front parts is = tt
 
 pub placed : (text : List ℕ) (tokens : List Lexeme) (end : Ending) → Lexes text tokens end
     → All (IsPlacedIn text) tokens
