@@ -1,6 +1,7 @@
 -- Each text has a list of tokens, and an answer.
 use Rattle.std.proofs.Common.{◌≡◌, ℕ, zero, suc, ◌≤◌, inl, inr, ⊎_elim, ◌⊎◌, Bool, true, false, List, [], ◌∷◌, length}
 use Rattle.std.proofs.Common.{take, drop, refl, arith, nat_eq}
+use Rattle.std.proofs.lemmas.Bool.{cases_lt}
 use Rattle.std.specs.Prelude.{codes}
 use Rattle.std.specs.List.{position_or_len, starts_with}
 use Rattle.word.specs.Places.{origin}
@@ -19,9 +20,8 @@ use Rattle.syntax.specs.Tokens.{BeginsWith, BeginsWithNone, Ending, ends_at, sto
 use Rattle.syntax.specs.Tokens.{past_space, past_token, at_bad_number, at_unknown_character, place_after}
 use Rattle.syntax.specs.private.Machine.{program, verdict}
 use Rattle.source_laws.proofs.grammar_laws_lemmas.Below.{answers, OnlySigns, blank_piece, comment_piece, signs}
-use Rattle.source_laws.proofs.grammar_laws_lemmas.Below.{word_piece, word_some}
-use Rattle.source_laws.proofs.grammar_laws_lemmas.Below.{run_at, none_from_all, rest_shorter}
-use Rattle.source_laws.proofs.grammar_laws_lemmas.Words.{below, word_spelled}
+use Rattle.source_laws.proofs.grammar_laws_lemmas.Below.{word_piece, word_some, run_at, none_from_all, rest_shorter}
+use Rattle.source_laws.proofs.grammar_laws_lemmas.Words.{word_spelled}
 
 -- the piece that a text begins with, if there is one
 abbrev Front : List ℕ → Type 0
@@ -112,4 +112,4 @@ answer_to text =
     (λ short.
     let h = tokens_of text in
     (verdict program outside h.0 h.1, by_tokens short h.2 (answers h.0 h.1)))
-    (below text_limit (length text))
+    (cases_lt text_limit (length text))

@@ -1,12 +1,13 @@
 -- Each word of a text is a keyword, a name, a number or a bad one.
-use Rattle.std.proofs.Common.{◌≡◌, ◌≢◌, ℕ, ◌^◌, ◌<◌, ◌≤◌, ◌⊎◌, inl, inr, ⊎_elim, Bool, true, false, List, [], ◌∷◌}
+use Rattle.std.proofs.Common.{◌≡◌, ◌≢◌, ℕ, ◌^◌, ◌<◌, ◌⊎◌, inl, inr, ⊎_elim, Bool, true, false, List, [], ◌∷◌}
 use Rattle.std.proofs.Common.{◌++◌, length, take, drop, get_or, Option, Some, None, refl, sym, ap, ◌∙◌, subst, arith}
-use Rattle.std.specs.Prelude.{codes, nat_lt}
+use Rattle.std.specs.Prelude.{codes}
 use Rattle.std.specs.Bool.{Decides}
 use Rattle.std.specs.Char.{digit_value, is_ascii_digit}
 use Rattle.std.specs.List.{find, list_all}
 use Rattle.std.specs.Str.{bytes_eq}
 use Rattle.std.specs.Str.Parse.{AllDigits, IsNumeral, digits_value}
+use Rattle.std.proofs.lemmas.Bool.{cases_lt}
 use Rattle.std.proofs.lemmas.List.{take-append-drop}
 use Rattle.std.proofs.lemmas.Slice.Eq.{bytes_eq-Decides}
 use Rattle.syntax.specs.declared.lexer.piece.Piece.{Piece}
@@ -17,21 +18,13 @@ use Rattle.syntax.specs.declared.token.TokenKind.TheVariants.{Number as NumberTo
 use Rattle.syntax.specs.Spelling.{IsNumber, Spells, WritesValue, bad_number, keyword, keyword_text, is_word_byte}
 use Rattle.syntax.specs.Spelling.{name, number, suffix_text}
 use Rattle.syntax.specs.private.Splitting.{SplitsAtFirst, is_suffix_letter}
-use Rattle.source_laws.proofs.grammar_laws_lemmas.Below.{lt-true, lt-false, name_word, number_cut, number_word}
-use Rattle.source_laws.proofs.grammar_laws_lemmas.Below.{suffixes, suffix_found}
+use Rattle.source_laws.proofs.grammar_laws_lemmas.Below.{name_word, number_cut, number_word, suffixes, suffix_found}
 use Rattle.source_laws.proofs.grammar_laws_lemmas.Below.{keywords, keyword_found, find_passes, value_unique, run_at}
 
 -- what a test decides, holds or does not
 by_test : {P : Type 0} (b : Bool) → Decides b P → P ⊎ (P → ⊥)
 by_test true decides = inl (decides.0 refl)
 by_test false decides = inr (λ p. absurd (let e = decides.1 p in cc))
-
-pub below : (n m : ℕ) → (n < m) ⊎ (m ≤ n)
-below n m = by (nat_lt n m) refl
-  where
-    by : (b : Bool) → nat_lt n m ≡ b → (n < m) ⊎ (m ≤ n)
-    by true e = inl (lt-true n m e)
-    by false e = inr (lt-false n m e)
 
 same_bytes : (xs ys : List ℕ) → (xs ≡ ys) ⊎ (xs ≡ ys → ⊥)
 same_bytes xs ys = by_test (bytes_eq xs ys) (bytes_eq-Decides xs ys)
@@ -62,7 +55,7 @@ all_digits radix (c ∷ digits) =
     ⊎_elim
     (λ small. ⊎_elim (λ all. inl (small, all)) (λ no. inr (λ h. no h.1)) (all_digits radix digits))
     (λ large. inr (λ h. let small = h.0 in omega (arith, large, small)))
-    (below (digit_value c) radix)
+    (cases_lt (digit_value c) radix)
 
 numeral : (radix : ℕ) (digits : List ℕ) → IsNumeral radix digits ⊎ (IsNumeral radix digits → ⊥)
 numeral radix [] = inr (λ h. let some = h.0 in omega (arith, some))
@@ -115,7 +108,7 @@ module _ (word digits tail : List ℕ) (split : SplitsAtFirst is_suffix_letter w
       let same : v ≡ value = value_unique digits v value (same_digits v s n) writes in
       let small : v < 2 ^ 32 = n.small in
       omega (arith, same, small, large)))
-      (below value (2 ^ 32))
+      (cases_lt value (2 ^ 32))
 
   read_parts : Read word
   read_parts =
