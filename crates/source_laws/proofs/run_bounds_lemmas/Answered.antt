@@ -1,6 +1,6 @@
 -- What all passes accept is answered by its outcome, with a budget that the most work fits.
-use Rattle.std.proofs.Common.{◌≡◌, ◌||◌, ℕ, ◌≤◌, nat_lt, Bool, false, List, [], length, map, Some, Ok, Err}
-use Rattle.std.proofs.Common.{if◌then◌else◌, ap, ap₂, ◌∙◌, subst, arith}
+use Rattle.std.proofs.Common.{◌≡◌, ℕ, ◌≤◌, nat_lt, false, List, [], length, map, Some, Ok}
+use Rattle.std.proofs.Common.{subst, arith}
 use Rattle.std.proofs.lemmas.Bool.Decides.{nat_tests}
 use Rattle.std.specs.List.{AllByRecursion}
 use Rattle.language.specs.arguments.Within.{AreWithin}
@@ -21,8 +21,7 @@ use Rattle.language.specs.Results.{Results}
 use Rattle.language.specs.Size.{bodies_of, extents_of}
 use Rattle.language.specs.Tree.{ProcedureTree, ProgramTree}
 use Rattle.language.specs.Typing.{violations}
-use Rattle.source_eval.specs.Answer.{ending_answer, run_answer}
-use Rattle.source_eval.specs.declared.fault.EvalFault.TheVariants.{Budget}
+use Rattle.source_eval.specs.Answer.{run_answer}
 use Rattle.word.specs.declared.profile.Profile.{Profile}
 use Rattle.source_laws.proofs.run_bounds_lemmas.Programs.{program_spends}
 
@@ -33,8 +32,7 @@ not_above a b h = grind (arith, nat_tests)
 within_budget : (r : Run Results) (budget : ℕ) (outcome : Results) → r.nodes ≤ budget → r.bodies ≤ 64
     → r.ends ≡ gives outcome → run_answer r budget ≡ Ok outcome
 within_budget r budget outcome few shallow is =
-    ap₂ (λ (a b : Bool). if a || b then Err Budget else ending_answer r.ends) (not_above budget r.nodes few)
-    (not_above 64 r.bodies shallow) ∙ ap ending_answer is
+    simp (not_above budget r.nodes few, not_above 64 r.bodies shallow, is)
 
 pub answered : (profile : Profile) (program : ProgramTree) (before : List ProcedureTree) (p : ProcedureTree)
     (args : List Arg) (budget : ℕ) → length (violations profile program) ≡ 0

@@ -1,15 +1,16 @@
 -- How many nodes the run of an expression evaluates, and how many are counted for what it becomes.
-use Rattle.std.proofs.Common.{◌≡◌, ℕ, ◌+◌, ◌≤◌, Bool, true, false, if◌then◌else◌, List, [], ◌∷◌, Option, Some, None}
-use Rattle.std.proofs.Common.{refl, sym, ◌∙◌, subst, arith}
+use Rattle.std.proofs.Common.{◌≡◌, ℕ, ◌+◌, ◌≤◌, List, [], ◌∷◌, Option, Some, None}
+use Rattle.std.proofs.Common.{inl, inr, refl, sym, ◌∙◌, subst, arith}
+use Rattle.std.proofs.lemmas.Bool.{cases_Bool}
 use Rattle.word.specs.declared.place.Place.{Place}
 use Rattle.inline.specs.Flat.{FlatBlock, nothing, first, chain}
 use Rattle.inline.specs.Flat as flat
 use Rattle.inline.specs.FlatMeaning.{Values, after, after_all}
 use Rattle.inline.specs.FlatSize.{term_nodes, value_nodes}
-use Rattle.inline.specs.Numbering.{Numbers, term, passed as passed_block, value_given, value_of}
+use Rattle.inline.specs.Numbering.{Numbers, passed as passed_block, value_given, value_of}
 use Rattle.source_laws.proofs.run_bounds_lemmas.Below.{same_nodes, Comes, well, fails, mismatch}
 use Rattle.intervals.specs.Evaluated.{evaluated_all}
-use Rattle.language.specs.Evaluation.{Run, tick, inside, andthen, continued, value, values, passed, return_run}
+use Rattle.language.specs.Evaluation.{Run, ended, tick, inside, andthen, continued, value, values, passed, return_run}
 use Rattle.language.specs.Meaning.{Ending, gives, faults, is_word, word_arguments}
 use Rattle.language.specs.Size.{nodes_in, nodes_in_all, nodes_passed}
 use Rattle.language.specs.State.{State}
@@ -18,26 +19,34 @@ use Rattle.language.specs.Tree.{ParameterTree, ReturnTree}
 
 -- Parts.
 
-continued_within : {A B : Type 0} (nodes bodies : ℕ) (ending : Ending A) (next : A → Run B) (one more all : ℕ)
-    → nodes ≤ one → ((a : A) → ending ≡ gives a → (next a).nodes ≤ more) → one + more ≤ all
-    → (continued nodes bodies ending next).nodes ≤ all
-continued_within nodes bodies (gives a) next one more all h k few = omega (arith, h, k a refl, few)
-continued_within nodes bodies (faults place) next one more all h k few = omega (arith, h, few)
+-- a run evaluates no more nodes than so many
+pub record IsWithin {A : Type 0} (r : Run A) (most : ℕ) : Type 0 where
+  pub nodes : r.nodes ≤ most
 
--- a part, and a next one where it gives something
-pub then_within : {A B : Type 0} (r : Run A) (next : A → Run B) (one more all : ℕ) → r.nodes ≤ one
-    → ((a : A) → r.ends ≡ gives a → (next a).nodes ≤ more) → one + more ≤ all → (andthen r next).nodes ≤ all
-unfolding andthen
-then_within r next one more all h k few = continued_within r.nodes r.bodies r.ends next one more all h k few
+pub fits : {A : Type 0} {r : Run A} {few most : ℕ} → IsWithin r few → few ≤ most → IsWithin r most
+fits within less = record { nodes = omega arith }
+
+pub none : {A : Type 0} {ending : Ending A} → IsWithin (ended ending) 0
+none = record { nodes = omega arith }
 
 -- one node more
-pub tick_within : {A : Type 0} (r : Run A) (most all : ℕ) → r.nodes ≤ most → most + 1 ≤ all → (tick r).nodes ≤ all
+pub ticked : {A : Type 0} {r : Run A} {most : ℕ} → IsWithin r most → IsWithin (tick r) (most + 1)
 unfolding tick
-tick_within r most all h few = omega (arith, h, few)
+ticked within = record { nodes = omega arith }
 
-pub inside_within : {A : Type 0} (r : Run A) (most : ℕ) → r.nodes ≤ most → (inside r).nodes ≤ most
+pub inside_within : {A : Type 0} {r : Run A} {most : ℕ} → IsWithin r most → IsWithin (inside r) most
 unfolding inside
-inside_within r most h = h
+inside_within within = record { nodes = within.nodes }
+
+-- a part, and a next one where it gives something
+pub then_within : {A B : Type 0} {r : Run A} {next : A → Run B} {one more : ℕ} → IsWithin r one
+    → ((a : A) → r.ends ≡ gives a → IsWithin (next a) more) → IsWithin (andthen r next) (one + more)
+unfolding andthen
+then_within {A} {B} {r} {next} {one} {more} within later = record { nodes = by r.ends refl }
+  where
+    by : (ending : Ending A) → r.ends ≡ ending → (continued r.nodes r.bodies ending next).nodes ≤ one + more
+    by (gives a) is = omega (arith, (later a is).nodes)
+    by (faults place) is = omega arith
 
 same_result : {A : Type 0} (a b : A) → gives a ≡ gives b → a ≡ b
 same_result a b h = cc
@@ -51,57 +60,44 @@ reached (fails at is) ending worked a gave = absurd (mismatch a at (sym gave ∙
 
 -- Expressions.
 
-pub value_spends : (s : State) (e : ExprTree) → (value s e).nodes ≤ nodes_in e
-value_spends s (number place v kind) = tick_within _ 0 _ (omega arith) (omega arith)
-value_spends s (truth place v) = tick_within _ 0 _ (omega arith) (omega arith)
-value_spends s (name place text) = tick_within _ 0 _ (omega arith) (omega arith)
+pub value_spends : (s : State) (e : ExprTree) → IsWithin (value s e) (nodes_in e)
+value_spends s (number place v kind) = fits (ticked none) (omega arith)
+value_spends s (truth place v) = fits (ticked none) (omega arith)
+value_spends s (name place text) = fits (ticked none) (omega arith)
 value_spends s (prefix place operator a) =
-    tick_within _ (nodes_in a) _ (then_within (value s a) _ (nodes_in a) 0 _ (value_spends s a) (λ v is. omega arith)
-    (omega arith)) (omega arith)
+    fits (ticked (then_within (value_spends s a) (λ v is. none))) (omega arith)
 value_spends s (binary place operator a b) =
-    tick_within _ (nodes_in a + nodes_in b) _
-    (then_within (value s a) _ (nodes_in a) (nodes_in b) _ (value_spends s a)
-    (λ v is. then_within (value s b) _ (nodes_in b) 0 _ (value_spends s b) (λ w is'. omega arith) (omega arith))
-    (omega arith)) (omega arith)
+    fits (ticked (then_within (value_spends s a) (λ v is. then_within (value_spends s b) (λ w is'. none))))
+    (omega arith)
 value_spends s (rotate place a amount) =
-    tick_within _ (nodes_in a) _ (then_within (value s a) _ (nodes_in a) 0 _ (value_spends s a) (λ v is. omega arith)
-    (omega arith)) (omega arith)
+    fits (ticked (then_within (value_spends s a) (λ v is. none))) (omega arith)
 value_spends s (convert place kind a) =
-    tick_within _ (nodes_in a) _ (then_within (value s a) _ (nodes_in a) 0 _ (value_spends s a) (λ v is. omega arith)
-    (omega arith)) (omega arith)
+    fits (ticked (then_within (value_spends s a) (λ v is. none))) (omega arith)
 value_spends s (select place a b c) =
-    tick_within _ (nodes_in a + nodes_in b + nodes_in c) _
-    (then_within (value s a) _ (nodes_in a) (nodes_in b + nodes_in c) _ (value_spends s a)
-    (λ u is. then_within (value s b) _ (nodes_in b) (nodes_in c) _ (value_spends s b)
-    (λ v is'. then_within (value s c) _ (nodes_in c) 0 _ (value_spends s c) (λ w is''. omega arith) (omega arith))
-    (omega arith)) (omega arith)) (omega arith)
+    fits
+    (ticked (then_within (value_spends s a) (λ u is. then_within (value_spends s b) (λ v is'.
+    then_within (value_spends s c) (λ w is''. none)))))
+    (omega arith)
 value_spends s (element place target text a) =
-    tick_within _ (nodes_in a) _ (then_within (value s a) _ (nodes_in a) 0 _ (value_spends s a) (λ v is. omega arith)
-    (omega arith)) (omega arith)
+    fits (ticked (then_within (value_spends s a) (λ v is. none))) (omega arith)
 
-pub values_spend : (s : State) (es : List ExprTree) → (values s es).nodes ≤ nodes_in_all es
-values_spend s [] = omega arith
+pub values_spend : (s : State) (es : List ExprTree) → IsWithin (values s es) (nodes_in_all es)
+values_spend s [] = none
 values_spend s (e ∷ es) =
-    then_within (value s e) _ (nodes_in e) (nodes_in_all es) _ (value_spends s e)
-    (λ v is. then_within (values s es) _ (nodes_in_all es) 0 _ (values_spend s es) (λ vs is'. omega arith)
-    (omega arith)) (omega arith)
+    fits (then_within (value_spends s e) (λ v is. then_within (values_spend s es) (λ vs is'. none))) (omega arith)
 
-pub passed_spends : (s : State) (es : List ExprTree) → (passed s es).nodes ≤ nodes_passed es
-passed_spends s [] = omega arith
+pub passed_spends : (s : State) (es : List ExprTree) → IsWithin (passed s es) (nodes_passed es)
+passed_spends s [] = none
 passed_spends s (e ∷ es) =
-    tick_within _ (nodes_in e + nodes_passed es) _
-    (then_within (value s e) _ (nodes_in e) (nodes_passed es) _ (value_spends s e)
-    (λ v is. then_within (passed s es) _ (nodes_passed es) 0 _ (passed_spends s es) (λ vs is'. omega arith)
-    (omega arith)) (omega arith)) (omega arith)
+    fits (ticked (then_within (value_spends s e) (λ v is. then_within (passed_spends s es) (λ vs is'. none))))
+    (omega arith)
 
 -- the end of a body
 pub return_spends : (t : State) (o : Option ReturnTree) (names : Numbers)
-    → (return_run t o).nodes ≤ value_nodes (value_of names o)
-return_spends t None names = omega arith
+    → IsWithin (return_run t o) (value_nodes (value_of names o))
+return_spends t None names = none
 return_spends t (Some r) names =
-    tick_within _ (nodes_in r.value) _
-    (then_within (value t r.value) _ (nodes_in r.value) 0 _ (value_spends t r.value) (λ w is. omega arith)
-    (omega arith)) (omega (arith, same_nodes names r.value))
+    fits (ticked (then_within (value_spends t r.value) (λ w is. none))) (omega (arith, same_nodes names r.value))
 
 pub given_nodes : (value : Option flat.TermTree) → value_nodes value ≤ 1 + term_nodes (value_given value)
 given_nodes None = omega arith
@@ -119,19 +115,7 @@ pub passed_evaluated : (names : Numbers) (ps : List ParameterTree) (es : List Ex
     → evaluated_all m (passed_block names n ps es) ≡ nodes_passed (word_arguments ps es)
 passed_evaluated names [] es n m = refl
 passed_evaluated names (p ∷ ps) [] n m = refl
-passed_evaluated names (p ∷ ps) (e ∷ es) n m = by_form (is_word p.form) (passed_evaluated names ps es)
-  where
-    by_form : (b : Bool)
-        → ((n' : ℕ) (m' : Values) → evaluated_all m' (passed_block names n' ps es)
-        ≡ nodes_passed (word_arguments ps es))
-        → evaluated_all m (if b
-        then first (flat.declare n (record { kind = p.kind; label = p.label }) false (term names e))
-        (passed_block names (n + 1) ps es) else passed_block names n ps es)
-        ≡ nodes_passed (if b then e ∷ word_arguments ps es else word_arguments ps es)
-    by_form true more =
-        omega (
-          arith,
-          same_nodes names e,
-          more (n + 1) (after m (flat.declare n (record { kind = p.kind; label = p.label }) false (term names e))),
-        )
-    by_form false more = more n m
+passed_evaluated names (p ∷ ps) (e ∷ es) n m = elim (cases_Bool (is_word p.form)) [
+  | inl is ↦ rw is (simp (passed_evaluated names ps es) (omega (arith, same_nodes names e)))
+  | inr is ↦ rw is (passed_evaluated names ps es n m)
+]
