@@ -3,9 +3,8 @@ use Rattle.std.proofs.Common.{◌≡◌, ◌-◌, List, [], ◌++◌, length, ma
 use Rattle.std.proofs.Common.{length-append}
 use Rattle.std.proofs.lemmas.List.{length-map, length-replicate}
 use Rattle.std.specs.List.{AllByRecursion}
-use Rattle.inline.specs.Flat.{declaration_of}
 use Rattle.inline.specs.FlatTyping.{parameter_types}
-use Rattle.inline.specs.Numbering.{Callables, block, callables, declared_in_all, flattened, param_of, return_names}
+use Rattle.inline.specs.Numbering.{Callables, block, callables, declared_in_all, flattened, return_names}
 use Rattle.source_laws.proofs.source_work_lemmas.Below.{same_result, flat_is_typed, own_typing, enough_all}
 use Rattle.intervals.specs.Ranges.{bound_of, first_bounds, turns_of}
 use Rattle.intervals.specs.Work.{work_of}
@@ -36,11 +35,8 @@ work_is_that_of_the_body profile program before p h is earlier plain =
     (length whole.parameters) (first_bounds whole) (replicate (length declared) 0) typed.body typed.numbered
     (length-replicate (length declared) 0) (λ y low high. refl) in
     let one = body_walked declared (turns_of whole) whole.body (first_bounds whole) counted in
-    let front = map declaration_of (map param_of p.parameters) in
-    let back = declared_in_all (callables before) p.body in
-    let count = length-append front back in
-    let many = length-map (map param_of p.parameters) declaration_of in
-    let later : length declared - length whole.parameters ≡ length back = omega (arith, count, many) in
+    let later : length declared - length whole.parameters ≡ length (declared_in_all (callables before) p.body) =
+    simp (length-append, length-map) (omega arith) in
     let bounds : first_bounds whole ≡ start.bounds =
     ap (λ k. map bound_of whole.parameters ++ replicate k None) later in
     let alike = ap₂ (λ b (known : Callables). walked_all declared b (block known start.names start.next p.body))

@@ -1,20 +1,21 @@
 -- The work of a procedure's source is that of its body with numbered variables, wherever it is called.
 use Rattle.std.proofs.Common.{◌≡◌, ℕ, ◌+◌, ◌*◌, Bool, true, false, if◌then◌else◌, List, [], ◌∷◌, length, Option, None}
-use Rattle.std.proofs.Common.{Some, refl, sym, ap, ◌∙◌, subst, arith}
+use Rattle.std.proofs.Common.{inl, inr, Some, refl, sym, ap, ◌∙◌, subst, arith}
+use Rattle.std.proofs.lemmas.Bool.{cases_Bool}
 use Rattle.std.proofs.Math.Path.{fun_ext}
 use Rattle.std.specs.Option.{option_map}
 use Rattle.std.specs.Str.{bytes_eq}
 use Rattle.inline.specs.declared.flat.FlatVariable.{FlatVariable}
-use Rattle.inline.specs.Flat.{TermTree, word_as, counter_type}
-use Rattle.inline.specs.Flat as flat
+use Rattle.inline.specs.Flat.{TermTree}
 use Rattle.inline.specs.FlatSize.{term_nodes, value_nodes}
 use Rattle.inline.specs.Numbering.{Numbers, Callables, callable, callables, passed, call_block, call_variables}
-use Rattle.inline.specs.Numbering.{call_result, call_value, right_block, right_end, right, value_given, value_of}
-use Rattle.inline.specs.Numbering.{dropped_block, names_after_all, number_of, size_of, statement, block, single, term}
-use Rattle.source_laws.proofs.source_work_lemmas.Below.{same_nodes, same_all, same_result, GoTogether, value_there, Stand, IsAt}
-use Rattle.source_laws.proofs.source_work_lemmas.Below.{IsWithin, earlier_within, callable_after, callable_declared, callable_parameters}
+use Rattle.inline.specs.Numbering.{call_result, call_value, right_block, right, value_of}
+use Rattle.inline.specs.Numbering.{dropped_block, names_after_all, statement, block, term}
+use Rattle.source_laws.proofs.source_work_lemmas.Below.{same_nodes, same_all, same_result, GoTogether, value_there}
+use Rattle.source_laws.proofs.source_work_lemmas.Below.{Stand, IsAt, IsWithin, earlier_within, callable_after}
+use Rattle.source_laws.proofs.source_work_lemmas.Below.{callable_declared, callable_parameters}
 use Rattle.intervals.specs.Intervals.{Bounds, interval, with_bound}
-use Rattle.intervals.specs.Ranges.{bounds_after, bounds_after_all}
+use Rattle.intervals.specs.Ranges.{bounds_after_all}
 use Rattle.language.proofs.KnownLemmas.{known-named}
 use Rattle.language.specs.declared.signature.Label.{Label}
 use Rattle.language.specs.declared.typing.ValueType.{ValueType}
@@ -27,13 +28,13 @@ use Rattle.language.specs.Tree.{ExprTree, RightTree, CallTree, StatementTree, el
 use Rattle.language.specs.Tree.{ParameterTree, ProcedureTree, ReturnTree, written}
 use Rattle.language.specs.Types.{Scope}
 use Rattle.language.specs.Typing.{result_value, with_procedure}
-use Rattle.language.specs.WellTyped.{labelled, IsCall, of_procedure, Gives, of_call, of_value, IsWellTyped, declares}
+use Rattle.language.specs.WellTyped.{IsCall, of_procedure, Gives, of_call, of_value, IsWellTyped, declares}
 use Rattle.language.specs.WellTyped.{declares_array, assigns, assigns_element, calls, chooses, repeats, AreWellTyped}
 use Rattle.language.specs.WellTyped.{no_statement, one_more, IsProcedure, Returns, nothing_returned, value_returned}
 use Rattle.word.specs.declared.place.Place.{Place}
-use Rattle.source_laws.specs.source_work.SourceWork.{Here, here, Worked, Works, numberings, entered, called_work, right_work}
-use Rattle.source_laws.specs.source_work.SourceWork.{behind, turns, in_accepted, in_otherwise, in_turn, statement_work}
-use Rattle.source_laws.specs.source_work.SourceWork.{block_work, worked, works_of}
+use Rattle.source_laws.specs.source_work.SourceWork.{Here, here, Worked, Works, numberings, entered, called_work}
+use Rattle.source_laws.specs.source_work.SourceWork.{right_work, behind, turns, in_accepted, in_otherwise, in_turn}
+use Rattle.source_laws.specs.source_work.SourceWork.{statement_work, block_work, worked, works_of}
 use Rattle.source_laws.proofs.source_work_lemmas.Walked.{walked_all, walked_chain}
 
 -- Results.
@@ -84,19 +85,10 @@ module _ (declared : List FlatVariable) where
       → walked_all declared bounds (passed names n ps es) ≡ nodes_passed (word_arguments ps es)
   passed_walked names [] es n bounds = refl
   passed_walked names (p ∷ ps) [] n bounds = refl
-  passed_walked names (p ∷ ps) (e ∷ es) n bounds = by_form (is_word p.form) (passed_walked names ps es)
-    where
-      by_form : (b : Bool) → ((n' : ℕ) (bounds' : Bounds)
-          → walked_all declared bounds' (passed names n' ps es) ≡ nodes_passed (word_arguments ps es))
-          → walked_all declared bounds (if b
-          then flat.first (flat.declare n (labelled p.kind p.label) false (term names e))
-          (passed names (n + 1) ps es) else passed names n ps es)
-          ≡ nodes_passed (if b then e ∷ word_arguments ps es else word_arguments ps es)
-      by_form true more = let rest =
-          more (n + 1) (bounds_after declared bounds
-          (flat.declare n (labelled p.kind p.label) false (term names e))) in
-          omega (arith, rest, same_nodes names e)
-      by_form false more = more n bounds
+  passed_walked names (p ∷ ps) (e ∷ es) n bounds = elim (cases_Bool (is_word p.form)) [
+    | inl is ↦ rw is (simp (passed_walked names ps es) (omega (arith, same_nodes names e)))
+    | inr is ↦ rw is (passed_walked names ps es n bounds)
+  ]
 
   -- a called body's work, wherever it is called
   pub record Summed (before : List ProcedureTree) (at : Scope) (p : ProcedureTree) : Type 0 where
@@ -120,15 +112,14 @@ module _ (declared : List FlatVariable) where
   body_summed before at p body h c =
       let known = numberings (works_of declared before) in
       let start = entered declared (callable known p) h c.arguments in
-      let front = passed h.names h.next p.parameters c.arguments in
-      let back = block known start.names start.next p.body in
       let end = names_after_all known start.names start.next p.body in
-      let whole = walked_chain declared h.bounds front back in
-      let one = passed_walked h.names p.parameters c.arguments h.next h.bounds in
-      let other = body.work start in
-      let value = same_result end p.returned in
       record {
-        work = omega (arith, whole, one, other, value);
+        work = simp (walked_chain declared) (omega (
+          arith,
+          passed_walked h.names p.parameters c.arguments h.next h.bounds,
+          body.work start,
+          same_result end p.returned,
+        ));
         gives = refl;
         returns = value_together end p.result p.returned body.returns;
       }
@@ -156,12 +147,9 @@ module _ (declared : List FlatVariable) where
     right_summed (of_value {e = e} has) inside h = omega (arith, same_nodes h.names e)
     right_summed {given = given} (of_call {c = c} is) inside h =
         let f = call_summed is inside h in
-        let body = call_block (known c.name) h.names h.next c.arguments in
-        let whole = walked_chain declared h.bounds body (single flat.skip) in
-        let value = value_there (call_result (known c.name)) (call_value (known c.name) h.names h.next c.arguments)
-        given f.gives f.returns in
-        let same = f.work in
-        omega (arith, whole, value, same)
+        let value = call_value (known c.name) h.names h.next c.arguments in
+        simp (walked_chain declared)
+        (omega (arith, f.work, value_there (call_result (known c.name)) value given f.gives f.returns))
 
     element_summed : {scope : Scope} {control : Label} {r : RightTree} {given : WordType}
         → Gives earlier scope control r (Word given) → IsWithin earlier at scope
@@ -175,52 +163,44 @@ module _ (declared : List FlatVariable) where
         let n = h.next in
         let held = here h.names (n + 1) (with_bound h.bounds n (interval declared h.bounds (term h.names index))) in
         let f = call_summed is inside held in
-        let o = known c.name in
-        let body = call_block o h.names (n + 1) c.arguments in
-        let value = value_given (call_value o h.names (n + 1) c.arguments) in
-        let whole = walked_chain declared held.bounds body
-        (single (flat.put bracket (number_of h.names text) (size_of h.names text) (flat.variable n) value)) in
-        let there = value_there (call_result o) (call_value o h.names (n + 1) c.arguments) given f.gives f.returns in
-        let same = f.work in
-        omega (arith, whole, there, same, same_nodes h.names index)
+        let value = call_value (known c.name) h.names (n + 1) c.arguments in
+        simp (walked_chain declared)
+        (omega (
+          arith,
+          f.work,
+          value_there (call_result (known c.name)) value given f.gives f.returns,
+          same_nodes h.names index,
+        ))
 
     mutual
       pub statement_summed : {scope : Scope} {control : Label} {s : StatementTree}
           → IsWellTyped earlier scope control s → IsWithin earlier at scope → (h : Here)
           → walked_all declared h.bounds (statement known h.names h.next s) ≡ statement_work declared works h s
-      statement_summed (declares {label = label} {mutable = mutable} {kind = kind} {right = r} new has suit flow)
-          inside h =
-          let same = right_summed has inside h in
-          let whole = walked_chain declared h.bounds (right_block known h.names h.next r)
-          (single (flat.declare (right_end known h.next r) (labelled kind label) mutable
-          (right known h.names h.next r))) in
-          omega (arith, whole, same)
+      statement_summed (declares new has suit flow) inside h =
+          simp (walked_chain declared) (omega (arith, right_summed has inside h))
       statement_summed (declares_array {values = values} new suit count flow) inside h =
           omega (arith, same_all h.names (written values))
-      statement_summed (assigns {text = text} {right = r} is has suit flow) inside h =
-          let same = right_summed has inside h in
-          let whole = walked_chain declared h.bounds (right_block known h.names h.next r)
-          (single (flat.assign (number_of h.names text) (right known h.names h.next r))) in
-          omega (arith, whole, same)
-      statement_summed (assigns_element {place = place} {bracket = bracket} {target = target} {text = text} {index =
-          index} is has value suit flow) inside h = element_summed value inside place bracket target text index h
+      statement_summed (assigns is has suit flow) inside h =
+          simp (walked_chain declared) (omega (arith, right_summed has inside h))
+      statement_summed (assigns_element {place = place} {bracket} {target} {text} {index} is has value suit flow)
+          inside h = element_summed value inside place bracket target text index h
       statement_summed (calls {c = c} is) inside h =
           let f = call_summed is inside h in
           let o = known c.name in
           let m = h.next + length (call_variables o c.arguments) in
           let value = call_value o h.names h.next c.arguments in
-          let body = call_block o h.names h.next c.arguments in
-          let whole = walked_chain declared h.bounds body (dropped_block m (call_result o) value) in
-          let back = dropped_walked (bounds_after_all declared h.bounds body) m (call_result o) value f.returns in
-          let same = f.work in
-          omega (arith, whole, back, same)
+          let end = bounds_after_all declared h.bounds (call_block o h.names h.next c.arguments) in
+          simp (walked_chain declared)
+          (omega (arith, f.work, dropped_walked end m (call_result o) value f.returns))
       statement_summed (chooses {condition = condition} {accepted = accepted} {otherwise = otherwise} has one other)
           inside h =
-          let a = block_summed one inside (in_accepted declared h condition) in
-          let b = block_summed other inside (in_otherwise declared works h condition accepted) in
-          omega (arith, a, b, same_nodes h.names condition)
-      statement_summed (repeats {scope = scope} {text = text} {low = low} {high = high} {body = body} has is new all)
-          inside h =
+          omega (
+            arith,
+            block_summed one inside (in_accepted declared h condition),
+            block_summed other inside (in_otherwise declared works h condition accepted),
+            same_nodes h.names condition,
+          )
+      statement_summed (repeats {scope = scope} {text = text} {low = low} {high = high} has is new all) inside h =
           let b = block_summed all (callable_declared earlier (IsAt at) scope text _ inside)
           (in_turn declared h text low high) in
           let many = ap (λ w. (turns declared h low high + 1) * (1 + w)) b in
@@ -230,13 +210,13 @@ module _ (declared : List FlatVariable) where
           → IsWithin earlier at scope → (h : Here)
           → walked_all declared h.bounds (block known h.names h.next b) ≡ block_work declared works h b
       block_summed no_statement inside h = refl
-      block_summed (one_more {statement = s} {rest = rest} one other) inside h =
-          let a = statement_summed one inside h in
-          let next = behind declared works h s in
-          let b = block_summed other (callable_after earlier (IsAt at) one inside) next in
-          let whole = walked_chain declared h.bounds (statement known h.names h.next s)
-          (block known next.names next.next rest) in
-          omega (arith, whole, a, b)
+      block_summed (one_more {statement = s} one other) inside h =
+          simp (walked_chain declared)
+          (omega (
+            arith,
+            statement_summed one inside h,
+            block_summed other (callable_after earlier (IsAt at) one inside) (behind declared works h s),
+          ))
 
   pub summed_one : (before : List ProcedureTree) (at : Scope) (p : ProcedureTree) → Stand Summed before at
       → IsProcedure before at p → Summed before at p

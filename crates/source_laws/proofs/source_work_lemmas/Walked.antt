@@ -31,17 +31,10 @@ module _ (declared : List FlatVariable) where
     walked_all bounds nothing = 0
     walked_all bounds (first s rest) = walked bounds s + walked_all (bounds_after declared bounds s) rest
 
-  pub bounds_chain : (bounds : Bounds) (a b : FlatBlock)
-      → bounds_after_all declared bounds (chain a b)
-      ≡ bounds_after_all declared (bounds_after_all declared bounds a) b
-  bounds_chain bounds nothing b = refl
-  bounds_chain bounds (first s a) b = bounds_chain (bounds_after declared bounds s) a b
-
   pub walked_chain : (bounds : Bounds) (a b : FlatBlock)
       → walked_all bounds (chain a b) ≡ walked_all bounds a + walked_all (bounds_after_all declared bounds a) b
   walked_chain bounds nothing b = omega arith
-  walked_chain bounds (first s a) b = let same = walked_chain (bounds_after declared bounds s) a b in
-      omega (arith, same)
+  walked_chain bounds (first s a) b = omega (arith, walked_chain (bounds_after declared bounds s) a b)
 
   -- where the turns that are counted are those of each loop, the two are one
   module _ (turns : List ℕ) where
