@@ -1,6 +1,6 @@
 -- What an answer of the parser says of a refusal's place; and kinds that are tried one after another.
 use Rattle.std.proofs.Common.{◌≡◌, ℕ, suc, ◌+◌, ◌<◌, Bool, true, false, List, map, take, length, get_or, ap, arith}
-use Rattle.std.proofs.Common.{[], ◌∷◌, ◌++◌, Option, None, Some, sym, subst, ◌∙◌, inl, inr}
+use Rattle.std.proofs.Common.{[], ◌∷◌, ◌++◌, Some, sym, subst, ◌∙◌, inl, inr}
 use Rattle.std.proofs.lemmas.List.{map-append}
 use Rattle.std.proofs.Math.Seq.{take-suc}
 use Rattle.std.proofs.lemmas.Option.{none-some, same_Some}

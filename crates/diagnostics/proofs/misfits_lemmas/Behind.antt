@@ -1,7 +1,7 @@
 -- Behind the last argument there is nothing.
-use Rattle.std.proofs.Common.{◌≡◌, ◌<◌, ◌≤◌, ◌+◌, ◌-◌, ℕ, Bool, true, false, true≢false, is_some, List, [], ◌∷◌}
+use Rattle.std.proofs.Common.{◌≡◌, ◌<◌, ◌+◌, ◌-◌, ℕ, Bool, true, false, true≢false, is_some, List, [], ◌∷◌}
 use Rattle.std.proofs.Common.{Option, None, Some, length, take, drop, map, refl, sym, ap, ap₂, ◌∙◌, arith}
-use Rattle.std.proofs.lemmas.List.{drop_all, drop_more, length-drop, take_all}
+use Rattle.std.proofs.lemmas.List.{drop_more, length-drop, take_all}
 use Rattle.std.proofs.lemmas.Option.{none-some}
 use Rattle.std.specs.Option.{option_map, option_or}
 use Rattle.diagnostics.specs.misfits.SharedFound.{shared}
@@ -12,35 +12,18 @@ use Rattle.language.specs.declared.tree.Expr.{Expr}
 use Rattle.language.specs.declared.tree.Parameter.{Parameter}
 use Rattle.diagnostics.specs.misfits.Arguments.{first_fixed, first_shared, partner, shared_first}
 
-no_fixed : (scope : Scope) (ps : List ParameterTree) → None ≡ first_fixed scope ps []
+pub no_fixed : (scope : Scope) (ps : List ParameterTree) → None ≡ first_fixed scope ps []
 no_fixed scope [] = refl
 no_fixed scope (p ∷ ps) = refl
 
-pub none_fixed : (scope : Scope) (ps : List ParameterTree) (i : ℕ) (es : List Expr) → length es ≤ i
-    → None ≡ first_fixed scope ps (map expr_tree (drop i es))
-none_fixed scope ps i es h = no_fixed scope ps
-    ∙ ap (λ (rest : List Expr). first_fixed scope ps (map expr_tree rest)) (sym (drop_all i es h))
-
-no_partner : (scope : Scope) (array : List ℕ) (mutable : Bool) (ps : List ParameterTree)
+pub no_partner : (scope : Scope) (array : List ℕ) (mutable : Bool) (ps : List ParameterTree)
     → None ≡ partner scope array mutable ps []
 no_partner scope array mutable [] = refl
 no_partner scope array mutable (p ∷ ps) = refl
 
-pub none_partner : (scope : Scope) (array : List ℕ) (mutable : Bool) (ps : List ParameterTree) (i : ℕ)
-    (es : List Expr) → length es ≤ i
-    → None ≡ partner scope array mutable ps (map expr_tree (drop i es))
-none_partner scope array mutable ps i es h =
-    no_partner scope array mutable ps
-    ∙ ap (λ (rest : List Expr). partner scope array mutable ps (map expr_tree rest)) (sym (drop_all i es h))
-
-no_shared : (scope : Scope) (ps : List ParameterTree) → None ≡ first_shared scope ps []
+pub no_shared : (scope : Scope) (ps : List ParameterTree) → None ≡ first_shared scope ps []
 no_shared scope [] = refl
 no_shared scope (p ∷ ps) = refl
-
-pub none_shared : (scope : Scope) (ps : List ParameterTree) (i : ℕ) (es : List Expr) → length es ≤ i
-    → None ≡ first_shared scope ps (map expr_tree (drop i es))
-none_shared scope ps i es h = no_shared scope ps
-    ∙ ap (λ (rest : List Expr). first_shared scope ps (map expr_tree rest)) (sym (drop_all i es h))
 
 -- what a slice to the end has
 pub slice_tail : {X : Type 0} (xs : List X) (i : ℕ) → take (length xs - i) (drop i xs) ≡ drop i xs

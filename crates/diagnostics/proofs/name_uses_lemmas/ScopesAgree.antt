@@ -7,13 +7,13 @@ use Rattle.std.specs.List.{list_any}
 use Rattle.std.specs.Map.{keys_of}
 use Rattle.std.specs.Str.{bytes_eq}
 use Rattle.language.specs.declared.signature.Form.{Form}
-use Rattle.language.specs.declared.signature.Form.TheVariants.{SingleWord, FixedArray, MutableArray}
+use Rattle.language.specs.declared.signature.Form.TheVariants.{SingleWord}
 use Rattle.language.specs.declared.signature.Kind.{Kind}
 use Rattle.language.specs.declared.signature.Label.{Label}
 use Rattle.language.specs.declared.typing.Declared.{Declared}
 use Rattle.language.specs.declared.typing.Declared.TheVariants.{Variable}
-use Rattle.language.specs.Tree.{StatementTree, declaration, array, assignment, element_assignment, call, conditional}
-use Rattle.language.specs.Tree.{loop, BlockTree, nothing, first, ParameterTree}
+use Rattle.language.specs.Tree.{StatementTree, declaration, array}
+use Rattle.language.specs.Tree.{BlockTree, nothing, first, ParameterTree}
 use Rattle.language.specs.Types.{Scope, declared, found}
 use Rattle.language.specs.Typing.{counter_as as counter_by_rules, declared_array, declared_as, is_mutable}
 use Rattle.language.specs.Typing.{parameter_as, parameter_value, scope_after, scope_after_all, with_parameters}
@@ -21,7 +21,6 @@ use Rattle.diagnostics.specs.name_uses.SameScopes.{AreInScope, Known, SameScopes
 use Rattle.diagnostics.specs.name_uses.SameScopes.{type_known}
 use Rattle.diagnostics.specs.name_uses.SameScopes.{with_variable, with_variables}
 use Rattle.diagnostics.specs.name_uses.Scopes.{Seen, counter_as, declared_by, scope_behind, variable_of, with_seen}
-use Rattle.word.specs.declared.place.Place.{Place}
 
 -- a name is one of the keys, or one of those that are known
 among : (text : List ℕ) (entries : List (List ℕ × Declared))
@@ -66,11 +65,7 @@ after procedures seen scope (declaration place label mutable kind text right) be
 after procedures seen scope (array place label mutable kind size text values) before =
     one_more procedures seen scope (record { name = text; place = place; label = label; kind = kind })
     (declared_array label mutable kind size) refl before
-after procedures seen scope (assignment place target text right) before = before
-after procedures seen scope (element_assignment place bracket target text index right) before = before
-after procedures seen scope (call c) before = before
-after procedures seen scope (conditional place condition accepted otherwise) before = before
-after procedures seen scope (loop place counter text low high body) before = before
+after procedures seen scope _ before = before
 
 after_all : (procedures : List Known) (seen : List Seen) (scope : Scope) (statements : BlockTree)
     → AreInScope procedures seen scope
@@ -86,8 +81,7 @@ parameter_type p = by p.form
     by : (form : Form) → type_known (Variable (record { value = parameter_value p form; mutable = is_mutable form }))
         ≡ Some (p.label, p.kind)
     by SingleWord = refl
-    by FixedArray = refl
-    by MutableArray = refl
+    by _ = refl
 
 behind_parameters : (scope : Scope) (ps : List ParameterTree)
     → AreInScope (known scope) (map variable_of ps) (with_parameters scope ps)

@@ -1,9 +1,10 @@
 use Rattle.std.proofs.Common.{◌<◌, drop, length, map, ap, ap₂, ◌∙◌, arith}
+use Rattle.std.proofs.lemmas.List.{drop_all}
 use Rattle.std.specs.Option.{option_map}
 use Rattle.language.specs.Tree.{expr_tree, parameter_tree}
 use Rattle.diagnostics.specs.misfits.Arguments.{shared_first}
 use Rattle.diagnostics.specs.misfits.SharedFound.{shared}
-use Rattle.diagnostics.proofs.misfits_lemmas.Behind.{none_found, none_shared, shared_behind, shared_here, slice_tail}
+use Rattle.diagnostics.proofs.misfits_lemmas.Behind.{none_found, no_shared, shared_behind, shared_here, slice_tail}
 use Rattle.diagnostics.proofs.misfits.calls.first_shared.Goals as goal
 
 pub loop-index-preserved : goal.loop-index-preserved
@@ -21,9 +22,8 @@ loop-index-preserved c =
 
 pub returns-then-arguments-index : goal.returns-then-arguments-index
 returns-then-arguments-index c =
-    none_shared c.args.names.now (map parameter_tree (drop c.loop-index.index c.args.parameters.now))
-    c.loop-index.index c.args.arguments.now c.if-arguments-index.true
-    ∙ c.loop-index.invariant
+    no_shared c.args.names.now _
+    ∙ rw (drop_all c.loop-index.index c.args.arguments.now c.if-arguments-index.true) at c.loop-index.invariant
 
 pub returns-then-is_some : goal.returns-then-is_some
 returns-then-is_some c =
