@@ -1,3 +1,4 @@
+pub mod BlockTrees
 pub mod edit_distance_lemmas
 pub mod expected_tokens_lemmas
 pub mod name_uses_lemmas

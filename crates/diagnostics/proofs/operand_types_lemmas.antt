@@ -1,3 +1,2 @@
 pub mod ArgumentLemmas
-pub mod AroundLemmas
 pub mod NodeLemmas
